@@ -1,4 +1,8 @@
 //! The program and its subcommands, as `clap` has them.
+ghost use Rattle.std.specs.Prelude.{◌≡◌, IfOk, false};
+ghost use Rattle.clap.specs.Words.{app_of, rule_of};
+ghost use Rattle.clap.specs.declared.builder.command.Command.TheViews.{out-Command};
+ghost use Rattle.command_line.specs.Arguments.{enact_app, prefork_app, workers_rule, words_rule};
 
 use clap::{Arg, ArgAction, Command};
 use std::alloc::{AllocError, Global};
@@ -37,7 +41,9 @@ Example: what a master with two workers does on TTIN:
   prefork enact --workers 2 TTIN";
 
 /// The whole command line.
-pub fn program<'a>(alloc: Global) -> Result<Command<'a>, AllocError> {
+pub fn program<'a>(alloc: Global) -> Result<Command<'a>, AllocError>
+    ensures { IfOk result (λ command. app_of command ≡ prefork_app) }
+{
     Command::new(alloc, "prefork")
         .about("Plans of a preforking master: Unicorn's signals, nginx's upgrade")
         .after_help(PROGRAM_NOTES)
@@ -47,7 +53,10 @@ pub fn program<'a>(alloc: Global) -> Result<Command<'a>, AllocError> {
         .subcommand(enact(alloc)?)
 }
 
-fn enact<'a>(alloc: Global) -> Result<Command<'a>, AllocError> {
+fn enact<'a>(alloc: Global) -> Result<Command<'a>, AllocError>
+    ensures app { IfOk result (λ command. app_of command ≡ enact_app) }
+    ensures own { IfOk result (λ command. (out-Command command).has_globals ≡ false) }
+{
     Command::new(alloc, "enact")
         .about("Carry out control words on a modelled kernel, and print each call with its answer")
         .after_help(ENACT_NOTES)
@@ -55,7 +64,10 @@ fn enact<'a>(alloc: Global) -> Result<Command<'a>, AllocError> {
         .arg(words(alloc))
 }
 
-fn workers<'a>(alloc: Global) -> Arg<'a> {
+fn workers<'a>(alloc: Global) -> Arg<'a>
+    ensures rule { rule_of result ≡ workers_rule }
+    ensures own { result.global ≡ false }
+{
     Arg::new(alloc, "workers")
         .long("workers")
         .value_name("N")
@@ -63,7 +75,10 @@ fn workers<'a>(alloc: Global) -> Arg<'a> {
         .help(WORKERS_HELP)
 }
 
-fn words<'a>(alloc: Global) -> Arg<'a> {
+fn words<'a>(alloc: Global) -> Arg<'a>
+    ensures rule { rule_of result ≡ words_rule }
+    ensures own { result.global ≡ false }
+{
     Arg::new(alloc, "words")
         .value_name("WORD")
         .required(true)
