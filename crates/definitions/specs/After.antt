@@ -1,0 +1,147 @@
+-- What a master's record becomes once a plan has ended.
+use Rattle.std.specs.Prelude.{ℕ, ◌+◌, ◌==◌, nat_lt, nat_le, Bool, true, false, ◌&&◌, not, List, [], ◌∷◌, Option, Some, None, is_none, option_map, filter, bytes_eq, length, if◌then◌else◌}
+use Rattle.std.specs.List.{list_any}
+use Rattle.listener_set.specs.AddressList.{has}
+use Rattle.listener_set.specs.Numbers.{first_from}
+use Rattle.definitions.specs.Settings.{Settings}
+use Rattle.definitions.specs.Table.{Address, FilePath, Generation}
+use Rattle.definitions.specs.Tree.{Old, Target as TargetSide}
+use Rattle.definitions.specs.Record.{Listener, Record}
+use Rattle.definitions.specs.Path.{Report, Outcome}
+use Rattle.definitions.specs.declared.reports.Outcome.TheVariants as outcome
+pub use Rattle.definitions.specs.declared.targets.Target.{Target}
+use Rattle.definitions.specs.declared.targets.Target.TheVariants as target
+
+---- Listeners that open and close
+
+-- whether an address is listened on
+abbrev pub listens_on : List Listener → Address → Bool
+listens_on ls a = list_any (λ (l : Listener). bytes_eq l.address a) ls
+
+abbrev pub listener_at : ℕ → Address → Listener
+listener_at fd a = record { descriptor = fd; address = a }
+
+-- an address at the lowest free descriptor; the listeners are those from the descriptor fd on, ascending
+abbrev pub opened_from : ℕ → Address → List Listener → List Listener
+opened_from fd a [] = listener_at fd a ∷ []
+opened_from fd a (l ∷ ls) = if l.descriptor == fd then l ∷ opened_from (fd + 1) a ls else listener_at fd a ∷ l ∷ ls
+
+-- addresses opened one after another, each at the descriptor that is the lowest free one then; a process has 64 descriptors
+abbrev pub all_opened : List Address → List Listener → Option (List Listener)
+all_opened [] ls = Some ls
+all_opened (a ∷ more) ls = if nat_lt (length ls) 64 then all_opened more (opened_from 3 a ls) else None
+
+-- the addresses of a list that are not listened on, in its order
+abbrev pub added : List Address → List Listener → List Address
+added addresses ls = filter (λ a. not (listens_on ls a)) addresses
+
+-- the listeners whose addresses a list has; the others are closed
+abbrev pub kept : List Address → List Listener → List Listener
+kept addresses ls = filter (λ (l : Listener). has addresses l.address) ls
+
+-- what is added, opened
+abbrev pub opened : List Address → List Listener → Option (List Listener)
+opened addresses ls = all_opened (added addresses ls) ls
+
+-- A reload opens what is added, and closes what is dropped at its end.
+abbrev pub reloaded : List Address → List Listener → Option (List Listener)
+reloaded addresses ls = option_map (kept addresses) (opened addresses ls)
+
+-- The new master of an upgrade closes what is dropped, and then opens what is added.
+abbrev pub upgraded : List Address → List Listener → Option (List Listener)
+upgraded addresses ls = opened addresses (kept addresses ls)
+
+---- What a service stands on
+
+pub record Setup : Type 0 where
+  pub listeners : List Listener
+  pub generation : Generation
+  pub wanted : ℕ
+  pub retries : ℕ
+  pub timeout : ℕ
+
+abbrev pub setup_of : Record → Setup
+setup_of r = record { listeners = r.listeners; generation = r.generation; wanted = r.wanted; retries = r.retries; timeout = r.timeout }
+
+-- image and config numbers end at 4,294,967,295
+abbrev pub next_number : ℕ → Option ℕ
+next_number n = if nat_lt n 4294967295 then Some (n + 1) else None
+
+abbrev pub numbered : Option ℕ → Option ℕ → Option Generation
+numbered None config = None
+numbered (Some image) None = None
+numbered (Some image) (Some config) = Some (record { image = image; config = config })
+
+-- the generation of a reload
+abbrev pub next_config : Generation → Option Generation
+next_config g = numbered (Some g.image) (next_number g.config)
+
+-- the generation of an upgrade
+abbrev pub next_image : Generation → Option Generation
+next_image g = numbered (next_number g.image) (next_number g.config)
+
+-- the service of new settings
+abbrev pub renewed : Settings → Option (List Listener) → Option Generation → Option Setup
+renewed s None g = None
+renewed s (Some ls) None = None
+renewed s (Some ls) (Some g) = Some (record { listeners = ls; generation = g; wanted = s.workers; retries = s.retries; timeout = s.timeout })
+
+-- the target's service; a stop has none
+abbrev pub target_setup : Record → Target → Option Setup
+target_setup r (target.Workers n) = Some (record { listeners = r.listeners; generation = r.generation; wanted = n; retries = r.retries; timeout = r.timeout })
+target_setup r (target.Mend overdue) = Some (setup_of r)
+target_setup r target.Reopen = Some (setup_of r)
+target_setup r (target.Reload s) = renewed s (reloaded s.listeners r.listeners) (next_config r.generation)
+target_setup r (target.Upgrade s) = renewed s (upgraded s.listeners r.listeners) (next_image r.generation)
+target_setup r (target.Stop quick) = None
+
+-- the service that ran before; nothing runs after a stop
+abbrev pub old_setup : Record → Target → Option Setup
+old_setup r (target.Workers n) = Some (setup_of r)
+old_setup r (target.Mend overdue) = Some (setup_of r)
+old_setup r target.Reopen = Some (setup_of r)
+old_setup r (target.Reload s) = Some (setup_of r)
+old_setup r (target.Upgrade s) = Some (setup_of r)
+old_setup r (target.Stop quick) = None
+
+-- the service that an outcome names
+abbrev pub setup_after : Outcome → Record → Target → Option Setup
+setup_after outcome.Done r t = target_setup r t
+setup_after outcome.RolledBack r t = old_setup r t
+setup_after (outcome.Degraded Old short) r t = old_setup r t
+setup_after (outcome.Degraded TargetSide short) r t = target_setup r t
+setup_after outcome.Lost r t = None
+
+---- The next record
+
+-- a record of what a report says of a service, run by the master of a process number
+abbrev pub recorded : Setup → Option FilePath → Report → ℕ → Record
+recorded s path report pid = record {
+  listeners = s.listeners;
+  generation = s.generation;
+  ready = report.ready;
+  wanted = s.wanted;
+  retries = s.retries;
+  timeout = s.timeout;
+  pid_path = path;
+  note = report.note;
+  pid = pid;
+}
+
+-- what a report might break of the rules of a record: it listens, at most 1024 workers are wanted, each ready number is below
+-- the wanted count, and there is a process number
+abbrev pub keeps_rules : Record → Bool
+keeps_rules r = nat_le 1 (length r.listeners) && (nat_le r.wanted 1024 && (is_none (first_from r.wanted r.ready) && nat_le 1 r.pid))
+
+abbrev pub record_if : Bool → Record → Option Record
+record_if true r = Some r
+record_if false r = None
+
+abbrev pub record_from : Option Setup → Option FilePath → Report → ℕ → Option Record
+record_from None path report pid = None
+record_from (Some s) path report pid = record_if (keeps_rules (recorded s path report pid)) (recorded s path report pid)
+
+-- The record after a plan for a target: the service that the report names, with its ready numbers and its note. There is none
+-- after a stop or where the run was lost, nor where the result would break the rules of a record.
+abbrev pub record_after : Record → Target → Report → ℕ → Option Record
+record_after r t report pid = record_from (setup_after report.outcome r t) r.pid_path report pid

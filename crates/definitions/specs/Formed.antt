@@ -1,0 +1,31 @@
+-- What every table that the kernel makes keeps by itself.
+use Rattle.std.specs.Prelude.{ℕ, ◌≡◌, ◌≤◌, ◌+◌, true, List, [], ◌∷◌, count_by, ⊤}
+use Rattle.std.specs.List.{list_any, AllByRecursion}
+use Rattle.definitions.specs.Table.{Generation, Starting, Ready, Draining, Exited, Process, Master, Worker, Foreign, Table, number_of, is_active, is_worker, is_live_master}
+
+-- A worker that drains or has exited holds nothing, nor does a master that has.
+abbrev pub IsQuiet : Process → Type 0
+IsQuiet (Worker n q g k Starting hs) = ⊤
+IsQuiet (Worker n q g k Ready hs) = ⊤
+IsQuiet (Worker n q g k Draining hs) = hs ≡ []
+IsQuiet (Worker n q g k Exited hs) = hs ≡ []
+IsQuiet (Master n q i live hs) = ⊤
+IsQuiet (Foreign n hs) = ⊤
+
+-- A worker's parent is a live master.
+abbrev pub HasParent : List Process → Process → Type 0
+HasParent rows (Worker n q g k s hs) = list_any (is_live_master q) rows ≡ true
+HasParent rows (Master n q i live hs) = ⊤
+HasParent rows (Foreign n hs) = ⊤
+
+-- Process numbers rise from the first on and stay below the last.
+abbrev pub IsAscending : ℕ → List Process → ℕ → Type 0
+IsAscending least [] next = least ≤ next
+IsAscending least (p ∷ rows) next = (least ≤ number_of p) × IsAscending (number_of p + 1) rows next
+
+pub record IsFormed (t : Table) : Type 0 where
+  -- At most one Starting or Ready worker of a master bears a name.
+  pub once : (q : ℕ) (g : Generation) (k : ℕ) → count_by (is_worker is_active q g k) t.rows ≤ 1
+  pub quiet : AllByRecursion IsQuiet t.rows
+  pub parents : AllByRecursion (HasParent t.rows) t.rows
+  pub ascending : IsAscending 0 t.rows t.next_process

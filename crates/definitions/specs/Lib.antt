@@ -1,0 +1,12 @@
+pub mod Table
+pub mod Exits
+pub mod Calls
+pub mod Settings
+pub mod Formed
+pub mod Service
+pub mod Record
+pub mod Tree
+pub mod Plans
+pub mod Path
+pub mod Run
+pub mod After

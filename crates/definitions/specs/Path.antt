@@ -1,0 +1,125 @@
+-- Paths of a plan's tree, and what a report says of one.
+use Rattle.std.specs.Prelude.{ℕ, ◌+◌, ◌≡◌, Bool, true, false, not, List, [], ◌∷◌, ◌++◌, length, Option, Some, None, unwrap_or}
+use Rattle.listener_set.specs.Numbers.{lacks}
+use Rattle.definitions.specs.Calls.{Call, Answer}
+use Rattle.definitions.specs.declared.calls.Answer.TheVariants as answer
+use Rattle.definitions.specs.Tree.{Reply, same_reply, reply_of, plain_reply, Old, Target, End, Done, RolledBack, ShortOld, ShortTarget, PidNote, call_of, Tree, Ends, Does, branch}
+pub use Rattle.definitions.specs.declared.reports.Entry.{Entry}
+pub use Rattle.definitions.specs.declared.reports.Report.{Report}
+pub use Rattle.definitions.specs.declared.reports.Outcome.{Outcome}
+use Rattle.definitions.specs.declared.reports.Outcome.TheVariants as outcome
+
+-- How far a path has come: the rest of the tree, or nothing where the last answer had no edge; the last count and what it
+-- lacked of its set; the note; the first call that went wrong, counted from 1; and how many calls were made.
+pub record Trail : Type 0 where
+  pub rest : Option Tree
+  pub ready : List ℕ
+  pub lacking : List ℕ
+  pub note : PidNote
+  pub cause : Option ℕ
+  pub made : ℕ
+
+abbrev pub begin : Tree → PidNote → Trail
+begin tree note = record { rest = Some tree; ready = []; lacking = []; note = note; cause = None; made = 0 }
+
+abbrev pub ready_after : Answer → List ℕ → List ℕ
+ready_after (answer.Counted ns) ready = ns
+ready_after _ ready = ready
+
+abbrev pub lacking_after : List ℕ → Answer → List ℕ → List ℕ
+lacking_after set (answer.Counted ns) lacking = lacks set ns
+lacking_after set _ lacking = lacking
+
+-- a call that is not answered plainly, or a census that lacks a number of its set
+abbrev pub went_wrong : Call → Reply → Bool
+went_wrong call r = not (same_reply r (plain_reply call))
+
+abbrev pub first_cause : Option ℕ → Bool → ℕ → Option ℕ
+first_cause (Some k) wrong n = Some k
+first_cause None true n = Some n
+first_cause None false n = None
+
+---- One entry
+
+-- what follows an answer: the note that is set, and the rest
+abbrev pub follow : Option Tree → Answer → Option (Option PidNote × Tree)
+follow None a = None
+follow (Some (Ends end)) a = None
+follow (Some (Does by order set branches)) a = branch branches (reply_of set a)
+
+abbrev pub set_of : Option Tree → List ℕ
+set_of None = []
+set_of (Some (Ends end)) = []
+set_of (Some (Does by order set branches)) = set
+
+abbrev pub rest_after : Option (Option PidNote × Tree) → Option Tree
+rest_after None = None
+rest_after (Some edge) = Some edge.1
+
+abbrev pub note_after : Option (Option PidNote × Tree) → PidNote → PidNote
+note_after None note = note
+note_after (Some edge) note = unwrap_or edge.0 note
+
+abbrev pub advance : Trail → Entry → Trail
+advance t e = record {
+  rest = rest_after (follow t.rest e.answer);
+  ready = ready_after e.answer t.ready;
+  lacking = lacking_after (set_of t.rest) e.answer t.lacking;
+  note = note_after (follow t.rest e.answer) t.note;
+  cause = first_cause t.cause (went_wrong e.call (reply_of (set_of t.rest) e.answer)) (t.made + 1);
+  made = t.made + 1;
+}
+
+abbrev pub after : Trail → List Entry → Trail
+after t [] = t
+after t (e ∷ entries) = after (advance t e) entries
+
+---- Paths
+
+-- The entry is a call of the step that is next, by its master, with the worker that it names.
+abbrev pub Asks : Option Tree → List ℕ → Entry → Type 0
+Asks None lacking e = ⊥
+Asks (Some (Ends end)) lacking e = ⊥
+Asks (Some (Does by order set branches)) lacking e = (e.by ≡ by) × (e.call ≡ call_of order lacking)
+
+-- Each entry is the next step's.
+abbrev pub Follows : Trail → List Entry → Type 0
+Follows t [] = Unit {0}
+Follows t (e ∷ entries) = Asks t.rest t.lacking e × Follows (advance t e) entries
+
+-- No step is next: the path is at an end, or its last answer had no edge.
+abbrev pub IsOver : Option Tree → Type 0
+IsOver None = Unit {0}
+IsOver (Some (Ends end)) = Unit {0}
+IsOver (Some (Does by order set branches)) = ⊥
+
+---- Reports
+
+abbrev pub outcome_at : End → List ℕ → Outcome
+outcome_at Done lacking = outcome.Done
+outcome_at RolledBack lacking = outcome.RolledBack
+outcome_at ShortOld lacking = outcome.Degraded Old (length lacking)
+outcome_at ShortTarget lacking = outcome.Degraded Target (length lacking)
+
+-- the end that the path is at, or Lost where the last answer had no edge
+abbrev pub IsOutcome : Option Tree → List ℕ → Outcome → Type 0
+IsOutcome None lacking o = o ≡ outcome.Lost
+IsOutcome (Some (Ends end)) lacking o = o ≡ outcome_at end lacking
+IsOutcome (Some (Does by order set branches)) lacking o = ⊥
+
+pub record Reports (t : Trail) (report : Report) : Type 0 where
+  pub outcome : IsOutcome t.rest t.lacking report.outcome
+  pub cause : report.cause ≡ t.cause
+  pub note : report.note ≡ t.note
+  pub ready : report.ready ≡ t.ready
+
+-- the last entry says that its master is gone
+abbrev pub EndsGone : List Entry → Type 0
+EndsGone entries = (front : List Entry) × (last : Entry) × (entries ≡ front ++ last ∷ []) × (last.answer ≡ answer.MasterGone)
+
+-- The entries are a whole path of the tree, or a path and one entry after it where a master is gone and the step has no edge for
+-- that, and the report is theirs.
+pub record KeepsPathLaw (tree : Tree) (note : PidNote) (entries : List Entry) (report : Report) : Type 0 where
+  pub path : Follows (begin tree note) entries
+  pub report_is : Reports (after (begin tree note) entries) report
+  pub lost : report.outcome ≡ outcome.Lost → EndsGone entries

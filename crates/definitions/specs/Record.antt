@@ -1,0 +1,98 @@
+-- What a master knows of itself, and when it is so.
+use Rattle.std.specs.Prelude.{ℕ, ◌≡◌, ◌≤◌, ◌<◌, ◌+◌, ◌++◌, true, List, [], ◌∷◌, Option, Some, None, map, length, count_by, is_some, codes, ⊤}
+use Rattle.std.specs.List.{list_any, AllByRecursion}
+use Rattle.listener_set.specs.Numbers.{is_in}
+pub use Rattle.definitions.specs.declared.table.Listener.{Listener}
+use Rattle.definitions.specs.Settings.{Settings, HasSuffixRoom}
+use Rattle.definitions.specs.Table.{Address, FilePath, Generation, Hold, Starting, Ready, Draining, Exited, Process, Master, Worker, Foreign, File, Table, is_master, is_ready, is_worker, live_master, owner_at}
+pub use Rattle.definitions.specs.declared.plans.PidNote.{PidNote}
+pub use Rattle.definitions.specs.declared.plans.PidNote.TheVariants.{InPlace, AtOldbin, OldbinLeft, Left, NoFile}
+
+pub record Record : Type 0 where
+  -- in ascending descriptors
+  pub listeners : List Listener
+  pub generation : Generation
+  -- in ascending order
+  pub ready : List ℕ
+  pub wanted : ℕ
+  pub retries : ℕ
+  pub timeout : ℕ
+  pub pid_path : Option FilePath
+  pub note : PidNote
+  pub pid : ℕ
+
+-- at least one listener, ready numbers below the wanted count, and the ranges of a configuration
+pub record IsRecord (r : Record) : Type 0 where
+  pub listens : 1 ≤ length r.listeners
+  pub wanted : r.wanted ≤ 1024
+  pub ready : AllByRecursion (λ k. k < r.wanted) r.ready
+  pub retries : r.retries ≤ 8
+  pub timeout_least : 1 ≤ r.timeout
+  pub timeout_most : r.timeout ≤ 86400
+  pub pid_path : HasSuffixRoom r.pid_path
+  pub pid : 1 ≤ r.pid
+
+abbrev pub addresses_of : Record → List Address
+addresses_of r = map (λ (l : Listener). l.address) r.listeners
+
+-- addresses in order, from a descriptor on
+abbrev pub listeners_from : ℕ → List Address → List Listener
+listeners_from fd [] = []
+listeners_from fd (a ∷ rest) = (record { descriptor = fd; address = a }) ∷ listeners_from (fd + 1) rest
+
+abbrev pub first_note : Option FilePath → PidNote
+first_note None = NoFile
+first_note (Some path) = InPlace
+
+abbrev pub first_generation : Generation
+first_generation = record { image = 1; config = 1 }
+
+-- The record of a master that starts with these settings: generation 1.1, descriptors from 3 on.
+abbrev pub started : Settings → ℕ → List ℕ → ℕ → Record
+started s wanted ready pid = record {
+  listeners = listeners_from 3 s.listeners;
+  generation = first_generation;
+  ready = ready;
+  wanted = wanted;
+  retries = s.retries;
+  timeout = s.timeout;
+  pid_path = s.pid;
+  note = first_note s.pid;
+  pid = pid;
+}
+
+---- When a record agrees with a table
+
+abbrev pub listener_of : Hold → Listener
+listener_of h = record { descriptor = h.fd; address = h.address }
+
+-- Of the master's workers none is Starting, and each Ready one is of the generation and holds what the master holds.
+abbrev pub IsRunning : ℕ → Generation → List Hold → Process → Type 0
+IsRunning m g holds (Worker n q g' k Ready hs) = q ≡ m → (g' ≡ g) × (hs ≡ holds)
+IsRunning m g holds (Worker n q g' k Starting hs) = q ≡ m → ⊥
+IsRunning m g holds (Worker n q g' k Draining hs) = ⊤
+IsRunning m g holds (Worker n q g' k Exited hs) = ⊤
+IsRunning m g holds (Master n q i live hs) = ⊤
+IsRunning m g holds (Foreign n hs) = ⊤
+
+abbrev pub oldbin : FilePath → FilePath
+oldbin path = path ++ codes ".oldbin"
+
+-- The files are as the note says. A master whose file stands at the path with the suffix may have a stale file at the path.
+abbrev pub FilesAre : PidNote → Option FilePath → ℕ → List File → Type 0
+FilesAre InPlace (Some path) pid files = (owner_at path files ≡ Some pid) × (owner_at (oldbin path) files ≡ None)
+FilesAre AtOldbin (Some path) pid files = owner_at (oldbin path) files ≡ Some pid
+FilesAre OldbinLeft (Some path) pid files = (owner_at path files ≡ Some pid) × (is_some (owner_at (oldbin path) files) ≡ true)
+FilesAre NoFile None pid files = ⊤
+FilesAre note path pid files = ⊥
+
+-- One master row, live, with the record's image and process number, its descriptors the record's, its Ready workers exactly
+-- the record's, and the files as the note says.
+pub record Agrees (t : Table) (r : Record) : Type 0 where
+  pub holds : List Hold
+  pub lives : live_master r.generation.image t.rows ≡ Some (record { number = r.pid; holds = holds })
+  pub alone : count_by is_master t.rows ≡ 1
+  pub listeners : map listener_of holds ≡ r.listeners
+  pub running : AllByRecursion (IsRunning r.pid r.generation holds) t.rows
+  pub ready : (k : ℕ) → list_any (is_worker is_ready r.pid r.generation k) t.rows ≡ is_in r.ready k
+  pub files : FilesAre r.note r.pid_path r.pid t.files

@@ -1,0 +1,143 @@
+-- The run of a plan's tree on a table under a pattern.
+use Rattle.std.specs.Prelude.{ℕ, ◌≡◌, ◌+◌, Bool, true, false, List, [], ◌∷◌, Option, Some, None, if◌then◌else◌}
+use Rattle.definitions.specs.Table.{Table}
+use Rattle.definitions.specs.Exits.{Name, after_exits, losses_of}
+use Rattle.definitions.specs.Calls.{Call, Answer, Fate, Stepped, step}
+use Rattle.definitions.specs.Tree.{Reply, among, reply_of, same_reply, plain_reply, End, PidNote, Order, call_of, Tree, Branches, Ends, Does, Nothing, Branch}
+use Rattle.definitions.specs.Path.{Report, Outcome, outcome_at, Entry, ready_after, lacking_after, went_wrong, first_cause}
+use Rattle.definitions.specs.declared.calls.Answer.TheVariants as answer
+use Rattle.definitions.specs.declared.reports.Outcome.TheVariants as outcome
+
+-- What happens at one call: who exits before it, and how it is made to fail.
+pub record Moment : Type 0 where
+  pub exits : List Name
+  pub fate : Option Fate
+
+abbrev pub quiet : Moment
+quiet = record { exits = []; fate = None }
+
+-- A pattern gives each call, counted from 1, its moment.
+abbrev pub Pattern : Type 0
+Pattern = ℕ → Moment
+
+-- The answer that counts as no fault.
+abbrev pub is_plain : Call → Answer → Bool
+is_plain call (answer.Counted ns) = true
+is_plain call a = same_reply (reply_of [] a) (plain_reply call)
+
+-- How far a run has come: its table, the number of calls made, the last count and what it lacked of its set, the faults and
+-- losses so far, the first call that went wrong, and the note.
+pub record Progress : Type 0 where
+  pub table : Table
+  pub calls : ℕ
+  pub ready : List ℕ
+  pub lacking : List ℕ
+  pub faults : ℕ
+  pub losses : ℕ
+  pub cause : Option ℕ
+  pub note : PidNote
+
+abbrev pub start_at : Table → PidNote → Progress
+start_at t note = record { table = t; calls = 0; ready = []; lacking = []; faults = 0; losses = 0; cause = None; note = note }
+
+-- the middle of a moment, after its exits
+abbrev pub after_moment : List Name → Progress → Progress
+after_moment es p = record {
+  table = after_exits es p.table;
+  calls = p.calls;
+  ready = p.ready;
+  lacking = p.lacking;
+  faults = p.faults;
+  losses = p.losses + losses_of es p.table;
+  cause = p.cause;
+  note = p.note;
+}
+
+abbrev pub after_call : Order → List ℕ → Stepped → Progress → Progress
+after_call order set s p = record {
+  table = s.table;
+  calls = p.calls + 1;
+  ready = ready_after s.answer p.ready;
+  lacking = lacking_after set s.answer p.lacking;
+  faults = if is_plain (call_of order p.lacking) s.answer then p.faults else p.faults + 1;
+  losses = p.losses;
+  cause = first_cause p.cause (went_wrong (call_of order p.lacking) (reply_of set s.answer)) (p.calls + 1);
+  note = p.note;
+}
+
+abbrev pub noted : Option PidNote → Progress → Progress
+noted None p = p
+noted (Some n) p = record {
+  table = p.table;
+  calls = p.calls;
+  ready = p.ready;
+  lacking = p.lacking;
+  faults = p.faults;
+  losses = p.losses;
+  cause = p.cause;
+  note = n;
+}
+
+-- what a step's call is answered after the exits of its moment
+abbrev pub answered : ℕ → Order → Option Fate → Progress → Stepped
+answered by order f p = step by (call_of order p.lacking) f p.table
+
+-- how a run ends: at an end of the plan, or where a step has no edge for the answer
+pub data Ending : Type 0 where
+  At : (end : End) → Ending
+  Lost : Ending
+
+-- A whole run: its entries, each table that it passes with the counts up to it, middle tables too, and how it ends.
+pub record Ran : Type 0 where
+  pub entries : List Entry
+  pub passed : List Progress
+  pub ending : Ending
+  pub last : Progress
+
+abbrev pub ended : Ending → Progress → Ran
+ended e p = record { entries = []; passed = p ∷ []; ending = e; last = p }
+
+abbrev pub with_entry : Entry → Progress → Progress → Ran → Ran
+with_entry entry before middle rest = record {
+  entries = entry ∷ rest.entries;
+  passed = before ∷ middle ∷ rest.passed;
+  ending = rest.ending;
+  last = rest.last;
+}
+
+-- The run of a tree, and of what is behind the first of some edges that has the reply.
+abbrev mutual
+  pub run : Tree → Pattern → Progress → Ran
+  run (Ends end) pattern p = ended (At end) p
+  run (Does by order set branches) pattern p =
+      let moment = pattern (p.calls + 1) in
+      let middle = after_moment moment.exits p in
+      let s = answered by order moment.fate middle in
+      with_entry (record { by = by; call = call_of order middle.lacking; answer = s.answer }) p middle
+      (goes branches (reply_of set s.answer) pattern (after_call order set s middle))
+
+  pub goes : Branches → Reply → Pattern → Progress → Ran
+  goes Nothing r pattern p = ended Lost p
+  goes (Branch replies said rest more) r pattern p =
+      elim (among replies r) as (λ b. Ran) [
+        | true ↦ run rest pattern (noted said p)
+        | false ↦ goes more r pattern p
+      ]
+
+-- the outcome of a run that ends so, by what its last census lacked
+abbrev pub outcome_of : Ending → List ℕ → Outcome
+outcome_of (At end) lacking = outcome_at end lacking
+outcome_of Lost lacking = outcome.Lost
+
+-- What the report of a run says.
+abbrev pub report_of : Ran → Report
+report_of ran = record { outcome = outcome_of ran.ending ran.last.lacking; cause = ran.last.cause; note = ran.last.note; ready = ran.last.ready }
+
+-- From one table to another by these calls, the first being number n + 1 of the pattern: before each the exits of its moment,
+-- and each with the one answer that it can have there.
+abbrev pub Replays : Pattern → ℕ → Table → List Entry → Table → Type 0
+Replays pattern n t [] last = t ≡ last
+Replays pattern n t (e ∷ entries) last =
+    let moment = pattern (n + 1) in
+    let s = step e.by e.call moment.fate (after_exits moment.exits t) in
+    (s.answer ≡ e.answer) × Replays pattern (n + 1) s.table entries last

@@ -1,0 +1,37 @@
+-- The service of a table: which addresses are served, and by how many workers of each generation.
+use Rattle.std.specs.Prelude.{ℕ, ◌≡◌, Bool, false, ◌&&◌, List, Option, Some, None, count_by, bytes_eq, if◌then◌else◌}
+use Rattle.std.specs.List.{list_any}
+use Rattle.definitions.specs.Table.{Address, Generation, same_generation, Hold, Process, Master, Worker, Foreign, Table, is_ready, has_address}
+
+-- A map by extension: each address that is a key goes to the count of each generation.
+abbrev pub Service : Type 0
+Service = Address → Option (Generation → ℕ)
+
+-- a live master whose holds pass a test
+abbrev pub is_live_with : (List Hold → Bool) → Process → Bool
+is_live_with test (Master n q i live hs) = live && test hs
+is_live_with test (Worker n q g k s hs) = false
+is_live_with test (Foreign n hs) = false
+
+-- a Ready worker of the generation that holds the address
+abbrev pub is_serving : Address → Generation → Process → Bool
+is_serving a g (Worker n q g' k s hs) = is_ready s && (same_generation g' g && has_address a hs)
+is_serving a g (Master n q i live hs) = false
+is_serving a g (Foreign n hs) = false
+
+-- The keys are the addresses that a live master holds, each with its Ready workers, by generation.
+abbrev pub service : Table → Service
+service t a =
+    if list_any (is_live_with (has_address a)) t.rows
+    then Some (λ g. count_by (is_serving a g) t.rows)
+    else None
+
+-- The same count of one generation at each of these addresses.
+abbrev pub uniform : List Address → Generation → ℕ → Service
+uniform addresses g n a =
+    if list_any (λ b. bytes_eq b a) addresses
+    then Some (λ h. if same_generation h g then n else 0)
+    else None
+
+abbrev pub IsSame : Service → Service → Type 0
+IsSame s s' = (a : Address) → s a ≡ s' a

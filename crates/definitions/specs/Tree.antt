@@ -1,0 +1,146 @@
+-- Plans as trees: steps, what follows each reply, ends.
+use Rattle.std.specs.Prelude.{ℕ, suc, max, Bool, true, false, ◌&&◌, ◌||◌, not, List, [], ◌∷◌, Option, Some, None, is_some}
+use Rattle.std.specs.List.{list_any, list_all}
+use Rattle.listener_set.specs.Numbers.{lacks}
+use Rattle.definitions.specs.Calls.{Call, OpenAt, CloseAt, Fork, AwaitReady, Quit, Kill, Census, Answer}
+use Rattle.definitions.specs.declared.calls.Answer.TheVariants as answer
+pub use Rattle.definitions.specs.declared.calls.Reply.{Reply}
+pub use Rattle.definitions.specs.declared.calls.Reply.TheVariants as reply
+pub use Rattle.definitions.specs.declared.plans.Side.{Side}
+pub use Rattle.definitions.specs.declared.plans.Side.TheVariants.{Old, Target}
+pub use Rattle.definitions.specs.declared.plans.End.{End}
+pub use Rattle.definitions.specs.declared.plans.End.TheVariants.{Done, RolledBack, ShortOld, ShortTarget}
+pub use Rattle.definitions.specs.declared.plans.PidNote.{PidNote}
+pub use Rattle.definitions.specs.declared.plans.Order.{Order}
+pub use Rattle.definitions.specs.declared.plans.Order.TheVariants.{Make, ForkLacking, AwaitLacking, KillLacking}
+use denote.Enum.Bare.{sameb}
+use Rattle.definitions.specs.contracts.calls.Reply.{the_type}
+
+-- An end; or a step: the master that makes it, by its image, what it asks for, the set that a census of it must contain, and
+-- what follows each reply.
+mutual
+  pub data Tree : Type 0 where
+    Ends : End → Tree
+    Does : ℕ → Order → List ℕ → Branches → Tree
+
+  pub data Branches : Type 0 where
+    Nothing : Branches
+    Branch : List Reply → Option PidNote → Tree → Branches → Branches
+
+---- Replies
+
+abbrev pub same_reply : Reply → Reply → Bool
+same_reply a b = sameb the_type a b
+
+abbrev pub among : List Reply → Reply → Bool
+among replies r = list_any (λ x. same_reply x r) replies
+
+-- a census that lacks nothing of its set is full
+abbrev pub full_or_short : List ℕ → Reply
+full_or_short [] = reply.Full
+full_or_short (k ∷ ks) = reply.Short
+
+-- what a step whose census must contain the set tells apart of an answer
+abbrev pub reply_of : List ℕ → Answer → Reply
+reply_of set (answer.Opened fd) = reply.Opened
+reply_of set answer.InUse = reply.InUse
+reply_of set answer.TooMany = reply.TooMany
+reply_of set answer.Denied = reply.Denied
+reply_of set answer.NoMemory = reply.NoMemory
+reply_of set answer.Fine = reply.Fine
+reply_of set answer.Forked = reply.Forked
+reply_of set answer.Again = reply.Again
+reply_of set answer.IsReady = reply.IsReady
+reply_of set answer.Gone = reply.Gone
+reply_of set answer.Late = reply.Late
+reply_of set (answer.Counted ns) = full_or_short (lacks set ns)
+reply_of set answer.MasterGone = reply.MasterGone
+
+-- the replies to a call, the plain one first; besides, each may be answered that the master is gone
+abbrev pub replies_to : Call → List Reply
+replies_to (OpenAt a) = reply.Opened ∷ reply.InUse ∷ reply.TooMany ∷ reply.Denied ∷ reply.NoMemory ∷ []
+replies_to (CloseAt a) = reply.Fine ∷ []
+replies_to (Fork g k) = reply.Forked ∷ reply.Again ∷ reply.NoMemory ∷ []
+replies_to (AwaitReady g k) = reply.IsReady ∷ reply.Gone ∷ reply.Late ∷ []
+replies_to (Quit g k) = reply.Fine ∷ []
+replies_to (Kill g k) = reply.Fine ∷ []
+replies_to (Census g) = reply.Full ∷ reply.Short ∷ []
+
+-- the plain reply to a call; of a census, a full one
+abbrev pub plain_reply : Call → Reply
+plain_reply (OpenAt a) = reply.Opened
+plain_reply (CloseAt a) = reply.Fine
+plain_reply (Fork g k) = reply.Forked
+plain_reply (AwaitReady g k) = reply.IsReady
+plain_reply (Quit g k) = reply.Fine
+plain_reply (Kill g k) = reply.Fine
+plain_reply (Census g) = reply.Full
+
+-- whether a call can be answered so
+abbrev pub is_listed : Call → Answer → Bool
+is_listed call answer.MasterGone = true
+is_listed call a = among (replies_to call) (reply_of [] a)
+
+---- Edges
+
+-- what follows a reply: the note that is set, and the rest
+abbrev pub branch : Branches → Reply → Option (Option PidNote × Tree)
+branch Nothing r = None
+branch (Branch replies said rest more) r =
+    elim (among replies r) as (λ b. Option (Option PidNote × Tree)) [
+      | true ↦ Some (said, rest)
+      | false ↦ branch more r
+    ]
+
+-- The number of steps on the longest path.
+abbrev mutual
+  pub height : Tree → ℕ
+  height (Ends end) = 0
+  height (Does by order set branches) = suc (highest branches)
+
+  pub highest : Branches → ℕ
+  highest Nothing = 0
+  highest (Branch replies said rest more) = max (height rest) (highest more)
+
+-- the number that a settle's step names: the lowest that the last census lacked
+abbrev pub lowest : List ℕ → ℕ
+lowest [] = 0
+lowest (k ∷ ks) = k
+
+-- the call that a step asks for, once its worker is named
+abbrev pub call_of : Order → List ℕ → Call
+call_of (Make call) lacking = call
+call_of (ForkLacking g) lacking = Fork g (lowest lacking)
+call_of (AwaitLacking g) lacking = AwaitReady g (lowest lacking)
+call_of (KillLacking g) lacking = Kill g (lowest lacking)
+
+---- Whether a tree can be run
+
+abbrev pub order_replies : Order → List Reply
+order_replies (Make call) = replies_to call
+order_replies (ForkLacking g) = reply.Forked ∷ reply.Again ∷ reply.NoMemory ∷ []
+order_replies (AwaitLacking g) = reply.IsReady ∷ reply.Gone ∷ reply.Late ∷ []
+order_replies (KillLacking g) = reply.Fine ∷ []
+
+abbrev pub names_lacking : Order → Bool
+names_lacking (Make call) = false
+names_lacking (ForkLacking g) = true
+names_lacking (AwaitLacking g) = true
+names_lacking (KillLacking g) = true
+
+-- whether the last census was short, after a reply
+abbrev pub short_after : Bool → Reply → Bool
+short_after short reply.Full = false
+short_after short reply.Short = true
+short_after short _ = short
+
+-- Each step has an edge for each reply to its call, master-gone aside, and a worker is named only after a short census.
+abbrev mutual
+  pub is_fit : Bool → Tree → Bool
+  is_fit short (Ends end) = true
+  is_fit short (Does by order set branches) =
+      (not (names_lacking order) || short) && (list_all (λ r. is_some (branch branches r)) (order_replies order) && are_fit short branches)
+
+  pub are_fit : Bool → Branches → Bool
+  are_fit short Nothing = true
+  are_fit short (Branch replies said rest more) = list_all (λ r. is_fit (short_after short r) rest) replies && are_fit short more

@@ -1,0 +1,87 @@
+//! Calls of the kernel, their answers, and how a pattern makes them fail.
+use listener_set::{Address, Generation, Numbers};
+
+/// A call that a master makes.
+#[derive(Clone, Copy, Debug, PartialEq, Eq)]
+pub enum Call {
+    /// Opens a listening socket of the address at the caller's lowest free descriptor.
+    OpenAt(Address),
+    /// The caller and its workers give up their sockets of the address.
+    CloseAt(Address),
+    /// Starts a worker with the caller's sockets under the same descriptors.
+    Fork(Generation, u32),
+    /// Waits until a worker is ready or gone.
+    AwaitReady(Generation, u32),
+    /// Tells a worker to finish what it has and to end.
+    Quit(Generation, u32),
+    /// Ends a worker at once.
+    Kill(Generation, u32),
+    /// Counts the caller's ready workers of the generation.
+    Census(Generation),
+}
+
+/// What a call is answered.
+#[derive(Clone, Copy, Debug, PartialEq, Eq)]
+pub enum Answer {
+    /// The socket stands at this descriptor, from 3 to 66.
+    Opened(u32),
+    /// Somebody holds the address.
+    InUse,
+    /// The caller has as many descriptors as it may have.
+    TooMany,
+    /// The address may not be opened.
+    Denied,
+    /// The kernel has no memory.
+    NoMemory,
+    /// The call has had its effect.
+    Fine,
+    /// The worker is started.
+    Forked,
+    /// No process can be started now.
+    Again,
+    /// The worker is ready.
+    IsReady,
+    /// The worker is gone.
+    Gone,
+    /// The worker did not get ready, or did not end, in time.
+    Late,
+    /// These workers are ready.
+    Counted(Numbers),
+    /// The master that should make the call is gone.
+    MasterGone,
+}
+
+/// How a pattern makes a call fail.
+#[derive(Clone, Copy, Debug, PartialEq, Eq)]
+pub enum Fate {
+    InUse,
+    TooMany,
+    Denied,
+    NoMemory,
+    Again,
+    Late,
+    NoImage,
+    Refused,
+    IoFault,
+}
+
+/// What an edge of a plan tells apart of an answer.
+#[derive(Clone, Copy, Debug, PartialEq, Eq)]
+pub enum Reply {
+    Opened,
+    InUse,
+    TooMany,
+    Denied,
+    NoMemory,
+    Fine,
+    Forked,
+    Again,
+    IsReady,
+    Gone,
+    Late,
+    /// A census that has every number of its step's set.
+    Full,
+    /// A census that lacks a number of its step's set.
+    Short,
+    MasterGone,
+}

@@ -1,0 +1,48 @@
+//! The words of a plan.
+use crate::Call;
+use listener_set::Generation;
+
+/// The service that ran before, or the one that the plan is to reach.
+#[derive(Clone, Copy, Debug, PartialEq, Eq)]
+pub enum Side {
+    Old,
+    Target,
+}
+
+/// How a plan ends.
+#[derive(Clone, Copy, Debug, PartialEq, Eq)]
+pub enum End {
+    /// The target's service runs.
+    Done,
+    /// The old service runs.
+    RolledBack,
+    /// The old service runs, less what the last census lacked.
+    ShortOld,
+    /// The target's service runs, less what the last census lacked.
+    ShortTarget,
+}
+
+/// Where the reigning master's pid file stands.
+#[derive(Clone, Copy, Debug, PartialEq, Eq)]
+pub enum PidNote {
+    /// At its path, and no file with the suffix `.oldbin` is there.
+    InPlace,
+    /// At its path with the suffix `.oldbin`.
+    AtOldbin,
+    /// At its path, and a file with the suffix is there too.
+    OldbinLeft,
+    /// A file is there, and no master.
+    Left,
+    /// There is none.
+    NoFile,
+}
+
+/// What a step asks for. The steps of a settle name their worker when they run: the lowest
+/// number that the last census lacked.
+#[derive(Clone, Copy, Debug, PartialEq, Eq)]
+pub enum Order {
+    Make(Call),
+    ForkLacking(Generation),
+    AwaitLacking(Generation),
+    KillLacking(Generation),
+}

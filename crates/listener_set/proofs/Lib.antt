@@ -1,0 +1,13 @@
+pub mod Rising
+pub mod NumberBits
+pub mod NumberSets
+pub mod NumberSearch
+pub mod DescriptorSlots
+pub mod DescriptorPairs
+pub mod NumberTextLemmas
+pub mod AddressParts
+pub mod AddressLaws
+pub mod AddressGrammar
+pub mod AddressLists
+pub mod PathTexts
+pub mod ShortTexts

@@ -1,0 +1,12 @@
+use Rattle.std.proofs.Common.{rules, tests}
+use Rattle.std.proofs.lemmas.Iterator.Search.{all_from_yields_List}
+use Rattle.std.proofs.lemmas.Iterator.Splits.{YieldsList-from_slice_split}
+use Rattle.listener_set.specs.AddressText.{is_dot}
+use Rattle.listener_set.specs.NumberText.{is_within}
+use Rattle.listener_set.proofs.address.are_octets.Goals as goal
+
+pub returns : goal.returns
+returns c =
+    all_from_yields_List (is_within 0 255) _ _ _ c.all.ensures.ran
+    (YieldsList-from_slice_split _ is_dot c.args.host.now c.split.ensures.rest c.split.ensures.done c.split.ensures.closure (λ x b q k. search (rules, tests)))
+    (λ x b q k. search (rules, tests))

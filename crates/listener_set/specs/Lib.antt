@@ -1,0 +1,13 @@
+pub mod Numbers
+pub mod NumberWords
+pub mod NumberWordsLemmas
+pub mod NumberText
+pub mod ShortText
+pub mod ShortTextLemmas
+pub mod AddressText
+pub mod PathText
+pub mod AddressList
+pub mod AddressListLemmas
+pub mod Descriptors
+pub mod DescriptorLemmas
+pub mod Codes

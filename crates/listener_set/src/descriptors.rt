@@ -1,0 +1,183 @@
+//! The descriptors of a process.
+ghost use Rattle.std.specs.Prelude.{◌≡◌, ◌≤◌, ◌↔◌, [], length, IsTrue, IsErr, IsNone, None, is_none, position, OnErr, IfOk, IfSome, OnSome};
+ghost use Rattle.listener_set.specs.Descriptors.{lowest_free, descriptors_of, put_pair, socket_of, without_descriptor, pair_from, IsDescriptor, AreDescriptors};
+
+use std::marker::Model;
+use thiserror::Error;
+
+/// The lowest descriptor of a listener.
+pub const FIRST_DESCRIPTOR: u32 = 3;
+
+/// The most listeners of a process: its descriptors are 3 to 66.
+pub const MOST_DESCRIPTORS: usize = 64;
+
+const PAST_DESCRIPTORS: u32 = FIRST_DESCRIPTOR + MOST_DESCRIPTORS as u32;
+
+/// No descriptor is free.
+#[derive(Clone, Copy, Debug, PartialEq, Eq, Error)]
+#[error("each of the 64 descriptors is taken")]
+pub struct Full;
+
+/// The sockets that a process holds under the descriptors 3 to 66, as pairs of a descriptor and a
+/// socket number in ascending descriptors.
+#[derive(Clone, Copy, Debug)]
+pub struct DescriptorTable {
+    slots: [Option<u32>; MOST_DESCRIPTORS],
+}
+
+impl Model for DescriptorTable {
+    ghost use Rattle.std.specs.Prelude.{◌≡◌, ℕ, List, length};
+    ghost use Rattle.listener_set.specs.Descriptors.{pairs_of, slots_of};
+    ghost use Rattle.listener_set.specs.DescriptorLemmas.{slots_of-pairs_of};
+
+    ghost Value = { List (ℕ × ℕ) };
+
+    ghost view = { λ a. pairs_of 3 a.slots };
+
+    ghost invariant = { λ a. length a.slots ≡ 64 };
+
+    ghost inverse = { λ pairs. record { slots = slots_of pairs } };
+
+    ghost inverse_ok = { λ a h i. record { slots = slots_of-pairs_of a.slots h i } };
+}
+
+/// The first place without a socket.
+fn first_empty(slots: &[Option<u32>]) -> Option<usize>
+    ensures { result ≡ position is_none slots.now }
+{
+    slots.iter().position(|slot| slot.is_none())
+}
+
+impl Default for DescriptorTable {
+    ghost is_default = { λ table. table ≡ [] };
+
+    fn default() -> Self {
+        Self::new()
+    }
+}
+
+impl DescriptorTable {
+    /// No descriptors.
+    pub fn new() -> Self
+        ensures { result ≡ [] }
+    {
+        DescriptorTable {
+            slots: [None; MOST_DESCRIPTORS],
+        }
+    }
+
+    /// How many descriptors have a socket.
+    pub fn len(&self) -> usize
+        ensures count { result ≡ length self.now }
+        ensures most { length self.now ≤ MOST_DESCRIPTORS }
+        ensures descriptors { AreDescriptors self.now }
+    {
+        self.slots.iter().filter(|slot| slot.is_some()).count()
+    }
+
+    /// Whether no descriptor has a socket.
+    pub fn is_empty(&self) -> bool
+        ensures { IsTrue result ↔ (self.now ≡ []) }
+    {
+        self.len() == 0
+    }
+
+    /// The socket under a descriptor, if there is one.
+    pub fn get(&self, descriptor: u32) -> Option<u32>
+        ensures socket { result ≡ socket_of self.now descriptor }
+        ensures within { OnSome result (IsDescriptor descriptor) }
+        ensures descriptors { AreDescriptors self.now }
+    {
+        let _ = &self.slots;
+        let place = descriptor.checked_sub(FIRST_DESCRIPTOR)?;
+        *self.slots.get(place as usize)?
+    }
+
+    /// The lowest descriptor without a socket.
+    fn lowest_free(&self) -> Option<u32>
+        ensures lowest { IfSome result (λ fd. fd ≡ lowest_free (descriptors_of self.now)) }
+        ensures within { IfSome result IsDescriptor }
+        ensures free { IfSome result (λ fd. socket_of self.now fd ≡ None) }
+        ensures full { IsNone result ↔ (length self.now ≡ MOST_DESCRIPTORS) }
+    {
+        let place = first_empty(&self.slots)?;
+        Some(FIRST_DESCRIPTOR + place as u32)
+    }
+
+    /// Puts a socket under the lowest free descriptor, as POSIX has it, and gives that descriptor.
+    /// `Full` where each of the 64 has a socket.
+    pub fn put(&mut self, socket: u32) -> Result<u32, Full>
+        ensures lowest { IfOk result (λ fd. fd ≡ lowest_free (descriptors_of self.old)) }
+        ensures within { IfOk result IsDescriptor }
+        ensures after { IfOk result (λ fd. self.new ≡ put_pair self.old fd socket) }
+        ensures full { IsErr result ↔ (length self.old ≡ MOST_DESCRIPTORS) }
+        ensures err { OnErr result (self.new ≡ self.old) }
+    {
+        let descriptor = self.lowest_free().ok_or(Full)?;
+        self.slots[(descriptor - FIRST_DESCRIPTOR) as usize] = Some(socket);
+        Ok(descriptor)
+    }
+
+    /// Takes a descriptor out, and gives its socket, if there was one.
+    pub fn take(&mut self, descriptor: u32) -> Option<u32>
+        ensures socket { result ≡ socket_of self.old descriptor }
+        ensures after { self.new ≡ without_descriptor self.old descriptor }
+    {
+        let socket = self.get(descriptor)?;
+        self.slots[(descriptor - FIRST_DESCRIPTOR) as usize] = None;
+        Some(socket)
+    }
+
+    /// The lowest descriptor with a socket that is at least `bound`, with its socket.
+    pub fn next_from(&self, bound: u32) -> Option<(u32, u32)>
+        ensures lowest { result ≡ pair_from bound self.now }
+        ensures descriptors { AreDescriptors self.now }
+    {
+        let _ = &self.slots;
+        for descriptor in bound..PAST_DESCRIPTORS {
+            if let Some(socket) = self.get(descriptor) {
+                return Some((descriptor, socket));
+            }
+        }
+        None
+    }
+
+    /// The descriptors with their sockets, upwards.
+    pub fn iter(&self) -> Pairs
+        ensures pairs { result ≡ self.now }
+        ensures descriptors { AreDescriptors self.now }
+    {
+        let _ = &self.slots;
+        Pairs { rest: *self }
+    }
+}
+
+/// The descriptors with their sockets that are still to come, upwards.
+#[derive(Clone, Debug, Drop)]
+pub struct Pairs {
+    rest: DescriptorTable,
+}
+
+impl Model for Pairs {
+    ghost use Rattle.std.specs.Prelude.{List, ℕ};
+
+    ghost Value = { List (ℕ × ℕ) };
+
+    ghost view = { λ s. s.rest };
+}
+
+impl Iterator for Pairs {
+    type Item = (u32, u32);
+
+    ghost use Rattle.std.specs.Iterator.{YieldsFirst, item_count};
+
+    ghost next_gives = { YieldsFirst (λ s. s) };
+
+    ghost remaining = { item_count (λ s. s) };
+
+    fn next(&mut self) -> Option<(u32, u32)> {
+        let pair = self.rest.next_from(FIRST_DESCRIPTOR)?;
+        let _ = self.rest.take(pair.0);
+        Some(pair)
+    }
+}

@@ -1,0 +1,23 @@
+//! Addresses, listeners, descriptors, worker numbers and generations: values of fixed size, whose
+//! calls take no memory.
+#![tactic(auto)]
+
+mod address;
+mod descriptors;
+mod file_path;
+mod generation;
+mod listeners;
+mod number_text;
+mod numbers;
+mod short_text;
+
+pub use address::{ADDRESS_BYTES, Address, AddressRefusal};
+pub use descriptors::{DescriptorTable, FIRST_DESCRIPTOR, Full, MOST_DESCRIPTORS, Pairs};
+pub use file_path::{BadFile, FILE_PATH_BYTES, FilePath};
+pub use generation::Generation;
+pub use listeners::{ListenerRefusal, ListenerSet, MOST_LISTENERS};
+pub use number_text::{read_number, read_number64};
+pub use numbers::{Members, Numbers, WORKER_LIMIT};
+
+#[cfg(test)]
+mod tests;
