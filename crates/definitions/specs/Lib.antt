@@ -8,5 +8,7 @@ pub mod Record
 pub mod Tree
 pub mod Plans
 pub mod Path
+pub mod Target
 pub mod Run
 pub mod After
+pub mod Claims

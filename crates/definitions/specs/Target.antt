@@ -1,0 +1,45 @@
+-- The service that a target wants.
+use Rattle.std.specs.Prelude.{ℕ, ◌+◌, List, [], length}
+use Rattle.definitions.specs.Table.{Address, Generation}
+use Rattle.definitions.specs.Service.{Service, uniform}
+use Rattle.definitions.specs.Record.{Record, addresses_of}
+pub use Rattle.definitions.specs.declared.targets.Target.{Target}
+pub use Rattle.definitions.specs.declared.targets.Target.TheVariants.{Workers, Mend, Reopen, Reload, Upgrade, Stop}
+
+-- A reload's workers are of the next configuration; an upgrade's are of the next image too.
+abbrev pub reload_generation : Generation → Generation
+reload_generation g = record { image = g.image; config = g.config + 1 }
+
+abbrev pub upgrade_generation : Generation → Generation
+upgrade_generation g = record { image = g.image + 1; config = g.config + 1 }
+
+---- The service that is wanted
+
+abbrev pub addresses_wanted : Record → Target → List Address
+addresses_wanted r (Workers n) = addresses_of r
+addresses_wanted r (Mend overdue) = addresses_of r
+addresses_wanted r Reopen = addresses_of r
+addresses_wanted r (Reload s) = s.listeners
+addresses_wanted r (Upgrade s) = s.listeners
+addresses_wanted r (Stop quick) = []
+
+abbrev pub generation_wanted : Record → Target → Generation
+generation_wanted r (Workers n) = r.generation
+generation_wanted r (Mend overdue) = r.generation
+generation_wanted r Reopen = r.generation
+generation_wanted r (Reload s) = reload_generation r.generation
+generation_wanted r (Upgrade s) = upgrade_generation r.generation
+generation_wanted r (Stop quick) = r.generation
+
+-- A reopening wants as many workers as there are.
+abbrev pub count_wanted : Record → Target → ℕ
+count_wanted r (Workers n) = n
+count_wanted r (Mend overdue) = r.wanted
+count_wanted r Reopen = length r.ready
+count_wanted r (Reload s) = s.workers
+count_wanted r (Upgrade s) = s.workers
+count_wanted r (Stop quick) = 0
+
+-- The service that a target wants: so many workers of one generation at each of its addresses.
+abbrev pub want : Record → Target → Service
+want r target = uniform (addresses_wanted r target) (generation_wanted r target) (count_wanted r target)

@@ -1,0 +1,143 @@
+-- What the last census says of the service, and of the record that is left.
+use Rattle.std.proofs.Common.{◌≡◌, ℕ, ◌+◌, ◌<◌, ◌≤◌, Bool, true, false, List, [], ◌∷◌, length, Some, None, ⊎_elim, refl, sym, ap, ◌∙◌, subst, arith}
+use Rattle.std.specs.Prelude.{nat_le, is_some, map, ◌&&◌, ◌||◌, ◌==◌, if◌then◌else◌, bytes_eq, count_by, Option}
+use Rattle.std.specs.List.{AllByRecursion, list_any}
+use Rattle.std.proofs.lemmas.Bool.Decides.{nat_tests}
+use Rattle.listener_set.specs.Numbers.{is_in, first_from}
+use Rattle.listener_set.specs.declared.generation.Generation.{Generation}
+use Rattle.definitions.specs.Table.{Address, same_generation, Hold, Process, Master, Worker, Foreign, Table, File, FilePath, is_worker, is_ready, has_address}
+use Rattle.definitions.specs.Service.{is_live_with, is_serving, service, uniform, IsSame}
+use Rattle.definitions.specs.declared.table.Stance.TheVariants.{Starting, Ready, Draining, Exited}
+use Rattle.definitions.specs.declared.plans.PidNote.{PidNote}
+use Rattle.definitions.specs.declared.table.Listener.{Listener}
+use Rattle.definitions.specs.Record.{Record, IsRecord, Agrees, FilesAre, addresses_of}
+use Rattle.definitions.specs.declared.targets.Target.{Target}
+use Rattle.listener_set.specs.AddressList.{has}
+use Rattle.definitions.specs.After.{Setup, setup_after, recorded, record_from, record_if, keeps_rules}
+use Rattle.definitions.specs.Run.{Ending, Progress, outcome_of}
+use Rattle.definitions.specs.declared.reports.Report.{Report}
+use Rattle.definitions.specs.Claims.{IsStart, IsFewer, AgreesAfter, is_ready_with, ready_with}
+use Rattle.theorems.proofs.Rows.{one, one-le, weigh, weigh-le, count-weigh, both-true, and-left, and-right}
+use Rattle.theorems.proofs.Views.{Names, named, View, Fine, Looks, ready_in, eqb-refl}
+use Rattle.theorems.proofs.Effects.{none, same-is, bears-is}
+use Rattle.theorems.proofs.Sets.{in-here, in-there}
+use Rattle.theorems.proofs.Services.{Sole, live-with, sole-fine, service-is, served-uniform, served-fewer, fewer-same}
+use Rattle.theorems.proofs.Begins.{first_view, begin, begin-count}
+use Rattle.theorems.proofs.Small.{map-addresses, or-elim}
+use Rattle.theorems.proofs.Rules.{view, Only, Still}
+
+---- The service
+
+-- Of a master alone, whose Ready workers are of one generation and a set and hold what it holds.
+module _ (v : View) (sole : Sole v) (g : Generation) (S : List ℕ) (addresses : List Address) (same : v.held g ≡ v.holds) (keys : (a : Address) → has_address a v.holds ≡ has addresses a) where
+  -- So many of the set are Ready.
+  pub service-of : (r : Names) (n : ℕ) (t : Table) → Only g S r → Looks (view v none r) t.rows → weigh (ready_in v.number (named g (is_in S))) t.rows ≡ n → IsSame (service t) (uniform addresses g n)
+  service-of r n t only looks count a = service-is (view v none r) sole g S n t same only looks count a ∙ served-uniform v.holds addresses g n keys a
+
+  -- So many are lacking of all.
+  pub service-short : (r : Names) (n m : ℕ) (t : Table) → Only g S r → Looks (view v none r) t.rows → weigh (ready_in v.number (named g (is_in S))) t.rows + m ≡ n → IsFewer m (uniform addresses g n) (service t)
+  service-short r n m t only looks count =
+      let k : ℕ = weigh (ready_in v.number (named g (is_in S))) t.rows in
+      fewer-same m _ _ _ _ (served-uniform v.holds addresses g n keys) (λ a. sym (service-is (view v none r) sole g S k t same only looks refl a)) (served-fewer v.holds g n k m (sym count))
+
+---- The first table
+
+held-map : (a : Address) (hs : List Hold) → has_address a hs ≡ has (map (λ h. h.address) hs) a
+held-map a [] = refl
+held-map a (h ∷ hs) = ap (λ b. bytes_eq h.address a || b) (held-map a hs)
+
+pub first-keys : (t : Table) (r : Record) (s : IsStart t r) → (a : Address) → has_address a s.agrees.holds ≡ has (addresses_of r) a
+first-keys t r s a = held-map a s.agrees.holds ∙ ap (λ l. has l a) (sym (map-addresses s.agrees.holds) ∙ ap (map (λ (l : Listener). l.address)) s.agrees.listeners)
+
+first-only : (t : Table) (r : Record) (s : IsStart t r) → Only r.generation r.ready (first_view r s.agrees.holds).ready
+first-only t r s h k e = (same-is h r.generation (and-left _ _ e), and-right (same_generation h r.generation) _ e)
+
+pub first-service : (t : Table) (r : Record) (s : IsStart t r) → IsSame (service t) (uniform (addresses_of r) r.generation (length r.ready))
+first-service t r s =
+    let u = first_view r s.agrees.holds in
+    service-of u (λ n. refl) r.generation r.ready (addresses_of r) refl (first-keys t r s) u.ready (length r.ready) t (first-only t r s) (begin t r s) (begin-count t r s)
+
+-- The keys of its service are what the master holds.
+pub first-held : (t : Table) (r : Record) (s : IsStart t r) (a : Address) → is_some (service t a) ≡ true → has_address a s.agrees.holds ≡ true
+first-held t r s a e = sym (live-with (first_view r s.agrees.holds) (λ n. refl) (has_address a) t.rows (begin t r s)) ∙ go (list_any (is_live_with (has_address a)) t.rows) e
+  where
+    go : (b : Bool) → is_some {T = Generation → ℕ} (if b then Some (λ h. count_by (is_serving a h) t.rows) else None) ≡ true → b ≡ true
+    go true e = refl
+    go false e = e
+
+few-row : (v : View) (g : Generation) (S : List ℕ) (a : Address) → Only g S v.ready → (p : Process) → Fine v p → one (is_ready_with a p) ≤ ready_in v.number (named g (is_in S)) p
+few-row v g S a only (Master n q i live hs) h = omega arith
+few-row v g S a only (Worker n q g' k Starting hs) h = omega arith
+few-row v g S a only (Worker n q g' k Ready hs) h =
+    let o = only g' k h.1.0 in
+    let same : same_generation g' g ≡ true = subst (λ f. same_generation f g ≡ true) (sym o.0) (both-true (g.image == g.image) (g.config == g.config) (eqb-refl _ _ refl) (eqb-refl _ _ refl)) in
+    let all : one ((q == v.number) && (same_generation g' g && is_in S k)) ≡ 1 = ap one (both-true (q == v.number) (same_generation g' g && is_in S k) (eqb-refl q v.number h.0) (both-true (same_generation g' g) (is_in S k) same o.1)) in
+    omega (arith, all, one-le (has_address a hs))
+few-row v g S a only (Worker n q g' k Draining hs) h = omega arith
+few-row v g S a only (Worker n q g' k Exited hs) h = omega arith
+few-row v g S a only (Foreign n hs) h = omega arith
+
+-- No address has more Ready workers at first than the record has ready numbers.
+pub first-few : (t : Table) (r : Record) (s : IsStart t r) (a : Address) → ready_with a t ≤ length r.ready
+first-few t r s a =
+    let u = first_view r s.agrees.holds in
+    let looks = begin t r s in
+    omega (arith, count-weigh (is_ready_with a) t.rows, begin-count t r s, weigh-le (Fine u) (λ p. one (is_ready_with a p)) (ready_in u.number (named r.generation (is_in r.ready))) (few-row u r.generation r.ready a (first-only t r s)) t.rows (sole-fine u (λ n. refl) t.rows looks.fine))
+
+---- The record that is left
+
+-- A name that is Ready is one of those that may be.
+ready-row : (v : View) (g : Generation) (k : ℕ) (p : Process) → Fine v p → is_worker is_ready v.number g k p ≡ true → v.ready g k ≡ true
+ready-row v g k (Master n q i live hs) f e = absurd (cc e)
+ready-row v g k (Worker n q h j Starting hs) f e = absurd (cc e)
+ready-row v g k (Worker n q h j Ready hs) f e =
+    let is = bears-is g k h j (and-right (q == v.number) _ e) in
+    subst (λ y. v.ready g y ≡ true) is.1 (subst (λ x. v.ready x j ≡ true) is.0 f.1.0)
+ready-row v g k (Worker n q h j Draining hs) f e = absurd (cc e)
+ready-row v g k (Worker n q h j Exited hs) f e = absurd (cc e)
+ready-row v g k (Foreign n hs) f e = absurd (cc e)
+
+ready-any : (v : View) (g : Generation) (k : ℕ) (rows : List Process) → AllByRecursion (Fine v) rows → list_any (is_worker is_ready v.number g k) rows ≡ true → v.ready g k ≡ true
+ready-any v g k [] fine e = absurd (cc)
+ready-any v g k (p ∷ rows) fine e = ⊎_elim (λ a. ready-row v g k p fine.0 a) (λ a. ready-any v g k rows fine.1 a) (or-elim (is_worker is_ready v.number g k p) (list_any (is_worker is_ready v.number g k) rows) e)
+
+pub census-within : (v : View) (sole : Sole v) (g : Generation) (S : List ℕ) (r : Names) (rows : List Process) (ready : List ℕ) → Only g S r → Looks (view v none r) rows → ((k : ℕ) → list_any (is_worker is_ready v.number g k) rows ≡ is_in ready k) → (k : ℕ) → is_in ready k ≡ true → is_in S k ≡ true
+census-within v sole g S r rows ready only looks exact k e = (only g k (ready-any (view v none r) g k rows (sole-fine (view v none r) sole rows looks.fine) (exact k ∙ e))).1
+
+pub files-still : (note note_now : PidNote) (path : Option FilePath) (pid : ℕ) (files files_now : List File) → FilesAre note path pid files → Still files note files_now note_now → FilesAre note_now path pid files_now
+files-still note note_now path pid files files_now are still = subst (λ x. FilesAre x path pid files_now) (sym still.note_stays) (subst (λ x. FilesAre note path pid x) (sym still.files_stay) are)
+
+all-below : (wanted : ℕ) (ks : List ℕ) → ((k : ℕ) → is_in ks k ≡ true → k < wanted) → (first_from wanted ks ≡ None) × AllByRecursion (λ k. k < wanted) ks
+all-below wanted [] h = (refl, tt)
+all-below wanted (x ∷ ks) h =
+    let rest = all-below wanted ks (λ k e. h k (in-there x k ks e)) in
+    let lt = h x (in-here x x ks refl) in
+    let off : nat_le wanted x ≡ false = grind (arith, nat_tests) in
+    (rw off rest.0, (lt, rest.1))
+
+-- A service with that many workers, and all else as it was.
+abbrev pub resized : Record → ℕ → Setup
+resized r wanted = record { listeners = r.listeners; generation = r.generation; wanted = wanted; retries = r.retries; timeout = r.timeout }
+
+keeps : (r : Record) → 1 ≤ length r.listeners → r.wanted ≤ 1024 → first_from r.wanted r.ready ≡ None → 1 ≤ r.pid → keeps_rules r ≡ true
+keeps r listens most none_above pid =
+    let a : nat_le 1 (length r.listeners) ≡ true = grind (arith, nat_tests) in
+    let b : nat_le r.wanted 1024 ≡ true = grind (arith, nat_tests) in
+    let c : nat_le 1 r.pid ≡ true = grind (arith, nat_tests) in
+    rw (a, b, c, none_above)
+
+-- A record that keeps all but its count, its ready numbers and its note.
+pub kept-after : (r : Record) (target : Target) (report : Report) (t : Table) (wanted : ℕ) → setup_after report.outcome r target ≡ Some (resized r wanted) → IsRecord r → wanted ≤ 1024 → ((k : ℕ) → is_in report.ready k ≡ true → k < wanted) → Agrees t (recorded (resized r wanted) r.pid_path report r.pid) → AgreesAfter r target report r.pid t
+kept-after r target report t wanted is range most below agrees =
+    let all = all-below wanted report.ready below in
+    let next = recorded (resized r wanted) r.pid_path report r.pid in
+    record {
+      record_then = next;
+      is = ap (λ o. record_from o r.pid_path report r.pid) is ∙ ap (λ b. record_if b next) (keeps next range.listens most all.0 range.pid);
+      agrees = agrees;
+      record_in_range = record { listens = range.listens; wanted = most; ready = all.1; retries = range.retries; timeout_least = range.timeout_least; timeout_most = range.timeout_most; pid_path = range.pid_path; pid = range.pid };
+    }
+
+-- What is reported where a run ends so.
+abbrev pub report_at : Ending → Progress → Report
+report_at e q = record { outcome = outcome_of e q.lacking; cause = q.cause; note = q.note; ready = q.ready }

@@ -1,0 +1,57 @@
+-- Worked examples, by computation; and a table that meets the premises.
+use Rattle.std.proofs.Common.{◌≡◌, ℕ, ◌+◌, ◌≤◌, Bool, true, false, refl, sym, subst, arith}
+use Rattle.std.specs.Prelude.{◌&&◌, ◌==◌, count_by}
+use Rattle.std.proofs.lemmas.Bool.Decides.{nat_tests}
+use Rattle.listener_set.specs.declared.generation.Generation.{Generation}
+use Rattle.definitions.specs.Table.{same_generation, is_worker, is_active}
+use Rattle.definitions.specs.Calls.{census_of}
+use Rattle.theorems.specs.Examples.{two_workers, first_generation, holds, WorkersExamples, HasStart}
+use Rattle.theorems.proofs.Rows.{one, count-weigh}
+
+pub workers_examples : WorkersExamples
+unfolding census_of
+workers_examples = record { one_more = (refl, refl); one_more_refused = (refl, refl); one_more_short = (refl, refl); one_more_repaired = (refl, refl); one_less = (refl, refl); none_left = (refl, refl) }
+
+at-most : (x s a b : Bool) → (a ≡ true → b ≡ false) → one (x && (s && a)) + (one (x && (s && b)) + 0) ≤ 1
+at-most true true true true h = absurd (cc (h refl))
+at-most true true true false h = omega arith
+at-most true true false true h = omega arith
+at-most true true false false h = omega arith
+at-most true false a b h = omega arith
+at-most false s a b h = omega arith
+
+apart : (k : ℕ) → (0 == k) ≡ true → (1 == k) ≡ false
+apart k e = grind (arith, nat_tests)
+
+once : (q : ℕ) (h : Generation) (k : ℕ) → count_by (is_worker is_active q h k) two_workers.rows ≤ 1
+once q h k = subst (λ n. n ≤ 1) (sym (count-weigh (is_worker is_active q h k) two_workers.rows)) (omega (arith, at-most (100 == q) (same_generation first_generation h) (0 == k) (1 == k) (apart k)))
+
+pub has_start : HasStart
+has_start = record {
+  formed = record {
+    once = once;
+    quiet = (tt, (tt, (tt, tt)));
+    parents = (tt, (refl, (refl, tt)));
+    ascending = (omega arith, (omega arith, (omega arith, omega arith)));
+  };
+  agrees = record {
+    holds = holds;
+    lives = refl;
+    alone = refl;
+    listeners = refl;
+    running = (tt, ((λ e. (refl, refl)), ((λ e. (refl, refl)), tt)));
+    ready = λ k. refl;
+    files = (refl, refl);
+  };
+  record_in_range = record {
+    listens = omega arith;
+    wanted = omega arith;
+    ready = (omega arith, (omega arith, tt));
+    retries = omega arith;
+    timeout_least = omega arith;
+    timeout_most = omega arith;
+    pid_path = omega arith;
+    pid = omega arith;
+  };
+  rising = (omega arith, (omega arith, tt));
+}

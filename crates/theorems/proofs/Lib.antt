@@ -1,0 +1,16 @@
+pub mod Rows
+pub mod Views
+pub mod Exits
+pub mod Effects
+pub mod Counts
+pub mod Sets
+pub mod Small
+pub mod Services
+pub mod Begins
+pub mod After
+pub mod Logic
+pub mod Heights
+pub mod Rules
+pub mod Ends
+pub mod Workers
+pub mod Examples

@@ -1,0 +1,553 @@
+-- A rule for each piece of a plan of one master.
+use Rattle.std.proofs.Common.{◌≡◌, ℕ, zero, suc, ◌+◌, ◌<◌, ◌≤◌, Bool, true, false, cond, not, List, [], ◌∷◌, ◌++◌, length, Option, Some, None, refl, sym, ap, ◌∙◌, subst, arith, ◌⊎◌, inl, inr, ⊎_elim}
+use Rattle.std.specs.List.{filter_map, AllByRecursion, list_any}
+use Rattle.std.specs.Prelude.{filter, ◌&&◌, ◌||◌, ◌==◌, ⊤, is_some}
+use Rattle.definitions.specs.Table.{same_generation, Hold, Process, Master, Worker, Foreign, File, Table, bears, Caller, with_rows, is_worker, is_active, is_ready, is_starting, is_exited, is_any}
+use Rattle.definitions.specs.declared.table.Stance.TheVariants.{Starting}
+use Rattle.listener_set.specs.declared.generation.Generation.{Generation}
+use Rattle.definitions.specs.Calls.{Stepped, gives, step_by, own_step, with_new_row, each_row, is_exited_of, dropped, made_ready, made_draining, census_of}
+use Rattle.definitions.specs.declared.calls.Fate.{Fate}
+use Rattle.definitions.specs.declared.names.Name.{Name}
+use Rattle.definitions.specs.Exits.{is_active_worker, change, losses_of, all_exited}
+use Rattle.definitions.specs.declared.calls.Call.TheVariants.{Fork, AwaitReady, Quit, Kill, Census}
+use Rattle.definitions.specs.declared.calls.Answer.TheVariants.{Forked, IsReady, Again, NoMemory, Gone, Late}
+use Rattle.definitions.specs.Tree.{Tree, Branches, Ends, Does, full_or_short, lowest, call_of, reply_of}
+use Rattle.listener_set.specs.Numbers.{is_in, lacks}
+use Rattle.definitions.specs.Plans.{fork_edges, await_edges, then_edge, census_edges, does, census, forks, awaits, starts, quits, settle, round, full_end, short_end, await_any_edges}
+use Rattle.definitions.specs.declared.plans.Side.{Side}
+use Rattle.definitions.specs.declared.plans.Order.{Order}
+use Rattle.definitions.specs.declared.plans.Order.TheVariants.{Make, ForkLacking, AwaitLacking, KillLacking}
+use Rattle.definitions.specs.declared.calls.Reply.{Reply}
+use Rattle.definitions.specs.declared.plans.PidNote.{PidNote}
+use Rattle.definitions.specs.Claims.{names_master}
+use Rattle.definitions.specs.declared.calls.Reply.TheVariants as reply
+use Rattle.definitions.specs.Run.{Pattern, Progress, after_moment, after_call, Ending, At}
+use Rattle.definitions.specs.Path.{went_wrong, first_cause}
+use Rattle.theorems.proofs.Rows.{one, weigh, weigh-le-all, count-weigh, and-left, and-right, both-true}
+use Rattle.theorems.proofs.Views.{Names, named, View, Looks, live_any, ready_in, finds, eqb-is}
+use Rattle.theorems.proofs.Exits.{shrinks}
+use Rattle.theorems.proofs.Effects.{Mine, mine-worker, mine-exited, StaysOther, ready-stays, draining-stays, none, looks-allows, fork-looks, fork-weigh, await-looks, await-gains, gone-looks, gone-weigh, kill-looks, kill-weigh, quit-looks, quit-weigh, bears-is, bears-refl, same-refl}
+use Rattle.theorems.proofs.Counts.{census-looks, census-weigh, census-in, count-set, Distinct}
+use Rattle.theorems.proofs.Sets.{in-here, in-there, in-cases}
+use Rattle.theorems.proofs.After.{census-exact}
+use Rattle.theorems.proofs.Logic.{Exiting, Sparing, Along, Behind, fork-cases, await-cases, unfailing}
+
+-- the view with these names
+abbrev pub view : View → Names → Names → View
+view u s r = record { number = u.number; others = u.others; image = u.image; holds = u.holds; starting = s; ready = r; held = u.held }
+
+abbrev pub any : Names
+any g k = true
+
+abbrev pub plus : Names → Generation → ℕ → Names
+plus r g x h k = r h k || bears g x h k
+
+abbrev pub minus : Names → Generation → ℕ → Names
+minus r g x h k = r h k && not (bears g x h k)
+
+abbrev pub seen : Names → Generation → List ℕ → Names
+seen r g cs h k = r h k && (is_in cs k || not (same_generation h g))
+
+abbrev pub ready_of : View → Names → Progress → ℕ
+ready_of u t p = weigh (ready_in u.number t) p.table.rows
+
+sub-one : (a b d e : Bool) → (d ≡ true → e ≡ true) → one (a && (b && d)) ≤ one (a && (b && e))
+sub-one true true true e h = omega (arith, ap one (h refl))
+sub-one true true false e h = omega arith
+sub-one true false d e h = omega arith
+sub-one false b d e h = omega arith
+
+abbrev pub Sub : Names → Names → Type 0
+Sub t t' = (g : Generation) (k : ℕ) → t g k ≡ true → t' g k ≡ true
+
+sub-row : (m : ℕ) (t t' : Names) → Sub t t' → (p : Process) → ready_in m t p ≤ ready_in m t' p
+sub-row m t t' sub (Master n q i live hs) = omega arith
+sub-row m t t' sub (Worker n q g k st hs) = sub-one (is_ready st) (q == m) (t g k) (t' g k) (sub g k)
+sub-row m t t' sub (Foreign n hs) = omega arith
+
+pub weigh-sub : (m : ℕ) (t t' : Names) → Sub t t' → (rows : List Process) → weigh (ready_in m t) rows ≤ weigh (ready_in m t') rows
+weigh-sub m t t' sub rows = weigh-le-all (ready_in m t) (ready_in m t') (sub-row m t t' sub) rows
+
+-- Ready ones only of the set and the generation
+abbrev pub Only : Generation → List ℕ → Names → Type 0
+Only g S r = (h : Generation) (k : ℕ) → r h k ≡ true → (h ≡ g) × (is_in S k ≡ true)
+
+-- r' is within r, without these numbers of the generation
+abbrev pub Less : Generation → Names → List ℕ → Names → Type 0
+Less g r ks r' = (h : Generation) (k : ℕ) → r' h k ≡ true → (r h k ≡ true) × (h ≡ g → is_in ks k ≡ false)
+
+-- the names of t, and one more
+abbrev pub also : Generation → ℕ → Names → Names
+also g x t h k = t h k || bears g x h k
+
+-- a floor of none is kept
+pub floor-by : (f x : ℕ) → (1 ≤ f → f ≤ x) → f ≤ x
+floor-by zero x h = omega arith
+floor-by (suc f) x h = h (omega arith)
+
+---- The cause
+
+-- no fault without a cause, no cause without a fault or a loss; and where `w` is true there is a cause
+pub record Marks (w : Bool) (faults losses : ℕ) (cause : Option ℕ) : Type 0 where
+  pub clean : is_some cause ≡ false → faults ≡ 0
+  pub blamed : is_some cause ≡ true → 1 ≤ faults + losses
+  pub caused : w ≡ true → is_some cause ≡ true
+
+is_some-plain : (c : Option ℕ) (n : ℕ) → is_some (first_cause c false n) ≡ is_some c
+is_some-plain None n = refl
+is_some-plain (Some k) n = refl
+
+is_some-wrong : (c : Option ℕ) (n : ℕ) → is_some (first_cause c true n) ≡ true
+is_some-wrong None n = refl
+is_some-wrong (Some k) n = refl
+
+pub marks-exits : (w : Bool) (faults losses more : ℕ) (cause : Option ℕ) → Marks w faults losses cause → Marks w faults (losses + more) cause
+marks-exits w faults losses more cause m = record { clean = m.clean; blamed = λ e. omega (arith, m.blamed e); caused = m.caused }
+
+marks-plain : (w : Bool) (faults losses n : ℕ) (cause : Option ℕ) → Marks w faults losses cause → Marks w faults losses (first_cause cause false n)
+marks-plain w faults losses n cause m = record { clean = λ e. m.clean (sym (is_some-plain cause n) ∙ e); blamed = λ e. m.blamed (sym (is_some-plain cause n) ∙ e); caused = λ e. is_some-plain cause n ∙ m.caused e }
+
+marks-wrong : (w : Bool) (faults faults' losses n : ℕ) (cause : Option ℕ) → 1 ≤ faults' + losses → Marks w faults losses cause → Marks true faults' losses (first_cause cause true n)
+marks-wrong w faults faults' losses n cause le m = record { clean = λ e. let on = is_some-wrong cause n in absurd (cc); blamed = λ e. le; caused = λ e. is_some-wrong cause n }
+
+---- What is kept beside
+
+-- What a plan's steps are proved against: the floor that is kept, the files and the note, which stay, what is known of the
+-- exits, and a fact on the rows, the losses and the faults that the calls of one master, and all mild exits, keep.
+pub record Scene (m image : ℕ) : Type 1 where
+  pub floor : ℕ
+  pub files : List File
+  pub note : PidNote
+  pub Mild : Exiting
+  pub spares : (es : List Name) (rows : List Process) → Mild es rows → names_master image es ≡ false
+  pub Holds : List Process → ℕ → ℕ → Type 0
+  pub exits : (es : List Name) (rows : List Process) (losses more faults : ℕ) → Mild es rows → more + weigh live_any (all_exited es rows) ≡ weigh live_any rows → Holds rows losses faults → Holds (all_exited es rows) (losses + more) faults
+  pub changes : (test : Process → Bool) (f : Process → Process) (rows : List Process) (losses faults : ℕ) → Mine m test × ((n : ℕ) (hs : List Hold) → test (Foreign n hs) ≡ false) → StaysOther f → Holds rows losses faults → Holds (filter_map (change test f) rows) losses faults
+  pub drops : (test : Process → Bool) (rows : List Process) (losses faults : ℕ) → Mine m test × ((n : ℕ) (hs : List Hold) → test (Foreign n hs) ≡ false) → Holds rows losses faults → Holds (filter_map (dropped test) rows) losses faults
+  pub grows : (n : ℕ) (g : Generation) (x : ℕ) (hs : List Hold) (rows : List Process) (losses faults : ℕ) → Holds rows losses faults → Holds (rows ++ Worker n m g x Starting hs ∷ []) losses faults
+  pub fails : (rows : List Process) (losses faults : ℕ) → Holds rows losses faults → Holds rows losses (faults + 1)
+
+-- Nothing is kept beside.
+abbrev pub plain_scene : (m image floor : ℕ) → List File → PidNote → Scene m image
+plain_scene m image floor files note = record {
+  floor = floor;
+  files = files;
+  note = note;
+  Mild = Sparing image;
+  spares = λ es rows h. h;
+  Holds = λ rows losses faults. ⊤;
+  exits = λ es rows losses more faults sp e h. tt;
+  changes = λ test f rows losses faults mine stays h. tt;
+  drops = λ test rows losses faults mine h. tt;
+  grows = λ n g x hs rows losses faults h. tt;
+  fails = λ rows losses faults h. tt;
+}
+
+-- The files and the note are as they were.
+pub record Still (files : List File) (note : PidNote) (files_now : List File) (note_now : PidNote) : Type 0 where
+  pub files_stay : files_now ≡ files
+  pub note_stays : note_now ≡ note
+
+-- What is known between two steps. Of `n` names in `t`, all that are not Ready were lost; and `c` more than those that are not Ready were lost or failed.
+pub record Band (u : View) (sc : Scene u.number u.image) (s r t : Names) (n c : ℕ) (w : Bool) (ls : List ℕ) (p : Progress) : Type 0 where
+  pub looks : Looks (view u s r) p.table.rows
+  pub enough : sc.floor ≤ n
+  -- asked only where there is a floor
+  pub secured : 1 ≤ sc.floor → n ≤ ready_of u t p + p.losses
+  pub budget : n + c ≤ ready_of u t p + p.losses + p.faults
+  pub lacking : p.lacking ≡ ls
+  pub marks : Marks w p.faults p.losses p.cause
+  pub still : Still sc.files sc.note p.table.files p.note
+  pub beside : sc.Holds p.table.rows p.losses p.faults
+
+pub losses-are : (es : List Name) (t : Table) → weigh live_any (all_exited es t.rows) ≤ weigh live_any t.rows → losses_of es t + weigh live_any (all_exited es t.rows) ≡ weigh live_any t.rows
+losses-are es t le = omega (arith, count-weigh is_active_worker t.rows, count-weigh is_active_worker (all_exited es t.rows))
+
+pub band-exits : (u : View) (sc : Scene u.number u.image) (s r t : Names) (n c : ℕ) (w : Bool) (ls : List ℕ) (es : List Name) (p : Progress) → sc.Mild es p.table.rows → Band u sc s r t n c w ls p → Band u sc s r t n c w ls (after_moment es p)
+band-exits u sc s r t n c w ls es p sp b =
+    let sh = shrinks (view u s r) es p.table.rows (sc.spares es p.table.rows sp) b.looks in
+    let lost = losses-are es p.table sh.fewer in
+    let falls = sh.falls t in
+    record {
+      looks = sh.looks;
+      enough = b.enough;
+      secured = λ e. omega (arith, b.secured e, falls, lost);
+      budget = omega (arith, b.budget, falls, lost);
+      lacking = b.lacking;
+      still = b.still;
+      marks = marks-exits w p.faults p.losses (losses_of es p.table) p.cause b.marks;
+      beside = sc.exits es p.table.rows p.losses (losses_of es p.table) p.faults sp lost b.beside;
+    }
+
+module _ (inv : Progress → Type 0) (post : Ending → Progress → Type 0) (pattern : Pattern) (u : View) (sc : Scene u.number u.image) (good : (t : Names) (n : ℕ) (w : Bool) (q : Progress) → sc.floor ≤ n → Looks (view u any any) q.table.rows → (1 ≤ sc.floor → n ≤ ready_of u t q + q.losses) → Marks w q.faults q.losses q.cause → inv q) where
+  pub band-inv : (s r t : Names) (n c : ℕ) (w : Bool) (ls : List ℕ) (p : Progress) → Band u sc s r t n c w ls p → inv p
+  band-inv s r t n c w ls p b = good t n w p b.enough (looks-allows (view u s r) (view u any any) (record { number = refl; others = λ n e. e; image = refl; holds = refl; starting = λ h k e. refl; ready = λ h k e. refl; held_starting = λ h k e. refl; held = λ h k e. refl }) p.table.rows b.looks) b.secured b.marks
+
+  abbrev pub Runs : Tree → Progress → Type 0
+  Runs t p = Along inv post pattern sc.Mild t p
+
+  abbrev me : Caller
+  me = record { number = u.number; holds = u.holds }
+
+  abbrev pub Edge : Branches → Reply → Progress → Type 0
+  Edge bs r p = Behind inv post pattern sc.Mild bs r p
+
+  -- what a step does with its answer
+  abbrev pub Answers : Order → List ℕ → Branches → Progress → Stepped → Type 0
+  Answers order set bs q st = Edge bs (reply_of set st.answer) (after_call order set st q)
+
+  -- a step, from what it does after the exits
+  pub rule-step : (order : Order) (set : List ℕ) (bs : Branches) (s r t : Names) (n c : ℕ) (w : Bool) (ls : List ℕ) (p : Progress) → Band u sc s r t n c w ls p → ((q : Progress) → Band u sc s r t n c w ls q → (fate : Option Fate) → Answers order set bs q (step_by (Some me) (call_of order q.lacking) fate q.table)) → Runs (Does u.image order set bs) p
+  rule-step order set bs s r t n c w ls p b h sp =
+      let moment = pattern (p.calls + 1) in
+      let middle = after_moment moment.exits p in
+      let b' = band-exits u sc s r t n c w ls moment.exits p sp b in (
+        band-inv s r t n c w ls p b,
+        band-inv s r t n c w ls middle b',
+        subst (λ (o : Option Caller). Answers order set bs middle (step_by o (call_of order middle.lacking) moment.fate middle.table)) (sym (finds (view u s r) middle.table.rows b'.looks)) (h middle b' moment.fate),
+      )
+
+  -- more names may be Starting
+  pub band-still : (s s' r t : Names) (n c : ℕ) (w : Bool) (ls : List ℕ) (p : Progress) → Sub s s' → Band u sc s r t n c w ls p → Band u sc s' r t n c w ls p
+  band-still s s' r t n c w ls p sub b = record {
+    looks = looks-allows (view u s r) (view u s' r) (record { number = refl; others = λ n e. e; image = refl; holds = refl; starting = sub; ready = λ h k e. e; held_starting = λ h k e. refl; held = λ h k e. refl }) p.table.rows b.looks;
+    enough = b.enough;
+    secured = b.secured;
+    budget = b.budget;
+    lacking = b.lacking;
+    still = b.still;
+    marks = b.marks;
+    beside = b.beside;
+  }
+
+  ---- Fork, AwaitReady, Kill
+
+  pub rule-fork : (ok bad : Tree) (g : Generation) (x : ℕ) (s r t : Names) (n c : ℕ) (w : Bool) (ls : List ℕ) (p : Progress) → u.held g ≡ u.holds → ((q : Progress) → Band u sc (plus s g x) r t n c w ls q → Runs ok q) → ((q : Progress) → Band u sc s r t n (c + 1) true ls q → Runs bad q) → Band u sc s r t n c w ls p → Runs (does u.image (Fork g x) (fork_edges ok bad)) p
+  rule-fork ok bad g x s r t n c w ls p same on_ok on_bad b =
+      let order = Make (Fork g x) in
+      let bs = fork_edges ok bad in
+      rule-step order [] bs s r t n c w ls p b (λ q b' fate.
+      fork-cases me g x fate q.table (λ st. Answers order [] bs q st)
+      (on_bad (after_call order [] (gives Again q.table) q) (record { looks = b'.looks; enough = b'.enough; secured = b'.secured; budget = omega (arith, b'.budget); lacking = b'.lacking; still = b'.still; marks = marks-wrong w q.faults (q.faults + 1) q.losses (q.calls + 1) q.cause (omega arith) b'.marks; beside = sc.fails q.table.rows q.losses q.faults b'.beside }))
+      (on_bad (after_call order [] (gives NoMemory q.table) q) (record { looks = b'.looks; enough = b'.enough; secured = b'.secured; budget = omega (arith, b'.budget); lacking = b'.lacking; still = b'.still; marks = marks-wrong w q.faults (q.faults + 1) q.losses (q.calls + 1) q.cause (omega arith) b'.marks; beside = sc.fails q.table.rows q.losses q.faults b'.beside }))
+      (λ off.
+      let k = q.table.next_process in
+      let same_weight = fork-weigh u.number g t x k u.holds q.table.rows in
+      on_ok (after_call order [] (gives Forked (with_new_row q.table (λ j. Worker j u.number g x Starting u.holds))) q) (record {
+        looks = fork-looks (view u s r) g x k q.table.rows same off b'.looks;
+        enough = b'.enough;
+        secured = λ e. omega (arith, b'.secured e, same_weight);
+        budget = omega (arith, b'.budget, same_weight);
+        lacking = b'.lacking;
+        still = b'.still;
+        marks = marks-plain w q.faults q.losses (q.calls + 1) q.cause b'.marks;
+        beside = sc.grows k g x u.holds q.table.rows q.losses q.faults b'.beside;
+      })))
+
+  pub rule-kill : (rest : Tree) (g : Generation) (x : ℕ) (s r t : Names) (n c : ℕ) (w : Bool) (ls : List ℕ) (p : Progress) → r g x ≡ false → ((q : Progress) → Band u sc (minus s g x) r t n c w ls q → Runs rest q) → Band u sc s r t n c w ls p → Runs (does u.image (Kill g x) (then_edge rest)) p
+  rule-kill rest g x s r t n c w ls p off next b =
+      let order = Make (Kill g x) in
+      let bs = then_edge rest in
+      rule-step order [] bs s r t n c w ls p b (λ q b' fate.
+      let same = kill-weigh (view u s r) g x t q.table.rows off b'.looks in
+      subst (λ st. Answers order [] bs q st) (sym (unfailing me (Kill g x) fate q.table tt))
+      (next (after_call order [] (own_step me (Kill g x) q.table) q) (record {
+        looks = kill-looks (view u s r) g x q.table.rows b'.looks;
+        enough = b'.enough;
+        secured = λ e. omega (arith, b'.secured e, same);
+        budget = omega (arith, b'.budget, same);
+        lacking = b'.lacking;
+        still = b'.still;
+        marks = marks-plain w q.faults q.losses (q.calls + 1) q.cause b'.marks;
+        beside = sc.drops (is_worker is_any u.number g x) q.table.rows q.losses q.faults (mine-worker is_any u.number g x, λ z zs. refl) b'.beside;
+      })))
+
+  -- the name that became Ready joins the names of t
+  pub record Joins (g : Generation) (x : ℕ) (t t' : Names) (n n' c c' : ℕ) : Type 0 where
+    pub has : t' g x ≡ true
+    pub sub : Sub t t'
+    pub more : n' ≤ n + 1
+    pub count : n' + c' ≤ n + c + 1
+    pub enough : sc.floor ≤ n'
+
+  pub rule-await : (bs : Branches) (g : Generation) (x : ℕ) (s r t t' : Names) (n n' c c' : ℕ) (w : Bool) (ls : List ℕ) (p : Progress) → r g x ≡ false → Joins g x t t' n n' c c' → ((q : Progress) → Band u sc (minus s g x) (plus r g x) t' n' c' w ls q → Edge bs reply.IsReady q) → ((q : Progress) → Band u sc s r t n (c + 1) true ls q → Edge bs reply.Late q) → ((q : Progress) → Band u sc (minus s g x) r t n (c + 1) true ls q → Edge bs reply.Gone q) → Band u sc s r t n c w ls p → Runs (does u.image (AwaitReady g x) bs) p
+  rule-await bs g x s r t t' n n' c c' w ls p off j on_ok on_late on_bad b =
+      let order = Make (AwaitReady g x) in
+      rule-step order [] bs s r t n c w ls p b (λ q b' fate.
+      await-cases me g x fate q.table (λ st. Answers order [] bs q st)
+      (on_late (after_call order [] (gives Late q.table) q) (record { looks = b'.looks; enough = b'.enough; secured = b'.secured; budget = omega (arith, b'.budget); lacking = b'.lacking; still = b'.still; marks = marks-wrong w q.faults (q.faults + 1) q.losses (q.calls + 1) q.cause (omega arith) b'.marks; beside = sc.fails q.table.rows q.losses q.faults b'.beside }))
+      (λ live.
+      let gain = await-gains (view u s r) g t' x q.table.rows j.has off live b'.looks in
+      let sub = weigh-sub u.number t t' j.sub q.table.rows in
+      on_ok (after_call order [] (gives IsReady (each_row (change (is_worker is_starting u.number g x) made_ready) q.table)) q) (record {
+        looks = await-looks (view u s r) g x q.table.rows b'.looks;
+        enough = j.enough;
+        secured = λ e. omega (arith, b'.secured e, gain, sub, j.more);
+        budget = omega (arith, b'.budget, gain, sub, j.count);
+        lacking = b'.lacking;
+        still = b'.still;
+        marks = marks-plain w q.faults q.losses (q.calls + 1) q.cause b'.marks;
+        beside = sc.changes (is_worker is_starting u.number g x) made_ready q.table.rows q.losses q.faults (mine-worker is_starting u.number g x, λ z zs. refl) ready-stays b'.beside;
+      }))
+      (λ gone.
+      let same = gone-weigh u.number g x t q.table.rows in
+      on_bad (after_call order [] (gives Gone (each_row (dropped (is_worker is_exited u.number g x)) q.table)) q) (record {
+        looks = gone-looks (view u s r) g x q.table.rows gone b'.looks;
+        enough = b'.enough;
+        secured = λ e. omega (arith, b'.secured e, same);
+        budget = omega (arith, b'.budget, same);
+        lacking = b'.lacking;
+        still = b'.still;
+        marks = marks-wrong w q.faults (q.faults + 1) q.losses (q.calls + 1) q.cause (omega arith) b'.marks;
+        beside = sc.fails (filter_map (dropped (is_worker is_exited u.number g x)) q.table.rows) q.losses q.faults (sc.drops (is_worker is_exited u.number g x) q.table.rows q.losses q.faults (mine-worker is_exited u.number g x, λ z zs. refl) b'.beside);
+      })))
+
+  ---- Quit
+
+  pub rule-quit : (rest : Tree) (g : Generation) (x : ℕ) (s r t : Names) (n c : ℕ) (w : Bool) (ls : List ℕ) (p : Progress) → t g x ≡ false → ((q : Progress) → Band u sc (minus s g x) (minus r g x) t n c w ls q → Runs rest q) → Band u sc s r t n c w ls p → Runs (does u.image (Quit g x) (then_edge rest)) p
+  rule-quit rest g x s r t n c w ls p off next b =
+      let order = Make (Quit g x) in
+      let bs = then_edge rest in
+      rule-step order [] bs s r t n c w ls p b (λ q b' fate.
+      let same = quit-weigh u.number g x t q.table.rows off in
+      subst (λ st. Answers order [] bs q st) (sym (unfailing me (Quit g x) fate q.table tt))
+      (next (after_call order [] (own_step me (Quit g x) q.table) q) (record {
+        looks = quit-looks (view u s r) g x q.table.rows b'.looks;
+        enough = b'.enough;
+        secured = λ e. omega (arith, b'.secured e, same);
+        budget = omega (arith, b'.budget, same);
+        lacking = b'.lacking;
+        still = b'.still;
+        marks = marks-plain w q.faults q.losses (q.calls + 1) q.cause b'.marks;
+        beside = sc.changes (is_worker is_active u.number g x) made_draining q.table.rows q.losses q.faults (mine-worker is_active u.number g x, λ z zs. refl) draining-stays b'.beside;
+      })))
+
+  ---- Census
+
+  -- what a count of a set saw
+  abbrev pub Saw : Generation → List ℕ → Progress → Type 0
+  Saw g T q = weigh (ready_in u.number (named g (is_in T))) q.table.rows + length q.lacking ≡ length T
+
+  -- the count is exactly what is Ready
+  abbrev pub Exact : Generation → Progress → Type 0
+  Exact g q = (k : ℕ) → list_any (is_worker is_ready u.number g k) q.table.rows ≡ is_in q.ready k
+
+  every-in : (P : ℕ → Type 0) (T : List ℕ) → ((k : ℕ) → is_in T k ≡ true → P k) → AllByRecursion P T
+  every-in P [] h = tt
+  every-in P (x ∷ T) h = (h x (in-here x x T refl), every-in P T (λ k e. h k (in-there x k T e)))
+
+  -- the names of t that are not Ready are no fewer than those of the set that are not
+  abbrev pub Part : View → Names → ℕ → Generation → List ℕ → Type 0
+  Part v t n g T = (rows : List Process) → Looks v rows → weigh (ready_in u.number t) rows + length T ≤ weigh (ready_in u.number (named g (is_in T))) rows + n
+
+  pub rule-count : (ok short : Tree) (g : Generation) (T : List ℕ) (r t : Names) (n c : ℕ) (w : Bool) (ls : List ℕ) (p : Progress) → Distinct T → ((k : ℕ) → is_in T k ≡ true → k < 1024) → ((k : ℕ) → r g k ≡ true → k < 1024) → Part (view u none r) t n g T → ((cs : List ℕ) (q : Progress) → lacks T cs ≡ [] → Band u sc none (seen r g cs) t n c w [] q → Saw g T q → Exact g q → Runs ok q) → ((cs : List ℕ) (x : ℕ) (xs : List ℕ) (q : Progress) → lacks T cs ≡ x ∷ xs → Band u sc none (seen r g cs) t n c true (x ∷ xs) q → Saw g T q → Exact g q → Runs short q) → Band u sc none r t n c w ls p → Runs (census u.image g T (census_edges ok short)) p
+  rule-count ok short g T r t n c w ls p dT below_T below_r part on_full on_short b =
+      let order = Make (Census g) in
+      let bs = census_edges ok short in
+      rule-step order T bs none r t n c w ls p b (λ q b' fate.
+      let cs = census_of u.number g q.table.rows in
+      let rows' = filter_map (dropped (is_exited_of u.number)) q.table.rows in
+      let same = census-weigh u.number u.number t q.table.rows in
+      let seen_now = count-set (view u none r) g q.table.rows cs b'.looks T dT (every-in (λ k. list_any (is_worker is_ready u.number g k) q.table.rows ≡ is_in cs k) T (λ k e. sym (census-in u.number g q.table.rows k (below_T k e)))) in
+      let same' = census-weigh u.number u.number (named g (is_in T)) q.table.rows in
+      let saw : weigh (ready_in u.number (named g (is_in T))) rows' + length (lacks T cs) ≡ length T = omega (arith, seen_now, same') in
+      let looks' = census-looks (view u none r) g q.table.rows below_r b'.looks in
+      let exact : (k : ℕ) → list_any (is_worker is_ready u.number g k) rows' ≡ is_in cs k = census-exact (view u none r) g q.table.rows below_r b'.looks in
+      let lost = part q.table.rows b'.looks in
+      let before : (l : List ℕ) → lacks T cs ≡ l → length l ≤ q.faults + q.losses = λ l e. omega (arith, lost, b'.budget, seen_now, ap length e) in
+      let after : List ℕ → Progress = λ l. record { table = with_rows q.table rows'; calls = q.calls + 1; ready = cs; lacking = lacks T cs; faults = q.faults; losses = q.losses; cause = first_cause q.cause (went_wrong (Census g) (full_or_short l)) (q.calls + 1); note = q.note } in
+      subst (λ st. Answers order T bs q st) (sym (unfailing me (Census g) fate q.table tt))
+      (elim (lacks T cs) as (λ l. lacks T cs ≡ l → Edge bs (full_or_short l) (after l)) [
+        | [] ↦ λ e. on_full cs (after []) e (record { looks = looks'; enough = b'.enough; secured = λ e. omega (arith, b'.secured e, same); budget = omega (arith, b'.budget, same); lacking = e; still = b'.still; marks = marks-plain w q.faults q.losses (q.calls + 1) q.cause b'.marks; beside = sc.drops (is_exited_of u.number) q.table.rows q.losses q.faults (mine-exited u.number, λ z zs. refl) b'.beside }) saw exact
+        | x ∷ xs ↦ λ e. on_short cs x xs (after (x ∷ xs)) e (record { looks = looks'; enough = b'.enough; secured = λ e. omega (arith, b'.secured e, same); budget = omega (arith, b'.budget, same); lacking = e; still = b'.still; marks = marks-wrong w q.faults q.faults q.losses (q.calls + 1) q.cause (omega (arith, before (x ∷ xs) e)) b'.marks; beside = sc.drops (is_exited_of u.number) q.table.rows q.losses q.faults (mine-exited u.number, λ z zs. refl) b'.beside }) saw exact
+      ] refl))
+
+  ---- Settle
+
+  -- a worker that a count lacks
+  in-filter : (t : ℕ → Bool) (S : List ℕ) (x : ℕ) (xs : List ℕ) → filter t S ≡ x ∷ xs → (is_in S x ≡ true) × (t x ≡ true)
+  in-filter t [] x xs e = absurd (cc)
+  in-filter t (y ∷ S) x xs e = go (t y) refl e (in-filter t S x xs)
+    where
+      go : (b : Bool) → t y ≡ b → cond b (y ∷ filter t S) (filter t S) ≡ x ∷ xs → (filter t S ≡ x ∷ xs → (is_in S x ≡ true) × (t x ≡ true)) → (is_in (y ∷ S) x ≡ true) × (t x ≡ true)
+      go true is e ih =
+          let same : y ≡ x = cc in
+          (in-here y x S same, subst (λ z. t z ≡ true) same is)
+      go false is e ih =
+          let both = ih e in
+          (in-there y x S both.0, both.1)
+
+  not-true : (b : Bool) → not b ≡ true → b ≡ false
+  not-true true e = cc
+  not-true false e = refl
+
+  unseen : (a b c : Bool) → b ≡ false → c ≡ true → (a && (b || not c)) ≡ false
+  unseen true true c e f = cc
+  unseen true false true e f = refl
+  unseen true false false e f = cc
+  unseen false b c e f = refl
+
+  or-elim : (a b : Bool) → (a || b) ≡ true → (a ≡ true) ⊎ (b ≡ true)
+  or-elim true b e = inl refl
+  or-elim false b e = inr e
+
+  only-plus : (g : Generation) (S : List ℕ) (r : Names) (x : ℕ) → is_in S x ≡ true → Only g S r → Only g S (plus r g x)
+  only-plus g S r x in_x only h k e =
+      ⊎_elim (λ a. only h k a) (λ b. let is = bears-is g x h k b in (is.0, subst (λ y. is_in S y ≡ true) (sym is.1) in_x)) (or-elim (r h k) (bears g x h k) e)
+
+  only-seen : (g : Generation) (S cs : List ℕ) (r : Names) → Only g S r → Only g S (seen r g cs)
+  only-seen g S cs r only h k e = only h k (and-left (r h k) _ e)
+
+  -- a step that names its worker when it runs
+  to-fork : (g : Generation) (bs : Branches) (q : Progress) (x : ℕ) (xs : List ℕ) → q.lacking ≡ x ∷ xs → Runs (does u.image (Fork g x) bs) q → Runs (Does u.image (ForkLacking g) [] bs) q
+  to-fork g bs q x xs e h = subst (λ (l : List ℕ). Runs (does u.image (Fork g (lowest l)) bs) q) (sym e) h
+
+  to-await : (g : Generation) (bs : Branches) (q : Progress) (x : ℕ) (xs : List ℕ) → q.lacking ≡ x ∷ xs → Runs (does u.image (AwaitReady g x) bs) q → Runs (Does u.image (AwaitLacking g) [] bs) q
+  to-await g bs q x xs e h = subst (λ (l : List ℕ). Runs (does u.image (AwaitReady g (lowest l)) bs) q) (sym e) h
+
+  to-kill : (g : Generation) (bs : Branches) (q : Progress) (x : ℕ) (xs : List ℕ) → q.lacking ≡ x ∷ xs → Runs (does u.image (Kill g x) bs) q → Runs (Does u.image (KillLacking g) [] bs) q
+  to-kill g bs q x xs e h = subst (λ (l : List ℕ). Runs (does u.image (Kill g (lowest l)) bs) q) (sym e) h
+
+  -- no name is Starting once the one that was forked is left out
+  over : (g : Generation) (x : ℕ) (h : Generation) (k : ℕ) → minus (plus none g x) g x h k ≡ true → none h k ≡ true
+  over g x h k e = go (bears g x h k) e
+    where
+      go : (b : Bool) → (b && not b) ≡ true → false ≡ true
+      go true e = e
+      go false e = e
+
+  pub rule-round : (rest : Tree) (g : Generation) (x : ℕ) (xs : List ℕ) (r : Names) (S : List ℕ) (n c : ℕ) (p : Progress) → u.held g ≡ u.holds → r g x ≡ false → is_in S x ≡ true → Only g S r → ((r' : Names) (q : Progress) → Only g S r' → Band u sc none r' (named g (is_in S)) n (c + 1) true (x ∷ xs) q → Runs rest q) → Band u sc none r (named g (is_in S)) n c true (x ∷ xs) p → Runs (round u.image g rest) p
+  rule-round rest g x xs r S n c p same off in_x only next b =
+      let t = named g (is_in S) in
+      let joins : Joins g x t t n n c (c + 1) = record { has = both-true (same_generation g g) (is_in S x) (same-refl g) in_x; sub = λ h k e. e; more = omega arith; count = omega arith; enough = b.enough } in
+      let s = plus none g x in
+      let bad = λ (q : Progress) (b' : Band u sc (minus s g x) r t n (c + 1) true (x ∷ xs) q). next r q only (band-still (minus s g x) none r t n (c + 1) true (x ∷ xs) q (over g x) b') in
+      let killed = Does u.image (KillLacking g) [] (then_edge rest) in
+      to-fork g (fork_edges (Does u.image (AwaitLacking g) [] (await_any_edges rest killed)) rest) p x xs b.lacking
+      (rule-fork (Does u.image (AwaitLacking g) [] (await_any_edges rest killed)) rest g x none r t n c true (x ∷ xs) p same
+      (λ q b'. to-await g (await_any_edges rest killed) q x xs b'.lacking
+      (rule-await (await_any_edges rest killed) g x s r t t n n c (c + 1) true (x ∷ xs) q off joins
+      (λ q' b''. next (plus r g x) q' (only-plus g S r x in_x only) (band-still (minus s g x) none (plus r g x) t n (c + 1) true (x ∷ xs) q' (over g x) b''))
+      (λ q' b''. to-kill g (then_edge rest) q' x xs b''.lacking (rule-kill rest g x s r t n (c + 1) true (x ∷ xs) q' off bad b''))
+      bad b'))
+      (λ q b'. next r q only b') b)
+
+  pub rule-settle : (side : Side) (g : Generation) (S : List ℕ) → u.held g ≡ u.holds → Distinct S → ((k : ℕ) → is_in S k ≡ true → k < 1024) → (d : ℕ) (w : Bool) → ((r : Names) (q : Progress) (c : ℕ) (w' : Bool) → (w ≡ true → w' ≡ true) → Only g S r → Band u sc none r (named g (is_in S)) (length S) c w' [] q → Saw g S q → Exact g q → post (At (full_end side)) q) → ((r : Names) (q : Progress) (x : ℕ) (xs : List ℕ) → Only g S r → Band u sc none r (named g (is_in S)) (length S) d true (x ∷ xs) q → Saw g S q → Exact g q → post (At (short_end side)) q) → (rounds c : ℕ) → c + rounds ≡ d → (w' : Bool) → (w ≡ true → w' ≡ true) → (r : Names) (ls : List ℕ) (p : Progress) → Only g S r → Band u sc none r (named g (is_in S)) (length S) c w' ls p → Runs (settle u.image g S side rounds) p
+  rule-settle side g S same dS below_S d w full short zero c sum w' up r ls p only b =
+      rule-count (Ends (full_end side)) (Ends (short_end side)) g S r (named g (is_in S)) (length S) c w' ls p dS below_S (λ k e. below_S k (only g k e).1) (λ rows looks. omega arith)
+      (λ cs q e b' saw exact. (band-inv none (seen r g cs) (named g (is_in S)) (length S) c w' [] q b', full (seen r g cs) q c w' up (only-seen g S cs r only) b' saw exact))
+      (λ cs x xs q e b' saw exact. (band-inv none (seen r g cs) (named g (is_in S)) (length S) c true (x ∷ xs) q b', short (seen r g cs) q x xs (only-seen g S cs r only) (recount (omega arith) b') saw exact))
+      b
+    where
+      recount : {r : Names} {ls : List ℕ} {q : Progress} → c ≡ d → Band u sc none r (named g (is_in S)) (length S) c true ls q → Band u sc none r (named g (is_in S)) (length S) d true ls q
+      recount e b = record { looks = b.looks; enough = b.enough; secured = b.secured; budget = omega (arith, b.budget); lacking = b.lacking; still = b.still; marks = b.marks; beside = b.beside }
+  rule-settle side g S same dS below_S d w full short (suc rounds) c sum w' up r ls p only b =
+      rule-count (Ends (full_end side)) (round u.image g (settle u.image g S side rounds)) g S r (named g (is_in S)) (length S) c w' ls p dS below_S (λ k e. below_S k (only g k e).1) (λ rows looks. omega arith)
+      (λ cs q e b' saw exact. (band-inv none (seen r g cs) (named g (is_in S)) (length S) c w' [] q b', full (seen r g cs) q c w' up (only-seen g S cs r only) b' saw exact))
+      (λ cs x xs q e b' saw exact.
+      let lack = in-filter (λ k. not (is_in cs k)) S x xs e in
+      let off : seen r g cs g x ≡ false = unseen (r g x) (is_in cs x) (same_generation g g) (not-true (is_in cs x) lack.1) (same-refl g) in
+      rule-round (settle u.image g S side rounds) g x xs (seen r g cs) S (length S) c q same off lack.0 (only-seen g S cs r only)
+      (λ r' q' only' b''. rule-settle side g S same dS below_S d w full short rounds (c + 1) (omega arith) true (λ e. refl) r' (x ∷ xs) q' only' b'') b')
+      b
+
+  ---- Several quits, several starts, and fewer names
+
+  pub band-part : (s r t t' : Names) (n n' c : ℕ) (w : Bool) (ls : List ℕ) (p : Progress) → ((rows : List Process) → Looks (view u s r) rows → weigh (ready_in u.number t) rows + n' ≤ weigh (ready_in u.number t') rows + n) → sc.floor ≤ n' → Band u sc s r t n c w ls p → Band u sc s r t' n' c w ls p
+  band-part s r t t' n n' c w ls p part le b =
+      let lost = part p.table.rows b.looks in
+      record { looks = b.looks; enough = le; secured = λ e. omega (arith, b.secured e, lost); budget = omega (arith, b.budget, lost); lacking = b.lacking; still = b.still; marks = b.marks; beside = b.beside }
+
+  pub band-anew : (s r t : Names) (n c : ℕ) (w : Bool) (ls : List ℕ) (p : Progress) → Band u sc s r t n c w ls p → Band u sc s r t n 0 w ls p
+  band-anew s r t n c w ls p b = record { looks = b.looks; enough = b.enough; secured = b.secured; budget = omega (arith, b.budget); lacking = b.lacking; still = b.still; marks = b.marks; beside = b.beside }
+
+  less-cons : (g : Generation) (r r' : Names) (x : ℕ) (ks : List ℕ) → Less g (minus r g x) ks r' → Less g r (x ∷ ks) r'
+  less-cons g r r' x ks less h k e =
+      let a = less h k e in
+      (and-left (r h k) _ a.0, λ is. go (x == k) refl (a.1 is) (subst (λ y. not (bears g x y k) ≡ true) is (and-right (r h k) _ a.0)))
+    where
+      go : (b : Bool) → (x == k) ≡ b → is_in ks k ≡ false → not (bears g x g k) ≡ true → (b || is_in ks k) ≡ false
+      go true is f e' =
+          let on = bears-refl g x in
+          let same : bears g x g k ≡ true = subst (λ y. bears g x g y ≡ true) (eqb-is x k is) on in
+          absurd (cc)
+      go false is f e' = f
+
+  sub-minus : (s : Names) (g : Generation) (x : ℕ) → Sub (minus s g x) s
+  sub-minus s g x h k e = and-left (s h k) _ e
+
+  -- Both what may be Starting and what may be Ready is without these numbers.
+  pub rule-quits : (rest : Tree) (g : Generation) (ks : List ℕ) (s r t : Names) (n c : ℕ) (w : Bool) (ls : List ℕ) (p : Progress) → ((k : ℕ) → is_in ks k ≡ true → t g k ≡ false) → ((s' r' : Names) (q : Progress) → Less g s ks s' → Less g r ks r' → Band u sc s' r' t n c w ls q → Runs rest q) → Band u sc s r t n c w ls p → Runs (quits u.image g ks rest) p
+  rule-quits rest g [] s r t n c w ls p off next b = next s r p (λ h k e. (e, λ is. refl)) (λ h k e. (e, λ is. refl)) b
+  rule-quits rest g (x ∷ ks) s r t n c w ls p off next b =
+      rule-quit (quits u.image g ks rest) g x s r t n c w ls p (off x (in-here x x ks refl))
+      (λ q b'. rule-quits rest g ks (minus s g x) (minus r g x) t n c w ls q (λ k e. off k (in-there x k ks e)) (λ s' r' q' less_s less b''. next s' r' q' (less-cons g s s' x ks less_s) (less-cons g r r' x ks less) b'') b') b
+
+  or-right : (a b : Bool) → b ≡ true → (a || b) ≡ true
+  or-right true b e = refl
+  or-right false b e = e
+
+  or-left : (a b : Bool) → a ≡ true → (a || b) ≡ true
+  or-left true b e = refl
+  or-left false b e = cc
+
+  -- how far the forks have come: what is left and what was forked are the whole list, and no other number may be Starting
+  pub record Forking (g : Generation) (all ks done : List ℕ) (s : Names) : Type 0 where
+    pub left : (k : ℕ) → is_in ks k ≡ true → is_in all k ≡ true
+    pub within : (k : ℕ) → is_in done k ≡ true → is_in all k ≡ true
+    pub covers : (k : ℕ) → is_in all k ≡ true → (is_in ks k ≡ true) ⊎ (is_in done k ≡ true)
+    pub only : Only g done s
+
+  forking-first : (g : Generation) (all : List ℕ) → Forking g all all [] none
+  forking-first g all = record { left = λ k e. e; within = λ k e. absurd (cc); covers = λ k e. inl e; only = λ h k e. absurd (cc) }
+
+  forking-next : (g : Generation) (all : List ℕ) (x : ℕ) (ks done : List ℕ) (s : Names) → Forking g all (x ∷ ks) done s → Forking g all ks (x ∷ done) (plus s g x)
+  forking-next g all x ks done s h = record {
+    left = λ k e. h.left k (in-there x k ks e);
+    within = λ k e. ⊎_elim (λ same. subst (λ y. is_in all y ≡ true) same (h.left x (in-here x x ks refl))) (λ a. h.within k a) (in-cases x k done e);
+    covers = λ k e. ⊎_elim (λ a. ⊎_elim (λ same. inr (in-here x k done same)) (λ b. inl b) (in-cases x k ks a)) (λ a. inr (in-there x k done a)) (h.covers k e);
+    only = λ j k e. ⊎_elim (λ a. let o = h.only j k a in (o.0, in-there x k done o.1)) (λ a. let is = bears-is g x j k a in (is.0, in-here x k done (sym is.1))) (or-elim (s j k) (bears g x j k) e);
+  }
+
+  -- Fork all: nothing is counted until the waits.
+  pub rule-forks : (ok bad : List ℕ → Tree) (g : Generation) (all : List ℕ) → u.held g ≡ u.holds → (r t : Names) (n : ℕ) (w : Bool) (ls : List ℕ) (c : ℕ) → ((done : List ℕ) (s : Names) (q : Progress) → Forking g all [] done s → Band u sc s r t n c w ls q → Runs (ok done) q) → ((ks done : List ℕ) (s : Names) (q : Progress) → Forking g all ks done s → Band u sc s r t n (c + 1) true ls q → Runs (bad done) q) → (ks done : List ℕ) (s : Names) (p : Progress) → Forking g all ks done s → Band u sc s r t n c w ls p → Runs (forks u.image g ks done ok bad) p
+  rule-forks ok bad g all same r t n w ls c on_ok on_bad [] done s p h b = on_ok done s p h b
+  rule-forks ok bad g all same r t n w ls c on_ok on_bad (x ∷ ks) done s p h b =
+      rule-fork (forks u.image g ks (x ∷ done) ok bad) (bad done) g x s r t n c w ls p same
+      (λ q b'. rule-forks ok bad g all same r t n w ls c on_ok on_bad ks (x ∷ done) (plus s g x) q (forking-next g all x ks done s h) b')
+      (λ q b'. on_bad (x ∷ ks) done s q h b') b
+
+  -- what is known before the rest of the waits: what is left, what became Ready, what may be Ready, and the names
+  abbrev pub Known : Type 1
+  Known = List ℕ → List ℕ → Names → Names → ℕ → Type 0
+
+  sub-trans : (a b c : Names) → Sub a b → Sub b c → Sub a c
+  sub-trans a b c x y g k e = y g k (x g k e)
+
+  -- Wait for all: each that becomes Ready joins the names.
+  pub rule-awaits : (Q : Known) (ok bad : Tree) (g : Generation) → ((x : ℕ) (ks done : List ℕ) (r t : Names) (n : ℕ) → Q (x ∷ ks) done r t n → (r g x ≡ false) × Q ks (x ∷ done) (plus r g x) (also g x t) (n + 1)) → (ls : List ℕ) (w : Bool) (c : ℕ) (ks done : List ℕ) (s r t : Names) (n : ℕ) (p : Progress) → ((done' : List ℕ) (s' r' t' : Names) (n' : ℕ) (q : Progress) → Q [] done' r' t' n' → Less g s ks s' → Band u sc s' r' t' n' c w ls q → Runs ok q) → ((ks' done' : List ℕ) (s' r' t' : Names) (n' : ℕ) (q : Progress) → Q ks' done' r' t' n' → Sub s' s → Band u sc s' r' t' n' (c + 1) true ls q → Runs bad q) → Q ks done r t n → Band u sc s r t n c w ls p → Runs (awaits u.image g ks ok bad) p
+  rule-awaits Q ok bad g more ls w c [] done s r t n p on_ok on_bad h b = on_ok done s r t n p h (λ j k e. (e, λ is. refl)) b
+  rule-awaits Q ok bad g more ls w c (x ∷ ks) done s r t n p on_ok on_bad h b =
+      let next = more x ks done r t n h in
+      let joins : Joins g x t (also g x t) n (n + 1) c c = record { has = or-right (t g x) (bears g x g x) (bears-refl g x); sub = λ h k e. or-left (t h k) (bears g x h k) e; more = omega arith; count = omega arith; enough = omega (arith, b.enough) } in
+      let failed = λ (q : Progress) (b' : Band u sc (minus s g x) r t n (c + 1) true ls q). on_bad (x ∷ ks) done (minus s g x) r t n q h (sub-minus s g x) b' in
+      rule-await (await_edges (awaits u.image g ks ok bad) bad (does u.image (Kill g x) (then_edge bad))) g x s r t (also g x t) n (n + 1) c c w ls p next.0 joins
+      (λ q b'. rule-awaits Q ok bad g more ls w c ks (x ∷ done) (minus s g x) (plus r g x) (also g x t) (n + 1) q
+      (λ done' s' r' t' n' q' h' less b''. on_ok done' s' r' t' n' q' h' (less-cons g s s' x ks less) b'')
+      (λ ks' done' s' r' t' n' q' h' sub b''. on_bad ks' done' s' r' t' n' q' h' (sub-trans s' (minus s g x) s sub (sub-minus s g x)) b'')
+      next.1 b')
+      (λ q b'. rule-kill bad g x s r t n (c + 1) true ls q next.0 failed b')
+      failed b
+
+  -- Fork all, then wait for all. On the way on no number is Starting; on the way back at most those that were forked.
+  pub rule-starts : (Q : Known) (ok : Tree) (bad : List ℕ → Tree) (g : Generation) → u.held g ≡ u.holds → ((x : ℕ) (ks done : List ℕ) (r t : Names) (n : ℕ) → Q (x ∷ ks) done r t n → (r g x ≡ false) × Q ks (x ∷ done) (plus r g x) (also g x t) (n + 1)) → (ls : List ℕ) (w : Bool) (c : ℕ) (all : List ℕ) (r t : Names) (n : ℕ) → ((done : List ℕ) (r' t' : Names) (n' : ℕ) (q : Progress) → Q [] done r' t' n' → Band u sc none r' t' n' c w ls q → Runs ok q) → ((forked ks done : List ℕ) (s r' t' : Names) (n' : ℕ) (q : Progress) → ((k : ℕ) → is_in forked k ≡ true → is_in all k ≡ true) → Only g forked s → Q ks done r' t' n' → ((ks ≡ all) × (done ≡ [])) ⊎ ((k : ℕ) → is_in all k ≡ true → is_in forked k ≡ true) → Band u sc s r' t' n' (c + 1) true ls q → Runs (bad forked) q) → (p : Progress) → Q all [] r t n → Band u sc none r t n c w ls p → Runs (starts u.image g all ok bad) p
+  rule-starts Q ok bad g same more ls w c all r t n on_ok on_bad p h b =
+      rule-forks (λ forked. awaits u.image g all ok (bad forked)) bad g all same r t n w ls c
+      (λ forked s q fk b'. rule-awaits Q ok (bad forked) g more ls w c all [] s r t n q
+      (λ done s' r' t' n' q' h' less b''. on_ok done r' t' n' q' h' (band-still s' none r' t' n' c w ls q'
+      (λ j k e. let l = less j k e in let o = fk.only j k l.0 in let off = l.1 o.0 in let in_it = fk.within k o.1 in absurd (cc)) b''))
+      (λ ks done s' r' t' n' q' h' sub b''. on_bad forked ks done s' r' t' n' q' fk.within (λ j k e. fk.only j k (sub j k e)) h'
+      (inr (λ k e. ⊎_elim (λ a. absurd (cc)) (λ a. a) (fk.covers k e))) b'')
+      h b')
+      (λ ks done s q fk b'. on_bad done all [] s r t n q fk.within fk.only h (inl (refl, refl)) b')
+      all [] none p (forking-first g all) b
