@@ -1,20 +1,20 @@
 -- Lists of distinct addresses, as the calls change them.
-use Rattle.std.proofs.Common.{◌≡◌, ◌≢◌, ℕ, ◌+◌, ◌-◌, ◌≤◌, ◌<◌, suc, zero, cond, filter, Bool, true, false, ◌||◌, nat_eq, List, [], ◌∷◌, length, get_or, set, take, drop, replicate, refl, sym, ap, ◌∙◌, arith, IsTrue}
-use Rattle.std.specs.Prelude.{◌↔◌, Contains, codes}
+use Rattle.std.proofs.Common.{◌≡◌, ◌≢◌, ℕ, ◌+◌, ◌-◌, ◌≤◌, ◌<◌, suc, zero, cond, filter, Bool, true, false, ◌||◌, List, [], ◌∷◌, length, get_or, set, take, drop, replicate, refl, sym, ap, ◌∙◌, arith, IsTrue}
+use Rattle.std.specs.Prelude.{◌↔◌, Contains, bytes_eq, codes}
 use Rattle.std.specs.List.{list_any}
-use Rattle.std.specs.Cmp.Lexicographic.{pointwise, nat_list_eq_equiv, same_text}
+use Rattle.std.specs.Cmp.Lexicographic.{nat_list_eq_equiv, same_text}
 use Rattle.std.proofs.lemmas.Map.Views.{list_any-from_Contains, Contains-from_any}
 use Rattle.std.proofs.lemmas.List.{take_more_set, drop-set-lt, drop-replicate, length-set, length-replicate, get_or-take, drop-drop, get_or_default, length-take}
 use Rattle.std.proofs.lemmas.List.Sums.{length-filter, count_by-le-length}
 use Rattle.std.proofs.lemmas.List.Quantifiers.{all_pairs_push}
-use Rattle.listener_set.specs.AddressList.{AreKept, AreDistinct, blank}
+use Rattle.listener_set.specs.AddressList.{AreKept, AreDistinct, has, blank}
 
-turned : (x : List ℕ) (xs : List (List ℕ)) → list_any (λ y. pointwise nat_eq y x) xs ≡ list_any (pointwise nat_eq x) xs
+turned : (x : List ℕ) (xs : List (List ℕ)) → has xs x ≡ list_any (bytes_eq x) xs
 turned x [] = refl
 turned x (y ∷ ys) = λ i. nat_list_eq_equiv.symm y x i || turned x ys i
 
 -- the test for an address says whether the list has it
-pub has_address : (xs : List (List ℕ)) (x : List ℕ) (r : Bool) → r ≡ list_any (λ y. pointwise nat_eq y x) xs → IsTrue r ↔ Contains xs x
+pub has_address : (xs : List (List ℕ)) (x : List ℕ) (r : Bool) → r ≡ has xs x → IsTrue r ↔ Contains xs x
 has_address xs x r e = (
   λ yes. Contains-from_any (λ a b h. same_text a b (sym h)) x xs (sym (e ∙ turned x xs) ∙ yes),
   λ in_it. e ∙ turned x xs ∙ list_any-from_Contains nat_list_eq_equiv x xs in_it,

@@ -13,7 +13,7 @@ pub const MOST_DESCRIPTORS: usize = 64;
 
 const PAST_DESCRIPTORS: u32 = FIRST_DESCRIPTOR + MOST_DESCRIPTORS as u32;
 
-/// No descriptor is free.
+/// No descriptor is free: each of the 64 has a socket.
 #[derive(Clone, Copy, Debug, PartialEq, Eq, Error)]
 #[error("each of the 64 descriptors is taken")]
 pub struct Full;

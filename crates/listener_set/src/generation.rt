@@ -4,10 +4,13 @@ ghost use Rattle.std.specs.Fmt.{decimal};
 
 use std::fmt;
 
-/// The image that a master runs and the configuration that it read, as numbers. Its text is `1.1`.
+/// What a worker runs, by the numbers of its master's executable and configuration. Its text is
+/// the two numbers, joined by a dot: `1.1`.
 #[derive(Clone, Copy, Debug, PartialEq, Eq)]
 pub struct Generation {
+    /// The executable: one more after each upgrade.
     pub image: u32,
+    /// The configuration: one more after each reload and each upgrade.
     pub config: u32,
 }
 

@@ -114,7 +114,7 @@ impl Numbers {
         ensures below { IfSome result (λ nr. nr < WORKER_LIMIT) }
         ensures numbers { AreNumbers WORKER_LIMIT self.now }
     {
-        for place in bound / BITS..WORDS as u32 {
+        for place in (bound / BITS)..WORDS as u32 {
             let word = word_from(self.words[place as usize], BITS * place, bound);
             if word != 0 {
                 return Some(BITS * place + word.trailing_zeros());
