@@ -1,10 +1,19 @@
 -- The service that a target wants.
-use Rattle.std.specs.Prelude.{ℕ, ◌+◌, List, [], length}
+use Rattle.std.specs.Prelude.{ℕ, ◌+◌, ◌≤◌, List, [], length, ⊤}
 use Rattle.definitions.specs.Table.{Address, Generation}
 use Rattle.definitions.specs.Service.{Service, uniform}
 use Rattle.definitions.specs.Record.{Record, addresses_of}
 pub use Rattle.definitions.specs.declared.targets.Target.{Target}
 pub use Rattle.definitions.specs.declared.targets.Target.TheVariants.{Workers, Mend, Reopen, Reload, Upgrade, Stop}
+
+-- A number of workers that is wanted is at most 1024. What settings say is in range by itself.
+abbrev pub IsTarget : Target → Type 0
+IsTarget (Workers n) = n ≤ 1024
+IsTarget (Mend overdue) = ⊤
+IsTarget Reopen = ⊤
+IsTarget (Reload s) = ⊤
+IsTarget (Upgrade s) = ⊤
+IsTarget (Stop quick) = ⊤
 
 -- A reload's workers are of the next configuration; an upgrade's are of the next image too.
 abbrev pub reload_generation : Generation → Generation

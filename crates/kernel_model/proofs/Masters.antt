@@ -1,0 +1,70 @@
+-- Live masters among the rows.
+use Rattle.std.proofs.Common.{◌≡◌, ℕ, suc, zero, ◌+◌, ◌<◌, ◌≤◌, Bool, true, false, cond, nat_eq, List, [], ◌∷◌, length, get_or, Option, Some, refl, sym, ap, ◌∙◌, arith}
+use Rattle.std.specs.List.{AllByRecursion, filter_map}
+use Rattle.std.proofs.lemmas.Bool.Decides.{nat_tests}
+use Rattle.definitions.specs.Table.{Hold, Process, Master, Worker, Foreign, number_of, holds_of}
+use Rattle.definitions.specs.Exits.{change, kept_if, without_exited}
+use Rattle.definitions.specs.Calls.{is_row, with_holds, put_hold}
+use Rattle.definitions.specs.Formed.{IsAscending}
+
+-- ---- a number is one row's
+above : (rows : List Process) (least next n : ℕ) (p : Process) → IsAscending least rows next → n < least → AllByRecursion (λ x. number_of x ≡ n → x ≡ p) rows
+above [] least next n p h lt = tt
+above (x ∷ rows) least next n p h lt = (λ e. absurd (omega (arith, h.0, e)), above rows (number_of x + 1) next n p h.1 (omega (arith, h.0)))
+
+number-at : (rows : List Process) (least next : ℕ) (k : ℕ) (p : Process) → IsAscending least rows next → k < length rows → get_or rows k p ≡ p → least ≤ number_of p
+number-at [] least next k p h lt e = absurd (omega arith)
+number-at (x ∷ rows) least next zero p h lt e = let same : number_of x ≡ number_of p = ap number_of e in omega (arith, h.0)
+number-at (x ∷ rows) least next (suc k) p h lt e = let later : number_of x + 1 ≤ number_of p = number-at rows (number_of x + 1) next k p h.1 (omega arith) e in omega (arith, h.0)
+
+-- A row with the number of another is that row.
+abbrev pub IsOnly : Process → List Process → Type 0
+IsOnly p rows = AllByRecursion (λ x. number_of x ≡ number_of p → x ≡ p) rows
+
+pub IsOnly-from : (rows : List Process) (least next : ℕ) (p : Process) (k : ℕ) → IsAscending least rows next → k < length rows → get_or rows k p ≡ p → IsOnly p rows
+IsOnly-from [] least next p k h lt e = tt
+IsOnly-from (x ∷ rows) least next p zero h lt e = (λ _. e, above rows (number_of x + 1) next (number_of p) p h.1 (let same : number_of x ≡ number_of p = ap number_of e in omega arith))
+IsOnly-from (x ∷ rows) least next p (suc k) h lt e =
+    let later : number_of x + 1 ≤ number_of p = number-at rows (number_of x + 1) next k p h.1 (omega arith) e in
+    (λ same. absurd (omega (arith, same)), IsOnly-from rows (number_of x + 1) next p k h.1 (omega arith) e)
+
+-- ---- the same for all rows
+pub filter_map-same : {X Y : Type 0} (f g : X → Option Y) (xs : List X) → AllByRecursion (λ x. f x ≡ g x) xs → filter_map f xs ≡ filter_map g xs
+filter_map-same f g [] h = refl
+filter_map-same f g (x ∷ xs) h = rw (h.0, filter_map-same f g xs h.1) refl
+
+module _ (n q i : ℕ) (hs : List Hold) where
+  held : (new : List Hold) (h : Hold) → new ≡ put_hold h hs → (x : Process) → (number_of x ≡ n → x ≡ Master n q i true hs) → change (is_row n) (with_holds (λ old. new)) x ≡ change (is_row n) (with_holds (put_hold h)) x
+  held new h e (Master m q' i' live old) only = at (nat_eq m n) (λ t. only (grind (arith, nat_tests)))
+    where
+      at : (b : Bool) → (b ≡ true → Master m q' i' live old ≡ Master n q i true hs) → Some (cond b (Master m q' i' live new) (Master m q' i' live old)) ≡ Some (cond b (Master m q' i' live (put_hold h old)) (Master m q' i' live old))
+      at true same = let is : old ≡ hs = ap holds_of (same refl) in ap (λ z. Some (Master m q' i' live z)) (e ∙ ap (put_hold h) (sym is))
+      at false same = refl
+  held new h e (Worker m q' g k s old) only = refl
+  held new h e (Foreign m old) only = refl
+
+  -- the master's new holds are its old ones with one more
+  pub held-all : (new : List Hold) (h : Hold) → new ≡ put_hold h hs → (rows : List Process) → IsOnly (Master n q i true hs) rows → filter_map (change (is_row n) (with_holds (λ old. new))) rows ≡ filter_map (change (is_row n) (with_holds (put_hold h))) rows
+  held-all new h e rows only = filter_map-same _ _ rows (each rows only)
+    where
+      each : (ps : List Process) → IsOnly (Master n q i true hs) ps → AllByRecursion (λ x. change (is_row n) (with_holds (λ old. new)) x ≡ change (is_row n) (with_holds (put_hold h)) x) ps
+      each [] o = tt
+      each (p ∷ ps) o = (held new h e p o.0, each ps o.1)
+
+  exited_alike : (lives : ℕ → Bool) (x : Process) → (number_of x ≡ n → x ≡ Master n q i true hs) → without_exited n (λ p. lives q) x ≡ without_exited n lives x
+  exited_alike lives (Master m q' i' live old) only = at (nat_eq m n) (λ t. only (grind (arith, nat_tests)))
+    where
+      at : (b : Bool) → (b ≡ true → Master m q' i' live old ≡ Master n q i true hs)
+          → cond b (kept_if (lives q) (Master m q' i' false [])) (Some (Master m (cond (nat_eq q' n) 1 q') i' live old)) ≡ cond b (kept_if (lives q') (Master m q' i' false [])) (Some (Master m (cond (nat_eq q' n) 1 q') i' live old))
+      at true same = let whole = same refl in let is : q' ≡ q = cc in rw is refl
+      at false same = refl
+  exited_alike lives (Worker m q' g k s old) only = refl
+  exited_alike lives (Foreign m old) only = refl
+
+  -- only the master's own parent matters where it exits
+  pub exited_alike-all : (lives : ℕ → Bool) (rows : List Process) → IsOnly (Master n q i true hs) rows → filter_map (without_exited n (λ p. lives q)) rows ≡ filter_map (without_exited n lives) rows
+  exited_alike-all lives rows only = filter_map-same _ _ rows (each rows only)
+    where
+      each : (ps : List Process) → IsOnly (Master n q i true hs) ps → AllByRecursion (λ x. without_exited n (λ p. lives q) x ≡ without_exited n lives x) ps
+      each [] o = tt
+      each (p ∷ ps) o = (exited_alike lives p o.0, each ps o.1)

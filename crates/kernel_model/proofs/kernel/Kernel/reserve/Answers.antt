@@ -1,0 +1,14 @@
+use Rattle.std.proofs.Common.{sym, ap, subst, arith}
+use Rattle.definitions.specs.Table.{Table}
+use Rattle.kernel_model.specs.Room.{IsKept}
+use Rattle.kernel_model.proofs.kernel.Kernel.reserve.Goals as goal
+
+pub invariant_of-self : goal.invariant_of-self
+invariant_of-self c =
+    let before = c.self.invariant in
+    let processes = ap (λ (t : Table). t.next_process) c.grow.ensures.same in
+    let sockets = ap (λ (t : Table). t.next_socket) c.grow.ensures.same in
+    record {
+      room = record { memory = c.grow.ensures.kept c.self.inside.room before.room.memory; process_numbers = omega (arith, before.room.process_numbers); socket_numbers = omega (arith, before.room.socket_numbers) };
+      kept = subst IsKept (sym c.grow.ensures.same) before.kept;
+    }

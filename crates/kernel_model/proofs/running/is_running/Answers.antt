@@ -1,0 +1,21 @@
+use Rattle.std.proofs.Common.{◌≡◌, true, nat_eq, ◌&&◌, ap, sym}
+use Rattle.std.proofs.lemmas.Bool.{and_parts, eqb-true}
+use Rattle.definitions.specs.Table.{Generation}
+use Rattle.kernel_model.specs.Holds.{seen_holds}
+use Rattle.kernel_model.proofs.Agreement.{same_sockets}
+use Rattle.kernel_model.proofs.running.is_running.Goals as goal
+
+same_generation : (g h : Generation) → (nat_eq g.image h.image && nat_eq g.config h.config) ≡ true → g ≡ h
+same_generation g h e =
+    let parts = and_parts (nat_eq g.image h.image) (nat_eq g.config h.config) e in
+    let image = eqb-true g.image h.image parts.0 in
+    let config = eqb-true g.config h.config parts.1 in
+    (λ i. record { image = image i; config = config i })
+
+pub returns-then-eq : goal.returns-then-eq
+returns-then-eq c = λ addresses.
+    let g = same_generation c.in-Worker.own c.args.generation (sym c.if-eq.ensures) in
+    rw (c.in-Worker.is, c.in-Ready.is) (
+      (λ t q. (g, ap (seen_holds addresses) (c.same_holds.ensures.0 t))),
+      (λ h. c.same_holds.ensures.1 (same_sockets addresses c.args.holder.now.holds c.args.master.now.holds (h c.if-parent-master.true).1)),
+    )

@@ -1,0 +1,13 @@
+use Rattle.std.proofs.Common.{◌≡◌, ◌+◌, map, drop, count_by}
+use Rattle.definitions.specs.Table.{Generation}
+use Rattle.definitions.specs.Service.{is_serving}
+use Rattle.kernel_model.specs.Seen.{seen_rows}
+use Rattle.kernel_model.specs.Services.{count_at, AreCounts}
+use Rattle.kernel_model.specs.Served.{seen_count}
+use Rattle.kernel_model.proofs.service.ready_counts.Given as goal
+
+abbrev pub invariant-loop-holder : goal.invariant-loop-holder
+invariant-loop-holder l = record {
+  sound : AreCounts (map seen_count l.counts.items);
+  counted : (g : Generation) → count_at (map seen_count l.counts.items) g + count_by (is_serving l.address g) (seen_rows l.addresses (drop l.holder-index l.holders)) ≡ count_by (is_serving l.address g) (seen_rows l.addresses l.holders);
+}

@@ -1,0 +1,13 @@
+pub mod Holds
+pub mod Seen
+pub mod Edits
+pub mod Room
+pub mod Rows
+pub mod State
+pub mod Boot
+pub mod Readers
+pub mod Running
+pub mod Pattern
+pub mod Events
+pub mod Services
+pub mod Served

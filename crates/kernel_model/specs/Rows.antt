@@ -1,0 +1,9 @@
+-- Rows among the others.
+use Rattle.std.specs.Prelude.{Contains}
+use Rattle.kernel_model.specs.declared.process.Caller.{Caller}
+use Rattle.kernel_model.specs.declared.store.Store.{Store}
+use Rattle.kernel_model.specs.Seen.{seen, caller_row}
+
+-- the caller is one of the rows
+abbrev pub IsOwn : Store → Caller → Type 0
+IsOwn s c = Contains (seen s).rows (caller_row s.addresses.items c)

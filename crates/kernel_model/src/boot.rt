@@ -1,0 +1,139 @@
+//! How a kernel starts.
+ghost use Rattle.std.specs.Prelude.{◌≡◌, ◌<◌, ◌≤◌, ◌↔◌, ℕ, List, length, map, IfOk, IsTrue, IsErrOf};
+ghost use Rattle.definitions.specs.Table.{Hold};
+ghost use Rattle.kernel_model.specs.Holds.{seen_holds};
+ghost use Rattle.kernel_model.specs.Seen.{process_of, seen, seen_rows, seen_file};
+ghost use Rattle.kernel_model.specs.Room.{IsSound};
+ghost use Rattle.kernel_model.specs.Boot.{booted, first_pairs, first_worker, first_rows, first_files, AreBadLimits};
+
+use crate::process::{Holder, Row};
+use crate::readers::FileRow;
+use crate::store::Store;
+use definitions::{Limits, Stance};
+use listener_set::{DescriptorTable, FilePath, Generation, ListenerSet};
+use std::alloc::{AllocError, Global};
+use thiserror::Error;
+
+/// Why no kernel is started.
+#[derive(Clone, Copy, Debug, PartialEq, Eq, Error)]
+pub enum BootRefusal {
+    #[error("B1 the limits do not allow the start")]
+    BadLimits,
+    #[error("out of memory")]
+    Memory,
+}
+
+fn are_bad(listeners: usize, workers: u32, limits: Limits) -> bool
+    requires { listeners ≤ 64 }
+    ensures { IsTrue result ↔ AreBadLimits listeners workers limits }
+{
+    let listeners = listeners as u32;
+    1024 < workers
+        || limits.processes < 1 + workers
+        || 65_535 < limits.processes
+        || limits.descriptors < listeners
+        || 64 < limits.descriptors
+}
+
+/// The first sockets, from number 1 on, under the descriptors from 3 on.
+fn first_holds(count: u32) -> DescriptorTable
+    requires { count ≤ 64 }
+    ensures { result ≡ first_pairs count }
+{
+    let mut holds = DescriptorTable::new();
+    for socket in 0..count {
+        let _ = holds.put(socket + 1);
+    }
+    holds
+}
+
+/// The master and its Ready workers.
+fn holders(alloc: Global, holds: &DescriptorTable, workers: u32) -> Result<Vec<Holder>, AllocError>
+    requires { workers ≤ 1024 }
+    ensures { (addresses : List (List ℕ)) → IfOk result (λ v. seen_rows addresses v.items ≡ first_rows (seen_holds addresses holds.now) workers) }
+{
+    let mut holders = Vec::new(alloc);
+    holders.push(Holder {
+        row: Row::Master {
+            number: 100,
+            parent: 1,
+            image: 1,
+            live: true,
+        },
+        holds: *holds,
+    })?;
+    for nr in 0..workers {
+        holders.push(Holder {
+            row: first_worker(nr),
+            holds: *holds,
+        })?;
+    }
+    Ok(holders)
+}
+
+fn first_worker(nr: u32) -> Row
+    requires { nr < 1024 }
+    ensures { (hs : List Hold) → process_of result hs ≡ first_worker hs nr }
+{
+    Row::Worker {
+        number: 101 + nr,
+        parent: 100,
+        generation: Generation {
+            image: 1,
+            config: 1,
+        },
+        nr,
+        stance: Stance::Ready,
+    }
+}
+
+/// The pid file, where there is one.
+fn files(alloc: Global, pid_file: Option<FilePath>) -> Result<Vec<FileRow>, AllocError>
+    ensures { IfOk result (λ v. map seen_file v.items ≡ first_files pid_file) }
+{
+    let mut files = Vec::new(alloc);
+    if let Some(path) = pid_file {
+        files.push(FileRow { path, owner: 100 })?;
+    }
+    Ok(files)
+}
+
+fn allowed(
+    alloc: Global,
+    listeners: &ListenerSet,
+    workers: u32,
+    pid_file: Option<FilePath>,
+    limits: Limits,
+) -> Result<Store, AllocError>
+    requires few { workers ≤ 1024 }
+    requires most { limits.descriptors ≤ 64 }
+    ensures table { IfOk result (λ s. seen s ≡ booted listeners.now workers pid_file limits) }
+    ensures sound { IfOk result (λ s. IsSound 0 s) }
+{
+    let holds = first_holds(listeners.len() as u32);
+    Ok(Store {
+        holders: holders(alloc, &holds, workers)?,
+        addresses: Vec::from_slice(alloc, listeners.as_slice())?,
+        files: files(alloc, pid_file)?,
+        next_process: 101 + u64::from(workers),
+        limits,
+    })
+}
+
+/// The rows of a start, with room for no call.
+pub fn store(
+    alloc: Global,
+    listeners: &ListenerSet,
+    workers: u32,
+    pid_file: Option<FilePath>,
+    limits: Limits,
+) -> Result<Store, BootRefusal>
+    ensures table { IfOk result (λ s. seen s ≡ booted listeners.now workers pid_file limits) }
+    ensures sound { IfOk result (λ s. IsSound 0 s) }
+    ensures bad_limits { IsErrOf result BootRefusal.BadLimits ↔ AreBadLimits (length listeners.now) workers limits }
+{
+    if are_bad(listeners.len(), workers, limits) {
+        return Err(BootRefusal::BadLimits);
+    }
+    allowed(alloc, listeners, workers, pid_file, limits).map_err(|_| BootRefusal::Memory)
+}

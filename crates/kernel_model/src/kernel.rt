@@ -1,0 +1,126 @@
+//! The modelled kernel.
+ghost use Rattle.std.specs.Prelude.{◌≡◌, ◌≤◌, ◌+◌, ◌↔◌, max, length, OnOk, OnErr, IfOk, IsErrOf};
+ghost use Rattle.std.specs.Option.{option_map};
+ghost use Rattle.definitions.specs.Table.{live_master};
+ghost use Rattle.definitions.specs.Exits.{after_exits};
+ghost use Rattle.definitions.specs.Calls.{step};
+ghost use Rattle.definitions.specs.Formed.{IsFormed};
+ghost use Rattle.kernel_model.specs.Boot.{booted, AreBadLimits};
+ghost use Rattle.kernel_model.specs.Room.{LacksNumbers};
+
+use crate::boot::{self, BootRefusal};
+use crate::moments::Moment;
+use crate::store::Store;
+use crate::{calls, exits};
+use definitions::{Actor, Answer, Call, Limits};
+use listener_set::{FilePath, ListenerSet};
+use std::alloc::{AllocError, Global};
+use std::marker::Model;
+use thiserror::Error;
+
+/// Why no room is made.
+#[derive(Clone, Copy, Debug, PartialEq, Eq, Error)]
+pub enum ReserveRefusal {
+    #[error("B3 too few process or socket numbers are left")]
+    NoNumbers,
+    #[error("out of memory")]
+    Memory,
+}
+
+/// The kernel: its table, and for how many calls it has memory and numbers.
+#[derive(Drop)]
+pub struct Kernel {
+    pub(crate) store: Store,
+    room: u32,
+}
+
+impl Model for Kernel {
+    ghost use Rattle.kernel_model.specs.State.{State};
+
+    ghost Value = { State };
+
+    ghost use Rattle.kernel_model.specs.Seen.{seen};
+    ghost use Rattle.kernel_model.specs.Room.{IsSound};
+
+    ghost view = { λ k. record { table = seen k.store; room = k.room } };
+
+    ghost invariant = { λ k. IsSound k.room k.store };
+}
+
+impl Kernel {
+    /// A kernel with the master of image 1 and its Ready workers. The master has process number 100, parent 1 and the
+    /// listeners from descriptor 3 on in their order; the workers, of generation 1.1, are numbered from 0 and have process
+    /// numbers from 101. Where there is a pid file it holds 100. Room is for no call.
+    ///
+    /// B1 where the processes are limited to fewer than these or to more than 65,535, the descriptors to fewer than the
+    /// listeners or to more than 64, or there are more than 1,024 workers.
+    pub fn boot(
+        alloc: Global,
+        listeners: &ListenerSet,
+        workers: u32,
+        pid_file: Option<FilePath>,
+        limits: Limits,
+    ) -> Result<Self, BootRefusal>
+        ensures ok { IfOk result (λ k. k ≡ record { table = booted listeners.now workers pid_file limits; room = 0 }) }
+        ensures bad_limits { IsErrOf result BootRefusal.BadLimits ↔ AreBadLimits (length listeners.now) workers limits }
+        ensures formed { IfOk result (λ k. IsFormed k.table) }
+    {
+        let store = boot::store(alloc, listeners, workers, pid_file, limits)?;
+        Ok(Kernel { store, room: 0 })
+    }
+
+    /// For how many calls memory and numbers are reserved.
+    pub fn room(&self) -> u32
+        ensures { result ≡ self.now.room }
+    {
+        self.room
+    }
+
+    /// Reserves memory and numbers for that many calls, where there is room for less. B3 where fewer than that many process
+    /// or socket numbers are left, up to 4,294,967,295.
+    pub fn reserve(&mut self, calls: u32) -> Result<(), ReserveRefusal>
+        ensures ok { OnOk result (self.new ≡ record { table = self.old.table; room = max self.old.room calls }) }
+        ensures no_numbers { IsErrOf result ReserveRefusal.NoNumbers ↔ LacksNumbers self.old.table calls }
+        ensures err { OnErr result (self.new ≡ self.old) }
+    {
+        let _ = &self.room;
+        if self.store.lacks_numbers(calls) {
+            return Err(ReserveRefusal::NoNumbers);
+        }
+        if calls <= self.room {
+            return Ok(());
+        }
+        self.store.grow(calls).map_err(|_| ReserveRefusal::Memory)?;
+        self.room = calls;
+        Ok(())
+    }
+
+    /// The same table, with room for no call.
+    pub fn copy(&self) -> Result<Self, AllocError>
+        ensures same { IfOk result (λ k. k ≡ record { table = self.now.table; room = 0 }) }
+        ensures formed { IsFormed self.now.table }
+    {
+        let store = self.store.copy()?;
+        Ok(Kernel { store, room: 0 })
+    }
+
+    /// One moment: the exits, one after another, and then the call by the master of the image. A master that is gone is
+    /// answered so; then comes the fault that a fate gives; then the call's own answer. It takes no memory.
+    pub fn call(&mut self, by: Actor, call: &Call, moment: &Moment<'_>) -> Answer
+        requires { 1 ≤ self.old.room }
+        ensures step { record { answer = result; table = self.new.table } ≡ step by call.now moment.now.fate (after_exits moment.now.exits.now self.old.table) }
+        ensures room { self.new.room + 1 ≡ self.old.room }
+        ensures formed { IsFormed self.new.table }
+    {
+        self.room -= 1;
+        exits::exit_all(&mut self.store, moment.exits);
+        calls::answered(&mut self.store, by.0, call, moment.fate)
+    }
+
+    /// The process number of the live master of an image.
+    pub fn master(&self, image: u32) -> Option<u32>
+        ensures { result ≡ option_map (λ c. c.number) (live_master image self.now.table.rows) }
+    {
+        self.store.live_master(image).map(|master| master.number)
+    }
+}

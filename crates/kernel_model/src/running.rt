@@ -1,0 +1,376 @@
+//! Whether a running master is as a record says.
+ghost use Rattle.std.specs.Prelude.{ℕ, List, ◌≡◌, ◌↔◌, IsTrue, bytes_eq, map, count_by, ◌<◌};
+ghost use Rattle.std.specs.Bool.{OnTrue};
+ghost use Rattle.listener_set.specs.Numbers.{is_in};
+ghost use Rattle.definitions.specs.Settings.{HasSuffixRoom};
+ghost use Rattle.definitions.specs.Table.{is_master, owner_at};
+ghost use Rattle.definitions.specs.Record.{Agrees, FilesAre, IsRunning, listener_of};
+ghost use Rattle.kernel_model.specs.Holds.{address_of, seen_holds};
+ghost use Rattle.kernel_model.specs.Seen.{seen, seen_caller, seen_file, seen_holder, seen_rows};
+ghost use Rattle.kernel_model.specs.Running.{running, AreRunning, AreReady, MasterAgrees, WorkersAgree};
+
+use crate::Kernel;
+use crate::process::{Caller, Holder, Row};
+use crate::readers::FileRow;
+use crate::store::Store;
+use definitions::{Listener, PidNote, Stance};
+use listener_set::{
+    Address, DescriptorTable, FIRST_DESCRIPTOR, FilePath, Generation, MOST_DESCRIPTORS, Numbers,
+    WORKER_LIMIT,
+};
+
+/// What a master's record says of the table.
+#[derive(Clone, Copy, Debug)]
+pub struct Running<'a> {
+    /// In ascending descriptors.
+    pub listeners: &'a [Listener],
+    pub generation: Generation,
+    /// The numbers of the Ready workers.
+    pub ready: Numbers,
+    /// Where the pid file is to stand.
+    pub pid_path: Option<FilePath>,
+    pub note: PidNote,
+    /// The master's process number.
+    pub pid: u32,
+}
+
+/// How many masters there are, live or exited.
+fn master_count(holders: &[Holder]) -> usize
+    ensures { (addresses : List (List ℕ)) → result ≡ count_by is_master (seen_rows addresses holders.now) }
+{
+    holders
+        .iter()
+        .filter(|holder| holder.row.is_master())
+        .count()
+}
+
+/// Whether a socket is of an address. One that is nobody's has an empty text.
+fn is_socket_at(addresses: &[Address], socket: u32, address: &Address) -> bool
+    ensures { result ≡ bytes_eq (address_of addresses.now socket) address.now }
+{
+    match addresses.get((socket as usize).saturating_sub(1)) {
+        Some(own) => own == address,
+        None => address.bytes().is_empty(),
+    }
+}
+
+/// Whether the holds, in ascending descriptors, are the listeners.
+fn are_listeners(addresses: &[Address], holds: &DescriptorTable, listeners: &[Listener]) -> bool
+    ensures { IsTrue result ↔ (map listener_of (seen_holds addresses.now holds.now) ≡ listeners.now) }
+{
+    let mut pairs = holds.iter();
+    for listener in listeners {
+        let Some((descriptor, socket)) = pairs.next() else {
+            return false;
+        };
+        if descriptor != listener.descriptor
+            || !is_socket_at(addresses, socket, &listener.address)
+        {
+            return false;
+        }
+    }
+    pairs.next().is_none()
+}
+
+/// Whether two processes hold the same sockets under the same descriptors.
+fn same_holds(holds: &DescriptorTable, others: &DescriptorTable) -> bool
+    ensures { IsTrue result ↔ (holds.now ≡ others.now) }
+{
+    if holds.len() != others.len() {
+        return false;
+    }
+    for descriptor in FIRST_DESCRIPTOR..FIRST_DESCRIPTOR + MOST_DESCRIPTORS as u32 {
+        if holds.get(descriptor) != others.get(descriptor) {
+            return false;
+        }
+    }
+    true
+}
+
+/// Whether a process, if it is a worker of the master, is not Starting and, where it is Ready, is of the generation and
+/// holds what the master holds.
+fn is_running(holder: &Holder, master: &Caller, generation: Generation) -> bool
+    ensures { (addresses : List (List ℕ)) → IsTrue result ↔ IsRunning master.now.number generation (seen_holds addresses master.now.holds) (seen_holder addresses holder.now) }
+{
+    match holder.row {
+        Row::Worker {
+            parent,
+            generation: own,
+            stance,
+            ..
+        } if parent == master.number => match stance {
+            Stance::Starting => false,
+            Stance::Ready => own == generation && same_holds(&holder.holds, &master.holds),
+            Stance::Draining | Stance::Exited => true,
+        },
+        _ => true,
+    }
+}
+
+/// Whether each process is so.
+fn are_running(holders: &[Holder], master: &Caller, generation: Generation) -> bool
+    ensures { (addresses : List (List ℕ)) → IsTrue result ↔ AreRunning master.now.number generation (seen_holds addresses master.now.holds) (seen_rows addresses holders.now) }
+{
+    for holder in holders {
+        if !is_running(holder, master, generation) {
+            return false;
+        }
+    }
+    true
+}
+
+/// Whether a set has a number, which may be 1024 or more.
+fn has_number(numbers: &Numbers, nr: u32) -> bool
+    ensures value { result ≡ is_in numbers.now nr }
+    ensures below { OnTrue result (nr < WORKER_LIMIT) }
+{
+    numbers.next_from(nr) == Some(nr)
+}
+
+/// Whether these are the numbers of the master's Ready workers in the generation.
+fn are_ready(holders: &[Holder], pid: u32, generation: Generation, ready: &Numbers) -> bool
+    ensures { (addresses : List (List ℕ)) → IsTrue result ↔ AreReady pid generation (seen_rows addresses holders.now) ready.now }
+{
+    let mut missing = *ready;
+    for holder in holders {
+        if let Some(nr) = holder.row.ready_number(pid, generation) {
+            if !has_number(ready, nr) {
+                return false;
+            }
+            missing.remove(nr);
+        }
+    }
+    missing.is_empty()
+}
+
+/// The process number that the file at a path holds.
+fn owner_at(files: &[FileRow], path: &FilePath) -> Option<u32>
+    ensures { result ≡ owner_at path.now (map seen_file files.now) }
+{
+    for file in files {
+        if file.path == *path {
+            return Some(file.owner);
+        }
+    }
+    None
+}
+
+/// Whether the files are as the note says.
+fn files_are(files: &[FileRow], note: PidNote, path: Option<FilePath>, pid: u32) -> bool
+    requires { HasSuffixRoom path }
+    ensures { IsTrue result ↔ FilesAre note path pid (map seen_file files.now) }
+{
+    let Some(path) = path else {
+        return note == PidNote::NoFile;
+    };
+    let own = owner_at(files, &path);
+    let beside = owner_at(files, &path.oldbin());
+    match note {
+        PidNote::InPlace => own == Some(pid) && beside.is_none(),
+        PidNote::AtOldbin => beside == Some(pid),
+        PidNote::OldbinLeft => own == Some(pid) && beside.is_some(),
+        PidNote::Left | PidNote::NoFile => false,
+    }
+}
+
+/// Whether the master is the record's, the only one, and listens where the record says.
+fn master_agrees(store: &Store, master: &Caller, claim: &Running<'_>) -> bool
+    ensures { IsTrue result ↔ MasterAgrees (seen store.now).rows (seen_caller store.now.addresses.items master.now) claim.now }
+{
+    master.number == claim.pid
+        && master_count(&store.holders) == 1
+        && are_listeners(&store.addresses, &master.holds, claim.listeners)
+}
+
+/// Whether the master's workers are the record's.
+fn workers_agree(store: &Store, master: &Caller, claim: &Running<'_>) -> bool
+    ensures { IsTrue result ↔ WorkersAgree (seen store.now).rows (seen_caller store.now.addresses.items master.now) claim.now }
+{
+    are_running(&store.holders, master, claim.generation)
+        && are_ready(
+            &store.holders,
+            master.number,
+            claim.generation,
+            &claim.ready,
+        )
+}
+
+impl Kernel {
+    /// Whether the table is as a record says: it has one master row, live, with the generation's image and the process
+    /// number; its descriptors are exactly the listeners; of its workers none is Starting, the Ready ones are exactly those
+    /// of the generation with the ready numbers, each holding what the master holds; and the files are as the note says. The
+    /// path of the pid file has at most 100 bytes.
+    pub fn agrees_with(&self, claim: &Running<'_>) -> bool
+        requires { HasSuffixRoom claim.now.pid_path }
+        ensures { (wanted retries timeout : ℕ) → IsTrue result ↔ Agrees self.now.table (running claim.now wanted retries timeout) }
+    {
+        match self.store.live_master(claim.generation.image) {
+            Some(master) => {
+                master_agrees(&self.store, &master, claim)
+                    && workers_agree(&self.store, &master, claim)
+                    && files_are(&self.store.files, claim.note, claim.pid_path, claim.pid)
+            }
+            None => false,
+        }
+    }
+}
+
+#[cfg(test)]
+mod tests {
+    use super::*;
+    use crate::Moment;
+    use definitions::{Actor, Answer, Call, Fate, Limits};
+    use listener_set::ListenerSet;
+    use std::alloc::Global;
+    use std::test::Fail;
+
+    const FIRST: Generation = Generation {
+        image: 1,
+        config: 1,
+    };
+
+    fn started(alloc: Global, listeners: &[Listener], path: FilePath) -> Result<Kernel, Fail> {
+        let mut addresses = ListenerSet::new();
+        for listener in listeners {
+            addresses.add(&listener.address)?;
+        }
+        let limits = Limits {
+            processes: 16,
+            descriptors: 64,
+        };
+        Ok(Kernel::boot(alloc, &addresses, 2, Some(path), limits)?)
+    }
+
+    /// What a master with two workers says as it starts.
+    fn first<'a>(listeners: &'a [Listener], path: FilePath) -> Running<'a> {
+        Running {
+            listeners,
+            generation: FIRST,
+            ready: Numbers::below(2),
+            pid_path: Some(path),
+            note: PidNote::InPlace,
+            pid: 100,
+        }
+    }
+
+    fn listener(descriptor: u32, text: &[u8]) -> Result<Listener, Fail> {
+        Ok(Listener {
+            descriptor,
+            address: Address::read(text)?,
+        })
+    }
+
+    /// Whether they agree, where the path leaves room for the suffix.
+    fn agrees(kernel: &Kernel, claim: &Running<'_>) -> bool {
+        match &claim.pid_path {
+            Some(path) if path.bytes().len() > 100 => false,
+            _ => kernel.agrees_with(claim),
+        }
+    }
+
+    #[test]
+    fn agrees_with_a_start_and_no_other(rt: HostRuntime) -> Result<(), Fail> {
+        let path = FilePath::read(b"/run/app.pid")?;
+        let listeners = [listener(3, b"127.0.0.1:80")?, listener(4, b"/run/app")?];
+        let kernel = started(rt.alloc(), &listeners, path)?;
+        let so = first(&listeners, path);
+        let fileless = Running {
+            note: PidNote::NoFile,
+            pid_path: None,
+            ..so
+        };
+        assert!(rt; agrees(&kernel, &so));
+        assert!(rt; agrees(&kernel, &fileless));
+        let elsewhere = [listener(3, b"127.0.0.1:80")?, listener(5, b"/run/app")?];
+        let swapped = [listener(3, b"/run/app")?, listener(4, b"127.0.0.1:80")?];
+        let wrong = [
+            Running { pid: 101, ..so },
+            Running {
+                ready: Numbers::below(3),
+                ..so
+            },
+            Running {
+                ready: Numbers::below(1),
+                ..so
+            },
+            Running {
+                generation: Generation {
+                    image: 2,
+                    config: 1,
+                },
+                ..so
+            },
+            Running {
+                generation: Generation {
+                    image: 1,
+                    config: 2,
+                },
+                ..so
+            },
+            Running {
+                note: PidNote::AtOldbin,
+                ..so
+            },
+            Running {
+                note: PidNote::OldbinLeft,
+                ..so
+            },
+            Running {
+                note: PidNote::Left,
+                ..so
+            },
+            Running {
+                note: PidNote::NoFile,
+                ..so
+            },
+            Running {
+                pid_path: None,
+                ..so
+            },
+            Running {
+                pid_path: Some(path.oldbin()),
+                ..so
+            },
+            Running {
+                listeners: &listeners[..1],
+                ..so
+            },
+            Running {
+                listeners: &elsewhere,
+                ..so
+            },
+            Running {
+                listeners: &swapped,
+                ..so
+            },
+        ];
+        for (i, claim) in wrong.iter().enumerate() {
+            assert!(rt; !agrees(&kernel, claim), "claim {i}");
+        }
+        Ok(())
+    }
+
+    #[test]
+    fn agrees_once_a_new_worker_is_ready(rt: HostRuntime) -> Result<(), Fail> {
+        let path = FilePath::read(b"/run/app.pid")?;
+        let listeners = [listener(3, b"127.0.0.1:80")?];
+        let mut kernel = started(rt.alloc(), &listeners, path)?;
+        kernel.reserve(2)?;
+        let quiet = Moment {
+            exits: &[],
+            fate: None,
+        };
+        let so = first(&listeners, path);
+        let more = Running {
+            ready: Numbers::below(3),
+            ..so
+        };
+        kernel.call(Actor(1), &Call::Fork(FIRST, 2), &quiet);
+        assert!(rt; !agrees(&kernel, &so));
+        assert!(rt; !agrees(&kernel, &more));
+        kernel.call(Actor(1), &Call::AwaitReady(FIRST, 2), &quiet);
+        assert!(rt; !agrees(&kernel, &so));
+        assert!(rt; agrees(&kernel, &more));
+        Ok(())
+    }
+}

@@ -1,0 +1,222 @@
+//! The rows of the table, and the few ways to read and change them.
+ghost use Rattle.std.specs.Prelude.{◌≡◌, ◌<◌, ◌≤◌, ◌+◌, ◌^◌, ◌↔◌, ℕ, List, length, count_by, Contains, IsTrue, IfOk, IfSome, OnOk, vec_len, vec_capacity};
+ghost use Rattle.std.specs.List.{list_any, filter_map};
+ghost use Rattle.std.specs.Option.{option_map};
+ghost use Rattle.definitions.specs.Table.{Worker, is_worker, is_own, is_live_master, is_held, live_master, with_rows};
+ghost use Rattle.definitions.specs.Calls.{has_process_room, lowest_free, with_new_row, with_new_socket, each_row, census_of};
+ghost use Rattle.definitions.specs.Exits.{kept_if, draining_exits};
+ghost use Rattle.kernel_model.specs.Seen.{seen_rows, seen_holder};
+ghost use Rattle.kernel_model.specs.Edits.{edited};
+
+use crate::edits::Edit;
+use crate::holds;
+use crate::process::{Caller, Holder, Row, Stances, WorkerName};
+use crate::readers::FileRow;
+use definitions::{Limits, Stance};
+use listener_set::{Address, DescriptorTable, Generation, Numbers, WORKER_LIMIT};
+use std::alloc::AllocError;
+
+/// The rows in ascending process numbers, the addresses of sockets 1, 2 and so on, the files, and the next process number.
+#[derive(Drop)]
+pub struct Store {
+    pub holders: Vec<Holder>,
+    pub addresses: Vec<Address>,
+    pub files: Vec<FileRow>,
+    pub next_process: u64,
+    pub limits: Limits,
+}
+
+fn edit_all(holders: &mut Vec<Holder>, addresses: &[Address], edit: &Edit)
+    ensures rows { seen_rows addresses.now holders.new.items ≡ filter_map (edited addresses.now edit.now) (seen_rows addresses.now holders.old.items) }
+    ensures len { vec_len holders.new ≤ vec_len holders.old }
+    ensures capacity { vec_capacity holders.new ≡ vec_capacity holders.old }
+{
+    let stays = |holder: &mut Holder| -> bool
+        ensures { kept_if result (seen_holder addresses.entry.now holder.exit.now) ≡ edited addresses.entry.now edit.entry.now (seen_holder addresses.entry.now holder.entry.now) }
+    { holder.edit(addresses, edit) };
+    holders.retain_mut(stays);
+}
+
+fn exit_first_draining(holders: &mut [Holder], generation: Generation, nr: u32)
+    ensures { (addresses : List (List ℕ)) → seen_rows addresses holders.new ≡ draining_exits generation nr (seen_rows addresses holders.old) }
+{
+    let first = holders.iter().position(|holder| holder
+        .row
+        .is_named(Stances::Draining, generation, nr));
+    if let Some(place) = first {
+        let holder = &mut holders[place];
+        holder.exit();
+    }
+}
+
+fn own_count(holders: &[Holder]) -> usize
+    ensures { (addresses : List (List ℕ)) → result ≡ count_by is_own (seen_rows addresses holders.now) }
+{
+    holders.iter().filter(|holder| holder.row.is_own()).count()
+}
+
+fn is_held(holders: &[Holder], addresses: &[Address], address: &Address) -> bool
+    ensures { result ≡ is_held address.now (seen_rows addresses.now holders.now) }
+{
+    holders.iter().any(|holder| holds::has_address(addresses, &holder.holds, address))
+}
+
+fn ready_numbers(holders: &[Holder], caller: u32, generation: Generation) -> Numbers
+    ensures { (addresses : List (List ℕ)) → result ≡ census_of caller generation (seen_rows addresses holders.now) }
+{
+    let mut numbers = Numbers::none();
+    for holder in holders {
+        if let Some(nr) = holder.row.ready_number(caller, generation) {
+            if nr < WORKER_LIMIT {
+                numbers.add(nr);
+            }
+        }
+    }
+    numbers
+}
+
+impl Store {
+    ghost use Rattle.kernel_model.specs.Holds.{seen_holds};
+    ghost use Rattle.kernel_model.specs.Seen.{has_stance, seen_caller, caller_row, seen};
+    ghost use Rattle.kernel_model.specs.Room.{EditsRows, GrowsByOne, HasMemoryFor, LacksNumbers, IsKept};
+    ghost use Rattle.kernel_model.specs.Rows.{IsOwn};
+
+    /// The live master of an image.
+    pub fn live_master(&self, image: u32) -> Option<Caller>
+        ensures caller { option_map (seen_caller self.now.addresses.items) result ≡ live_master image (seen self.now).rows }
+        ensures row { IfSome result (λ c. Contains (seen self.now).rows (caller_row self.now.addresses.items c)) }
+    {
+        for holder in &self.holders {
+            if let Some(caller) = holder.live_master(image) {
+                return Some(caller);
+            }
+        }
+        None
+    }
+
+    /// Whether the number is a live master's.
+    pub fn has_live_master(&self, number: u32) -> bool
+        ensures { result ≡ list_any (is_live_master number) (seen self.now).rows }
+    {
+        self.holders
+            .iter()
+            .any(|holder| holder.row.is_live_master(number))
+    }
+
+    /// Whether a worker of the name is in one of the stances.
+    pub fn has_worker(&self, stances: Stances, name: WorkerName) -> bool
+        ensures { result ≡ list_any (is_worker (has_stance stances) name.parent name.generation name.nr) (seen self.now).rows }
+    {
+        self.holders
+            .iter()
+            .any(|holder| holder.row.is_worker(stances, name))
+    }
+
+    /// Whether the process limit allows one more.
+    pub fn has_process_room(&self) -> bool
+        ensures { result ≡ has_process_room (seen self.now) }
+    {
+        own_count(&self.holders) < self.limits.processes as usize
+    }
+
+    /// Whether somebody holds the address.
+    pub fn is_held(&self, address: &Address) -> bool
+        ensures { result ≡ is_held address.now (seen self.now).rows }
+    {
+        is_held(&self.holders, &self.addresses, address)
+    }
+
+    /// The numbers below 1024 of the master's Ready workers in the generation.
+    pub fn ready_numbers(&self, caller: u32, generation: Generation) -> Numbers
+        ensures { result ≡ census_of caller generation (seen self.now).rows }
+    {
+        ready_numbers(&self.holders, caller, generation)
+    }
+
+    /// Changes the rows by an edit.
+    pub fn edit(&mut self, edit: &Edit)
+        ensures table { seen self.new ≡ each_row (edited self.old.addresses.items edit.now) (seen self.old) }
+        ensures room { EditsRows self.old self.new }
+    {
+        edit_all(&mut self.holders, &self.addresses, edit);
+    }
+
+    /// The Draining worker of the name with the lowest process number exits.
+    pub fn exit_draining(&mut self, generation: Generation, nr: u32)
+        ensures table { seen self.new ≡ with_rows (seen self.old) (draining_exits generation nr (seen self.old).rows) }
+        ensures room { EditsRows self.old self.new }
+    {
+        exit_first_draining(&mut self.holders, generation, nr);
+    }
+
+    /// Adds a Starting worker with these holds.
+    pub fn add_worker(&mut self, name: WorkerName, holds: DescriptorTable)
+        requires room { vec_len self.old.holders < vec_capacity self.old.holders }
+        requires number { self.old.next_process < 2 ^ 32 }
+        ensures table { seen self.new ≡ with_new_row (seen self.old) (λ n. Worker n name.parent name.generation name.nr Stance.Starting (seen_holds self.old.addresses.items holds)) }
+        ensures grows { GrowsByOne self.old self.new }
+    {
+        let row = Row::Worker {
+            number: self.next_process as u32,
+            parent: name.parent,
+            generation: name.generation,
+            nr: name.nr,
+            stance: Stance::Starting,
+        };
+        self.holders.push(Holder { row, holds }).unwrap();
+        self.next_process += 1;
+    }
+
+    /// Adds a socket of the address, which the master holds from then on at its lowest free descriptor. That is given.
+    pub fn add_socket(&mut self, caller: &Caller, address: &Address) -> u32
+        requires room { vec_len self.old.addresses < vec_capacity self.old.addresses }
+        requires number { length self.old.addresses.items + 1 < 2 ^ 32 }
+        requires free { length caller.now.holds < 64 }
+        requires kept { IsKept (seen self.old) }
+        requires own { IsOwn self.old caller.now }
+        ensures descriptor { result ≡ lowest_free (seen_holds self.old.addresses.items caller.now.holds) }
+        ensures table { seen self.new ≡ with_new_socket (seen self.old) caller.now.number (record { fd = result; socket = (seen self.old).next_socket; address = address.now }) }
+        ensures grows { GrowsByOne self.old self.new }
+    {
+        let socket = self.addresses.len() as u32 + 1;
+        let mut holds = caller.holds;
+        let descriptor = holds.put(socket).unwrap();
+        self.addresses.push(*address).unwrap();
+        self.edit(&Edit::Hold(caller.number, holds));
+        descriptor
+    }
+
+    /// Whether fewer process or socket numbers are left than that many.
+    pub fn lacks_numbers(&self, calls: u32) -> bool
+        ensures { IsTrue result ↔ LacksNumbers (seen self.now) calls }
+    {
+        let most = 1u64 << 32;
+        let calls = u64::from(calls);
+        let next_socket = self.addresses.len() as u64 + 1;
+        most < calls || most - calls < self.next_process || most - calls < next_socket
+    }
+
+    /// Takes memory for that many rows and sockets more.
+    pub fn grow(&mut self, calls: u32) -> Result<(), AllocError>
+        ensures same { seen self.new ≡ seen self.old }
+        ensures more { OnOk result (HasMemoryFor calls self.new) }
+        ensures kept { (n : ℕ) → HasMemoryFor n self.old → HasMemoryFor n self.new }
+    {
+        self.holders.reserve(calls as usize)?;
+        self.addresses.reserve(calls as usize)?;
+        Ok(())
+    }
+
+    /// The same rows in memory of their own.
+    pub fn copy(&self) -> Result<Self, AllocError>
+        ensures { IfOk result (λ s. seen s ≡ seen self.now) }
+    {
+        Ok(Store {
+            holders: self.holders.clone()?,
+            addresses: self.addresses.clone()?,
+            files: self.files.clone()?,
+            next_process: self.next_process,
+            limits: self.limits,
+        })
+    }
+}

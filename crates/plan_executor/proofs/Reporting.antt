@@ -1,0 +1,37 @@
+-- What the path law and the kernel's answers say together: the entries are the run, and the report is the run's.
+use Rattle.std.proofs.Common.{◌≡◌, ℕ, List, Option, Some, None, refl, sym, ◌∙◌, ap}
+use Rattle.definitions.specs.declared.reports.Entry.{Entry}
+use Rattle.definitions.specs.declared.reports.Report.{Report}
+use Rattle.definitions.specs.declared.reports.Outcome.{Outcome}
+use Rattle.definitions.specs.declared.plans.PidNote.{PidNote}
+use Rattle.definitions.specs.Table.{Table}
+use Rattle.definitions.specs.Tree.{Tree, Ends, Does}
+use Rattle.definitions.specs.Path.{Trail, begin, after, IsOver, IsOutcome, Reports, KeepsPathLaw}
+use Rattle.definitions.specs.Run.{Pattern, Ran, run, start_at, outcome_of, report_of, Replays}
+use Rattle.plan_executor.specs.Lawful.{trail_at, ending_of, IsRun, IsWholeRun}
+use Rattle.plan_executor.proofs.Running.{runs-as}
+
+over : (rest : Option Tree) (lacking : List ℕ) (o : Outcome) → IsOutcome rest lacking o → IsOver rest
+over None lacking o h = tt
+over (Some (Ends end)) lacking o h = tt
+over (Some (Does by order set branches)) lacking o h = absurd h
+
+outcome-is : (rest : Option Tree) (lacking : List ℕ) (o : Outcome) → IsOutcome rest lacking o → o ≡ outcome_of (ending_of rest) lacking
+outcome-is None lacking o h = h
+outcome-is (Some (Ends end)) lacking o h = h
+outcome-is (Some (Does by order set branches)) lacking o h = absurd h
+
+reported : (t : Trail) (entries : List Entry) (last : Table) (ran : Ran) (report : Report) → IsRun entries last t ran → Reports t report → report ≡ report_of ran
+reported t entries last ran report is h =
+    let lacking : t.lacking ≡ ran.last.lacking = ap (λ (x : Trail). x.lacking) (sym is.trail) in
+    let outcome = outcome-is t.rest t.lacking report.outcome h.outcome ∙ (ap (λ e. outcome_of e t.lacking) (sym is.ending) ∙ ap (outcome_of ran.ending) lacking) in
+    let cause = h.cause ∙ ap (λ (x : Trail). x.cause) (sym is.trail) in
+    let note = h.note ∙ ap (λ (x : Trail). x.note) (sym is.trail) in
+    let ready = h.ready ∙ ap (λ (x : Trail). x.ready) (sym is.trail) in
+    λ i. record { outcome = outcome i; cause = cause i; note = note i; ready = ready i }
+
+pub whole-run : (tree : Tree) (note : PidNote) (pattern : Pattern) (first last : Table) (entries : List Entry) (report : Report) → KeepsPathLaw tree note entries report → Replays pattern 0 first entries last → IsWholeRun tree note pattern first entries last report
+whole-run tree note pattern first last entries report law replays =
+    let t = after (begin tree note) entries in
+    let is = runs-as entries tree pattern (start_at first note) last law.path (over t.rest t.lacking report.outcome law.report_is.outcome) replays in
+    record { entries_are = is.entries_are; table = is.table; report_is = reported t entries last (run tree pattern (start_at first note)) report is law.report_is }

@@ -1,0 +1,32 @@
+-- A run of a plan's tree, by its entries.
+use Rattle.std.specs.Prelude.{ℕ, ◌≡◌, Option, Some, None, List}
+use Rattle.definitions.specs.Table.{Table}
+use Rattle.definitions.specs.Tree.{Tree, Ends, Does}
+use Rattle.definitions.specs.declared.reports.Entry.{Entry}
+use Rattle.definitions.specs.Path.{Trail}
+use Rattle.definitions.specs.declared.reports.Report.{Report}
+use Rattle.definitions.specs.declared.plans.PidNote.{PidNote}
+use Rattle.definitions.specs.Run.{Pattern, Progress, Ending, At, Lost, Ran, run, start_at, report_of}
+
+-- the trail of a run that has come so far
+abbrev pub trail_at : Option Tree → Progress → Trail
+trail_at rest p = record { rest = rest; ready = p.ready; lacking = p.lacking; note = p.note; cause = p.cause; made = p.calls }
+
+-- how the run of a trail that is over ends
+abbrev pub ending_of : Option Tree → Ending
+ending_of None = Lost
+ending_of (Some (Ends end)) = At end
+ending_of (Some (Does by order set branches)) = Lost
+
+-- the run has these entries, ends with this table, and its trail is this one
+pub record IsRun (entries : List Entry) (last : Table) (t : Trail) (ran : Ran) : Type 0 where
+  pub entries_are : ran.entries ≡ entries
+  pub table : ran.last.table ≡ last
+  pub ending : ran.ending ≡ ending_of t.rest
+  pub trail : trail_at t.rest ran.last ≡ t
+
+-- These are the entries, the last table and the report of the run of a tree from a table under a pattern.
+pub record IsWholeRun (tree : Tree) (note : PidNote) (pattern : Pattern) (first : Table) (entries : List Entry) (last : Table) (report : Report) : Type 0 where
+  pub entries_are : (run tree pattern (start_at first note)).entries ≡ entries
+  pub table : (run tree pattern (start_at first note)).last.table ≡ last
+  pub report_is : report ≡ report_of (run tree pattern (start_at first note))

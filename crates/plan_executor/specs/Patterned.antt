@@ -1,0 +1,19 @@
+-- The modelled kernel, called under a pattern.
+use Rattle.std.specs.Prelude.{ℕ, ◌≡◌, ◌+◌, List, [], length}
+use Rattle.std.proofs.Common.{refl, arith}
+use Rattle.definitions.specs.declared.reports.Entry.{Entry}
+use Rattle.definitions.specs.Run.{Replays}
+use Rattle.kernel_model.specs.Pattern.{moment_at}
+use Rattle.plan_executor.specs.declared.patterned.Patterned.{Patterned}
+
+-- These calls led from the one state to the other: each had the one answer that the kernel can give there under the pattern,
+-- and each took one room.
+pub record CallsLed (first : Patterned) (entries : List Entry) (last : Patterned) : Type 0 where
+  pub pattern : last.pattern.now ≡ first.pattern.now
+  pub number : last.number ≡ first.number + length entries
+  pub room : last.kernel.room + length entries ≡ first.kernel.room
+  pub replays : Replays (moment_at first.pattern.now) first.number first.kernel.table entries last.kernel.table
+
+-- where no call was made, nothing changed
+pub CallsLed-none : (p : Patterned) → CallsLed p [] p
+CallsLed-none p = record { pattern = refl; number = omega arith; room = omega arith; replays = refl }

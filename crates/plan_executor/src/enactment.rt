@@ -1,0 +1,116 @@
+//! A target, planned and carried out on the modelled kernel.
+ghost use Rattle.std.specs.Prelude.{◌≡◌, ◌↔◌, OnErr, IfOk, IsErrOf};
+ghost use Rattle.definitions.specs.Formed.{IsFormed};
+ghost use Rattle.definitions.specs.Record.{Agrees};
+ghost use Rattle.kernel_model.specs.Pattern.{moment_at};
+ghost use Rattle.definitions.specs.Target.{IsTarget};
+ghost use Rattle.plan_executor.specs.Enacted.{IsEnacted};
+
+use crate::naming::first_naming;
+use crate::patterned::Patterned;
+use crate::{Transcript, execute};
+use definitions::{Report, Target};
+use kernel_model::{Kernel, Pattern, ReserveRefusal};
+use reload_planner::PlanRefusal;
+use service_state::Record;
+use std::alloc::{AllocError, Global};
+use thiserror::Error;
+
+/// Why a target is not carried out.
+#[derive(Clone, Copy, Debug, PartialEq, Eq, Error)]
+pub enum EnactRefusal {
+    /// Memory was refused before the first call.
+    #[error("E1")]
+    Memory,
+    /// The record does not agree with the kernel.
+    #[error("E2")]
+    RecordDisagrees,
+    /// The target has no plan.
+    #[error("E3 {0}")]
+    Plan(PlanRefusal),
+    /// The pattern kills the executing master at this moment of the run.
+    #[error("E4 {0}")]
+    MasterNamed(u32),
+    /// Fewer process or socket numbers are left than the plan's longest path has steps.
+    #[error("E5")]
+    NoNumbers,
+}
+
+impl From<AllocError> for EnactRefusal {
+    ghost use Rattle.plan_executor.specs.declared.enactment.EnactRefusal.TheVariants.{Memory};
+
+    ghost from_gives = { λ _ e. e ≡ Memory };
+
+    fn from(_error: AllocError) -> EnactRefusal {
+        EnactRefusal::Memory
+    }
+}
+
+/// What came of a target.
+#[derive(Drop)]
+pub struct Enacted {
+    /// The calls that were made, with their answers.
+    pub transcript: Transcript,
+    pub report: Report,
+    /// The record of the master that runs then; none after a stop.
+    pub after: Option<Record>,
+}
+
+/// Plans a target for a running state and carries the plan out on the modelled kernel, under a
+/// pattern of failing calls and exits.
+///
+/// All memory is taken before the first call, on a copy: a refusal leaves the kernel as it was.
+/// Refusals in their order: E2 the record disagrees with the kernel; E3 there is no plan; E5 too
+/// few numbers are left; E4 the pattern kills the executing master. E1 may come at any place.
+pub fn enact(
+    alloc: Global,
+    kernel: &mut Kernel,
+    state: &Record,
+    target: &Target,
+    pattern: &Pattern,
+) -> Result<Enacted, EnactRefusal>
+    requires { IsTarget target.now }
+    ensures ok { IfOk result (IsEnacted kernel.old.table kernel.new.table state.now target.now (moment_at pattern.now)) }
+    ensures disagrees { IsErrOf result EnactRefusal.RecordDisagrees ↔ (Agrees kernel.old.table state.now → ⊥) }
+    ensures err { OnErr result (kernel.new ≡ kernel.old) }
+{
+    if !state.agrees(kernel) {
+        return Err(EnactRefusal::RecordDisagrees);
+    }
+    let plan = match reload_planner::plan(alloc, state, target) {
+        Ok(plan) => plan,
+        Err(PlanRefusal::Memory) => return Err(EnactRefusal::Memory),
+        Err(refusal) => return Err(EnactRefusal::Plan(refusal)),
+    };
+    let longest = plan.longest();
+    let copy = reserved_copy(kernel, longest)?;
+    let made = Transcript::with_room(alloc, longest)?;
+    let mut transcript = Transcript::with_room(alloc, longest)?;
+    let mut calls = Patterned::new(copy, pattern, made);
+    let report = execute(&plan, &mut calls, &mut transcript);
+    if let Some(moment) = first_naming(pattern, state.generation.image, transcript.len() as u32) {
+        return Err(EnactRefusal::MasterNamed(moment));
+    }
+    theorems::workers_end_as_reported();
+    *kernel = calls.into_kernel();
+    let after = state.after(target, &report, state.pid);
+    Ok(Enacted {
+        transcript,
+        report,
+        after,
+    })
+}
+
+/// A copy of a kernel with room for so many calls.
+fn reserved_copy(kernel: &Kernel, calls: u32) -> Result<Kernel, EnactRefusal>
+    ensures same { IfOk result (λ k. k ≡ record { table = kernel.now.table; room = calls }) }
+    ensures formed { IsFormed kernel.now.table }
+    ensures agrees { IsErrOf result EnactRefusal.RecordDisagrees → ⊥ }
+{
+    let mut copy = kernel.copy()?;
+    match copy.reserve(calls) {
+        Ok(()) => Ok(copy),
+        Err(ReserveRefusal::NoNumbers) => Err(EnactRefusal::NoNumbers),
+        Err(ReserveRefusal::Memory) => Err(EnactRefusal::Memory),
+    }
+}

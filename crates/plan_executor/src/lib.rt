@@ -1,0 +1,17 @@
+//! Execution of plans by calls that a caller supplies, and targets carried out on the modelled kernel.
+#![tactic(auto)]
+
+mod block;
+mod calls;
+mod enactment;
+mod execution;
+mod naming;
+mod patterned;
+mod transcript;
+mod walk;
+
+pub use block::{Block, Body, CodeText};
+pub use calls::Calls;
+pub use enactment::{EnactRefusal, Enacted, enact};
+pub use execution::execute;
+pub use transcript::Transcript;

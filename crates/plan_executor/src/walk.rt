@@ -1,0 +1,146 @@
+//! How far the execution of a plan has come.
+ghost use Rattle.std.specs.Prelude.{◌≡◌, ◌+◌, ◌<◌, ◌≤◌, ◌^◌, IsTrue, IfSome, IfNone, None};
+ghost use Rattle.std.specs.Option.{option_map};
+ghost use Rattle.definitions.specs.declared.calls.Answer.TheVariants.{MasterGone};
+ghost use Rattle.definitions.specs.Path.{first_cause};
+ghost use Rattle.rollback_plan.specs.Bounds.{is_short};
+ghost use Rattle.rollback_plan.specs.Cursors.{rest_of};
+ghost use Rattle.rollback_plan.specs.Plans.{tree_of, note_of};
+ghost use Rattle.plan_executor.specs.Fit.{is_fit_next, height_next};
+
+use definitions::{Actor, Call, End, Entry, Outcome, PidNote, Report, Side};
+use rollback_plan::{Bound, Cursor, Plan, plain_reply, reply_to};
+
+/// A call that is due, and the master that makes it.
+#[derive(Clone, Copy)]
+pub(crate) struct Due {
+    pub(crate) by: Actor,
+    pub(crate) call: Call,
+}
+
+/// How far the execution of a plan has come: where it is, what the last census said, and what
+/// the report will say.
+#[derive(Clone, Copy)]
+pub(crate) struct Walk<'a> {
+    rest: Option<Cursor<'a>>,
+    bound: Bound,
+    note: PidNote,
+    cause: Option<u32>,
+    made: u32,
+    ghost fit: { IsTrue (is_fit_next (is_short bound.lacking) (option_map rest_of rest)) },
+    ghost countable: { made + height_next (option_map rest_of rest) < 2 ^ 32 },
+}
+
+impl<'a> Walk<'a> {
+    ghost use Rattle.definitions.specs.Tree.{is_listed};
+    ghost use Rattle.definitions.specs.Path.{begin, advance, Asks, IsOver, IsOutcome, Reports};
+    ghost use Rattle.plan_executor.specs.Walk.{trail_of, AsksFor};
+
+    /// Before the first call.
+    pub(crate) fn new(plan: &'a Plan) -> Walk<'a>
+        ensures { trail_of result ≡ begin (tree_of plan.now) (note_of plan.now) }
+    {
+        Walk {
+            rest: Some(plan.start()),
+            bound: Bound::new(),
+            note: plan.note(),
+            cause: None,
+            made: 0,
+        }
+    }
+
+    /// The call that is due; none where the walk is over.
+    pub(crate) fn due(&self) -> Option<Due>
+        ensures some { IfSome result (λ due. AsksFor (trail_of self.now) due.by due.call) }
+        ensures none { IfNone result (IsOver (trail_of self.now).rest) }
+    {
+        let step = self.rest?.step()?;
+        Some(Due {
+            by: step.by,
+            call: self.bound.call(step),
+        })
+    }
+
+    /// The walk after a call and its answer.
+    pub(crate) fn after(&self, entry: &Entry) -> Walk<'a>
+        requires asks { Asks (trail_of self.now).rest (trail_of self.now).lacking entry.now }
+        requires listed { IsTrue (is_listed entry.now.call entry.now.answer) }
+        ensures trail { trail_of result ≡ advance (trail_of self.now) entry.now }
+        ensures lost { (trail_of result).rest ≡ None → entry.now.answer ≡ MasterGone }
+        ensures lower { height_next (trail_of result).rest + 1 ≤ height_next (trail_of self.now).rest }
+    {
+        let Some(cursor) = self.rest else {
+            unreachable!()
+        };
+        let Some(step) = cursor.step() else {
+            unreachable!()
+        };
+        let made = self.made + 1;
+        let plain = reply_to(&entry.answer, &step.set) == plain_reply(&entry.call);
+        let mut bound = self.bound;
+        bound.take(step, &entry.answer);
+        let cause = first_cause(self.cause, !plain, made);
+        let Some(edge) = cursor.edge(&entry.answer) else {
+            return Walk {
+                rest: None,
+                bound,
+                note: self.note,
+                cause,
+                made,
+            };
+        };
+        Walk {
+            rest: Some(cursor.next(&entry.answer, &bound)),
+            bound,
+            note: edge.note.unwrap_or(self.note),
+            cause,
+            made,
+        }
+    }
+
+    /// What the report says of a walk that is over.
+    pub(crate) fn report(&self) -> Report
+        requires { IsOver (trail_of self.now).rest }
+        ensures { Reports (trail_of self.now) result }
+    {
+        Report {
+            outcome: self.outcome(),
+            cause: self.cause,
+            note: self.note,
+            ready: self.bound.counted(),
+        }
+    }
+
+    fn outcome(&self) -> Outcome
+        requires { IsOver (trail_of self.now).rest }
+        ensures { IsOutcome (trail_of self.now).rest (trail_of self.now).lacking result }
+    {
+        let Some(cursor) = self.rest else {
+            return Outcome::Lost;
+        };
+        match cursor.end() {
+            Some(End::Done) => Outcome::Done,
+            Some(End::RolledBack) => Outcome::RolledBack,
+            Some(End::ShortOld) => Outcome::Degraded {
+                side: Side::Old,
+                short: self.bound.short(),
+            },
+            Some(End::ShortTarget) => Outcome::Degraded {
+                side: Side::Target,
+                short: self.bound.short(),
+            },
+            None => unreachable!(),
+        }
+    }
+}
+
+/// The first call that went wrong, after the call of a number.
+fn first_cause(before: Option<u32>, wrong: bool, number: u32) -> Option<u32>
+    ensures { result ≡ first_cause before wrong number }
+{
+    match before {
+        Some(first) => Some(first),
+        None if wrong => Some(number),
+        None => None,
+    }
+}

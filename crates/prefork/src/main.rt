@@ -1,0 +1,31 @@
+//! `prefork`: a preforking master whose plans are proved.
+#![tactic(auto)]
+
+mod fault;
+mod program;
+mod rehearsal;
+
+pub use program::run;
+
+use fault::Fault;
+use std::env::Env;
+use std::process::ExitCode;
+use std::{env, io};
+
+fn main(rt: HostRuntime) -> ExitCode {
+    let stdout = rt.stdout();
+    let stderr = rt.stderr();
+    let mut errors = io::writer(&stderr);
+    let args = match arguments(&rt) {
+        Ok(args) => args,
+        Err(fault) => return ExitCode::from(fault.tell(&mut errors)),
+    };
+    let mut input = rt.reader();
+    let mut output = io::writer(&stdout);
+    ExitCode::from(run(&rt, args.as_slice(), &mut input, &mut output, &mut errors))
+}
+
+/// The words of the command line, of which the first is the program's name.
+fn arguments<R: AllocGlobal + Env>(rt: &R) -> Result<Vec<String>, Fault> {
+    Ok(env::args(rt)?.collect(rt.alloc())?)
+}

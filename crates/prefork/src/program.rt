@@ -1,0 +1,141 @@
+//! The program over any reader and any two writers.
+ghost use Rattle.std.specs.Prelude.{◌≡◌};
+ghost use Rattle.prefork.specs.Status.{graver, status_of};
+
+use crate::fault::Fault;
+use crate::rehearsal::Rehearsal;
+use command_line::{EnactOptions, Refusal, Request};
+use control_words::Word;
+use definitions::Outcome;
+use kernel_model::Pattern;
+use plan_executor::Body;
+use std::alloc::{AllocError, Global};
+use std::io::{Read, Write};
+use transcript::TextRefusal;
+
+/// Runs the program, and gives its exit status.
+///
+/// Faults are one line on standard error; blocks of words that were done are written first.
+pub fn run<R: AllocGlobal, I: Read, O: Write, E: Write>(
+    rt: &R,
+    args: &[String],
+    input: &mut I,
+    output: &mut O,
+    errors: &mut E,
+) -> u8 {
+    match answer(rt.alloc(), args, input, output) {
+        Ok(status) => status,
+        Err(fault) => fault.tell(errors),
+    }
+}
+
+fn answer<I: Read, O: Write>(
+    alloc: Global,
+    args: &[String],
+    input: &mut I,
+    output: &mut O,
+) -> Result<u8, Fault> {
+    match command_line::read(alloc, args) {
+        Ok(Request::Enact(options)) => enact(alloc, &options, input, output),
+        Ok(Request::Show(text)) => {
+            write(output, text.as_bytes())?;
+            Ok(0)
+        }
+        Err(Refusal::Usage) => Err(Fault::Usage),
+        Err(Refusal::Memory) => Err(Fault::Memory),
+    }
+}
+
+/// One write of a whole text, so that a reader never sees half of it unless the write fails.
+fn write<O: Write>(output: &mut O, text: &[u8]) -> Result<(), Fault> {
+    output.write_all(text)?;
+    output.flush()?;
+    Ok(())
+}
+
+/// `enact`: carries the words out on a modelled kernel under the patterns of standard input, the
+/// i-th pattern with the i-th word, and writes a block for each.
+fn enact<I: Read, O: Write>(
+    alloc: Global,
+    options: &EnactOptions<'_>,
+    input: &mut I,
+    output: &mut O,
+) -> Result<u8, Fault> {
+    let words = read_words(alloc, &options.words)?;
+    let mut rehearsal = Rehearsal::start(alloc, options.workers)?;
+    let patterns = read_patterns(alloc, input)?;
+    let mut text = Vec::new(alloc);
+    let done = rehearse(alloc, &mut rehearsal, &words, &patterns, &mut text);
+    write(output, text.as_slice())?;
+    done
+}
+
+/// The control words of the command line; the first that is none is the fault.
+fn read_words(alloc: Global, texts: &[&str]) -> Result<Vec<Word>, Fault> {
+    let mut words = Vec::new(alloc);
+    for (i, text) in texts.iter().enumerate() {
+        match control_words::read(text.as_bytes()) {
+            Ok(word) => words.push(word).map_err(AllocError::from)?,
+            Err(refusal) => return Err(Fault::Word(i + 1, refusal)),
+        }
+    }
+    Ok(words)
+}
+
+/// The patterns of standard input, one for each word from the first on.
+fn read_patterns<I: Read>(alloc: Global, input: &mut I) -> Result<Vec<Pattern>, Fault> {
+    let mut text = Vec::new(alloc);
+    input.read_to_end(&mut text)?;
+    match transcript::read_patterns(alloc, text.as_slice()) {
+        Ok(patterns) => Ok(patterns),
+        Err(TextRefusal::Memory) => Err(Fault::Memory),
+        Err(refusal) => Err(Fault::Pattern(refusal)),
+    }
+}
+
+/// Carries the words out one after another, and appends the block of each to the text. A word
+/// beyond the patterns runs under a quiet one. Gives the exit status.
+fn rehearse(
+    alloc: Global,
+    rehearsal: &mut Rehearsal,
+    words: &[Word],
+    patterns: &[Pattern],
+    text: &mut Vec<u8>,
+) -> Result<u8, Fault> {
+    let quiet = Pattern::new(alloc);
+    let mut status = 0;
+    for (i, word) in words.iter().enumerate() {
+        let pattern = patterns.get(i).unwrap_or(&quiet);
+        let block = rehearsal.act(alloc, *word, pattern)?;
+        text.extend_from_slice(transcript::write_transcript(alloc, &block)?.as_slice())?;
+        status = graver(status, status_of(&block.body));
+    }
+    Ok(status)
+}
+
+/// The status that one block asks for.
+fn status_of(body: &Body) -> u8
+    ensures { result ≡ status_of body.now }
+{
+    match body {
+        Body::Nothing => 0,
+        Body::Refused(_) => 1,
+        Body::Ran(_, report) => match report.outcome {
+            Outcome::Done => 0,
+            Outcome::RolledBack => 3,
+            Outcome::Degraded { .. } => 4,
+            Outcome::Lost => 1,
+        },
+    }
+}
+
+/// A refused or lost word outweighs a degraded one, and that outweighs one that was rolled back.
+fn graver(one: u8, other: u8) -> u8
+    ensures { result ≡ graver one other }
+{
+    if one == 1 || other == 1 {
+        1
+    } else {
+        one.max(other)
+    }
+}

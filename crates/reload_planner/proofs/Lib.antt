@@ -1,0 +1,2 @@
+pub mod StartTrees
+pub mod Fitness

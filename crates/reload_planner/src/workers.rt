@@ -1,0 +1,75 @@
+//! The plan that changes the number of workers.
+ghost use Rattle.std.specs.Prelude.{◌≡◌, ◌≤◌, ◌<◌, ◌+◌, ◌*◌, [], length, reverse, IfOk, IsErrOf, IsOkUnless};
+ghost use Rattle.definitions.specs.Plans.{workers_tree};
+ghost use Rattle.rollback_plan.specs.declared.draft.DraftRefusal.TheVariants.{TooLarge};
+ghost use Rattle.rollback_plan.specs.declared.draft.TheConstants.{MOST_STEPS};
+ghost use Rattle.rollback_plan.specs.Drafts.{trees_of, IsMade};
+ghost use Rattle.rollback_plan.specs.Plans.{tree_of, note_of, text_of};
+ghost use Rattle.reload_planner.specs.Changes.{change_tree};
+
+use crate::starting::add_starts;
+use crate::{PlanRefusal, Scene};
+use definitions::{PidNote, Side};
+use listener_set::{Numbers, WORKER_LIMIT};
+use rollback_plan::{Draft, DraftRefusal, Place, Plan, Undone};
+use std::alloc::{AllocError, Global};
+
+/// The numbers of a set, upwards.
+fn listed(alloc: Global, numbers: &Numbers) -> Result<Vec<u32>, AllocError>
+    ensures items { IfOk result (λ list. list.items ≡ numbers.now) }
+    ensures most { length numbers.now ≤ WORKER_LIMIT }
+{
+    let mut list = Vec::with_capacity(alloc, numbers.len())?;
+    for number in numbers.iter() {
+        list.push(number)?;
+    }
+    Ok(list)
+}
+
+/// Adds the starts of some numbers, then the quits of others, the last first, and the settle.
+fn add_workers(
+    draft: &mut Draft,
+    scene: &Scene,
+    wanted: &Numbers,
+    starts: &[u32],
+    quits: &[u32],
+) -> Result<Place, DraftRefusal>
+    ensures made { IfOk result (λ place. IsMade draft.new place (change_tree scene.now.by scene.now.generation scene.now.ready scene.now.rounds wanted.now starts.now (reverse quits.now))) }
+    ensures too_large { IsErrOf result TooLarge → MOST_STEPS < length (trees_of draft.old) + (2 * (1 + 4 * scene.now.rounds) + 4 * length starts.now + length quits.now) }
+{
+    let (by, generation) = (scene.by, scene.generation);
+    let settled = draft.settle(by, generation, wanted, Side::Target, scene.rounds)?;
+    let ways_on = draft.quits(by, generation, quits, settled)?;
+    let quitting = ways_on[quits.len()];
+    let undone = Undone {
+        generation,
+        forked: starts,
+        opened: &[],
+    };
+    let ways_back = draft.back(by, &undone, generation, &scene.ready, scene.rounds)?;
+    add_starts(draft, by, generation, starts, quitting, &ways_back.forked)
+}
+
+/// The plan for so many workers: it starts those below that number that are not ready, then quits
+/// the others downwards, and settles. Where a start fails it quits what it forked and settles on
+/// what was ready before. Only `Memory` is refused: no such plan is too large.
+pub fn plan_workers(
+    alloc: Global,
+    scene: &Scene,
+    wanted: u32,
+    note: PidNote,
+) -> Result<Plan, PlanRefusal>
+    requires wanted { wanted ≤ WORKER_LIMIT }
+    requires rounds { scene.now.rounds ≤ 8 }
+    ensures tree { IfOk result (λ plan. tree_of plan ≡ workers_tree scene.now.by scene.now.generation scene.now.ready scene.now.rounds wanted) }
+    ensures note { IfOk result (λ plan. note_of plan ≡ note) }
+    ensures text { IfOk result (λ plan. text_of plan ≡ []) }
+    ensures memory { IsOkUnless result PlanRefusal.Memory }
+{
+    let all = Numbers::below(wanted);
+    let starts = listed(alloc, &all.minus(&scene.ready))?;
+    let quits = listed(alloc, &scene.ready.minus(&all))?;
+    let mut draft = Draft::new(alloc);
+    let first = add_workers(&mut draft, scene, &all, &starts, &quits)?;
+    Ok(draft.finish(first, note, Vec::new(alloc))?)
+}

@@ -1,0 +1,137 @@
+-- Depths of steps.
+use Rattle.std.proofs.Common.{◌≡◌, ℕ, ◌+◌, ◌-◌, ◌<◌, ◌≤◌, max, true, List, [], ◌∷◌, length, get_or, refl, sym, ◌∙◌, ap, subst, arith, ◌⊎◌, inl, inr, Some, slice_get, length-set}
+use Rattle.std.proofs.lemmas.Bool.{ltb-true, lt-ltb, cases_eq, cases_lt, and_from, and_parts}
+use Rattle.std.proofs.lemmas.List.{get_or-set_same, get_or-set_other, set_past}
+use Rattle.rollback_plan.specs.declared.step.Next.{Next}
+use Rattle.rollback_plan.specs.declared.step.Next.TheVariants.{To, Over}
+use Rattle.rollback_plan.specs.declared.step.Edge.{Edge}
+use Rattle.rollback_plan.specs.declared.step.Step.{Step}
+use Rattle.rollback_plan.specs.Steps.{is_below, all_below}
+use Rattle.rollback_plan.specs.Numbering.{deepened_at, deepened, is_deeper, all_deeper}
+use Rattle.rollback_plan.proofs.StepTrees.{all_weaker, all_below-le}
+
+max_cases : (a b : ℕ) → (max a b ≡ a) ⊎ (max a b ≡ b)
+max_cases a b = elim (cases_lt a b) [ inl h ↦ inr (omega arith) | inr h ↦ inl (omega arith) ]
+
+-- what one edge changes
+at_cases : (n depth : ℕ) (next : Next) (depths : List ℕ) → is_below n next ≡ true → (k : ℕ) → (get_or (deepened_at depth next depths) k 0 ≡ get_or depths k 0) ⊎ ((k < n) × (get_or (deepened_at depth next depths) k 0 ≡ depth))
+at_cases n depth (Over end) depths below k = inl refl
+at_cases n depth (To place) depths below k =
+    elim (cases_eq k place.0) [
+      | inr other ↦ inl (get_or-set_other depths place.0 k (max (get_or depths place.0 0) depth) 0 other)
+      | inl same ↦ elim (cases_lt place.0 (length depths)) [
+        | inr past ↦ inl (ap (λ ds. get_or ds k 0) (set_past depths place.0 (max (get_or depths place.0 0) depth) past))
+        | inl low ↦ here same (get_or-set_same depths place.0 (max (get_or depths place.0 0) depth) 0 low) (max_cases (get_or depths place.0 0) depth)
+      ]
+    ]
+  where
+    here : k ≡ place.0 → get_or (deepened_at depth (To place) depths) place.0 0 ≡ max (get_or depths place.0 0) depth → (max (get_or depths place.0 0) depth ≡ get_or depths place.0 0) ⊎ (max (get_or depths place.0 0) depth ≡ depth) → (get_or (deepened_at depth (To place) depths) k 0 ≡ get_or depths k 0) ⊎ ((k < n) × (get_or (deepened_at depth (To place) depths) k 0 ≡ depth))
+    here same is (inl stays) = inl (ap (λ j. get_or (deepened_at depth (To place) depths) j 0) same ∙ (is ∙ (stays ∙ ap (λ j. get_or depths j 0) (sym same))))
+    here same is (inr moves) = inr (omega (arith, ltb-true place.0 n below), ap (λ j. get_or (deepened_at depth (To place) depths) j 0) same ∙ (is ∙ moves))
+
+at_ge : (depth : ℕ) (next : Next) (depths : List ℕ) (k : ℕ) → get_or depths k 0 ≤ get_or (deepened_at depth next depths) k 0
+at_ge depth (Over end) depths k = omega arith
+at_ge depth (To place) depths k =
+    elim (cases_eq k place.0) [
+      | inr other ↦ omega (arith, get_or-set_other depths place.0 k (max (get_or depths place.0 0) depth) 0 other)
+      | inl same ↦ elim (cases_lt place.0 (length depths)) [
+        | inr past ↦ omega (arith, ap (λ ds. get_or ds k 0) (set_past depths place.0 (max (get_or depths place.0 0) depth) past))
+        | inl low ↦ omega (arith, ap (λ j. get_or (deepened_at depth (To place) depths) j 0) same, ap (λ j. get_or depths j 0) same, get_or-set_same depths place.0 (max (get_or depths place.0 0) depth) 0 low)
+      ]
+    ]
+
+at_length : (depth : ℕ) (next : Next) (depths : List ℕ) → length (deepened_at depth next depths) ≡ length depths
+at_length depth (Over end) depths = refl
+at_length depth (To place) depths = length-set depths place.0 (max (get_or depths place.0 0) depth)
+
+pub length-deepened : (depth : ℕ) (edges : List Edge) (depths : List ℕ) → length (deepened depth edges depths) ≡ length depths
+length-deepened depth [] depths = refl
+length-deepened depth (e ∷ edges) depths = length-deepened depth edges (deepened_at depth e.next depths) ∙ at_length depth e.next depths
+
+-- Each depth stays, or it is below n and becomes the new one.
+pub deepened_cases : (n depth : ℕ) (edges : List Edge) (depths : List ℕ) → all_below n edges ≡ true → (k : ℕ) → (get_or (deepened depth edges depths) k 0 ≡ get_or depths k 0) ⊎ ((k < n) × (get_or (deepened depth edges depths) k 0 ≡ depth))
+deepened_cases n depth [] depths below k = inl refl
+deepened_cases n depth (e ∷ edges) depths below k =
+    let tests = and_parts (is_below n e.next) (all_below n edges) below in
+    elim (deepened_cases n depth edges (deepened_at depth e.next depths) tests.1 k) [
+      | inr moved ↦ inr moved
+      | inl same ↦ elim (at_cases n depth e.next depths tests.0 k) [
+        | inl stays ↦ inl (same ∙ stays)
+        | inr moves ↦ inr (moves.0, same ∙ moves.1)
+      ]
+    ]
+
+pub deepened_ge : (depth : ℕ) (edges : List Edge) (depths : List ℕ) (k : ℕ) → get_or depths k 0 ≤ get_or (deepened depth edges depths) k 0
+deepened_ge depth [] depths k = omega arith
+deepened_ge depth (e ∷ edges) depths k = omega (arith, at_ge depth e.next depths k, deepened_ge depth edges (deepened_at depth e.next depths) k)
+
+deeper_le : (old new : List ℕ) (d : ℕ) (next : Next) → ((k : ℕ) → get_or old k 0 ≤ get_or new k 0) → is_deeper old d next ≡ true → is_deeper new d next ≡ true
+deeper_le old new d (Over end) ge h = refl
+deeper_le old new d (To place) ge h = lt-ltb d (get_or new place.0 0) (omega (arith, ge place.0, ltb-true d (get_or old place.0 0) h))
+
+-- what lies deeper stays so where depths grow
+pub all_deeper-le : (old new : List ℕ) (d : ℕ) (edges : List Edge) → ((k : ℕ) → get_or old k 0 ≤ get_or new k 0) → all_deeper old d edges ≡ true → all_deeper new d edges ≡ true
+all_deeper-le old new d edges ge = all_weaker (λ e. is_deeper old d e.next) (λ e. is_deeper new d e.next) (λ e h. deeper_le old new d e.next ge h) edges
+
+one_behind : (d depth : ℕ) (next : Next) (depths : List ℕ) → d < depth → is_below (length depths) next ≡ true → is_deeper (deepened_at depth next depths) d next ≡ true
+one_behind d depth (Over end) depths h below = refl
+one_behind d depth (To place) depths h below =
+    lt-ltb d _ (omega (arith, get_or-set_same depths place.0 (max (get_or depths place.0 0) depth) 0 (ltb-true place.0 (length depths) below)))
+
+-- what is behind the edges lies deeper
+pub deepened_behind : (d depth : ℕ) (edges : List Edge) (depths : List ℕ) → d < depth → all_below (length depths) edges ≡ true → all_deeper (deepened depth edges depths) d edges ≡ true
+deepened_behind d depth [] depths h below = refl
+deepened_behind d depth (e ∷ edges) depths h below =
+    let tests = and_parts (is_below (length depths) e.next) (all_below (length depths) edges) below in
+    and_from (is_deeper (deepened depth edges (deepened_at depth e.next depths)) d e.next) _
+    (deeper_le (deepened_at depth e.next depths) (deepened depth edges (deepened_at depth e.next depths)) d e.next (deepened_ge depth edges (deepened_at depth e.next depths)) (one_behind d depth e.next depths h tests.0))
+    (deepened_behind d depth edges (deepened_at depth e.next depths) h (subst (λ (n : ℕ). all_below n edges ≡ true) (sym (at_length depth e.next depths)) tests.1))
+
+-- ---- the pass from the first step down
+
+-- The steps from a place on have their depths, and have passed them on.
+pub record AreDeepened (steps : List Step) (first from : ℕ) (depths : List ℕ) : Type 0 where
+  pub count : length depths ≡ length steps
+  pub begins : get_or depths first 0 ≡ 1
+  pub within : (k : ℕ) → get_or depths k 0 ≤ (first + 1) - k
+  pub alone : (k : ℕ) → get_or depths k 0 ≡ 1 → k ≡ first
+  pub deeper : (k : ℕ) (s : Step) → from ≤ k → slice_get steps k ≡ Some s → 1 ≤ get_or depths k 0 → all_deeper depths (get_or depths k 0) s.edges.items ≡ true
+
+-- what lies no lower keeps its depth
+deepened_above : (place depth : ℕ) (edges : List Edge) (depths : List ℕ) → all_below place edges ≡ true → (k : ℕ) → place ≤ k → get_or (deepened depth edges depths) k 0 ≡ get_or depths k 0
+deepened_above place depth edges depths back k le = elim (deepened_cases place depth edges depths back k) [ inl same ↦ same | inr moved ↦ absurd (omega (arith, moved.0)) ]
+
+some_one : {x y : Step} → Some x ≡ Some y → x ≡ y
+some_one e = cc
+
+-- a place passes its depth on
+pub deepened_on : (steps : List Step) (first place : ℕ) (s : Step) (depths : List ℕ) → AreDeepened steps first (place + 1) depths → slice_get steps place ≡ Some s → all_below place s.edges.items ≡ true → place < length steps → 1 ≤ get_or depths place 0
+    → AreDeepened steps first place (deepened (get_or depths place 0 + 1) s.edges.items depths)
+deepened_on steps first place s depths h at back low has =
+    let edges = s.edges.items in
+    let depth : ℕ = get_or depths place 0 + 1 in
+    let new : List ℕ = deepened depth edges depths in
+    record {
+      count = length-deepened depth edges depths ∙ h.count;
+      begins = deepened_above place depth edges depths back first (omega (arith, h.within place)) ∙ h.begins;
+      within = λ k. elim (deepened_cases place depth edges depths back k) [
+        | inl same ↦ omega (arith, h.within k)
+        | inr moved ↦ omega (arith, h.within place, moved.0, moved.1)
+      ];
+      alone = λ k one. elim (deepened_cases place depth edges depths back k) [
+        | inl same ↦ h.alone k (sym same ∙ one)
+        | inr moved ↦ absurd (omega (arith, moved.1))
+      ];
+      deeper = λ k t from here there. elim (cases_eq k place) [
+        | inl same ↦
+            let found : slice_get steps place ≡ Some t = ap (slice_get steps) (sym same) ∙ here in
+            let kept : get_or new k 0 ≡ get_or depths place 0 = deepened_above place depth edges depths back k from ∙ ap (λ j. get_or depths j 0) same in
+            subst (λ (u : Step). all_deeper new (get_or new k 0) u.edges.items ≡ true) (some_one (sym at ∙ found))
+            (subst (λ (d : ℕ). all_deeper new d edges ≡ true) (sym kept)
+            (deepened_behind (get_or depths place 0) depth edges depths (omega arith) (all_below-le place (length depths) edges (omega (arith, h.count)) back)))
+        | inr other ↦
+            let kept = deepened_above place depth edges depths back k from in
+            subst (λ (d : ℕ). all_deeper new d t.edges.items ≡ true) (sym kept)
+            (all_deeper-le depths new (get_or depths k 0) t.edges.items (deepened_ge depth edges depths) (h.deeper k t (omega (arith, other)) here (omega (arith, kept))))
+      ];
+    }

@@ -1,0 +1,13 @@
+pub mod StepTrees
+pub mod DraftTrees
+pub mod BackTrees
+pub mod Heights
+pub mod Depths
+pub mod Walks
+pub mod Walked
+pub mod Numbers
+pub mod LayerLists
+pub mod Ordered
+pub mod Unfolded
+pub mod Finished
+pub mod PlanTrees

@@ -1,0 +1,83 @@
+use Rattle.std.proofs.Common.{◌≡◌, [], ℕ, List, length, map, true, false, sym, ◌∙◌, ap, subst, arith}
+use Rattle.definitions.specs.Tree.{is_fit, height}
+use Rattle.rollback_plan.specs.declared.step.Step.{Step}
+use Rattle.rollback_plan.specs.Steps.{trees_after, all_lead_back}
+use Rattle.rollback_plan.specs.Numbering.{are_laid, all_within}
+use Rattle.rollback_plan.proofs.StepTrees.{length-trees}
+use Rattle.rollback_plan.proofs.Finished.{ordered, finished, met_laid, order_few, order_within, all_back, height_of}
+use Rattle.rollback_plan.proofs.draft.Draft.finish.Goals as goal
+
+pub depths_from-requires-clause-first : goal.depths_from-requires-clause-first
+depths_from-requires-clause-first c = omega (arith, c.requires.made, length-trees c.args.self.steps.items, ap length c.deref-draft.ensures.value)
+
+pub by_depth-requires : goal.by_depth-requires
+by_depth-requires c =
+    let draft = c.deref-draft.result.now in
+    subst (λ (ds : List ℕ). are_laid ds c.deref.result.now ≡ true) (sym c.deref-2.ensures.value)
+    (subst (λ (ms : List ℕ). are_laid c.in_ok-depths.depths.items ms ≡ true) (sym c.deref.ensures.value)
+    (met_laid draft c.args.first.0 c.in_ok-depths.depths.items c.in_ok-met.met.items c.in_ok-depths.ensures c.in_ok-met.ensures))
+
+pub numbers_of-requires-clause-few : goal.numbers_of-requires-clause-few
+numbers_of-requires-clause-few c =
+    let draft = c.deref-draft.result.now in
+    let back = subst (λ (xs : List Step). all_lead_back 0 xs ≡ true) (sym c.deref-draft.ensures.value) c.args.self.back in
+    let o = ordered draft c.args.first.0 c.in_ok-depths.depths.items c.deref-2.result.now c.in_ok-met.met.items c.deref.result.now c.in_ok-order.order.items c.deref-2.ensures.value c.deref.ensures.value back
+    (omega (arith, c.requires.made, length-trees c.args.self.steps.items, ap length c.deref-draft.ensures.value)) c.in_ok-depths.ensures c.in_ok-met.ensures c.in_ok-order.ensures in
+    omega (arith, ap length c.deref-3.ensures.value, order_few draft c.args.first.0 c.in_ok-depths.depths.items c.in_ok-met.met.items c.in_ok-order.order.items o, ap length c.deref-draft.ensures.value, c.args.self.few)
+
+pub numbers_of-requires-clause-within : goal.numbers_of-requires-clause-within
+numbers_of-requires-clause-within c =
+    let draft = c.deref-draft.result.now in
+    let back = subst (λ (xs : List Step). all_lead_back 0 xs ≡ true) (sym c.deref-draft.ensures.value) c.args.self.back in
+    let o = ordered draft c.args.first.0 c.in_ok-depths.depths.items c.deref-2.result.now c.in_ok-met.met.items c.deref.result.now c.in_ok-order.order.items c.deref-2.ensures.value c.deref.ensures.value back
+    (omega (arith, c.requires.made, length-trees c.args.self.steps.items, ap length c.deref-draft.ensures.value)) c.in_ok-depths.ensures c.in_ok-met.ensures c.in_ok-order.ensures in
+    subst (λ (ks : List ℕ). all_within (length draft) ks ≡ true) (sym c.deref-3.ensures.value) (order_within draft c.args.first.0 c.in_ok-depths.depths.items c.in_ok-met.met.items c.in_ok-order.order.items o)
+
+pub numbered-requires-clause-within : goal.numbered-requires-clause-within
+numbered-requires-clause-within c =
+    let draft = c.deref-draft.result.now in
+    let back = subst (λ (xs : List Step). all_lead_back 0 xs ≡ true) (sym c.deref-draft.ensures.value) c.args.self.back in
+    let o = ordered draft c.args.first.0 c.in_ok-depths.depths.items c.deref-2.result.now c.in_ok-met.met.items c.deref.result.now c.in_ok-order.order.items c.deref-2.ensures.value c.deref.ensures.value back
+    (omega (arith, c.requires.made, length-trees c.args.self.steps.items, ap length c.deref-draft.ensures.value)) c.in_ok-depths.ensures c.in_ok-met.ensures c.in_ok-order.ensures in
+    subst (λ (ks : List ℕ). all_within (length draft) ks ≡ true) (sym c.deref-4.ensures.value) (order_within draft c.args.first.0 c.in_ok-depths.depths.items c.in_ok-met.met.items c.in_ok-order.order.items o)
+
+pub numbered-requires-clause-back : goal.numbered-requires-clause-back
+numbered-requires-clause-back c =
+    let draft = c.deref-draft.result.now in
+    let back = subst (λ (xs : List Step). all_lead_back 0 xs ≡ true) (sym c.deref-draft.ensures.value) c.args.self.back in
+    all_back 0 (length draft) draft (omega arith) back
+
+pub invariant_of-result : goal.invariant_of-result
+invariant_of-result c =
+    let draft = c.deref-draft.result.now in
+    let first = c.args.first.0 in
+    let depths = c.in_ok-depths.depths.items in
+    let met = c.in_ok-met.met.items in
+    let order = c.in_ok-order.order.items in
+    let back = subst (λ (xs : List Step). all_lead_back 0 xs ≡ true) (sym c.deref-draft.ensures.value) c.args.self.back in
+    let o = ordered draft first depths c.deref-2.result.now met c.deref.result.now order c.deref-2.ensures.value c.deref.ensures.value back
+    (omega (arith, c.requires.made, length-trees c.args.self.steps.items, ap length c.deref-draft.ensures.value)) c.in_ok-depths.ensures c.in_ok-met.ensures c.in_ok-order.ensures in
+    let plan = finished c.args.self.steps.items draft first depths met order c.deref-3.result.now c.deref-4.result.now c.in_ok-numbers.numbers.items c.deref-5.result.now c.in_ok-steps.steps.items
+    c.deref-draft.ensures.value o c.deref-3.ensures.value c.deref-4.ensures.value c.deref-5.ensures.value c.in_ok-numbers.ensures c.in_ok-steps.ensures in
+    record {
+      begins = omega (arith, plan.begins);
+      leads_on = plan.on;
+      fit = ap (is_fit false) plan.tree ∙ c.requires.fit;
+      tall =
+          height_of c.args.self.steps.items c.in_ok-heights.heights.items first c.index.result.now (c.in_ok-heights.ensures ∙ ap (λ xs. map height (trees_after [] xs)) c.deref-draft.ensures.value) c.index.ensures (omega (arith, c.requires.made, length-trees c.args.self.steps.items))
+          ∙ ap height (sym plan.tree);
+    }
+
+pub returns-clause-tree : goal.returns-clause-tree
+returns-clause-tree c =
+    let draft = c.deref-draft.result.now in
+    let first = c.args.first.0 in
+    let depths = c.in_ok-depths.depths.items in
+    let met = c.in_ok-met.met.items in
+    let order = c.in_ok-order.order.items in
+    let back = subst (λ (xs : List Step). all_lead_back 0 xs ≡ true) (sym c.deref-draft.ensures.value) c.args.self.back in
+    let o = ordered draft first depths c.deref-2.result.now met c.deref.result.now order c.deref-2.ensures.value c.deref.ensures.value back
+    (omega (arith, c.requires.made, length-trees c.args.self.steps.items, ap length c.deref-draft.ensures.value)) c.in_ok-depths.ensures c.in_ok-met.ensures c.in_ok-order.ensures in
+    let plan = finished c.args.self.steps.items draft first depths met order c.deref-3.result.now c.deref-4.result.now c.in_ok-numbers.numbers.items c.deref-5.result.now c.in_ok-steps.steps.items
+    c.deref-draft.ensures.value o c.deref-3.ensures.value c.deref-4.ensures.value c.deref-5.ensures.value c.in_ok-numbers.ensures c.in_ok-steps.ensures in
+    plan.tree

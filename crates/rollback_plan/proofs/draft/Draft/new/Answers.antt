@@ -1,0 +1,7 @@
+use Rattle.std.proofs.Common.{◌∙◌, [], ap}
+use Rattle.rollback_plan.specs.Steps.{trees_after}
+use Rattle.rollback_plan.proofs.StepTrees.{trees_after-nil}
+use Rattle.rollback_plan.proofs.draft.Draft.new.Goals as goal
+
+pub returns : goal.returns
+returns c = ap (trees_after []) c.new.ensures.items ∙ trees_after-nil

@@ -1,0 +1,15 @@
+use Rattle.std.proofs.Common.{[], ◌∙◌, sym, ap, arith, true, ◌≡◌, subst, List}
+use Rattle.rollback_plan.specs.declared.step.Step.{Step}
+use Rattle.rollback_plan.specs.Steps.{trees_after, all_lead_back}
+use Rattle.rollback_plan.proofs.StepTrees.{trees-take, all_lead_back-take}
+use Rattle.rollback_plan.proofs.draft.Draft.shorten.Goals as goal
+
+pub invariant_of-self : goal.invariant_of-self
+invariant_of-self c =
+    record {
+      few = omega (arith, c.truncate.ensures.len, c.args.self.now.few);
+      back = subst (λ (steps : List Step). all_lead_back 0 steps ≡ true) (sym c.truncate.ensures.items) (all_lead_back-take 0 c.args.steps c.args.self.now.steps.items c.args.self.now.back);
+    }
+
+pub returns : goal.returns
+returns c = ap (trees_after []) c.truncate.ensures.items ∙ trees-take c.args.steps c.args.self.now.steps.items

@@ -1,0 +1,28 @@
+-- The ways back to a settle.
+use Rattle.std.specs.Prelude.{◌≡◌, ℕ, ◌+◌, List, [], ◌∷◌, Some, length, slice_get, reverse, take}
+use Rattle.listener_set.specs.declared.generation.Generation.{Generation}
+use Rattle.definitions.specs.Table.{Address}
+use Rattle.definitions.specs.declared.calls.Call.TheVariants.{CloseAt}
+use Rattle.definitions.specs.Tree.{Tree}
+use Rattle.definitions.specs.Plans.{does, then_edge, quits}
+use Rattle.rollback_plan.specs.declared.step.Place.{Place}
+use Rattle.rollback_plan.specs.declared.draft.Draft.{Draft}
+use Rattle.rollback_plan.specs.Drafts.{IsMade}
+
+-- Close these addresses in their order.
+abbrev pub closes : ℕ → List Address → Tree → Tree
+closes by [] rest = rest
+closes by (a ∷ more) rest = does by (CloseAt a) (then_edge (closes by more rest))
+
+-- Quit the first i of these numbers, the last of them first.
+abbrev pub quits_back : ℕ → Generation → List ℕ → Tree → ℕ → Tree
+quits_back by g numbers rest i = quits by g (reverse (take i numbers)) rest
+
+-- Close the first i of these addresses, the last of them first.
+abbrev pub closes_back : ℕ → List Address → Tree → ℕ → Tree
+closes_back by addresses rest i = closes by (reverse (take i addresses)) rest
+
+-- the i-th of these places, of 0 to n, is where the i-th tree stands
+pub record AreMade (d : Draft) (places : List Place) (n : ℕ) (tree : ℕ → Tree) : Type 0 where
+  pub count : length places ≡ n + 1
+  pub made : (i : ℕ) (place : Place) → slice_get places i ≡ Some place → IsMade d place (tree i)

@@ -1,0 +1,35 @@
+-- What a contract sees of a draft.
+use Rattle.std.specs.Prelude.{◌≡◌, ◌<◌, Bool, List, [], ◌++◌, length, nat_lt}
+use Rattle.std.specs.List.{list_all}
+use Rattle.definitions.specs.Tree.{Tree, Branches}
+use Rattle.rollback_plan.specs.declared.step.Edge.{Edge}
+use Rattle.rollback_plan.specs.declared.step.Place.{Place}
+use Rattle.rollback_plan.specs.declared.step.Next.TheVariants.{To}
+use Rattle.rollback_plan.specs.declared.draft.Draft.{Draft}
+use Rattle.rollback_plan.specs.Steps.{trees_after, branches_among, tree_among}
+
+-- the tree at each place
+abbrev pub trees_of : Draft → List Tree
+trees_of d = trees_after [] d.steps.items
+
+-- the tree at one place
+abbrev pub tree_at : Draft → Place → Tree
+tree_at d place = tree_among 0 (trees_of d) (To place)
+
+-- a tree stands at a place
+pub record IsMade (d : Draft) (place : Place) (tree : Tree) : Type 0 where
+  pub below : place.0 < length (trees_of d)
+  pub is : tree_at d place ≡ tree
+
+-- what stands in the one draft stands in the other, at the same places
+pub record Keeps (old new : Draft) : Type 0 where
+  pub more : List Tree
+  pub is : trees_of new ≡ trees_of old ++ more
+
+-- the branches of edges in a draft
+abbrev pub branches_in : Draft → List Edge → Branches
+branches_in d edges = branches_among 0 (trees_of d) edges
+
+-- each of these is a place of the draft
+abbrev pub are_places : Draft → List Place → Bool
+are_places d places = list_all (λ place. nat_lt place.0 (length (trees_of d))) places

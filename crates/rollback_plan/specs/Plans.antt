@@ -1,0 +1,22 @@
+-- What a contract sees of a plan.
+use Rattle.std.specs.Prelude.{ℕ, List}
+use Rattle.definitions.specs.Tree.{Tree}
+use Rattle.definitions.specs.declared.plans.PidNote.{PidNote}
+use Rattle.rollback_plan.specs.declared.plan.Plan.{Plan}
+use Rattle.rollback_plan.specs.Steps.{first_tree, trees_from}
+
+-- the tree that a plan stands for
+abbrev pub tree_of : Plan → Tree
+tree_of p = first_tree p.steps.items
+
+-- the note of the record that it was planned for
+abbrev pub note_of : Plan → PidNote
+note_of p = p.note
+
+-- the text for the new master
+abbrev pub text_of : Plan → List ℕ
+text_of p = p.text.items
+
+-- the tree of each of its steps, in their order
+abbrev pub trees_in : Plan → List Tree
+trees_in p = trees_from 1 p.steps.items

@@ -1,0 +1,100 @@
+//! A plan out of a draft.
+ghost use Rattle.std.specs.Prelude.{◌≡◌, ◌+◌, ◌≤◌, ◌<◌, ◌^◌, IfOk, IsTrue, false, length, map};
+ghost use Rattle.std.specs.List.{list_all};
+ghost use Rattle.definitions.specs.Tree.{is_fit};
+ghost use Rattle.rollback_plan.specs.Steps.{all_below};
+ghost use Rattle.rollback_plan.specs.Numbering.{edge_numbered, AreNumbers, AllNumbered, all_within};
+
+use crate::layers::by_depth;
+use crate::numbering::{depths_from, heights_of};
+use crate::walking::walk;
+use crate::{Draft, Edge, Next, Place, Plan, Step};
+use definitions::PidNote;
+use std::alloc::{AllocError, Global};
+
+impl Draft {
+    ghost use Rattle.rollback_plan.specs.Drafts.{trees_of, tree_at};
+    ghost use Rattle.rollback_plan.specs.Plans.{tree_of, note_of, text_of};
+
+    /// The plan that begins at a place. Steps that the first one doesn't lead to are not in it.
+    pub fn finish(self, first: Place, note: PidNote, text: Vec<u8>) -> Result<Plan, AllocError>
+        requires made { first.0 < length (trees_of self) }
+        requires fit { IsTrue (is_fit false (tree_at self first)) }
+        ensures tree { IfOk result (λ plan. tree_of plan ≡ tree_at self first) }
+        ensures note { IfOk result (λ plan. note_of plan ≡ note) }
+        ensures text { IfOk result (λ plan. text_of plan ≡ text.items) }
+    {
+        let alloc = *self.steps.allocator();
+        let draft: &[Step] = &self.steps;
+        let heights = heights_of(alloc, draft)?;
+        let depths = depths_from(alloc, draft, first)?;
+        let met = walk(alloc, draft, first)?;
+        let order = by_depth(alloc, &met, &depths)?;
+        let numbers = numbers_of(alloc, &order, draft.len())?;
+        let steps = numbered(alloc, draft, &order, &numbers)?;
+        Ok(Plan {
+            steps,
+            longest: heights[first.0 as usize],
+            note,
+            text,
+        })
+    }
+}
+
+/// The number, from 1, that each place in the order gets.
+fn numbers_of(alloc: Global, order: &[u32], places: usize) -> Result<Vec<u32>, AllocError>
+    requires few { length order.now < 2 ^ 32 }
+    requires within { IsTrue (all_within places order.now) }
+    ensures { IfOk result (λ numbers. AreNumbers order.now places numbers.items) }
+{
+    let mut numbers = vec![in alloc; 0; places]?;
+    for (i, place) in order.iter().enumerate() {
+        numbers[*place as usize] = i as u32 + 1;
+    }
+    Ok(numbers)
+}
+
+/// The steps in this order, with these numbers for their places.
+fn numbered(
+    alloc: Global,
+    steps: &[Step],
+    order: &[u32],
+    numbers: &[u32],
+) -> Result<Vec<Step>, AllocError>
+    requires within { IsTrue (all_within (length steps.now) order.now) }
+    requires numbers { length numbers.now ≡ length steps.now }
+    requires back { IsTrue (list_all (λ s. all_below (length steps.now) s.edges.items) steps.now) }
+    ensures { IfOk result (λ plan. AllNumbered numbers.now steps.now order.now plan.items) }
+{
+    let mut plan = Vec::new(alloc);
+    for place in order {
+        let step = &steps[*place as usize];
+        plan.push(Step {
+            by: step.by,
+            order: step.order,
+            set: step.set,
+            edges: edges_numbered(alloc, &step.edges, numbers)?,
+        })?;
+    }
+    Ok(plan)
+}
+
+/// These edges, with these numbers for their places.
+fn edges_numbered(alloc: Global, edges: &[Edge], numbers: &[u32]) -> Result<Vec<Edge>, AllocError>
+    requires { IsTrue (all_below (length numbers.now) edges.now) }
+    ensures { IfOk result (λ numbered. numbered.items ≡ map (edge_numbered numbers.now) edges.now) }
+{
+    let mut numbered = Vec::new(alloc);
+    for edge in edges {
+        let next = match edge.next {
+            Next::To(place) => Next::To(Place(numbers[place.0 as usize])),
+            Next::Over(end) => Next::Over(end),
+        };
+        numbered.push(Edge {
+            replies: edge.replies,
+            note: edge.note,
+            next,
+        })?;
+    }
+    Ok(numbered)
+}

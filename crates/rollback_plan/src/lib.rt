@@ -1,0 +1,29 @@
+//! Plans: numbered steps whose edges say what follows each reply, built from their ends up.
+//!
+//! A plan stands for the tree that it unfolds to, so steps that are shared cost nothing in what
+//! is said of it. A `Draft` builds one, a `Cursor` walks it, and a `Bound` names the workers that
+//! only the last census can name.
+#![tactic(auto)]
+
+mod bound;
+mod cursor;
+mod draft;
+mod finishing;
+mod layers;
+mod numbering;
+mod plan;
+mod replies;
+mod settling;
+mod step;
+mod walking;
+
+pub use bound::Bound;
+pub use cursor::Cursor;
+pub use draft::{Draft, DraftRefusal, MOST_STEPS};
+pub use plan::Plan;
+pub use replies::{plain_reply, reply_to};
+pub use settling::{Undone, WaysBack};
+pub use step::{Edge, Next, Place, Step};
+
+#[cfg(test)]
+mod tests;

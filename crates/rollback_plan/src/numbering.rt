@@ -1,0 +1,71 @@
+//! What a plan needs to know of the steps of a draft: how tall they are and how deep they lie.
+ghost use Rattle.std.specs.Prelude.{◌≡◌, [], ◌+◌, ◌≤◌, ◌<◌, IsTrue, IfOk, length, map};
+ghost use Rattle.definitions.specs.Tree.{height};
+ghost use Rattle.rollback_plan.specs.Steps.{all_below, all_lead_back, trees_after};
+ghost use Rattle.rollback_plan.specs.Numbering.{highest_behind, deepened, AreDepths};
+
+use crate::{Edge, Next, Place, Step};
+use std::alloc::{AllocError, Global};
+
+/// How many steps there are on the longest path from each step.
+pub(crate) fn heights_of(alloc: Global, steps: &[Step]) -> Result<Vec<u32>, AllocError>
+    requires few { length steps.now ≤ 65536 }
+    requires back { IsTrue (all_lead_back 0 steps.now) }
+    ensures { IfOk result (λ heights. heights.items ≡ map height (trees_after [] steps.now)) }
+{
+    let mut heights = Vec::new(alloc);
+    for step in steps {
+        let tallest = tallest_behind(&step.edges, &heights);
+        heights.push(tallest + 1)?;
+    }
+    Ok(heights)
+}
+
+/// The greatest height of a step behind these edges; 0 where all lead to ends.
+fn tallest_behind(edges: &[Edge], heights: &[u32]) -> u32
+    requires { IsTrue (all_below (length heights.now) edges.now) }
+    ensures { result ≡ highest_behind heights.now edges.now }
+{
+    let mut tallest = 0;
+    for edge in edges {
+        if let Next::To(place) = edge.next {
+            tallest = tallest.max(heights[place.0 as usize]);
+        }
+    }
+    tallest
+}
+
+/// The greatest number of steps on a path from the first step to each; 0 where there is none.
+pub(crate) fn depths_from(
+    alloc: Global,
+    steps: &[Step],
+    first: Place,
+) -> Result<Vec<u32>, AllocError>
+    requires few { length steps.now ≤ 65536 }
+    requires back { IsTrue (all_lead_back 0 steps.now) }
+    requires first { first.0 < length steps.now }
+    ensures { IfOk result (λ depths. AreDepths steps.now first.0 depths.items) }
+{
+    let mut depths = vec![in alloc; 0; steps.len()]?;
+    depths[first.0 as usize] = 1;
+    for place in (0..steps.len()).rev() {
+        let depth = depths[place];
+        if depth > 0 {
+            deepen(&mut depths, &steps[place].edges, depth + 1);
+        }
+    }
+    Ok(depths)
+}
+
+/// Lays the steps behind these edges at least so deep.
+fn deepen(depths: &mut [u32], edges: &[Edge], depth: u32)
+    requires { IsTrue (all_below (length depths.old) edges.now) }
+    ensures { depths.new ≡ deepened depth edges.now depths.old }
+{
+    for edge in edges {
+        if let Next::To(place) = edge.next {
+            let there = place.0 as usize;
+            depths[there] = depths[there].max(depth);
+        }
+    }
+}

@@ -1,0 +1,50 @@
+//! What an edge tells apart of an answer.
+ghost use Rattle.std.specs.Prelude.{◌≡◌};
+ghost use Rattle.definitions.specs.Tree as tree;
+
+use definitions::{Answer, Call, Reply};
+use listener_set::Numbers;
+
+/// The reply that an answer is to a step whose census must contain the set.
+pub fn reply_to(answer: &Answer, set: &Numbers) -> Reply
+    ensures { result ≡ tree.reply_of set.now answer.now }
+{
+    match answer {
+        Answer::Opened(_) => Reply::Opened,
+        Answer::InUse => Reply::InUse,
+        Answer::TooMany => Reply::TooMany,
+        Answer::Denied => Reply::Denied,
+        Answer::NoMemory => Reply::NoMemory,
+        Answer::Fine => Reply::Fine,
+        Answer::Forked => Reply::Forked,
+        Answer::Again => Reply::Again,
+        Answer::IsReady => Reply::IsReady,
+        Answer::Gone => Reply::Gone,
+        Answer::Late => Reply::Late,
+        Answer::Counted(counted) => full_or_short(&set.minus(counted)),
+        Answer::MasterGone => Reply::MasterGone,
+    }
+}
+
+/// A census that lacks nothing of its set is full.
+fn full_or_short(lacking: &Numbers) -> Reply
+    ensures { result ≡ tree.full_or_short lacking.now }
+{
+    match lacking.lowest() {
+        None => Reply::Full,
+        Some(_) => Reply::Short,
+    }
+}
+
+/// The reply that counts as no fault; of a census, that it is full.
+pub fn plain_reply(call: &Call) -> Reply
+    ensures { result ≡ tree.plain_reply call.now }
+{
+    match call {
+        Call::OpenAt(_) => Reply::Opened,
+        Call::CloseAt(_) | Call::Quit(..) | Call::Kill(..) => Reply::Fine,
+        Call::Fork(..) => Reply::Forked,
+        Call::AwaitReady(..) => Reply::IsReady,
+        Call::Census(_) => Reply::Full,
+    }
+}

@@ -1,0 +1,333 @@
+//! How plans end: a settle, and the ways back to one.
+ghost use Rattle.std.specs.Prelude.{◌≡◌, ◌+◌, ◌*◌, ◌<◌, length, IfOk, IsErrOf, IsTrue, OnOk, OnErr};
+ghost use Rattle.definitions.specs.declared.plans.Side.TheVariants.{Old};
+ghost use Rattle.definitions.specs.Tree.{Ends};
+ghost use Rattle.definitions.specs.Plans as plans;
+ghost use Rattle.rollback_plan.specs.declared.draft.TheConstants.{MOST_STEPS};
+ghost use Rattle.rollback_plan.specs.Steps.{is_below, tree_among};
+ghost use Rattle.rollback_plan.specs.Back.{quits_back, closes_back, AreMade};
+
+use crate::{Draft, DraftRefusal, Edge, Next, Place};
+use definitions::{Actor, Call, End, Order, Reply, Side};
+use listener_set::{Address, Generation, Numbers};
+
+/// How a plan ends where nothing of the side is lacking.
+fn full_end(side: Side) -> End
+    ensures { result ≡ plans.full_end side }
+{
+    match side {
+        Side::Old => End::RolledBack,
+        Side::Target => End::Done,
+    }
+}
+
+/// How a plan ends where something of the side is lacking.
+fn short_end(side: Side) -> End
+    ensures { result ≡ plans.short_end side }
+{
+    match side {
+        Side::Old => End::ShortOld,
+        Side::Target => End::ShortTarget,
+    }
+}
+
+/// What a way back undoes.
+#[derive(Clone, Copy)]
+pub struct Undone<'a> {
+    /// The generation of the numbers that were forked.
+    pub generation: Generation,
+    /// The numbers that were forked, in that order.
+    pub forked: &'a [u32],
+    /// The addresses that were opened, before the forks, in that order.
+    pub opened: &'a [Address],
+}
+
+/// The ways back of one master, by how far it had come.
+#[derive(Drop)]
+pub struct WaysBack {
+    /// The i-th way closes the first i addresses, the last of them first, and settles.
+    pub opened: Vec<Place>,
+    /// The i-th way quits the first i numbers, the last of them first, closes all addresses, and
+    /// settles.
+    pub forked: Vec<Place>,
+}
+
+impl Draft {
+    ghost use Rattle.rollback_plan.specs.Drafts.{trees_of, tree_at, IsMade, Keeps};
+    ghost use Rattle.rollback_plan.specs.Ways.{steps_back};
+
+    /// Adds a settle: a census of the set and, where it lacks a number, a start of the lowest one
+    /// that it lacks and the census again, at most so many rounds of starts. A refused call leaves
+    /// the draft as it was.
+    pub fn settle(
+        &mut self,
+        by: Actor,
+        generation: Generation,
+        set: &Numbers,
+        side: Side,
+        rounds: u32,
+    ) -> Result<Place, DraftRefusal>
+        ensures made { IfOk result (λ place. IsMade self.new place (plans.settle by generation set.now side rounds)) }
+        ensures count { OnOk result (length (trees_of self.new) ≡ length (trees_of self.old) + (1 + 4 * rounds)) }
+        ensures keeps { Keeps self.old self.new }
+        ensures err { OnErr result (trees_of self.new ≡ trees_of self.old) }
+        ensures too_large { IsErrOf result DraftRefusal.TooLarge → MOST_STEPS < length (trees_of self.old) + (1 + 4 * rounds) }
+    {
+        let before = self.len();
+        let settled = self.add_settle(by, generation, set, side, rounds);
+        if settled.is_err() {
+            self.shorten(before);
+        }
+        settled
+    }
+
+    /// Adds a settle. A refused call may leave some steps of it.
+    fn add_settle(
+        &mut self,
+        by: Actor,
+        generation: Generation,
+        set: &Numbers,
+        side: Side,
+        rounds: u32,
+    ) -> Result<Place, DraftRefusal>
+        ensures made { IfOk result (λ place. IsMade self.new place (plans.settle by generation set.now side rounds)) }
+        ensures count { OnOk result (length (trees_of self.new) ≡ length (trees_of self.old) + (1 + 4 * rounds)) }
+        ensures keeps { Keeps self.old self.new }
+        ensures too_large { IsErrOf result DraftRefusal.TooLarge → MOST_STEPS < length (trees_of self.old) + (1 + 4 * rounds) }
+    {
+        let short = Next::Over(short_end(side));
+        let mut place = self.census(by, generation, set, side, short)?;
+        for _round in 0..rounds {
+            let start = self.round(by, generation, place)?;
+            place = self.census(by, generation, set, side, Next::To(start))?;
+        }
+        Ok(place)
+    }
+
+    /// Adds a census that ends well where it is full.
+    fn census(
+        &mut self,
+        by: Actor,
+        generation: Generation,
+        set: &Numbers,
+        side: Side,
+        short: Next,
+    ) -> Result<Place, DraftRefusal>
+        requires { IsTrue (is_below (length (trees_of self.old)) short) }
+        ensures made { IfOk result (λ place. IsMade self.new place (plans.census by generation set.now (plans.census_edges (Ends (plans.full_end side)) (tree_among 0 (trees_of self.old) short)))) }
+        ensures count { OnOk result (length (trees_of self.new) ≡ length (trees_of self.old) + 1) }
+        ensures keeps { Keeps self.old self.new }
+        ensures too_large { IsErrOf result DraftRefusal.TooLarge → MOST_STEPS < length (trees_of self.old) + 1 }
+    {
+        self.add(
+            by,
+            Order::Make(Call::Census(generation)),
+            set,
+            &[
+                Edge::over(&[Reply::Full], full_end(side)),
+                Edge::new(&[Reply::Short], short),
+            ],
+        )
+    }
+
+    /// Adds the start of the lowest number that the last census lacked, before the rest. A refused
+    /// call may leave some steps of it.
+    fn round(
+        &mut self,
+        by: Actor,
+        generation: Generation,
+        rest: Place,
+    ) -> Result<Place, DraftRefusal>
+        requires { rest.0 < length (trees_of self.old) }
+        ensures made { IfOk result (λ place. IsMade self.new place (plans.round by generation (tree_at self.old rest))) }
+        ensures count { OnOk result (length (trees_of self.new) ≡ length (trees_of self.old) + 3) }
+        ensures keeps { Keeps self.old self.new }
+        ensures too_large { IsErrOf result DraftRefusal.TooLarge → MOST_STEPS < length (trees_of self.old) + 3 }
+    {
+        let none = Numbers::none();
+        let kill = self.add(
+            by,
+            Order::KillLacking(generation),
+            &none,
+            &[Edge::to(&[Reply::Fine], rest)],
+        )?;
+        let wait = self.add(
+            by,
+            Order::AwaitLacking(generation),
+            &none,
+            &[
+                Edge::to(&[Reply::IsReady, Reply::Gone], rest),
+                Edge::to(&[Reply::Late], kill),
+            ],
+        )?;
+        self.add(
+            by,
+            Order::ForkLacking(generation),
+            &none,
+            &[
+                Edge::to(&[Reply::Forked], wait),
+                Edge::to(&[Reply::Again, Reply::NoMemory], rest),
+            ],
+        )
+    }
+
+    /// Adds the ways back of one master, which end in the settle of its old side: a census of the
+    /// numbers that were ready, and at most so many rounds of starts. A refused call leaves the
+    /// draft as it was.
+    pub fn back(
+        &mut self,
+        by: Actor,
+        undone: &Undone<'_>,
+        generation: Generation,
+        ready: &Numbers,
+        rounds: u32,
+    ) -> Result<WaysBack, DraftRefusal>
+        ensures opened { IfOk result (λ ways. AreMade self.new ways.opened.items (length undone.now.opened.now) (closes_back by undone.now.opened.now (plans.settle by generation ready.now Old rounds))) }
+        ensures forked { IfOk result (λ ways. AreMade self.new ways.forked.items (length undone.now.forked.now) (quits_back by undone.now.generation undone.now.forked.now (closes_back by undone.now.opened.now (plans.settle by generation ready.now Old rounds) (length undone.now.opened.now)))) }
+        ensures count { OnOk result (length (trees_of self.new) ≡ length (trees_of self.old) + steps_back undone.now rounds) }
+        ensures keeps { Keeps self.old self.new }
+        ensures err { OnErr result (trees_of self.new ≡ trees_of self.old) }
+        ensures too_large { IsErrOf result DraftRefusal.TooLarge → MOST_STEPS < length (trees_of self.old) + steps_back undone.now rounds }
+    {
+        let before = self.len();
+        let ways = self.add_back(by, undone, generation, ready, rounds);
+        if ways.is_err() {
+            self.shorten(before);
+        }
+        ways
+    }
+
+    /// Adds the ways back of one master. A refused call may leave some steps of them.
+    fn add_back(
+        &mut self,
+        by: Actor,
+        undone: &Undone<'_>,
+        generation: Generation,
+        ready: &Numbers,
+        rounds: u32,
+    ) -> Result<WaysBack, DraftRefusal>
+        ensures opened { IfOk result (λ ways. AreMade self.new ways.opened.items (length undone.now.opened.now) (closes_back by undone.now.opened.now (plans.settle by generation ready.now Old rounds))) }
+        ensures forked { IfOk result (λ ways. AreMade self.new ways.forked.items (length undone.now.forked.now) (quits_back by undone.now.generation undone.now.forked.now (closes_back by undone.now.opened.now (plans.settle by generation ready.now Old rounds) (length undone.now.opened.now)))) }
+        ensures count { OnOk result (length (trees_of self.new) ≡ length (trees_of self.old) + steps_back undone.now rounds) }
+        ensures keeps { Keeps self.old self.new }
+        ensures too_large { IsErrOf result DraftRefusal.TooLarge → MOST_STEPS < length (trees_of self.old) + steps_back undone.now rounds }
+    {
+        let settled = self.add_settle(by, generation, ready, Side::Old, rounds)?;
+        let opened = self.add_closes(by, undone.opened, settled)?;
+        let closed = opened[undone.opened.len()];
+        let forked = self.add_quits(by, undone.generation, undone.forked, closed)?;
+        Ok(WaysBack { opened, forked })
+    }
+
+    /// Adds a call that is only answered fine, before the rest.
+    pub fn call(&mut self, by: Actor, call: Call, rest: Place) -> Result<Place, DraftRefusal>
+        requires { rest.0 < length (trees_of self.old) }
+        ensures made { IfOk result (λ place. IsMade self.new place (plans.does by call (plans.then_edge (tree_at self.old rest)))) }
+        ensures count { OnOk result (length (trees_of self.new) ≡ length (trees_of self.old) + 1) }
+        ensures keeps { Keeps self.old self.new }
+        ensures err { OnErr result (trees_of self.new ≡ trees_of self.old) }
+        ensures too_large { IsErrOf result DraftRefusal.TooLarge → MOST_STEPS < length (trees_of self.old) + 1 }
+    {
+        self.add(
+            by,
+            Order::Make(call),
+            &Numbers::none(),
+            &[Edge::to(&[Reply::Fine], rest)],
+        )
+    }
+
+    /// Adds quits of these numbers before the rest. The i-th place that it gives is where the first
+    /// i of them are quit, the last of these first. A refused call leaves the draft as it was.
+    pub fn quits(
+        &mut self,
+        by: Actor,
+        generation: Generation,
+        numbers: &[u32],
+        rest: Place,
+    ) -> Result<Vec<Place>, DraftRefusal>
+        requires { rest.0 < length (trees_of self.old) }
+        ensures made { IfOk result (λ places. AreMade self.new places.items (length numbers.now) (quits_back by generation numbers.now (tree_at self.old rest))) }
+        ensures count { OnOk result (length (trees_of self.new) ≡ length (trees_of self.old) + length numbers.now) }
+        ensures keeps { Keeps self.old self.new }
+        ensures err { OnErr result (trees_of self.new ≡ trees_of self.old) }
+        ensures too_large { IsErrOf result DraftRefusal.TooLarge → MOST_STEPS < length (trees_of self.old) + length numbers.now }
+    {
+        let before = self.len();
+        let places = self.add_quits(by, generation, numbers, rest);
+        if places.is_err() {
+            self.shorten(before);
+        }
+        places
+    }
+
+    /// Adds quits of these numbers. A refused call may leave some of them.
+    fn add_quits(
+        &mut self,
+        by: Actor,
+        generation: Generation,
+        numbers: &[u32],
+        rest: Place,
+    ) -> Result<Vec<Place>, DraftRefusal>
+        requires { rest.0 < length (trees_of self.old) }
+        ensures made { IfOk result (λ places. AreMade self.new places.items (length numbers.now) (quits_back by generation numbers.now (tree_at self.old rest))) }
+        ensures count { OnOk result (length (trees_of self.new) ≡ length (trees_of self.old) + length numbers.now) }
+        ensures keeps { Keeps self.old self.new }
+        ensures too_large { IsErrOf result DraftRefusal.TooLarge → MOST_STEPS < length (trees_of self.old) + length numbers.now }
+    {
+        let mut places = Vec::new(*self.steps.allocator());
+        let mut next = rest;
+        places.push(next)?;
+        for number in numbers {
+            next = self.call(by, Call::Quit(generation, *number), next)?;
+            places.push(next)?;
+        }
+        Ok(places)
+    }
+
+    /// Adds closes of these addresses before the rest. The i-th place that it gives is where the
+    /// first i of them are closed, the last of these first. A refused call leaves the draft as it
+    /// was.
+    pub fn closes(
+        &mut self,
+        by: Actor,
+        addresses: &[Address],
+        rest: Place,
+    ) -> Result<Vec<Place>, DraftRefusal>
+        requires { rest.0 < length (trees_of self.old) }
+        ensures made { IfOk result (λ places. AreMade self.new places.items (length addresses.now) (closes_back by addresses.now (tree_at self.old rest))) }
+        ensures count { OnOk result (length (trees_of self.new) ≡ length (trees_of self.old) + length addresses.now) }
+        ensures keeps { Keeps self.old self.new }
+        ensures err { OnErr result (trees_of self.new ≡ trees_of self.old) }
+        ensures too_large { IsErrOf result DraftRefusal.TooLarge → MOST_STEPS < length (trees_of self.old) + length addresses.now }
+    {
+        let before = self.len();
+        let places = self.add_closes(by, addresses, rest);
+        if places.is_err() {
+            self.shorten(before);
+        }
+        places
+    }
+
+    /// Adds closes of these addresses. A refused call may leave some of them.
+    fn add_closes(
+        &mut self,
+        by: Actor,
+        addresses: &[Address],
+        rest: Place,
+    ) -> Result<Vec<Place>, DraftRefusal>
+        requires { rest.0 < length (trees_of self.old) }
+        ensures made { IfOk result (λ places. AreMade self.new places.items (length addresses.now) (closes_back by addresses.now (tree_at self.old rest))) }
+        ensures count { OnOk result (length (trees_of self.new) ≡ length (trees_of self.old) + length addresses.now) }
+        ensures keeps { Keeps self.old self.new }
+        ensures too_large { IsErrOf result DraftRefusal.TooLarge → MOST_STEPS < length (trees_of self.old) + length addresses.now }
+    {
+        let mut places = Vec::new(*self.steps.allocator());
+        let mut next = rest;
+        places.push(next)?;
+        for address in addresses {
+            next = self.call(by, Call::CloseAt(*address), next)?;
+            places.push(next)?;
+        }
+        Ok(places)
+    }
+}

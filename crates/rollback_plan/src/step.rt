@@ -1,0 +1,78 @@
+//! A step of a plan, with its edges.
+ghost use Rattle.std.specs.Prelude.{◌≡◌};
+ghost use Rattle.rollback_plan.specs.declared.step.Next.TheVariants.{To, Over};
+ghost use Rattle.rollback_plan.specs.Steps.{edge_for, IsEdge};
+
+use definitions::{Actor, End, Order, PidNote, Reply};
+use listener_set::Numbers;
+
+/// The place of a step: in a draft counted from 0, in a plan from 1.
+#[derive(Clone, Copy, Debug, PartialEq, Eq)]
+pub struct Place(pub u32);
+
+/// Where an edge leads.
+#[derive(Clone, Copy, Debug, PartialEq, Eq)]
+pub enum Next {
+    To(Place),
+    Over(End),
+}
+
+/// What follows some replies to a step.
+#[derive(Clone, Copy, Debug)]
+pub struct Edge {
+    pub replies: &'static [Reply],
+    /// Where the pid file stands from then on, if that changes.
+    pub note: Option<PidNote>,
+    pub next: Next,
+}
+
+impl Edge {
+    /// An edge that leaves the pid file where it is.
+    pub fn new(replies: &'static [Reply], next: Next) -> Edge
+        ensures { IsEdge result replies.now next }
+    {
+        Edge {
+            replies,
+            note: None,
+            next,
+        }
+    }
+
+    /// An edge to a step, which leaves the pid file where it is.
+    pub fn to(replies: &'static [Reply], place: Place) -> Edge
+        ensures { IsEdge result replies.now (To place) }
+    {
+        Edge::new(replies, Next::To(place))
+    }
+
+    /// An edge to an end, which leaves the pid file where it is.
+    pub fn over(replies: &'static [Reply], end: End) -> Edge
+        ensures { IsEdge result replies.now (Over end) }
+    {
+        Edge::new(replies, Next::Over(end))
+    }
+}
+
+/// One call of one master, and what follows each reply to it.
+#[derive(Debug, Drop)]
+pub struct Step {
+    /// The master that makes the call.
+    pub by: Actor,
+    pub order: Order,
+    /// The numbers that a census must contain to be full.
+    pub set: Numbers,
+    /// The first edge that lists a reply is taken.
+    pub edges: Vec<Edge>,
+}
+
+impl Step {
+    /// The edge that a reply takes.
+    pub fn edge(&self, reply: Reply) -> Option<Edge>
+        ensures { result ≡ edge_for self.now.edges.items reply }
+    {
+        self.edges
+            .iter()
+            .copied()
+            .find(|edge| edge.replies.contains(&reply))
+    }
+}

@@ -1,0 +1,14 @@
+//! What a running master knows of itself, and what it knows after a plan has ended.
+#![tactic(auto)]
+
+mod agreement;
+mod listeners;
+mod record;
+mod setup;
+
+pub use definitions::{Outcome, PidNote, Report, Settings, Side, Target};
+pub use listeners::Listeners;
+pub use record::Record;
+
+#[cfg(test)]
+mod tests;

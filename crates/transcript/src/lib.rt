@@ -1,0 +1,16 @@
+//! Texts of patterns and of what words came to.
+#![tactic(auto)]
+
+mod block;
+mod block_text;
+mod call_text;
+mod pattern_line;
+mod patterns;
+mod refusal;
+
+pub use block::write_transcript;
+pub use patterns::read_patterns;
+pub use refusal::TextRefusal;
+
+#[cfg(test)]
+mod tests;
