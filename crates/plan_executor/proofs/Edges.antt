@@ -2,7 +2,7 @@
 use Rattle.std.proofs.Common.{◌≡◌, ◌⊎◌, inl, inr, ℕ, ◌+◌, ◌<◌, ◌≤◌, ◌^◌, max, ◌&&◌, ◌||◌, not, Bool, true, false, List, [], ◌∷◌, refl, sym, ◌∙◌, ap, subst, arith, Option, Some, None, is_some, unwrap_or}
 use mathlib.Core.Bool.{true≢false}
 use denote.Enum.Bare.{same_true}
-use Rattle.std.specs.List.{list_all, list_any}
+use Rattle.std.specs.List.{list_all}
 use Rattle.listener_set.specs.Numbers.{lacks}
 use Rattle.definitions.specs.contracts.calls.Reply.{the_type}
 use Rattle.definitions.specs.declared.calls.Call.{Call}
@@ -15,7 +15,7 @@ use Rattle.definitions.specs.declared.plans.PidNote.{PidNote}
 use Rattle.definitions.specs.declared.plans.Order.{Order}
 use Rattle.definitions.specs.declared.plans.Order.TheVariants.{Make, ForkLacking, AwaitLacking, KillLacking}
 use Rattle.definitions.specs.declared.reports.Entry.{Entry}
-use Rattle.definitions.specs.Tree.{Tree, Ends, Does, Branches, Nothing, Branch, branch, among, same_reply, reply_of, full_or_short, replies_to, plain_reply, is_listed, height, highest, is_fit, are_fit, short_after, order_replies, call_of}
+use Rattle.definitions.specs.Tree.{Tree, Ends, Does, Branches, Nothing, Branch, branch, among, same_reply, reply_of, full_or_short, replies_to, is_listed, height, highest, is_fit, are_fit, short_after, order_replies, call_of}
 use Rattle.definitions.specs.Path.{Trail, advance, Asks, follow, ready_after, lacking_after, first_cause, went_wrong}
 use Rattle.rollback_plan.specs.Bounds.{is_short}
 use Rattle.plan_executor.specs.Fit.{is_fit_next}
@@ -53,7 +53,7 @@ among_has p (x ∷ replies) r h all =
     ] refl h
 
 abbrev pub chosen : Bool → Option (Option PidNote × Tree) → Option (Option PidNote × Tree) → Option (Option PidNote × Tree)
-chosen b found others = elim b as (λ _. Option (Option PidNote × Tree)) [ | true ↦ found | false ↦ others ]
+chosen b found others = elim b as (λ _. Option (Option PidNote × Tree)) [ true ↦ found | false ↦ others ]
 
 -- a branch that is found is fit
 fit_branch : (short : Bool) (bs : Branches) (r : Reply) (found : Option PidNote × Tree) → are_fit short bs ≡ true → branch bs r ≡ Some found → is_fit (short_after short r) found.1 ≡ true

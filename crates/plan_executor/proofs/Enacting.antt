@@ -1,5 +1,5 @@
 -- What is carried out ends as it reports.
-use Rattle.std.proofs.Common.{◌≡◌, ℕ, length, Option, Some, None, sym, ◌∙◌, ap, subst}
+use Rattle.std.proofs.Common.{◌≡◌, length, Some, None, ◌∙◌, ap, subst}
 use Rattle.std.proofs.lemmas.Option.{none-some, same_Some}
 use Rattle.definitions.specs.Table.{Table}
 use Rattle.definitions.specs.Record.{Record}

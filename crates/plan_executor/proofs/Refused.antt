@@ -1,12 +1,12 @@
 -- The moment of a run that is refused is the first of its moments that names the executing master.
-use Rattle.std.proofs.Common.{◌≡◌, ℕ, zero, suc, ◌+◌, ◌-◌, ◌<◌, ◌≤◌, ◌||◌, nat_eq, Bool, true, false, cond, List, [], ◌∷◌, length, Option, Some, None, refl, sym, ◌∙◌, ap, subst, arith}
+use Rattle.std.proofs.Common.{◌≡◌, ℕ, suc, ◌+◌, ◌-◌, ◌<◌, ◌≤◌, ◌||◌, nat_eq, Bool, true, false, cond, List, [], ◌∷◌, length, Option, Some, None, refl, ◌∙◌, ap, arith}
 use Rattle.std.specs.List.{list_any}
 use Rattle.definitions.specs.declared.names.Name.{Name}
 use Rattle.definitions.specs.declared.names.Name.TheVariants as name
 use Rattle.definitions.specs.declared.calls.Reply.{Reply}
 use Rattle.definitions.specs.declared.plans.PidNote.{PidNote}
 use Rattle.definitions.specs.Tree.{Tree, Ends, Does, Branches, Nothing, Branch, among, reply_of}
-use Rattle.definitions.specs.Run.{Pattern, Progress, Ran, run, goes, ended, Lost, noted, after_moment, after_call, answered}
+use Rattle.definitions.specs.Run.{Pattern, Progress, Ran, run, goes, noted, after_moment, after_call, answered}
 use Rattle.definitions.specs.Claims.{names_master, refused_moment, refused_behind}
 use Rattle.plan_executor.specs.Naming.{first_naming, is_master}
 
@@ -15,10 +15,10 @@ noted-calls None p = refl
 noted-calls (Some n) p = refl
 
 abbrev pub by_reply : Bool → Ran → Ran → Ran
-by_reply b here more = elim b as (λ _. Ran) [ | true ↦ here | false ↦ more ]
+by_reply b here more = elim b as (λ _. Ran) [ true ↦ here | false ↦ more ]
 
 abbrev pub by_reply_refused : Bool → Option ℕ → Option ℕ → Option ℕ
-by_reply_refused b here more = elim b as (λ _. Option ℕ) [ | true ↦ here | false ↦ more ]
+by_reply_refused b here more = elim b as (λ _. Option ℕ) [ true ↦ here | false ↦ more ]
 
 mutual
   pub refused-is : (image : ℕ) (tree : Tree) (pattern : Pattern) (p : Progress) → refused_moment image tree pattern p ≡ first_naming image pattern p.calls (length (run tree pattern p).entries)
@@ -29,7 +29,7 @@ mutual
       let s = answered by order moment.fate middle in
       let q = after_call order set s middle in
       elim (names_master image moment.exits) as (λ b. by_reply_refused b (Some (p.calls + 1)) (refused_behind image branches (reply_of set s.answer) pattern q)
-        ≡ cond b (Some (p.calls + 1)) (first_naming image pattern (p.calls + 1) (length (goes branches (reply_of set s.answer) pattern q).entries))) [
+      ≡ cond b (Some (p.calls + 1)) (first_naming image pattern (p.calls + 1) (length (goes branches (reply_of set s.answer) pattern q).entries))) [
         | true ↦ refl
         | false ↦ behind-is image branches (reply_of set s.answer) pattern q
       ]
@@ -38,7 +38,7 @@ mutual
   behind-is image Nothing r pattern p = refl
   behind-is image (Branch replies said rest more) r pattern p =
       elim (among replies r) as (λ b. by_reply_refused b (refused_moment image rest pattern (noted said p)) (refused_behind image more r pattern p)
-        ≡ first_naming image pattern p.calls (length (by_reply b (run rest pattern (noted said p)) (goes more r pattern p)).entries)) [
+      ≡ first_naming image pattern p.calls (length (by_reply b (run rest pattern (noted said p)) (goes more r pattern p)).entries)) [
         | true ↦ refused-is image rest pattern (noted said p) ∙ ap (λ n. first_naming image pattern n (length (run rest pattern (noted said p)).entries)) (noted-calls said p)
         | false ↦ behind-is image more r pattern p
       ]

@@ -1,19 +1,18 @@
 -- One more call under a pattern, and the answers that a step can give.
-use Rattle.std.proofs.Common.{◌≡◌, ℕ, ◌+◌, Bool, true, false, cond, List, [], ◌∷◌, ◌++◌, Option, Some, None, length, refl, sym, ◌∙◌, ap, subst, arith, IsTrue}
+use Rattle.std.proofs.Common.{◌≡◌, ℕ, ◌+◌, Bool, true, false, cond, List, [], ◌∷◌, ◌++◌, Option, Some, None, length, refl, sym, ◌∙◌, ap, arith}
 use Rattle.std.specs.Prelude.{nat_lt}
 use Rattle.std.specs.List.{list_any}
 use Rattle.definitions.specs.declared.reports.Entry.{Entry}
 use Rattle.definitions.specs.declared.calls.Call.{Call}
 use Rattle.definitions.specs.declared.calls.Call.TheVariants.{OpenAt, CloseAt, Fork, AwaitReady, Quit, Kill, Census}
-use Rattle.definitions.specs.declared.calls.Answer.{Answer}
 use Rattle.definitions.specs.declared.calls.Answer.TheVariants as answer
 use Rattle.definitions.specs.declared.calls.Fate.{Fate}
 use Rattle.definitions.specs.declared.calls.Fate.TheVariants as fate
 use Rattle.listener_set.specs.declared.generation.Generation.{Generation}
 use Rattle.definitions.specs.Table.{Table, Caller, live_master, is_worker, is_active, is_starting, is_held}
 use Rattle.definitions.specs.Exits.{after_exits}
-use Rattle.definitions.specs.Calls.{Stepped, step, step_by, own_step, fault_of, fault_at, fault_if, fault_or_own, has_process_room}
-use Rattle.definitions.specs.Tree.{is_listed, full_or_short}
+use Rattle.definitions.specs.Calls.{Stepped, step, step_by, own_step, fault_of, fault_if, fault_or_own, has_process_room}
+use Rattle.definitions.specs.Tree.{is_listed}
 use Rattle.definitions.specs.Run.{Pattern, Replays}
 
 -- what a call under the k-th moment gives

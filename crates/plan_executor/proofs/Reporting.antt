@@ -1,5 +1,5 @@
 -- What the path law and the kernel's answers say together: the entries are the run, and the report is the run's.
-use Rattle.std.proofs.Common.{◌≡◌, ℕ, List, Option, Some, None, refl, sym, ◌∙◌, ap}
+use Rattle.std.proofs.Common.{◌≡◌, ℕ, List, Option, Some, None, sym, ◌∙◌, ap}
 use Rattle.definitions.specs.declared.reports.Entry.{Entry}
 use Rattle.definitions.specs.declared.reports.Report.{Report}
 use Rattle.definitions.specs.declared.reports.Outcome.{Outcome}
@@ -8,7 +8,7 @@ use Rattle.definitions.specs.Table.{Table}
 use Rattle.definitions.specs.Tree.{Tree, Ends, Does}
 use Rattle.definitions.specs.Path.{Trail, begin, after, IsOver, IsOutcome, Reports, KeepsPathLaw}
 use Rattle.definitions.specs.Run.{Pattern, Ran, run, start_at, outcome_of, report_of, Replays}
-use Rattle.plan_executor.specs.Lawful.{trail_at, ending_of, IsRun, IsWholeRun}
+use Rattle.plan_executor.specs.Lawful.{ending_of, IsRun, IsWholeRun}
 use Rattle.plan_executor.proofs.Running.{runs-as}
 
 over : (rest : Option Tree) (lacking : List ℕ) (o : Outcome) → IsOutcome rest lacking o → IsOver rest

@@ -1,8 +1,7 @@
 -- Calls that follow a plan's tree, each answered as the kernel answers under a pattern, are the run of that tree.
-use Rattle.std.proofs.Common.{◌≡◌, ℕ, ◌+◌, Bool, true, false, List, [], ◌∷◌, Option, Some, None, refl, sym, ◌∙◌, ap, subst}
+use Rattle.std.proofs.Common.{◌≡◌, ℕ, ◌+◌, true, false, List, [], ◌∷◌, Option, Some, None, refl, sym, ◌∙◌, ap, subst}
 use Rattle.definitions.specs.Table.{Table}
 use Rattle.definitions.specs.declared.reports.Entry.{Entry}
-use Rattle.definitions.specs.declared.calls.Answer.{Answer}
 use Rattle.definitions.specs.declared.calls.Reply.{Reply}
 use Rattle.definitions.specs.declared.plans.PidNote.{PidNote}
 use Rattle.definitions.specs.declared.plans.Order.{Order}
@@ -10,8 +9,8 @@ use Rattle.definitions.specs.Calls.{Stepped, step}
 use Rattle.definitions.specs.Exits.{after_exits}
 use Rattle.definitions.specs.Tree.{Tree, Ends, Does, Branches, Nothing, Branch, among, reply_of, call_of, branch}
 use Rattle.definitions.specs.Path.{Trail, advance, after, Follows, IsOver, rest_after, note_after}
-use Rattle.definitions.specs.Run.{Pattern, Moment, Progress, Ending, At, Lost, Ran, ended, run, goes, noted, after_moment, after_call, answered, with_entry, Replays}
-use Rattle.plan_executor.specs.Lawful.{trail_at, ending_of, IsRun}
+use Rattle.definitions.specs.Run.{Pattern, Progress, Lost, Ran, ended, run, goes, noted, after_moment, after_call, answered, with_entry, Replays}
+use Rattle.plan_executor.specs.Lawful.{trail_at, IsRun}
 
 -- what is run behind the edge that was found
 abbrev pub run_on : Option (Option PidNote × Tree) → Pattern → Progress → Ran
@@ -21,8 +20,8 @@ run_on (Some edge) pattern p = run edge.1 pattern (noted edge.0 p)
 pub goes-branch : (bs : Branches) (r : Reply) (pattern : Pattern) (p : Progress) → goes bs r pattern p ≡ run_on (branch bs r) pattern p
 goes-branch Nothing r pattern p = refl
 goes-branch (Branch replies said rest more) r pattern p =
-    elim (among replies r) as (λ b. elim b as (λ _. Ran) [ | true ↦ run rest pattern (noted said p) | false ↦ goes more r pattern p ]
-      ≡ run_on (elim b as (λ _. Option (Option PidNote × Tree)) [ | true ↦ Some (said, rest) | false ↦ branch more r ]) pattern p) [
+    elim (among replies r) as (λ b. elim b as (λ _. Ran) [ true ↦ run rest pattern (noted said p) | false ↦ goes more r pattern p ]
+    ≡ run_on (elim b as (λ _. Option (Option PidNote × Tree)) [ true ↦ Some (said, rest) | false ↦ branch more r ]) pattern p) [
       | true ↦ refl
       | false ↦ goes-branch more r pattern p
     ]

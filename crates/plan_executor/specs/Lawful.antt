@@ -1,5 +1,5 @@
 -- A run of a plan's tree, by its entries.
-use Rattle.std.specs.Prelude.{ℕ, ◌≡◌, Option, Some, None, List}
+use Rattle.std.specs.Prelude.{◌≡◌, Option, Some, None, List}
 use Rattle.definitions.specs.Table.{Table}
 use Rattle.definitions.specs.Tree.{Tree, Ends, Does}
 use Rattle.definitions.specs.declared.reports.Entry.{Entry}

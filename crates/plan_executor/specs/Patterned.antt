@@ -1,5 +1,5 @@
 -- The modelled kernel, called under a pattern.
-use Rattle.std.specs.Prelude.{ℕ, ◌≡◌, ◌+◌, List, [], length}
+use Rattle.std.specs.Prelude.{◌≡◌, ◌+◌, List, [], length}
 use Rattle.std.proofs.Common.{refl, arith}
 use Rattle.definitions.specs.declared.reports.Entry.{Entry}
 use Rattle.definitions.specs.Run.{Replays}

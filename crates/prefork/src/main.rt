@@ -5,9 +5,8 @@ mod fault;
 mod program;
 mod rehearsal;
 
-pub use program::run;
-
 use fault::Fault;
+pub use program::run;
 use std::env::Env;
 use std::process::ExitCode;
 use std::{env, io};

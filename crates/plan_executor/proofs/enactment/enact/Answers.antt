@@ -1,4 +1,4 @@
-use Rattle.std.proofs.Common.{rules, ◌≡◌, ℕ, length, None, sym, ◌∙◌, ap, subst}
+use Rattle.std.proofs.Common.{rules, ◌≡◌, length, None, sym, ◌∙◌, ap, subst}
 use Rattle.definitions.specs.Table.{Table}
 use Rattle.definitions.specs.Run.{Replays}
 use Rattle.definitions.specs.After.{record_after}
@@ -21,10 +21,10 @@ returns-clause-ok c =
     let first : calls.kernel.table ≡ c.args.kernel.now.table = ap (λ (s : State). s.table) (c.new-calls.ensures.kernel ∙ c.in_ok-copy.ensures.same) in
     let last : then ≡ c.into_kernel.result.table = ap (λ (s : State). s.table) (sym c.into_kernel.ensures) in
     let replays : Replays (moment_at c.args.pattern.now) 0 c.args.kernel.now.table entries c.into_kernel.result.table =
-        subst (λ p. Replays (moment_at p) 0 c.args.kernel.now.table entries c.into_kernel.result.table) at
-        (subst (λ n. Replays (moment_at calls.pattern.now) n c.args.kernel.now.table entries c.into_kernel.result.table) number
-        (subst (λ (t : Table). Replays (moment_at calls.pattern.now) calls.number t entries c.into_kernel.result.table) first
-        (subst (λ (t : Table). Replays (moment_at calls.pattern.now) calls.number calls.kernel.table entries t) last led.replays))) in
+    subst (λ p. Replays (moment_at p) 0 c.args.kernel.now.table entries c.into_kernel.result.table) at
+    (subst (λ n. Replays (moment_at calls.pattern.now) n c.args.kernel.now.table entries c.into_kernel.result.table) number
+    (subst (λ (t : Table). Replays (moment_at calls.pattern.now) calls.number t entries c.into_kernel.result.table) first
+    (subst (λ (t : Table). Replays (moment_at calls.pattern.now) calls.number calls.kernel.table entries t) last led.replays))) in
     let spared : first_naming c.args.state.now.generation.image (moment_at c.args.pattern.now) 0 (length entries) ≡ None = search rules in
     let agrees : Agrees c.args.kernel.now.table c.args.state.now = c.agrees.ensures.agrees.0 (search rules) in
     let after : c.after-after.result ≡ record_after c.args.state.now c.args.target.now c.execute-report.result c.args.state.now.pid = search rules in

@@ -1,4 +1,4 @@
-use Rattle.std.proofs.Common.{◌≡◌, ◌≤◌, ◌+◌, ◌++◌, ◌∷◌, [], List, length, None, arith, refl, sym, ◌∙◌, ap, subst, append_assoc, length-append}
+use Rattle.std.proofs.Common.{◌++◌, ◌∷◌, [], List, length, arith, sym, ◌∙◌, ap, subst, append_assoc, length-append}
 use Rattle.definitions.specs.declared.calls.Answer.TheVariants.{MasterGone}
 use Rattle.definitions.specs.declared.reports.Entry.{Entry}
 use Rattle.definitions.specs.Path.{Trail, begin, after, advance, Asks, Follows}

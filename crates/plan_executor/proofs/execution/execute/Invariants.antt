@@ -1,4 +1,4 @@
-use Rattle.std.proofs.Common.{◌≡◌, ◌≤◌, ◌+◌, ◌++◌, [], length, None}
+use Rattle.std.proofs.Common.{◌≡◌, ◌≤◌, ◌+◌, ◌++◌, length, None}
 use Rattle.definitions.specs.Tree.{height}
 use Rattle.definitions.specs.Path.{begin, after, Follows, EndsGone}
 use Rattle.rollback_plan.specs.Plans.{tree_of, note_of}

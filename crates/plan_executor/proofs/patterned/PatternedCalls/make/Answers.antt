@@ -1,4 +1,4 @@
-use Rattle.std.proofs.Common.{true, ◌≡◌, ◌+◌, ℕ, List, [], ◌∷◌, ◌++◌, length, sym, ◌∙◌, ap, subst, arith, IsTrue}
+use Rattle.std.proofs.Common.{true, ◌≡◌, ◌+◌, [], ◌∷◌, ◌++◌, length, sym, ◌∙◌, ap, subst, arith}
 use Rattle.std.proofs.lemmas.List.{length-append}
 use Rattle.definitions.specs.declared.reports.Entry.{Entry}
 use Rattle.definitions.specs.declared.calls.Answer.{Answer}
@@ -7,8 +7,6 @@ use Rattle.definitions.specs.Calls.{Stepped, step}
 use Rattle.definitions.specs.Run.{Moment, Replays}
 use Rattle.definitions.specs.Tree.{is_listed}
 use Rattle.kernel_model.specs.Pattern.{moment_at, seen_moment}
-use Rattle.plan_executor.specs.declared.patterned.Patterned.{Patterned}
-use Rattle.plan_executor.specs.Patterned.{CallsLed}
 use Rattle.plan_executor.proofs.Replaying.{step-listed, replays-push}
 use Rattle.plan_executor.proofs.patterned.PatternedCalls.make.Goals as goal
 
@@ -33,12 +31,12 @@ returns-clause-follows c first entries h =
     let longer : length (entries ++ e ∷ []) ≡ length entries + 1 = length-append entries (e ∷ []) in
     let moment : seen_moment c.moment-moment.result ≡ at k = c.moment-moment.ensures ∙ ap (λ p. moment_at p k) h.pattern in
     let stepped : record { answer = c.call-answer.result; table = c.call-answer.new.self.table } ≡ step c.args.by call (at k).fate (after_exits (at k).exits last) =
-        c.call-answer.ensures.step ∙ ap (λ (m : Moment). step c.args.by call m.fate (after_exits m.exits last)) moment in
+    c.call-answer.ensures.step ∙ ap (λ (m : Moment). step c.args.by call m.fate (after_exits m.exits last)) moment in
     record {
       pattern = h.pattern;
       number = omega (arith, number, longer);
       room = omega (arith, room, took, longer);
       replays =
-        subst (Replays at first.number first.kernel.table (entries ++ e ∷ [])) (sym (ap (λ (s : Stepped). s.table) stepped))
-        (replays-push at entries first.number k first.kernel.table last e h.replays (omega (arith, number)) (sym (ap (λ (s : Stepped). s.answer) stepped)));
+          subst (Replays at first.number first.kernel.table (entries ++ e ∷ [])) (sym (ap (λ (s : Stepped). s.table) stepped))
+          (replays-push at entries first.number k first.kernel.table last e h.replays (omega (arith, number)) (sym (ap (λ (s : Stepped). s.answer) stepped)));
     }

@@ -1,4 +1,4 @@
-use Rattle.std.proofs.Common.{ℕ, List, ◌<◌, sym, subst}
+use Rattle.std.proofs.Common.{◌<◌, sym, subst}
 use Rattle.std.specs.List.{AllByRecursion}
 use Rattle.prefork.proofs.Below.{all_below}
 use Rattle.prefork.proofs.rehearsal.Rehearsal.start.Goals as goal

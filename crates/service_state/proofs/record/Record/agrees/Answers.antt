@@ -7,5 +7,5 @@ pub returns-clause-agrees : goal.returns-clause-agrees
 returns-clause-agrees c =
     let r = c.self.inside in
     let same : record { listeners = c.as_slice.result.now; generation = r.generation; ready = r.ready; wanted = r.wanted; retries = r.retries; timeout = r.timeout; pid_path = r.pid_path; note = r.note; pid = r.pid } ≡ c.args.self.now =
-        (λ i. record { listeners = c.as_slice.ensures.items i; generation = r.generation; ready = r.ready; wanted = r.wanted; retries = r.retries; timeout = r.timeout; pid_path = r.pid_path; note = r.note; pid = r.pid }) ∙ c.self.view_is in
+    (λ i. record { listeners = c.as_slice.ensures.items i; generation = r.generation; ready = r.ready; wanted = r.wanted; retries = r.retries; timeout = r.timeout; pid_path = r.pid_path; note = r.note; pid = r.pid }) ∙ c.self.view_is in
     subst (λ (x : Record). IsTrue c.agrees_with.result ↔ Agrees c.args.kernel.now.table x) same (c.agrees_with.ensures r.wanted r.retries r.timeout)
