@@ -1,0 +1,57 @@
+//! The keys of a configuration.
+ghost use Rattle.std.specs.Prelude.{◌≡◌};
+ghost use Rattle.master_config.specs.Names.{is_known};
+
+use std::fmt;
+
+/// A key of a configuration.
+#[derive(Clone, Copy, Debug, PartialEq, Eq)]
+pub enum Key {
+    Command,
+    Listeners,
+    Pid,
+    Retries,
+    Timeout,
+    Workers,
+}
+
+impl Key {
+    ghost use Rattle.master_config.specs.KeyNames.{key_name};
+
+    /// The key as it is written in a configuration.
+    pub fn name(self) -> &'static str
+        ensures { result.now ≡ key_name self }
+    {
+        match self {
+            Key::Command => "command",
+            Key::Listeners => "listeners",
+            Key::Pid => "pid",
+            Key::Retries => "retries",
+            Key::Timeout => "timeout",
+            Key::Workers => "workers",
+        }
+    }
+}
+
+impl fmt::Display for Key {
+    ghost use Rattle.std.specs.Prelude.{Some};
+    ghost use Rattle.master_config.specs.KeyNames.{key_name};
+
+    ghost output = { λ k. Some (key_name k) };
+
+    fn fmt<W: fmt::Write>(&self, f: &mut fmt::Formatter<W>) -> fmt::Result {
+        write!(f, "{}", self.name())
+    }
+}
+
+/// Whether a configuration has such a key.
+pub(crate) fn is_known(name: &str) -> bool
+    ensures { result ≡ is_known name.now }
+{
+    name == "command"
+        || name == "listeners"
+        || name == "pid"
+        || name == "retries"
+        || name == "timeout"
+        || name == "workers"
+}

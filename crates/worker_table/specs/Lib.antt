@@ -1,0 +1,4 @@
+pub mod Beats
+pub mod Calls
+pub mod Codes
+pub mod Places
