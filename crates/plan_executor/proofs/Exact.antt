@@ -1,5 +1,5 @@
 -- At most one refusal fits, and none where a target is carried out.
-use Rattle.std.proofs.Common.{◌≡◌, ℕ, ◌⊎◌, inl, inr, Some, None, Result, Ok, Err, refl, sym, ◌∙◌, ap, subst}
+use Rattle.std.proofs.Common.{◌≡◌, ℕ, ◌⊎◌, inl, inr, Some, Result, Ok, Err, refl, sym, ◌∙◌, ap, subst}
 use Rattle.std.specs.Prelude.{◌↔◌}
 use Rattle.std.specs.Result.{IsErrOf}
 use Rattle.std.proofs.lemmas.Option.{none-some, same_Some}
@@ -17,7 +17,7 @@ use Rattle.reload_planner.specs.declared.refusal.PlanRefusal.TheVariants as plan
 use Rattle.plan_executor.specs.declared.enactment.Enacted.{Enacted}
 use Rattle.plan_executor.specs.declared.enactment.EnactRefusal.{EnactRefusal}
 use Rattle.plan_executor.specs.declared.enactment.EnactRefusal.TheVariants.{Memory, RecordDisagrees, Plan, MasterNamed, NoNumbers}
-use Rattle.plan_executor.specs.Refusals.{HasNoPlan, IsUnplanned, IsShortOfNumbers, NamesMaster, IsRefused}
+use Rattle.plan_executor.specs.Refusals.{HasNoPlan, IsShortOfNumbers, NamesMaster, IsRefused}
 use Rattle.plan_executor.specs.Enacted.{IsEnacted}
 
 -- the result of an enactment is a refusal exactly where that fits, want of memory aside

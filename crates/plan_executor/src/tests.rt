@@ -38,12 +38,7 @@ fn booted(alloc: Global, workers: u32) -> Result<Kernel, Fail> {
 /// Its record, with so many ready workers.
 fn record(workers: u32) -> Record {
     let workers = workers.min(1024);
-    Record::start(
-        &Settings::plain(),
-        workers,
-        &Numbers::below(workers),
-        100,
-    )
+    Record::start(&Settings::plain(), workers, &Numbers::below(workers), 100)
 }
 
 fn refusal_of(outcome: Result<Enacted, EnactRefusal>) -> Option<EnactRefusal> {
@@ -65,13 +60,7 @@ fn one_worker_more_is_started_and_counted(rt: HostRuntime) -> Result<(), Fail> {
     let alloc = rt.alloc();
     let mut kernel = booted(alloc, 2)?;
     let quiet = Pattern::new(alloc);
-    let done = enact(
-        alloc,
-        &mut kernel,
-        &record(2),
-        &Target::Workers(3),
-        &quiet,
-    )?;
+    let done = enact(alloc, &mut kernel, &record(2), &Target::Workers(3), &quiet)?;
     let third = Call::Fork(FIRST, 2);
     let counted = Answer::Counted(Numbers::below(3));
     assert_eq!(rt; done.transcript.len(), 3);
@@ -102,9 +91,7 @@ fn refusals_leave_the_kernel_as_it_was(rt: HostRuntime) -> Result<(), Fail> {
     let wrong = enact(alloc, &mut kernel, &record(1), &more, &pattern);
     assert!(rt; refusal_of(wrong) == Some(EnactRefusal::RecordDisagrees));
     let reopen = enact(alloc, &mut kernel, &record(2), &Target::Reopen, &pattern);
-    assert!(rt;
-        refusal_of(reopen) == Some(EnactRefusal::Plan(PlanRefusal::Unplanned))
-    );
+    assert!(rt; refusal_of(reopen) == Some(EnactRefusal::Plan(PlanRefusal::Unplanned)));
     pattern.add_exit(3, Name::Master(1))?;
     let killed = enact(alloc, &mut kernel, &record(2), &more, &pattern);
     assert!(rt; refusal_of(killed) == Some(EnactRefusal::MasterNamed(3)));
@@ -127,13 +114,7 @@ fn a_state_that_ran_short_rolls_back_to_what_ran(rt: HostRuntime) -> Result<(), 
     let mut pattern = Pattern::new(alloc);
     pattern.set_fate(1, Fate::Again)?;
     pattern.add_exit(2, Name::Worker(FIRST, 0))?;
-    let short = enact(
-        alloc,
-        &mut kernel,
-        &started,
-        &Target::Workers(3),
-        &pattern,
-    )?;
+    let short = enact(alloc, &mut kernel, &started, &Target::Workers(3), &pattern)?;
     let lacking = Outcome::Degraded {
         side: Side::Old,
         short: 1,
@@ -175,9 +156,7 @@ fn words_are_carried_out_one_after_another(rt: HostRuntime) -> Result<(), Fail> 
     )?;
     assert_eq!(rt; blocks.len(), 4);
     assert!(rt; matches!(&blocks[0].body, Body::Ran(..)));
-    assert!(rt;
-        matches!(&blocks[1].body, Body::Refused(code) if code.as_str() == "E4 1")
-    );
+    assert!(rt; matches!(&blocks[1].body, Body::Refused(code) if code.as_str() == "E4 1"));
     assert!(rt; matches!(&blocks[2].body, Body::Ran(..)));
     assert!(rt; matches!(&blocks[3].body, Body::Nothing));
     assert!(rt; workers.lowest_missing(1) == Some(0));
@@ -203,9 +182,7 @@ fn nothing_is_done_without_a_master(rt: HostRuntime) -> Result<(), Fail> {
         &mut blocks,
     )?;
     assert_eq!(rt; blocks.len(), 1);
-    assert!(rt;
-        matches!(&blocks[0].body, Body::Refused(code) if code.as_str() == "V1")
-    );
+    assert!(rt; matches!(&blocks[0].body, Body::Refused(code) if code.as_str() == "V1"));
     assert!(rt; record(0).agrees(&kernel));
     Ok(())
 }

@@ -1,4 +1,4 @@
-use Rattle.std.proofs.Common.{rules, ◌≡◌, ◌+◌, length, None, Some, sym, ◌∙◌, ap, subst, arith, ◌⊎◌, true, Result, Err}
+use Rattle.std.proofs.Common.{rules, ◌≡◌, ◌+◌, length, None, Some, sym, ◌∙◌, ap, subst, ◌⊎◌, Result, Err}
 use Rattle.std.proofs.lemmas.Result.{err_from_is_err_and}
 use mathlib.Core.Bool.{true≢false}
 use Rattle.definitions.specs.Table.{Table}
@@ -12,8 +12,6 @@ use Rattle.kernel_model.specs.Room.{LacksNumbers}
 use Rattle.kernel_model.specs.State.{State}
 use Rattle.rollback_plan.specs.Plans.{tree_of, note_of}
 use Rattle.plan_executor.specs.Naming.{first_naming}
-use Rattle.plan_executor.specs.Enacted.{IsEnacted}
-use Rattle.plan_executor.specs.Refusals.{NamesMaster}
 use Rattle.plan_executor.proofs.Enacting.{enacted, named}
 use Rattle.plan_executor.specs.declared.enactment.Enacted.{Enacted}
 use Rattle.plan_executor.specs.declared.enactment.EnactRefusal.{EnactRefusal}
