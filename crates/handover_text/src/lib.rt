@@ -1,0 +1,10 @@
+//! Handovers: the text by which an old master tells a new one what it has and what is wanted.
+#![tactic(auto)]
+
+mod fields;
+mod handover;
+mod listeners;
+mod reader;
+
+pub use handover::Handover;
+pub use listeners::Listeners;
