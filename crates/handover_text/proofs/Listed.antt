@@ -1,7 +1,7 @@
 -- Lists of listeners, as the calls change them.
 use Rattle.std.proofs.Common.{◌≡◌, ℕ, zero, suc, ◌+◌, ◌<◌, ◌≤◌, Bool, true, false, ◌||◌, not, cond, nat_eq, nat_lt, Option, Some, None, List, [], ◌∷◌, ◌++◌, length, map, filter, take, drop, get_or, replicate, refl, sym, ap, ◌∙◌, inl, inr, arith}
 use Rattle.std.specs.Prelude.{codes, bytes_eq, Contains}
-use Rattle.std.proofs.lemmas.Bool.{both_ways, or_parts, or_from, cases_Bool, cond_both, cond-true, cond-false, false_from_ne_true, lt-ltb, le-ltb}
+use Rattle.std.proofs.lemmas.Bool.{both_ways, and_parts, or_parts, or_from, ltb-true, cases_Bool, cond_both, cond-true, cond-false, false_from_ne_true, lt-ltb, le-ltb}
 use Rattle.std.proofs.lemmas.Bool.Decides.{eqb_tells}
 use Rattle.std.proofs.lemmas.Cmp.{nat_list_eq_equiv}
 use Rattle.std.specs.Cmp.Lexicographic.{same_text}
@@ -13,6 +13,7 @@ use Rattle.listener_set.specs.AddressList.{blank, has, AreDistinct}
 use Rattle.definitions.specs.declared.table.Listener.{Listener}
 use Rattle.definitions.specs.Record.{listeners_from}
 use Rattle.definitions.specs.After.{listens_on, listener_at, opened_from, added, opened, all_opened}
+use Rattle.definitions.specs.Handover.{is_above}
 use Rattle.handover_text.specs.Listeners.{AreKept, AreListedFrom, blank_listener}
 
 none_kept : AreKept (replicate 64 blank_listener) 0
@@ -88,6 +89,41 @@ module _ (a : List ℕ) where
         )
         | inr e ↦ rw e.0 (omega arith, omega (arith, room), new, (omega (arith, h.0, e.1), h.1, h.2, h.3))
       ]
+
+---- A listener behind the others
+
+listens_on-append : (a : List ℕ) (ls : List Listener) (l : Listener) → listens_on ls a ≡ false → bytes_eq l.address a ≡ false → listens_on (ls ++ l ∷ []) a ≡ false
+listens_on-append a [] l h ne = or_from (bytes_eq l.address a) false ne refl
+listens_on-append a (m ∷ ms) l h ne =
+    let parts = or_parts (bytes_eq m.address a) (listens_on ms a) h in
+    or_from (bytes_eq m.address a) (listens_on (ms ++ l ∷ []) a) parts.0 (listens_on-append a ms l parts.1 ne)
+
+pub AreListedFrom-push : (fd : ℕ) (ls : List Listener) (l : Listener) → AreListedFrom fd ls → is_above l.descriptor ls ≡ true → fd ≤ l.descriptor → l.descriptor < 67 → listens_on ls l.address ≡ false → AreListedFrom fd (ls ++ l ∷ [])
+AreListedFrom-push fd [] l h above least most new = (least, most, refl, tt)
+AreListedFrom-push fd (m ∷ ms) l h above least most new =
+    let test = and_parts (nat_lt m.descriptor l.descriptor) (is_above l.descriptor ms) above in
+    let lt : m.descriptor < l.descriptor = ltb-true m.descriptor l.descriptor test.0 in
+    let parts = or_parts (bytes_eq m.address l.address) (listens_on ms l.address) new in
+    (
+      h.0,
+      h.1,
+      listens_on-append m.address ms l h.2 (nat_list_eq_equiv.symm l.address m.address ∙ parts.0),
+      AreListedFrom-push (m.descriptor + 1) ms l h.3 test.1 (omega arith) most parts.1,
+    )
+
+pub length-listed_below : (fd bound : ℕ) (ls : List Listener) → AreListedFrom fd ls → is_above bound ls ≡ true → fd ≤ bound → fd + length ls ≤ bound
+length-listed_below fd bound [] h above least = omega arith
+length-listed_below fd bound (m ∷ ms) h above least =
+    let test = and_parts (nat_lt m.descriptor bound) (is_above bound ms) above in
+    let lt : m.descriptor < bound = ltb-true m.descriptor bound test.0 in
+    let rest = length-listed_below (m.descriptor + 1) bound ms h.3 test.1 (omega arith) in
+    omega (arith, rest, h.0)
+
+pub length-listed : (fd : ℕ) (ls : List Listener) → AreListedFrom fd ls → fd ≤ 67 → fd + length ls ≤ 67
+length-listed fd [] h least = omega arith
+length-listed fd (m ∷ ms) h least =
+    let rest = length-listed (m.descriptor + 1) ms h.3 (omega (arith, h.1)) in
+    omega (arith, rest, h.0)
 
 ---- Addresses in order
 

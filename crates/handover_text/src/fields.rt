@@ -1,5 +1,5 @@
 //! The values in a line of a handover.
-ghost use Rattle.std.specs.Prelude.{◌≡◌, ◌==◌, None, Some, MatchOption};
+ghost use Rattle.std.specs.Prelude.{◌≡◌, ◌≤◌, ◌==◌, length, None, Some, MatchOption};
 ghost use Rattle.std.specs.List.{position_or_len, before_first, after_first};
 ghost use Rattle.definitions.specs.Handover.{after_prefix, number_within, listener_read, is_space};
 
@@ -8,7 +8,8 @@ use listener_set::{Address, read_number};
 
 /// Where a byte stands first, or the length.
 pub(crate) fn first_place(text: &[u8], wanted: u8) -> usize
-    ensures { result ≡ position_or_len (λ c. c == wanted) text.now }
+    ensures place { result ≡ position_or_len (λ c. c == wanted) text.now }
+    ensures within { result ≤ length text.now }
 {
     text.iter()
         .position(|byte| *byte == wanted)

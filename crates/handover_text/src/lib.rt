@@ -5,6 +5,8 @@ mod fields;
 mod handover;
 mod listeners;
 mod reader;
+mod reading;
 
 pub use handover::Handover;
 pub use listeners::Listeners;
+pub use reading::read;

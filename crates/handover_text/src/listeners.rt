@@ -110,7 +110,8 @@ impl Listeners {
 
     /// Whether each descriptor is below another.
     pub fn are_below(&self, descriptor: u32) -> bool
-        ensures { result ≡ is_above descriptor self.now }
+        ensures value { result ≡ is_above descriptor self.now }
+        ensures listed { AreListed self.now }
     {
         self.as_slice()
             .iter()

@@ -1,12 +1,13 @@
 //! Reading a handover line by line.
-ghost use Rattle.std.specs.Prelude.{◌≡◌, codes};
-ghost use Rattle.definitions.specs.Handover.{AtVersion, AtOldPid, AtGeneration, AtFirstListener, AtListeners, AtWants, AtPidFile, AtEnd, Over, nothing_read, read_version, with_old_pid, with_generation, with_listener, with_want, with_workers, with_pid_file, read_end, read_line, read_want, read_listener, number_within, listener_read};
+ghost use Rattle.std.specs.Prelude.{◌≡◌, ℕ, codes};
+ghost use Rattle.definitions.specs.Handover.{AtVersion, AtOldPid, AtGeneration, AtFirstListener, AtListeners, AtWants, AtPidFile, AtEnd, Over, nothing_read, read_version, with_old_pid, with_generation, with_listener, with_want, with_workers, with_pid_file, read_end, read_line, read_want, read_listener, number_within, listener_read, read_rest};
+ghost use Rattle.handover_text.specs.Ranges.{IsReadTo};
 ghost use Rattle.handover_text.specs.Reader.{read_to};
 
-use crate::Listeners;
+use crate::{Handover, Listeners};
 use crate::fields::{after_prefix, around_space, number_within, read_listener};
 use definitions::HandoverRefusal;
-use listener_set::{Address, FilePath, Generation, ListenerSet, read_number};
+use listener_set::{Address, FilePath, Generation, ListenerSet, MOST_LISTENERS, read_number};
 use std::marker::Model;
 
 /// Which lines can come next.
@@ -70,7 +71,7 @@ impl Reader {
     fn read_version(&mut self, line: &[u8]) -> Result<(), HandoverRefusal>
         ensures { read_to result self.new ≡ read_version self.old.1 line.now }
     {
-        if line != b"handover 1" {
+        if line != b"handover 1".as_slice() {
             return Err(HandoverRefusal::Version);
         }
         self.next = Next::OldPid;
@@ -129,9 +130,10 @@ impl Reader {
         let Ok(address) = Address::read(rest) else {
             return Err(HandoverRefusal::Line(number));
         };
-        if self.want.add(&address).is_err() {
+        if self.want.len() == MOST_LISTENERS || self.want.holds(&address) {
             return Err(HandoverRefusal::Line(number));
         }
+        let _ = self.want.add(&address);
         self.next = Next::Wants;
         Ok(())
     }
@@ -161,7 +163,7 @@ impl Reader {
     fn read_end(&mut self, number: u32, line: &[u8]) -> Result<(), HandoverRefusal>
         ensures { read_to result self.new ≡ read_end number self.old.1 line.now }
     {
-        if line != b"end" {
+        if line != b"end".as_slice() {
             return Err(HandoverRefusal::Line(number));
         }
         self.next = Next::Nothing;
@@ -225,5 +227,26 @@ impl Reader {
             Next::End => self.read_end(number, line),
             Next::Nothing => Err(HandoverRefusal::Trailing),
         }
+    }
+
+    /// The handover, where nothing is left behind its last line.
+    pub(crate) fn finish(self, rest: &[u8]) -> Result<Handover, HandoverRefusal>
+        requires { (number : ℕ) × IsReadTo number self.entry.0 self.entry.1 }
+        ensures { result ≡ read_rest self.entry.0 self.entry.1 rest.now }
+    {
+        let Next::Nothing = self.next else {
+            return Err(HandoverRefusal::Cut);
+        };
+        if !rest.is_empty() {
+            return Err(HandoverRefusal::Trailing);
+        }
+        Ok(Handover {
+            old_pid: self.old_pid,
+            generation: self.generation,
+            listeners: self.listeners,
+            want: self.want,
+            workers: self.workers,
+            pid_file: self.pid_file,
+        })
     }
 }

@@ -5,14 +5,9 @@ use Rattle.listener_set.specs.declared.listeners.ListenerRefusal.{ListenerRefusa
 use Rattle.listener_set.specs.declared.listeners.ListenerRefusal.TheVariants.{Doubled, TooMany}
 use Rattle.definitions.specs.declared.table.Listener.{Listener}
 use Rattle.handover_text.specs.Listeners.{AreListed}
+use Rattle.handover_text.proofs.Additions.{added}
 use Rattle.handover_text.proofs.Listed.{absent_before}
 use Rattle.handover_text.proofs.listeners.Listeners.addresses.Goals as goal
-
--- an addition that is not refused
-added : (r : Result (Unit {0}) ListenerRefusal) (P : Type 0) → OnOk r P → (IsErrOf r Doubled → ⊥) → (IsErrOf r TooMany → ⊥) → P
-added (Ok u) P h d t = h
-added (Err Doubled) P h d t = absurd (d refl)
-added (Err TooMany) P h d t = absurd (t refl)
 
 pub loop-listener-preserved : goal.loop-listener-preserved
 loop-listener-preserved c =
