@@ -1,5 +1,5 @@
 -- An addition to a set of addresses that is not refused.
-use Rattle.std.proofs.Common.{◌≡◌, Result, Ok, Err, refl}
+use Rattle.std.proofs.Common.{Result, Ok, Err, refl}
 use Rattle.std.specs.Prelude.{OnOk, IsErrOf}
 use Rattle.listener_set.specs.declared.listeners.ListenerRefusal.{ListenerRefusal}
 use Rattle.listener_set.specs.declared.listeners.ListenerRefusal.TheVariants.{Doubled, TooMany}

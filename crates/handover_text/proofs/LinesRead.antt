@@ -1,26 +1,15 @@
 -- What is read, line by line.
-use Rattle.std.proofs.Common.{◌≡◌, ℕ, ◌+◌, ◌≤◌, ◌<◌, Bool, true, false, ◌&&◌, cond, nat_le, nat_lt, not, Option, Some, None, Result, Ok, Err, List, [], ◌∷◌, ◌++◌, length, refl, sym, ap, ◌∙◌, arith, inl, inr}
-use Rattle.std.specs.Prelude.{bytes_eq, codes, ⊤}
-use Rattle.std.specs.List.{list_any, list_all, before_first, after_first}
-use Rattle.std.proofs.lemmas.Bool.{and_parts, cond_both, leb-true, ltb-true, lt-ltb, not-true, not-false}
-use Rattle.std.proofs.lemmas.List.{length-append}
-use Rattle.std.proofs.lemmas.List.Folds.{list_all-append}
-use Rattle.std.proofs.lemmas.List.Quantifiers.{all_pairs_push}
+use Rattle.std.proofs.Common.{◌≡◌, ℕ, ◌≤◌, ◌<◌, Bool, true, false, ◌&&◌, cond, nat_le, Option, Some, None, Result, Ok, Err, List, [], ◌∷◌, ◌++◌, length, refl, sym, ap, ◌∙◌, arith}
+use Rattle.std.specs.List.{before_first, after_first}
+use Rattle.std.proofs.lemmas.Bool.{and_parts, leb-true, lt-ltb}
 use Rattle.listener_set.specs.NumberText.{number_of}
 use Rattle.listener_set.specs.AddressText.{reading, check, accepted}
 use Rattle.listener_set.specs.declared.address.AddressRefusal.{AddressRefusal}
-use Rattle.listener_set.specs.PathText.{is_path}
-use Rattle.listener_set.specs.AddressList.{AreDistinct, has}
-use Rattle.listener_set.proofs.AddressLists.{has_address}
+use Rattle.listener_set.specs.AddressList.{has}
 use Rattle.listener_set.proofs.NumberTextLemmas.{decimal-number_of}
-use Rattle.definitions.specs.declared.handover.HandoverRefusal.{HandoverRefusal}
 use Rattle.definitions.specs.declared.table.Listener.{Listener}
 use Rattle.definitions.specs.After.{listens_on}
-use Rattle.definitions.specs.Handover.{Handover, Place, AtVersion, AtOldPid, AtGeneration, AtFirstListener, AtListeners, AtWants, AtPidFile, AtEnd, Over, Read, passes, after_prefix, number_if_within, number_within, is_space, is_address, is_above, listener_if, listener_read, with_old_pid, with_generation, with_listener, with_want, with_workers, with_pid_file, read_end, read_if, read_want, read_listener, read_line}
-use Rattle.definitions.specs.declared.handover.HandoverRefusal.TheVariants as refusal
-use Rattle.handover_text.specs.Listeners.{AreListed}
-use Rattle.handover_text.specs.Ranges.{AreParts, IsReadTo, lines_to, HasPid, HasListener, HasWant, is_path_if}
-use Rattle.handover_text.proofs.Listed.{AreListedFrom-push, length-listed_below, length-listed}
+use Rattle.definitions.specs.Handover.{Handover, AtListeners, AtWants, passes, number_if_within, number_within, is_space, is_address, is_above, listener_if, listener_read, with_listener, with_want}
 
 ---- Values
 

@@ -103,8 +103,7 @@ AreListedFrom-push fd [] l h above least most new = (least, most, refl, tt)
 AreListedFrom-push fd (m ∷ ms) l h above least most new =
     let test = and_parts (nat_lt m.descriptor l.descriptor) (is_above l.descriptor ms) above in
     let lt : m.descriptor < l.descriptor = ltb-true m.descriptor l.descriptor test.0 in
-    let parts = or_parts (bytes_eq m.address l.address) (listens_on ms l.address) new in
-    (
+    let parts = or_parts (bytes_eq m.address l.address) (listens_on ms l.address) new in (
       h.0,
       h.1,
       listens_on-append m.address ms l h.2 (nat_list_eq_equiv.symm l.address m.address ∙ parts.0),

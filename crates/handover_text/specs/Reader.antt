@@ -1,5 +1,5 @@
 -- What a reader of a handover knows: which lines can come next, and what was read so far.
-use Rattle.std.specs.Prelude.{ℕ, Result, Ok, Err}
+use Rattle.std.specs.Prelude.{Result, Ok, Err}
 use Rattle.definitions.specs.Handover.{Place, Handover, Read, AtVersion, AtOldPid, AtGeneration, AtFirstListener, AtListeners, AtWants, AtPidFile, AtEnd, Over}
 use Rattle.definitions.specs.declared.handover.HandoverRefusal.{HandoverRefusal}
 use Rattle.handover_text.specs.declared.reader.Next.{Next}

@@ -4,8 +4,8 @@ ghost use Rattle.definitions.specs.Handover.{AtVersion, AtOldPid, AtGeneration, 
 ghost use Rattle.handover_text.specs.Ranges.{IsReadTo};
 ghost use Rattle.handover_text.specs.Reader.{read_to};
 
-use crate::{Handover, Listeners};
 use crate::fields::{after_prefix, around_space, number_within, read_listener};
+use crate::{Handover, Listeners};
 use definitions::HandoverRefusal;
 use listener_set::{Address, FilePath, Generation, ListenerSet, MOST_LISTENERS, read_number};
 use std::marker::Model;
@@ -231,8 +231,8 @@ impl Reader {
 
     /// The handover, where nothing is left behind its last line.
     pub(crate) fn finish(self, rest: &[u8]) -> Result<Handover, HandoverRefusal>
-        requires { (number : ℕ) × IsReadTo number self.entry.0 self.entry.1 }
-        ensures { result ≡ read_rest self.entry.0 self.entry.1 rest.now }
+        requires { (number : ℕ) × IsReadTo number self.0 self.1 }
+        ensures { result ≡ read_rest self.0 self.1 rest.now }
     {
         let Next::Nothing = self.next else {
             return Err(HandoverRefusal::Cut);

@@ -1,8 +1,6 @@
-use Rattle.std.proofs.Common.{◌≡◌, ◌++◌, ◌∷◌, [], ◌≤◌, Result, Ok, Err, length, map, take, get_or, refl, ap, sym, subst, ◌∙◌, arith}
-use Rattle.std.specs.Prelude.{OnOk, IsErrOf, Contains}
+use Rattle.std.proofs.Common.{◌≡◌, ◌++◌, ◌∷◌, [], ◌≤◌, length, map, take, get_or, ap, sym, subst, ◌∙◌, arith}
+use Rattle.std.specs.Prelude.{Contains}
 use Rattle.std.proofs.lemmas.List.{length-take-le, length-map, map_more}
-use Rattle.listener_set.specs.declared.listeners.ListenerRefusal.{ListenerRefusal}
-use Rattle.listener_set.specs.declared.listeners.ListenerRefusal.TheVariants.{Doubled, TooMany}
 use Rattle.definitions.specs.declared.table.Listener.{Listener}
 use Rattle.handover_text.specs.Listeners.{AreListed}
 use Rattle.handover_text.proofs.Additions.{added}

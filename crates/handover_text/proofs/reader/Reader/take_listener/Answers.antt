@@ -1,6 +1,5 @@
-use Rattle.std.proofs.Common.{◌≡◌, true, false, arith, sym, ◌∙◌}
-use Rattle.definitions.specs.Handover.{is_above, listener_read}
-use Rattle.definitions.specs.After.{listens_on}
+use Rattle.std.proofs.Common.{arith, sym, ◌∙◌}
+use Rattle.definitions.specs.Handover.{listener_read}
 use Rattle.handover_text.proofs.Listed.{AreListedFrom-push, length-listed_below}
 use Rattle.handover_text.proofs.LinesRead.{listener_bounds, listener_taken}
 use Rattle.handover_text.proofs.reader.Reader.take_listener.Goals as goal
