@@ -176,10 +176,15 @@ looks-exit v (name.Worker g k) rows is looks = looks-worker v g k rows looks
 looks-exit v (name.Draining g k) rows is looks = looks-draining v g k rows looks
 looks-exit v (name.Master i) rows is looks = looks-master v (live_master i rows) rows (finds-other v i rows is looks.fine) looks
 
-falls-exit : (v : View) (test : Names) (e : Name) (rows : List Process) → IsNot v.image e → Looks v rows → weigh (ready_in v.number test) rows + weigh live_any (exited e rows) ≤ weigh (ready_in v.number test) (exited e rows) + weigh live_any rows
-falls-exit v test (name.Worker h k) rows is looks = change-falls (λ p. ⊤) (ready_in v.number test) live_any (change (is_named is_active h k) made_exited) (λ p x. pick (λ p'. Falls (ready_in v.number test) p p') (is_named is_active h k p) (made_exited p) p (λ e. exited-falls v.number test p) (λ e. omega arith)) rows (every-any rows)
-falls-exit v test (name.Draining h k) rows is looks = first-falls (ready_in v.number test) (is_named is_draining h k) (exited-falls v.number test) rows
-falls-exit v test (name.Master i) rows is looks = master-exit-falls v.number test (live_master i rows) rows
+falls-exit : (m : ℕ) (test : Names) (e : Name) (rows : List Process) → weigh (ready_in m test) rows + weigh live_any (exited e rows) ≤ weigh (ready_in m test) (exited e rows) + weigh live_any rows
+falls-exit m test (name.Worker h k) rows = change-falls (λ p. ⊤) (ready_in m test) live_any (change (is_named is_active h k) made_exited) (λ p x. pick (λ p'. Falls (ready_in m test) p p') (is_named is_active h k p) (made_exited p) p (λ e. exited-falls m test p) (λ e. omega arith)) rows (every-any rows)
+falls-exit m test (name.Draining h k) rows = first-falls (ready_in m test) (is_named is_draining h k) (exited-falls m test) rows
+falls-exit m test (name.Master i) rows = master-exit-falls m test (live_master i rows) rows
+
+-- The Ready workers of any master fall by no more than live workers do, whoever exits.
+pub falls-all : (m : ℕ) (test : Names) (es : List Name) (rows : List Process) → weigh (ready_in m test) rows + weigh live_any (all_exited es rows) ≤ weigh (ready_in m test) (all_exited es rows) + weigh live_any rows
+falls-all m test [] rows = omega arith
+falls-all m test (e ∷ es) rows = omega (arith, falls-exit m test e rows, falls-all m test es (exited e rows))
 
 live-exit : (v : View) (e : Name) (rows : List Process) → IsNot v.image e → Looks v rows → weigh live_any (exited e rows) ≤ weigh live_any rows
 live-exit v (name.Worker h k) rows is looks = change-le (λ p. ⊤) live_any (change (is_named is_active h k) made_exited) (λ p x. pick (λ p'. live_any p' ≤ live_any p) (is_named is_active h k p) (made_exited p) p (λ e. exited-live p) (λ e. omega arith)) rows (every-any rows)
@@ -215,6 +220,6 @@ shrinks v (e ∷ es) rows s looks =
     let next = shrinks v es (exited e rows) rest (looks-exit v e rows is looks) in
     record {
       looks = next.looks;
-      falls = λ test. omega (arith, falls-exit v test e rows is looks, next.falls test);
+      falls = λ test. falls-all v.number test (e ∷ es) rows;
       fewer = omega (arith, live-exit v e rows is looks, next.fewer);
     }

@@ -7,7 +7,7 @@ use Rattle.theorems.proofs.Counts.{Distinct, is_in-append, in-filter}
 use Rattle.theorems.proofs.Sets.{below-length, Within, below-of, in-filter-of, in-filter-on, below-distinct, below-on, weigh-part}
 use Rattle.theorems.proofs.Views.{Names, View, named, Looks, ready_in}
 use Rattle.std.proofs.Common.{◌≡◌, ℕ, ◌+◌, ◌<◌, ◌≤◌, Bool, true, false, not, List, [], ◌∷◌, length, refl, sym, ap, ◌∙◌, arith, ◌⊎◌, inl, inr, ⊎_elim}
-use Rattle.std.specs.Prelude.{◌++◌, ◌&&◌, filter, ◌||◌}
+use Rattle.std.specs.Prelude.{⊤, ◌++◌, ◌&&◌, filter, ◌||◌}
 use Rattle.listener_set.specs.Numbers.{numbers_below, is_in}
 use Rattle.listener_set.specs.declared.generation.Generation.{Generation}
 use Rattle.definitions.specs.Table.{Process, same_generation, Table, bears}
@@ -83,7 +83,7 @@ module _ (t : Table) (rec : Record) (overdue : List ℕ) (pattern : Pattern) (s 
   abbrev A : is_in (g.image ∷ []) g.image ≡ true
   A = acts t rec (Mend overdue) pattern s like
 
-  abbrev G : (names : Names) (count : ℕ) (w : Bool) (q : Progress) → like.floor ≤ count → Looks (view u any any) q.table.rows → (1 ≤ like.floor → count ≤ ready_of u names q + q.losses) → Marks w q.faults q.losses q.cause → I q
+  abbrev G : (names : Names) (count : ℕ) (w : Bool) (q : Progress) → like.floor ≤ count → Looks (view u any any) q.table.rows → (1 ≤ like.floor → count ≤ ready_of u names q + q.losses) → Marks w q.faults q.losses q.cause → ⊤ → I q
   G = good t rec (Mend overdue) pattern s like
 
   low : n ≤ 1024

@@ -1,6 +1,6 @@
 -- The headline for a reload.
 use Rattle.std.proofs.Common.{◌≡◌, ℕ, ◌+◌, ◌<◌, ◌≤◌, Bool, true, false, cond, not, List, [], ◌∷◌, length, Some, None, refl, sym, ap, ◌∙◌, subst, arith, ◌⊎◌, inl, inr, ⊎_elim}
-use Rattle.std.specs.Prelude.{option_map, filter, map, reverse, min, ◌&&◌, ◌||◌, ◌==◌, if◌then◌else◌, bytes_eq, is_some}
+use Rattle.std.specs.Prelude.{⊤, option_map, filter, map, reverse, min, ◌&&◌, ◌||◌, ◌==◌, if◌then◌else◌, bytes_eq, is_some}
 use Rattle.std.specs.List.{AllByRecursion, list_any}
 use Rattle.definitions.specs.Table.{Address, same_generation, Hold, is_at, Process, Table, bears, is_ready, is_worker, has_address}
 use Rattle.listener_set.specs.declared.generation.Generation.{Generation}
@@ -192,21 +192,21 @@ module _ (t : Table) (rec : Record) (st : Settings) (pattern : Pattern) (s : IsS
   common0 : Common H0
   common0 a c = (held-of a c.0, λ k e. e)
 
-  good : (v : View) (hs : List Hold) → v.number ≡ rec.pid → v.holds ≡ hs → ((h : Generation) → (v.held h ≡ H0) ⊎ (v.held h ≡ hs)) → Common hs → (names : Names) (count : ℕ) (w : Bool) (q : Progress) → f ≤ count → Looks (view v any any) q.table.rows → (1 ≤ f → count ≤ ready_of v names q + q.losses) → Marks w q.faults q.losses q.cause → inv q
-  good v hs num is held common names count w q enough looks secured marks = (
+  good : (v : View) (hs : List Hold) → v.number ≡ rec.pid → v.holds ≡ hs → ((h : Generation) → (v.held h ≡ H0) ⊎ (v.held h ≡ hs)) → Common hs → (names : Names) (count : ℕ) (w : Bool) (q : Progress) → f ≤ count → Looks (view v any any) q.table.rows → (1 ≤ f → count ≤ ready_of v names q + q.losses) → Marks w q.faults q.losses q.cause → ⊤ → inv q
+  good v hs num is held common names count w q enough looks secured marks beside = (
     λ a k c on. live-with-on (view v any any) (has_socket a k) q.table.rows looks (ap (has_socket a k) is ∙ (common a c).1 k (sym (live-with (first_view rec H0) (λ n. refl) (has_socket a k) t.rows looks0) ∙ on)),
     λ a c. floor-by f (ready_with a q.table + q.losses) (λ e. omega (arith, enough, secured e, ready-floor (view v any any) names a q.table.rows (λ h. ⊎_elim (λ e. ap (has_address a) e ∙ held-of a c.0) (λ e. ap (has_address a) e ∙ (common a c).0) (held h)) looks)),
     (marks.clean, marks.blamed),
   )
 
-  good-both : (hs : List Hold) → Common hs → (names : Names) (count : ℕ) (w : Bool) (q : Progress) → f ≤ count → Looks (view (both hs) any any) q.table.rows → (1 ≤ f → count ≤ ready_of (both hs) names q + q.losses) → Marks w q.faults q.losses q.cause → inv q
+  good-both : (hs : List Hold) → Common hs → (names : Names) (count : ℕ) (w : Bool) (q : Progress) → f ≤ count → Looks (view (both hs) any any) q.table.rows → (1 ≤ f → count ≤ ready_of (both hs) names q + q.losses) → Marks w q.faults q.losses q.cause → ⊤ → inv q
   good-both hs common = good (both hs) hs refl refl (λ h. either (same_generation h g)) common
     where
       either : (b : Bool) → ((if b then H0 else hs) ≡ H0) ⊎ ((if b then H0 else hs) ≡ hs)
       either true = inl refl
       either false = inr refl
 
-  good-same : (hs : List Hold) → Common hs → (names : Names) (count : ℕ) (w : Bool) (q : Progress) → f ≤ count → Looks (view (same hs) any any) q.table.rows → (1 ≤ f → count ≤ ready_of (same hs) names q + q.losses) → Marks w q.faults q.losses q.cause → inv q
+  good-same : (hs : List Hold) → Common hs → (names : Names) (count : ℕ) (w : Bool) (q : Progress) → f ≤ count → Looks (view (same hs) any any) q.table.rows → (1 ≤ f → count ≤ ready_of (same hs) names q + q.losses) → Marks w q.faults q.losses q.cause → ⊤ → inv q
   good-same hs common = good (same hs) hs refl refl (λ h. inr refl) common
 
   held-old : (hs : List Hold) (h : Generation) → h ≡ g → (if same_generation h g then H0 else hs) ≡ H0

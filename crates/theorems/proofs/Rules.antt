@@ -9,7 +9,7 @@ use Rattle.listener_set.specs.declared.generation.Generation.{Generation}
 use Rattle.definitions.specs.Calls.{Stepped, gives, step_by, own_step, with_new_row, each_row, is_exited_of, dropped, made_ready, made_draining, census_of, is_of, with_holds, lacks_address, lowest_free, with_new_socket, is_row, put_hold}
 use Rattle.definitions.specs.declared.calls.Fate.{Fate}
 use Rattle.definitions.specs.declared.names.Name.{Name}
-use Rattle.definitions.specs.Exits.{is_active_worker, change, losses_of, all_exited}
+use Rattle.definitions.specs.Exits.{is_active_worker, change, losses_of, all_exited, after_exits}
 use Rattle.definitions.specs.declared.calls.Call.TheVariants.{Fork, AwaitReady, Quit, Kill, Census, CloseAt, OpenAt, Usr1}
 use Rattle.definitions.specs.declared.calls.Answer.TheVariants.{Forked, IsReady, Again, NoMemory, Gone, Late, InUse, TooMany, Denied, Opened}
 use Rattle.definitions.specs.Tree.{Tree, Branches, Ends, Does, full_or_short, lowest, call_of, reply_of}
@@ -182,9 +182,9 @@ band-exits u sc s r t n c w ls es p sp mild b =
       beside = sc.exits es p.table.rows p.losses (losses_of es p.table) p.faults sp mild lost b.beside;
     }
 
-module _ (inv : Progress → Type 0) (post : Ending → Progress → Type 0) (co : Course) (u : View) (acts : is_in co.executing u.image ≡ true) (sc : Scene u.number u.image) (good : (t : Names) (n : ℕ) (w : Bool) (q : Progress) → sc.floor ≤ n → Looks (view u any any) q.table.rows → (1 ≤ sc.floor → n ≤ ready_of u t q + q.losses) → Marks w q.faults q.losses q.cause → inv q) where
+module _ (inv : Progress → Type 0) (post : Ending → Progress → Type 0) (co : Course) (u : View) (acts : is_in co.executing u.image ≡ true) (sc : Scene u.number u.image) (good : (t : Names) (n : ℕ) (w : Bool) (q : Progress) → sc.floor ≤ n → Looks (view u any any) q.table.rows → (1 ≤ sc.floor → n ≤ ready_of u t q + q.losses) → Marks w q.faults q.losses q.cause → sc.Holds q.table.rows q.losses q.faults → inv q) where
   pub band-inv : (s r t : Names) (n c : ℕ) (w : Bool) (ls : List ℕ) (p : Progress) → Band u sc s r t n c w ls p → inv p
-  band-inv s r t n c w ls p b = good t n w p b.enough (looks-allows (view u s r) (view u any any) (record { number = refl; others = λ n e. e; image = refl; holds = refl; starting = λ h k e. refl; ready = λ h k e. refl; held_starting = λ h k e. refl; held = λ h k e. refl }) p.table.rows b.looks) b.secured b.marks
+  band-inv s r t n c w ls p b = good t n w p b.enough (looks-allows (view u s r) (view u any any) (record { number = refl; others = λ n e. e; image = refl; holds = refl; starting = λ h k e. refl; ready = λ h k e. refl; held_starting = λ h k e. refl; held = λ h k e. refl }) p.table.rows b.looks) b.secured b.marks b.beside
 
   abbrev pub Runs : Tree → Progress → Type 0
   Runs t p = Along inv post sc.Mild Unasked co t p
@@ -200,8 +200,8 @@ module _ (inv : Progress → Type 0) (post : Ending → Progress → Type 0) (co
   Answers order set bs q st = Edge bs (reply_of set st.answer) (after_call order set st q)
 
   -- a step, from what it does after the exits
-  pub rule-step : (order : Order) (set : List ℕ) (bs : Branches) (s r t : Names) (n c : ℕ) (w : Bool) (ls : List ℕ) (p : Progress) → is_leave order ≡ false → Band u sc s r t n c w ls p → ((q : Progress) → Band u sc s r t n c w ls q → (fate : Option Fate) → Answers order set bs q (step_by co.text u.image (Some me) (call_of order q.lacking) fate q.table)) → Runs (Does u.image order set bs) p
-  rule-step order set bs s r t n c w ls p stays b h =
+  pub rule-step-at : (order : Order) (set : List ℕ) (bs : Branches) (s r t : Names) (n c : ℕ) (w : Bool) (ls : List ℕ) (p : Progress) → is_leave order ≡ false → Band u sc s r t n c w ls p → ((es : List Name) → Band u sc s r t n c w ls (after_moment es p) → (fate : Option Fate) → Answers order set bs (after_moment es p) (step_by co.text u.image (Some me) (call_of order p.lacking) fate (after_exits es p.table))) → Runs (Does u.image order set bs) p
+  rule-step-at order set bs s r t n c w ls p stays b h =
       let moment = co.pattern (p.calls + 1) in
       let middle = after_moment moment.exits p in
       let at : (if is_leave order then co.executing ++ co.heirs else co.executing) ≡ co.executing = rw stays in
@@ -213,12 +213,15 @@ module _ (inv : Progress → Type 0) (post : Ending → Progress → Type 0) (co
         band-inv s r t n c w ls middle b',
         tt,
         subst (λ (x : Course). Behind inv post sc.Mild Unasked x bs (reply_of set (answered co.text u.image order moment.fate middle).answer) (after_call order set (answered co.text u.image order moment.fate middle) middle)) (sym after)
-            (subst (λ (o : Option Caller). Answers order set bs middle (step_by co.text u.image o (call_of order middle.lacking) moment.fate middle.table)) (sym (finds (view u s r) middle.table.rows b'.looks)) (h middle b' moment.fate)),
+            (subst (λ (o : Option Caller). Answers order set bs middle (step_by co.text u.image o (call_of order middle.lacking) moment.fate middle.table)) (sym (finds (view u s r) middle.table.rows b'.looks)) (h moment.exits b' moment.fate)),
       )
     where
       go : (b : Bool) → b ≡ false → record { text = co.text; pattern = co.pattern; executing = if b then co.heirs else co.executing; heirs = co.heirs } ≡ co
       go true e = absurd (cc)
       go false e = refl
+
+  pub rule-step : (order : Order) (set : List ℕ) (bs : Branches) (s r t : Names) (n c : ℕ) (w : Bool) (ls : List ℕ) (p : Progress) → is_leave order ≡ false → Band u sc s r t n c w ls p → ((q : Progress) → Band u sc s r t n c w ls q → (fate : Option Fate) → Answers order set bs q (step_by co.text u.image (Some me) (call_of order q.lacking) fate q.table)) → Runs (Does u.image order set bs) p
+  rule-step order set bs s r t n c w ls p stays b h = rule-step-at order set bs s r t n c w ls p stays b (λ es b'. h (after_moment es p) b')
 
   -- more names may be Starting
   pub band-still : (s s' r t : Names) (n c : ℕ) (w : Bool) (ls : List ℕ) (p : Progress) → Sub s s' → Band u sc s r t n c w ls p → Band u sc s' r t n c w ls p

@@ -1,5 +1,6 @@
 -- Plans of one master that keep its addresses and its generation: what they start from, what they keep, and their ends.
 use Rattle.std.proofs.Common.{◌≡◌, ℕ, ◌+◌, ◌<◌, ◌≤◌, Bool, true, false, List, [], ◌∷◌, length, Some, None, refl, sym, ap, ◌∙◌, arith}
+use Rattle.std.specs.Prelude.{⊤}
 use Rattle.std.specs.List.{AllByRecursion, list_any}
 use Rattle.listener_set.specs.Numbers.{is_in}
 use Rattle.listener_set.specs.declared.generation.Generation.{Generation}
@@ -78,8 +79,8 @@ module _ (t : Table) (rec : Record) (target : Target) (pattern : Pattern) (s : I
   looks0 : Looks first t.rows
   looks0 = begin t rec s
 
-  pub good : (names : Names) (count : ℕ) (w : Bool) (q : Progress) → like.floor ≤ count → Looks (view first any any) q.table.rows → (1 ≤ like.floor → count ≤ ready_of first names q + q.losses) → Marks w q.faults q.losses q.cause → inv q
-  good names count w q enough looks secured marks = (
+  pub good : (names : Names) (count : ℕ) (w : Bool) (q : Progress) → like.floor ≤ count → Looks (view first any any) q.table.rows → (1 ≤ like.floor → count ≤ ready_of first names q + q.losses) → Marks w q.faults q.losses q.cause → ⊤ → inv q
+  good names count w q enough looks secured marks beside = (
     λ a socket common on. live-with-on (view first any any) (has_socket a socket) q.table.rows looks (sym (live-with first (λ n. refl) (has_socket a socket) t.rows looks0) ∙ on),
     λ a common. floor-by like.floor (ready_with a q.table + q.losses) (λ e. omega (arith, enough, secured e, ready-floor (view first any any) names a q.table.rows (λ h. first-held t rec s a common.0) looks)),
     (marks.clean, marks.blamed),

@@ -112,8 +112,8 @@ module _ (t : Table) (rec : Record) (quick : Bool) (pattern : Pattern) (s : IsSt
   abbrev Goes : Tree → Progress → Type 0
   Goes tree q = Along inv post Anyhow Unasked co tree q
 
-  good : (names : Names) (count : ℕ) (w : Bool) (q : Progress) → 0 ≤ count → Looks (view u any any) q.table.rows → (1 ≤ 0 → count ≤ ready_of u names q + q.losses) → Marks w q.faults q.losses q.cause → inv q
-  good names count w q enough looks secured marks = (λ a socket common on. absurd (cc (common.1)), (marks.clean, marks.blamed))
+  good : (names : Names) (count : ℕ) (w : Bool) (q : Progress) → 0 ≤ count → Looks (view u any any) q.table.rows → (1 ≤ 0 → count ≤ ready_of u names q + q.losses) → Marks w q.faults q.losses q.cause → ⊤ → inv q
+  good names count w q enough looks secured marks beside = (λ a socket common on. absurd (cc (common.1)), (marks.clean, marks.blamed))
 
   -- what is known: the master is alone, and of its workers nothing is counted
   abbrev Holds : List File → PidNote → Bool → Progress → Type 0

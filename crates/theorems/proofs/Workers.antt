@@ -3,7 +3,7 @@ use Rattle.theorems.proofs.Same.{Goes, Like, acts, course, first, good, inv, pos
 use Rattle.theorems.proofs.Ends.{first-few}
 use Rattle.definitions.specs.Table.{Process, same_generation, Table, bears}
 use Rattle.std.proofs.Common.{◌≡◌, ℕ, ◌+◌, ◌<◌, ◌≤◌, Bool, true, false, not, List, [], ◌∷◌, length, refl, sym, ap, ◌∙◌, subst, arith, ◌⊎◌, inl, inr, ⊎_elim}
-use Rattle.std.specs.Prelude.{◌++◌, ◌&&◌, filter, reverse, min, ◌||◌, nat_lt}
+use Rattle.std.specs.Prelude.{⊤, ◌++◌, ◌&&◌, filter, reverse, min, ◌||◌, nat_lt}
 use Rattle.std.proofs.lemmas.Bool.Decides.{nat_tests}
 use Rattle.listener_set.specs.declared.generation.Generation.{Generation}
 use Rattle.listener_set.specs.Numbers.{is_in, numbers_below}
@@ -109,7 +109,7 @@ module _ (t : Table) (rec : Record) (n : ℕ) (pattern : Pattern) (s : IsStart t
   abbrev A : is_in (g.image ∷ []) g.image ≡ true
   A = acts t rec (Workers n) pattern s like
 
-  abbrev G : (names : Names) (count : ℕ) (w : Bool) (q : Progress) → like.floor ≤ count → Looks (view u any any) q.table.rows → (1 ≤ like.floor → count ≤ ready_of u names q + q.losses) → Marks w q.faults q.losses q.cause → I q
+  abbrev G : (names : Names) (count : ℕ) (w : Bool) (q : Progress) → like.floor ≤ count → Looks (view u any any) q.table.rows → (1 ≤ like.floor → count ≤ ready_of u names q + q.losses) → Marks w q.faults q.losses q.cause → ⊤ → I q
   G = good t rec (Workers n) pattern s like
 
   ---- The plan
