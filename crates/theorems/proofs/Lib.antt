@@ -12,6 +12,7 @@ pub mod Logic
 pub mod Heights
 pub mod Rules
 pub mod Ends
+pub mod Duo
 pub mod Workers
 pub mod Examples
 pub mod WorkedRuns
