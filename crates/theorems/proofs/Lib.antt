@@ -13,6 +13,7 @@ pub mod Heights
 pub mod Rules
 pub mod Ends
 pub mod Duo
+pub mod Files
 pub mod Workers
 pub mod Examples
 pub mod WorkedRuns

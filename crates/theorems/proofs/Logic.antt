@@ -2,14 +2,15 @@
 use Rattle.std.proofs.Common.{[], ◌∷◌, ◌≡◌, List, ℕ, ◌+◌, Bool, true, false, Option, Some, None, refl, nat_lt, length}
 use Rattle.std.specs.Prelude.{⊤, if◌then◌else◌}
 use Rattle.std.specs.List.{AllByRecursion, list_any}
-use Rattle.definitions.specs.Table.{is_any, is_draining, FilePath, Process, Worker, Table, Caller, is_worker, is_active, is_starting, is_exited, Address, is_held}
+use Rattle.definitions.specs.Table.{is_any, is_draining, FilePath, owner_at, Process, Master, Worker, Table, Caller, is_worker, is_active, is_starting, is_exited, Address, is_held}
 use Rattle.definitions.specs.declared.table.Stance.TheVariants.{Starting}
 use Rattle.listener_set.specs.declared.generation.Generation.{Generation}
-use Rattle.definitions.specs.Calls.{with_files, without_file, Stepped, gives, step_by, fault_if, fault_or_own, own_step, with_new_row, each_row, has_process_room, dropped, made_ready, lowest_free, with_new_socket}
+use Rattle.definitions.specs.Calls.{suits, is_image, with_file, moved, moved_if, with_files, without_file, Stepped, gives, step_by, fault_if, fault_or_own, own_step, with_new_row, each_row, has_process_room, dropped, made_ready, lowest_free, with_new_socket}
 use Rattle.definitions.specs.declared.calls.Fate.{Fate}
+use Rattle.definitions.specs.Handover.{reading}
 use Rattle.definitions.specs.Exits.{change}
-use Rattle.definitions.specs.declared.calls.Call.TheVariants.{AwaitGone, RemovePid, Usr1, Leave, CloseAt, Fork, AwaitReady, Quit, Kill, Census, OpenAt}
-use Rattle.definitions.specs.declared.calls.Answer.TheVariants.{Fine, IoFault, Forked, IsReady, Again, NoMemory, Gone, Late, InUse, TooMany, Denied, Opened}
+use Rattle.definitions.specs.declared.calls.Call.TheVariants.{SpawnMaster, Adopt, WritePid, MovePid, Alive, TermMaster, AwaitGone, RemovePid, Usr1, Leave, CloseAt, Fork, AwaitReady, Quit, Kill, Census, OpenAt}
+use Rattle.definitions.specs.declared.calls.Answer.TheVariants.{Spawned, NoImage, Adopted, Refused, Fine, IoFault, Forked, IsReady, Again, NoMemory, Gone, Late, InUse, TooMany, Denied, Opened}
 use Rattle.definitions.specs.declared.calls.Call.{Call}
 use Rattle.definitions.specs.Tree.{call_of, Tree, Branches, Ends, Does, Nothing, Branch, among, reply_of}
 use Rattle.definitions.specs.declared.plans.Order.{Order}
@@ -202,6 +203,8 @@ Unfailing (Census g) = ⊤
 Unfailing (CloseAt a) = ⊤
 Unfailing (Usr1 g x) = ⊤
 Unfailing Leave = ⊤
+Unfailing (Alive i) = ⊤
+Unfailing (TermMaster i) = ⊤
 Unfailing _ = ⊥
 
 pub unfailing : (text : List ℕ) (image : ℕ) (c : Caller) (call : Call) (fate : Option Fate) (t : Table) → Unfailing call → step_by text image (Some c) call fate t ≡ own_step text image c call t
@@ -211,6 +214,10 @@ unfailing text image c (Census g) None t u = refl
 unfailing text image c (CloseAt a) None t u = refl
 unfailing text image c (Usr1 g x) None t u = refl
 unfailing text image c (Usr1 g x) (Some f) t u = refl
+unfailing text image c (Alive i) None t u = refl
+unfailing text image c (Alive i) (Some f) t u = refl
+unfailing text image c (TermMaster i) None t u = refl
+unfailing text image c (TermMaster i) (Some f) t u = refl
 unfailing text image c Leave None t u = refl
 unfailing text image c Leave (Some f) t u = refl
 unfailing text image c (CloseAt a) (Some f) t u = refl
@@ -262,3 +269,63 @@ remove-cases text image c path (Some fate.Denied) t P fault fine = fine
 remove-cases text image c path (Some fate.NoMemory) t P fault fine = fine
 remove-cases text image c path (Some fate.Again) t P fault fine = fine
 remove-cases text image c path (Some fate.Late) t P fault fine = fine
+
+pub write-cases : (text : List ℕ) (image : ℕ) (c : Caller) (path : FilePath) (fate : Option Fate) (t : Table) (P : Stepped → Type 0) → P (gives IoFault t) → P (gives Fine (with_files (with_file path c.number t.files) t)) → P (step_by text image (Some c) (WritePid path) fate t)
+write-cases text image c path None t P fault fine = fine
+write-cases text image c path (Some fate.NoImage) t P fault fine = fine
+write-cases text image c path (Some fate.Refused) t P fault fine = fine
+write-cases text image c path (Some fate.IoFault) t P fault fine = fault
+write-cases text image c path (Some fate.InUse) t P fault fine = fine
+write-cases text image c path (Some fate.TooMany) t P fault fine = fine
+write-cases text image c path (Some fate.Denied) t P fault fine = fine
+write-cases text image c path (Some fate.NoMemory) t P fault fine = fine
+write-cases text image c path (Some fate.Again) t P fault fine = fine
+write-cases text image c path (Some fate.Late) t P fault fine = fine
+
+move-own : (o : Option ℕ) (from to : FilePath) (t : Table) (P : Stepped → Type 0) → P (gives IoFault t) → ((owner : ℕ) → o ≡ Some owner → P (gives Fine (with_files (with_file to owner (without_file from t.files)) t))) → P (moved_if o from to t)
+move-own None from to t P fault fine = fault
+move-own (Some owner) from to t P fault fine = fine owner refl
+
+pub move-cases : (text : List ℕ) (image : ℕ) (c : Caller) (from to : FilePath) (fate : Option Fate) (t : Table) (P : Stepped → Type 0) → P (gives IoFault t) → ((owner : ℕ) → owner_at from t.files ≡ Some owner → P (gives Fine (with_files (with_file to owner (without_file from t.files)) t))) → P (step_by text image (Some c) (MovePid from to) fate t)
+move-cases text image c from to None t P fault fine = move-own (owner_at from t.files) from to t P fault fine
+move-cases text image c from to (Some fate.NoImage) t P fault fine = move-own (owner_at from t.files) from to t P fault fine
+move-cases text image c from to (Some fate.Refused) t P fault fine = move-own (owner_at from t.files) from to t P fault fine
+move-cases text image c from to (Some fate.IoFault) t P fault fine = fault
+move-cases text image c from to (Some fate.InUse) t P fault fine = move-own (owner_at from t.files) from to t P fault fine
+move-cases text image c from to (Some fate.TooMany) t P fault fine = move-own (owner_at from t.files) from to t P fault fine
+move-cases text image c from to (Some fate.Denied) t P fault fine = move-own (owner_at from t.files) from to t P fault fine
+move-cases text image c from to (Some fate.NoMemory) t P fault fine = move-own (owner_at from t.files) from to t P fault fine
+move-cases text image c from to (Some fate.Again) t P fault fine = move-own (owner_at from t.files) from to t P fault fine
+move-cases text image c from to (Some fate.Late) t P fault fine = move-own (owner_at from t.files) from to t P fault fine
+
+adopt-own : (text : List ℕ) (image : ℕ) (c : Caller) (t : Table) (P : Stepped → Type 0) → P (gives Refused t) → P (gives Adopted t) → P (own_step text image c Adopt t)
+adopt-own text image c t P refused ok = pick P (suits (reading text) image c.holds) (gives Adopted t) (gives Refused t) (λ e. ok) (λ e. refused)
+
+pub adopt-cases : (text : List ℕ) (image : ℕ) (c : Caller) (fate : Option Fate) (t : Table) (P : Stepped → Type 0) → P (gives Refused t) → P (gives Adopted t) → P (step_by text image (Some c) Adopt fate t)
+adopt-cases text image c None t P refused ok = adopt-own text image c t P refused ok
+adopt-cases text image c (Some fate.NoImage) t P refused ok = adopt-own text image c t P refused ok
+adopt-cases text image c (Some fate.Refused) t P refused ok = refused
+adopt-cases text image c (Some fate.IoFault) t P refused ok = adopt-own text image c t P refused ok
+adopt-cases text image c (Some fate.InUse) t P refused ok = adopt-own text image c t P refused ok
+adopt-cases text image c (Some fate.TooMany) t P refused ok = adopt-own text image c t P refused ok
+adopt-cases text image c (Some fate.Denied) t P refused ok = adopt-own text image c t P refused ok
+adopt-cases text image c (Some fate.NoMemory) t P refused ok = adopt-own text image c t P refused ok
+adopt-cases text image c (Some fate.Again) t P refused ok = adopt-own text image c t P refused ok
+adopt-cases text image c (Some fate.Late) t P refused ok = adopt-own text image c t P refused ok
+
+spawn-own : (text : List ℕ) (image : ℕ) (c : Caller) (i : ℕ) (t : Table) (P : Stepped → Type 0) → P (gives Again t) → P (gives Spawned (with_new_row t (λ n. Master n c.number i true c.holds))) → P (own_step text image c (SpawnMaster i) t)
+spawn-own text image c i t P again ok =
+    let done = gives Spawned (with_new_row t (λ n. Master n c.number i true c.holds)) in
+    pick P (list_any (is_image i) t.rows) (gives Again t) (if has_process_room t then done else gives Again t) (λ e. again) (λ off. pick P (has_process_room t) done (gives Again t) (λ e. ok) (λ e. again))
+
+pub spawn-cases : (text : List ℕ) (image : ℕ) (c : Caller) (i : ℕ) (fate : Option Fate) (t : Table) (P : Stepped → Type 0) → P (gives Again t) → P (gives NoMemory t) → P (gives NoImage t) → P (gives Spawned (with_new_row t (λ n. Master n c.number i true c.holds))) → P (step_by text image (Some c) (SpawnMaster i) fate t)
+spawn-cases text image c i None t P again memory image_gone ok = spawn-own text image c i t P again ok
+spawn-cases text image c i (Some fate.NoImage) t P again memory image_gone ok = image_gone
+spawn-cases text image c i (Some fate.Refused) t P again memory image_gone ok = spawn-own text image c i t P again ok
+spawn-cases text image c i (Some fate.IoFault) t P again memory image_gone ok = spawn-own text image c i t P again ok
+spawn-cases text image c i (Some fate.InUse) t P again memory image_gone ok = spawn-own text image c i t P again ok
+spawn-cases text image c i (Some fate.TooMany) t P again memory image_gone ok = spawn-own text image c i t P again ok
+spawn-cases text image c i (Some fate.Denied) t P again memory image_gone ok = spawn-own text image c i t P again ok
+spawn-cases text image c i (Some fate.NoMemory) t P again memory image_gone ok = memory
+spawn-cases text image c i (Some fate.Again) t P again memory image_gone ok = again
+spawn-cases text image c i (Some fate.Late) t P again memory image_gone ok = spawn-own text image c i t P again ok

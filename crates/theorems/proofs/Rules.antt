@@ -10,11 +10,11 @@ use Rattle.definitions.specs.Calls.{Stepped, gives, step_by, own_step, with_new_
 use Rattle.definitions.specs.declared.calls.Fate.{Fate}
 use Rattle.definitions.specs.declared.names.Name.{Name}
 use Rattle.definitions.specs.Exits.{is_active_worker, change, losses_of, all_exited, after_exits}
-use Rattle.definitions.specs.declared.calls.Call.TheVariants.{Fork, AwaitReady, Quit, Kill, Census, CloseAt, OpenAt, Usr1}
+use Rattle.definitions.specs.declared.calls.Call.TheVariants.{AwaitGone, Fork, AwaitReady, Quit, Kill, Census, CloseAt, OpenAt, Usr1}
 use Rattle.definitions.specs.declared.calls.Answer.TheVariants.{Forked, IsReady, Again, NoMemory, Gone, Late, InUse, TooMany, Denied, Opened}
 use Rattle.definitions.specs.Tree.{Tree, Branches, Ends, Does, full_or_short, lowest, call_of, reply_of}
 use Rattle.listener_set.specs.Numbers.{is_in, lacks}
-use Rattle.definitions.specs.Plans.{usr1s, open_edges, fork_any_edges, kills, forks_any, awaits_any, fork_edges, await_edges, then_edge, census_edges, does, census, forks, awaits, starts, quits, settle, round, full_end, short_end, await_any_edges}
+use Rattle.definitions.specs.Plans.{awaits_gone, gone_edges, usr1s, open_edges, fork_any_edges, kills, forks_any, awaits_any, fork_edges, await_edges, then_edge, census_edges, does, census, forks, awaits, starts, quits, settle, round, full_end, short_end, await_any_edges}
 use Rattle.definitions.specs.declared.plans.Side.{Side}
 use Rattle.definitions.specs.declared.plans.Order.{Order}
 use Rattle.definitions.specs.declared.plans.Order.TheVariants.{Make, ForkLacking, AwaitLacking, KillLacking}
@@ -32,7 +32,7 @@ use Rattle.theorems.proofs.Effects.{Mine, mine-worker, mine-exited, StaysOther, 
 use Rattle.theorems.proofs.Counts.{census-looks, census-weigh, census-in, count-set, Distinct}
 use Rattle.theorems.proofs.Sets.{in-here, in-there, in-cases}
 use Rattle.theorems.proofs.After.{census-exact}
-use Rattle.theorems.proofs.Logic.{Unasked, Exiting, Anyhow, Course, course_after, Along, Behind, fork-cases, await-cases, unfailing, open-cases}
+use Rattle.theorems.proofs.Logic.{Unasked, Exiting, Anyhow, Course, course_after, Along, Behind, fork-cases, await-cases, unfailing, open-cases, gone-cases}
 
 -- the view with these names
 abbrev pub view : View → Names → Names → View
@@ -222,6 +222,13 @@ module _ (inv : Progress → Type 0) (post : Ending → Progress → Type 0) (co
 
   pub rule-step : (order : Order) (set : List ℕ) (bs : Branches) (s r t : Names) (n c : ℕ) (w : Bool) (ls : List ℕ) (p : Progress) → is_leave order ≡ false → Band u sc s r t n c w ls p → ((q : Progress) → Band u sc s r t n c w ls q → (fate : Option Fate) → Answers order set bs q (step_by co.text u.image (Some me) (call_of order q.lacking) fate q.table)) → Runs (Does u.image order set bs) p
   rule-step order set bs s r t n c w ls p stays b h = rule-step-at order set bs s r t n c w ls p stays b (λ es b'. h (after_moment es p) b')
+
+  -- A call failed, and all is as it was.
+  abbrev pub failed_at : Progress → Progress
+  failed_at q = record { table = q.table; calls = q.calls + 1; ready = q.ready; lacking = q.lacking; faults = q.faults + 1; losses = q.losses; cause = first_cause q.cause true (q.calls + 1); note = q.note }
+
+  pub band-failed : (s r t : Names) (n c : ℕ) (w : Bool) (ls : List ℕ) (q : Progress) → Band u sc s r t n c w ls q → Band u sc s r t n (c + 1) true ls (failed_at q)
+  band-failed s r t n c w ls q b = record { looks = b.looks; enough = b.enough; secured = b.secured; budget = omega (arith, b.budget); lacking = b.lacking; still = b.still; marks = marks-wrong w q.faults (q.faults + 1) q.losses (q.calls + 1) q.cause (omega arith) b.marks; beside = sc.fails q.table.rows q.losses q.faults b.beside }
 
   -- more names may be Starting
   pub band-still : (s s' r t : Names) (n c : ℕ) (w : Bool) (ls : List ℕ) (p : Progress) → Sub s s' → Band u sc s r t n c w ls p → Band u sc s' r t n c w ls p
@@ -650,6 +657,34 @@ module _ (inv : Progress → Type 0) (post : Ending → Progress → Type 0) (co
   rule-kills rest g (x ∷ ks) s r t n c w ls p off next b =
       rule-cut (kills u.image g ks rest) g x s r t n c w ls p (off x (in-here x x ks refl))
       (λ q b'. rule-kills rest g ks (minus s g x) (minus r g x) t n c w ls q (λ k e. off k (in-there x k ks e)) (λ s' r' q' less_s less b''. next s' r' q' (less-cons g s s' x ks less_s) (less-cons g r r' x ks less) b'') b') b
+
+  -- Wait until these are gone; one that is late is killed.
+  pub rule-waits : (rest : Tree) (g : Generation) (ks : List ℕ) (s r t : Names) (n : ℕ) (w : Bool) (ls : List ℕ) (p : Progress) → ((k : ℕ) → is_in ks k ≡ true → t g k ≡ false) → ((s' r' : Names) (w' : Bool) (c' : ℕ) (q : Progress) → Sub s' s → Sub r' r → (w ≡ true → w' ≡ true) → Band u sc s' r' t n c' w' ls q → Runs rest q) → (c : ℕ) → Band u sc s r t n c w ls p → Runs (awaits_gone u.image g ks rest) p
+  rule-waits rest g [] s r t n w ls p off next c b = next s r w c p (λ h k e. e) (λ h k e. e) (λ e. e) b
+  rule-waits rest g (x ∷ ks) s r t n w ls p off next c b =
+      let order = Make (AwaitGone g x) in
+      let more = awaits_gone u.image g ks rest in
+      let bs = gone_edges more (does u.image (Kill g x) (then_edge more)) in
+      let off' : (k : ℕ) → is_in ks k ≡ true → t g k ≡ false = λ k e. off k (in-there x k ks e) in
+      rule-step order [] bs s r t n c w ls p refl b (λ q b' fate.
+      gone-cases co.text u.image me g x fate q.table (λ st. Answers order [] bs q st)
+      (rule-cut more g x s r t n (c + 1) true ls (failed_at q) (off x (in-here x x ks refl))
+      (λ q' b''. rule-waits rest g ks (minus s g x) (minus r g x) t n true ls q' off'
+      (λ s' r' w' c' q'' sub_s sub_r up b3. next s' r' w' c' q'' (λ h k e. and-left (s h k) _ (sub_s h k e)) (λ h k e. and-left (r h k) _ (sub_r h k e)) (λ e. up refl) b3) (c + 1) b'')
+      (band-failed s r t n c w ls q b'))
+      (let same = cut-weigh u.number g x t q.table.rows (off x (in-here x x ks refl)) in
+      rule-waits rest g ks (minus s g x) (minus r g x) t n w ls (after_call order [] (gives answer.Gone (each_row (dropped (is_worker is_any u.number g x)) q.table)) q) off'
+      (λ s' r' w' c' q'' sub_s sub_r up b3. next s' r' w' c' q'' (λ h k e. and-left (s h k) _ (sub_s h k e)) (λ h k e. and-left (r h k) _ (sub_r h k e)) up b3) c
+      (record {
+        looks = cut-looks (view u s r) g x q.table.rows b'.looks;
+        enough = b'.enough;
+        secured = λ e. omega (arith, b'.secured e, same);
+        budget = omega (arith, b'.budget, same);
+        lacking = b'.lacking;
+        still = b'.still;
+        marks = marks-plain w q.faults q.losses (q.calls + 1) q.cause b'.marks;
+        beside = sc.drops (is_worker is_any u.number g x) q.table.rows q.losses q.faults (mine-worker is_any u.number g x, λ z zs. refl) b'.beside;
+      })))
 
   -- Only these may be Starting beside those of s.
   abbrev pub Within_or : Generation → List ℕ → Names → Names → Type 0
