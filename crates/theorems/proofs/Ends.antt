@@ -14,8 +14,8 @@ use Rattle.definitions.specs.declared.table.Listener.{Listener}
 use Rattle.definitions.specs.Record.{Record, IsRecord, Agrees, FilesAre, addresses_of}
 use Rattle.definitions.specs.declared.targets.Target.{Target}
 use Rattle.listener_set.specs.AddressList.{has}
-use Rattle.definitions.specs.Target.{reload_generation}
-use Rattle.definitions.specs.After.{next_config, numbered, Setup, setup_after, recorded, record_from, record_if, keeps_rules}
+use Rattle.definitions.specs.Target.{reload_generation, upgrade_generation}
+use Rattle.definitions.specs.After.{next_config, next_image, numbered, Setup, setup_after, recorded, record_from, record_if, keeps_rules}
 use Rattle.definitions.specs.Run.{Ending, Progress, outcome_of}
 use Rattle.definitions.specs.declared.reports.Report.{Report}
 use Rattle.definitions.specs.Claims.{IsStart, IsFewer, AgreesAfter, is_ready_with, ready_with}
@@ -140,16 +140,16 @@ kept-after r target report t wanted is range most below agrees =
       record_in_range = record { listens = range.listens; wanted = most; ready = all.1; retries = range.retries; timeout_least = range.timeout_least; timeout_most = range.timeout_most; pid_path = range.pid_path; pid = range.pid };
     }
 
--- A record that moves to another setup.
-pub moved-after : (r : Record) (target : Target) (report : Report) (t : Table) (setup : Setup) → setup_after report.outcome r target ≡ Some setup → 1 ≤ length setup.listeners → setup.wanted ≤ 1024 → setup.retries ≤ 8 → 1 ≤ setup.timeout → setup.timeout ≤ 86400 → IsRecord r → ((k : ℕ) → is_in report.ready k ≡ true → k < setup.wanted) → Agrees t (recorded setup r.pid_path report r.pid) → AgreesAfter r target report r.pid t
-moved-after r target report t setup is listens most retries least longest range below agrees =
+-- A record that moves to another setup, run by the master of a process number.
+pub moved-after : (r : Record) (target : Target) (report : Report) (t : Table) (setup : Setup) (pid : ℕ) → setup_after report.outcome r target ≡ Some setup → 1 ≤ length setup.listeners → setup.wanted ≤ 1024 → setup.retries ≤ 8 → 1 ≤ setup.timeout → setup.timeout ≤ 86400 → IsRecord r → 1 ≤ pid → ((k : ℕ) → is_in report.ready k ≡ true → k < setup.wanted) → Agrees t (recorded setup r.pid_path report pid) → AgreesAfter r target report pid t
+moved-after r target report t setup pid is listens most retries least longest range some below agrees =
     let all = all-below setup.wanted report.ready below in
-    let next = recorded setup r.pid_path report r.pid in
+    let next = recorded setup r.pid_path report pid in
     record {
       record_then = next;
-      is = ap (λ o. record_from o r.pid_path report r.pid) is ∙ ap (λ b. record_if b next) (keeps next listens most all.0 range.pid);
+      is = ap (λ o. record_from o r.pid_path report pid) is ∙ ap (λ b. record_if b next) (keeps next listens most all.0 some);
       agrees = agrees;
-      record_in_range = record { listens = listens; wanted = most; ready = all.1; retries = retries; timeout_least = least; timeout_most = longest; pid_path = range.pid_path; pid = range.pid };
+      record_in_range = record { listens = listens; wanted = most; ready = all.1; retries = retries; timeout_least = least; timeout_most = longest; pid_path = range.pid_path; pid = some };
     }
 
 -- The next configuration, where there is one.
@@ -159,6 +159,16 @@ next-is g e = go (nat_lt g.config 4294967295) e
     go : (b : Bool) → is_some (numbered (Some g.image) (if b then Some (g.config + 1) else None)) ≡ true → numbered (Some g.image) (if b then Some (g.config + 1) else None) ≡ Some (reload_generation g)
     go true e = refl
     go false e = absurd (cc)
+
+-- The next image, where there is one.
+pub next-image-is : (g : Generation) → is_some (next_image g) ≡ true → next_image g ≡ Some (upgrade_generation g)
+next-image-is g e = go (nat_lt g.image 4294967295) (nat_lt g.config 4294967295) e
+  where
+    go : (a b : Bool) → is_some (numbered (if a then Some (g.image + 1) else None) (if b then Some (g.config + 1) else None)) ≡ true → numbered (if a then Some (g.image + 1) else None) (if b then Some (g.config + 1) else None) ≡ Some (upgrade_generation g)
+    go true true e = refl
+    go true false e = absurd (cc)
+    go false true e = absurd (cc)
+    go false false e = absurd (cc)
 
 -- What is reported where a run ends so.
 abbrev pub report_at : Ending → Progress → Report

@@ -14,6 +14,7 @@ pub mod Rules
 pub mod Ends
 pub mod Duo
 pub mod Files
+pub mod UpgradeStage
 pub mod Workers
 pub mod Examples
 pub mod WorkedRuns

@@ -271,7 +271,7 @@ module _ (t : Table) (rec : Record) (st : Settings) (pattern : Pattern) (s : IsS
   within-new hs r q only looks exact k e = below-of n k (census-within (same hs) (λ n. refl) new (numbers_below n) r q.table.rows q.ready only looks exact k e)
 
   moved-left : (hs : List Hold) → ((a : Address) → has_address a hs ≡ has wanted a) → (e : Ending) (q : Progress) → setup_after (outcome_of e q.lacking) rec (Reload st) ≡ Some (moved hs) → ((k : ℕ) → is_in q.ready k ≡ true → k < n) → Agrees q.table (recorded (moved hs) rec.pid_path (report_at e q) rec.pid) → AgreesAfter rec (Reload st) (report_at e q) rec.pid q.table
-  moved-left hs keys e q is below agrees = moved-after rec (Reload st) (report_at e q) q.table (moved hs) is (some-held hs wanted keys range.listens) low range.retries range.timeout_least range.timeout_most s.record_in_range below agrees
+  moved-left hs keys e q is below agrees = moved-after rec (Reload st) (report_at e q) q.table (moved hs) rec.pid is (some-held hs wanted keys range.listens) low range.retries range.timeout_least range.timeout_most s.record_in_range s.record_in_range.pid below agrees
 
   new-full : (hs : List Hold) → Lists hs → ((a : Address) → has_address a hs ≡ has wanted a) → (r : Names) (q : Progress) (c : ℕ) (w : Bool) → (false ≡ true → w ≡ true) → Only new (numbers_below n) r → Band (same hs) sc none r (named new (is_in (numbers_below n))) (length (numbers_below n)) c w [] q → ready_of (same hs) (named new (is_in (numbers_below n))) q + length q.lacking ≡ length (numbers_below n) → Exactly new q → post (At Done) q
   new-full hs lists keys r q c w up only b saw exact = (

@@ -21,6 +21,7 @@ use Rattle.definitions.specs.Plans.{plan_tree, stop_tree, quits, kills, awaits_g
 use Rattle.definitions.specs.Run.{outcome_of, Pattern, Progress, Ending, At, Lost, Ran, start_at, noted, after_call, after_moment, answered}
 use Rattle.definitions.specs.Claims.{is_failed_removal, Says, HasCause, IsPaid, IsStart, Kept, IsBlamed, StopNote, StopHeadline, run_of}
 use Rattle.theorems.proofs.Rows.{every-more}
+use Rattle.theorems.proofs.Files.{gone-file}
 use Rattle.theorems.proofs.Views.{Names, View, Looks, Fine, finds, eqb-refl}
 use Rattle.theorems.proofs.Exits.{spares-each}
 use Rattle.theorems.proofs.Effects.{none, looks-allows, cut-looks}
@@ -36,15 +37,7 @@ use Rattle.theorems.proofs.Rules.{Scene, plain_scene, Marks, Band, view, any, re
 
 ---- Files
 
--- a file that is removed is not there, and no other appears
-pub gone-file : (path : FilePath) (files : List File) → owner_at path (without_file path files) ≡ None
-gone-file path [] = refl
-gone-file path (f ∷ files) = go (bytes_eq f.path path) refl (gone-file path files)
-  where
-    go : (b : Bool) → bytes_eq f.path path ≡ b → owner_at path (without_file path files) ≡ None → owner_at path (if not b then f ∷ without_file path files else without_file path files) ≡ None
-    go true e ih = ih
-    go false e ih = rw e ih
-
+-- no file appears where another is removed
 pub still-gone : (path other : FilePath) (files : List File) → owner_at path files ≡ None → owner_at path (without_file other files) ≡ None
 still-gone path other [] e = refl
 still-gone path other (f ∷ files) e = go (bytes_eq f.path path) refl e (still-gone path other files) (not (bytes_eq f.path other))
