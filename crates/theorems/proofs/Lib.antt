@@ -15,6 +15,7 @@ pub mod Ends
 pub mod Duo
 pub mod Files
 pub mod UpgradeStage
+pub mod UpgradeBack
 pub mod Workers
 pub mod Examples
 pub mod WorkedRuns

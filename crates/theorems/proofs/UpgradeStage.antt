@@ -199,8 +199,6 @@ module _ (c : Given) where
     fails = λ rows losses faults h. h;
   }
 
-  abbrev pub Names_good : (v : View) → (sc : Scene v.number v.image) → Type 0
-  Names_good v sc = (names : Names) (count : ℕ) (b : Bool) (q : Progress) → sc.floor ≤ count → Looks (view v any any) q.table.rows → (1 ≤ sc.floor → count ≤ ready_of v names q + q.losses) → Marks b q.faults q.losses q.cause → sc.Holds q.table.rows q.losses q.faults → inv q
 
   -- The floor is the old one's workers', or the other one's.
   pub good-pair : (v x : View) (hs : List Hold) (names : Names) (d floor : ℕ) → (f ≤ floor) ⊎ ((f ≤ d) × Common hs × ((h : Generation) → x.held h ≡ hs)) → v.holds ≡ H0 → ((h : Generation) → v.held h ≡ H0) → (names' : Names) (count : ℕ) (b : Bool) (q : Progress) → floor ≤ count → Looks (view v any any) q.table.rows → (1 ≤ floor → count ≤ ready_of v names' q + q.losses) → Marks b q.faults q.losses q.cause → Second x names d q.table.rows q.losses → inv q
