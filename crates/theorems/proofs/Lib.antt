@@ -16,6 +16,7 @@ pub mod Duo
 pub mod Files
 pub mod UpgradeStage
 pub mod UpgradeBack
+pub mod UpgradeNew
 pub mod Workers
 pub mod Examples
 pub mod WorkedRuns

@@ -10,13 +10,13 @@ use Rattle.definitions.specs.declared.plans.Order.TheVariants.{Make}
 use Rattle.definitions.specs.declared.plans.Side.TheVariants.{Old}
 use Rattle.definitions.specs.declared.calls.Call.TheVariants.{MovePid, TermMaster}
 use Rattle.definitions.specs.declared.calls.Answer.TheVariants as answer
-use Rattle.definitions.specs.Table.{Address, FilePath, File, Hold, Process, Table, Caller, bears, same_generation, owner_at}
+use Rattle.definitions.specs.Table.{Address, FilePath, File, Hold, Process, Master, Worker, Foreign, Table, Caller, is_ready, bears, same_generation, owner_at}
 use Rattle.definitions.specs.Calls.{gives, each_row, dropped, is_of_image, with_files, with_file, without_file, own_step}
 use Rattle.definitions.specs.Record.{FilesAre, oldbin}
 use Rattle.definitions.specs.Tree.{Tree}
 use Rattle.definitions.specs.Plans.{does, then_edge, note_edges, settle, move_back, back_alone, back_from, back_late, starts_any, forks_any, awaits_any}
 use Rattle.definitions.specs.Run.{Progress, noted, after_call}
-use Rattle.theorems.proofs.Rows.{weigh, and-left, and-right, both-true}
+use Rattle.theorems.proofs.Rows.{one, weigh, and-left, and-right, both-true}
 use Rattle.theorems.proofs.Views.{Names, named, View, Looks, ready_in, eqb-is, eqb-refl}
 use Rattle.theorems.proofs.Effects.{none, bears-is, same-refl}
 use Rattle.theorems.proofs.Counts.{Distinct}
@@ -176,3 +176,30 @@ module _ (c : Given) where
       })
       (band-anew I P (co c) (u c) (acts c) sc0 good0 s' none t0 0 k' b1 ls q' b2))
       b
+
+  ---- Back with a new master
+
+  pub goes-back-from : (m : ℕ) (ne : m ≢ c.rec.pid) (hs : List Hold) (s r names : Names) (d : ℕ) (r0 : Names) (k : ℕ) (ls : List ℕ) (files : List File) (q : Progress) → Aside c.rec.pid_path files → Only (g c) (R c) r0 → Band (with_other m (u c)) (pair_scene c (w c m hs s r) ne (eqb-refl c.rec.pid c.rec.pid refl) names d (f c) files c.rec.note) none r0 (named (g c) (is_in (R c))) (length (R c)) k true ls q → Goes c (co c) (back_from c.rec.generation.image (new c).image (g c) (R c) c.rec.retries c.rec.pid_path) q
+  goes-back-from m ne hs s r names d r0 k ls files q aside only b =
+      term-master m ne hs s r names d (f c) 0 (inl (omega arith)) (λ rows losses h. omega arith) (back_alone c.rec.generation.image (g c) (R c) c.rec.retries c.rec.pid_path) files r0 (named (g c) (is_in (R c))) (length (R c)) k ls q
+      (λ q' b'. goes-back-alone (f c) 0 (inl (omega arith)) r0 k ls files q' aside only b') b
+
+  none-ready : (m : ℕ) (rows : List Process) → weigh (ready_in m none) rows ≡ 0
+  none-ready m [] = refl
+  none-ready m (p ∷ rows) = omega (arith, unready p, none-ready m rows)
+    where
+      off : (a b : Bool) → one (a && (b && false)) ≡ 0
+      off true true = refl
+      off true false = refl
+      off false b = refl
+
+      unready : (p : Process) → ready_in m none p ≡ 0
+      unready (Master n q i live hs) = refl
+      unready (Worker n q h k st hs) = off (is_ready st) (q == m)
+      unready (Foreign n hs) = refl
+
+  -- Back when the new master is gone and the old workers are too: the floor was lost.
+  pub goes-back-late : (m : ℕ) (ne : m ≢ c.rec.pid) (hs : List Hold) (s r : Names) → Common c hs → (k : ℕ) (ls : List ℕ) (files : List File) (q : Progress) → Aside c.rec.pid_path files → Band (with_other m (u c)) (pair_scene c (w c m hs s r) ne (eqb-refl c.rec.pid c.rec.pid refl) none (f c) 0 files c.rec.note) none none (named (g c) (is_in [])) 0 k true ls q → Goes c (co c) (back_late c.rec.generation.image (new c).image (g c) (R c) c.rec.retries c.rec.pid_path) q
+  goes-back-late m ne hs s r common k ls files q aside b =
+      term-master m ne hs s r none (f c) 0 (f c) (inr (omega arith, common, λ h. refl)) (λ rows losses h. omega (arith, h.1, none-ready m rows)) (starts_any c.rec.generation.image (g c) (R c) (back_alone c.rec.generation.image (g c) (R c) c.rec.retries c.rec.pid_path)) files none (named (g c) (is_in [])) 0 k ls q
+      (λ q' b'. restart k ls files q' aside b') b
