@@ -17,6 +17,7 @@ pub mod Files
 pub mod UpgradeStage
 pub mod UpgradeBack
 pub mod UpgradeNew
+pub mod UpgradeCalls
 pub mod Workers
 pub mod Examples
 pub mod WorkedRuns

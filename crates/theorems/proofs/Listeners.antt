@@ -12,8 +12,8 @@ use Rattle.definitions.specs.Calls.{free_from, lowest_free, put_hold, lacks_addr
 use Rattle.definitions.specs.Record.{listener_of}
 use Rattle.definitions.specs.Target.{only_in}
 use Rattle.definitions.specs.After.{listens_on, listener_at, opened_from, all_opened, added, kept}
-use Rattle.theorems.proofs.Rows.{pick}
-use Rattle.theorems.proofs.Addresses.{address-sym, address-refl, stands-filter}
+use Rattle.theorems.proofs.Rows.{pick, or-right, every-more}
+use Rattle.theorems.proofs.Addresses.{has-lacks, same-address, address-sym, address-refl, stands-filter}
 use Rattle.theorems.proofs.Views.{eqb-is, eqb-off}
 
 abbrev pub fds : List Hold → List ℕ
@@ -172,3 +172,68 @@ some-held [] (a ∷ wanted) keys le = absurd (no (bytes_eq a a) (has wanted a) (
     no : (b c : Bool) → b ≡ true → false ≡ (b || c) → ⊥
     no true c e f = cc
     no false c e f = cc
+
+-- When what is dropped is closed first, what is wanted of the rest is kept.
+pub closed-first : (old wanted : List Address) (hs : List Hold) → ((a : Address) → has_address a hs ≡ has old a) → map listener_of (all_closed (only_in old wanted) hs) ≡ kept wanted (map listener_of hs)
+closed-first old wanted hs has_it =
+    ap (map listener_of) (all-closed-is (only_in old wanted) hs)
+    ∙ kept-is (λ h. not (has (only_in old wanted) h.address)) wanted hs (every-hold (λ a. not (has (only_in old wanted) a) ≡ has wanted a) hs (λ a e.
+    ap not (stands-filter (λ b. not (has wanted b)) old a) ∙ table (has wanted a) (has old a) (sym (has_it a) ∙ e)))
+  where
+    table : (w o : Bool) → o ≡ true → not (o && not w) ≡ w
+    table true true e = refl
+    table false true e = refl
+    table w false e = absurd (cc)
+
+-- What is held when some are closed.
+pub has-closed : (a : Address) (l : List Address) (hs : List Hold) → has_address a (all_closed l hs) ≡ (has_address a hs && not (has l a))
+has-closed a [] hs = sym (and-true (has_address a hs))
+  where
+    and-true : (z : Bool) → (z && true) ≡ z
+    and-true true = refl
+    and-true false = refl
+has-closed a (x ∷ l) hs = has-closed a l (lacks_address x hs) ∙ ap (λ z. z && not (has l a)) (has-lacks a x hs) ∙ move (has_address a hs) (bytes_eq x a) (has l a)
+  where
+    move : (h e r : Bool) → ((h && not e) && not r) ≡ (h && not (e || r))
+    move true true r = refl
+    move true false r = refl
+    move false e r = refl
+
+-- Descriptors that are left still rise.
+rises-later : (b b' : ℕ) (ks : List ℕ) → b ≤ b' → RisesFrom b' ks → RisesFrom b ks
+rises-later b b' [] le rises = tt
+rises-later b b' (k ∷ ks) le rises = (omega (arith, rises.0), rises.1)
+
+rises-filter : (b : ℕ) (test : Hold → Bool) (hs : List Hold) → RisesFrom b (fds hs) → RisesFrom b (fds (filter test hs))
+rises-filter b test [] rises = tt
+rises-filter b test (x ∷ hs) rises = go (test x) (rises-filter (x.fd + 1) test hs rises.1)
+  where
+    go : (t : Bool) → RisesFrom (x.fd + 1) (fds (filter test hs)) → RisesFrom b (fds (cond t (x ∷ filter test hs) (filter test hs)))
+    go true ih = (rises.0, ih)
+    go false ih = rises-later b (x.fd + 1) (fds (filter test hs)) (omega (arith, rises.0)) ih
+
+pub rises-closed : (l : List Address) (hs : List Hold) → RisesFrom 3 (fds hs) → RisesFrom 3 (fds (all_closed l hs))
+rises-closed l hs rises = subst (λ k. RisesFrom 3 (fds k)) (sym (all-closed-is l hs)) (rises-filter 3 (λ h. not (has l h.address)) hs rises)
+
+-- What an upgrade opens is what its kept listeners lack.
+listens-kept : (wanted : List Address) (a : Address) (ls : List Listener) → has wanted a ≡ true → listens_on (kept wanted ls) a ≡ has (map (λ (l : Listener). l.address) ls) a
+listens-kept wanted a [] on = refl
+listens-kept wanted a (l ∷ ls) on = go (has wanted l.address) refl (bytes_eq l.address a) refl (listens-kept wanted a ls on)
+  where
+    go : (b : Bool) → has wanted l.address ≡ b → (e : Bool) → bytes_eq l.address a ≡ e → listens_on (kept wanted ls) a ≡ has (map (λ (l : Listener). l.address) ls) a → listens_on (cond b (l ∷ kept wanted ls) (kept wanted ls)) a ≡ (e || has (map (λ (l : Listener). l.address) ls) a)
+    go true is e same ih = rw same (ap (λ z. e || z) ih)
+    go false is true same ih = absurd (let off : has wanted a ≡ false = subst (λ z. has wanted z ≡ false) (same-address l.address a same) is in cc)
+    go false is false same ih = ih
+
+filter-here : (t t' : Address → Bool) (l : List Address) → AllByRecursion (λ a. t a ≡ t' a) l → filter t l ≡ filter t' l
+filter-here t t' [] all = refl
+filter-here t t' (x ∷ l) all = ap (λ b. cond b (x ∷ filter t l) (filter t l)) all.0 ∙ ap (λ k. cond (t' x) (x ∷ k) k) (filter-here t t' l all.1)
+
+all-stand : (l : List Address) → AllByRecursion (λ a. has l a ≡ true) l
+all-stand [] = tt
+all-stand (x ∷ l) = (rw (address-refl x) refl, every-more (λ a. has l a ≡ true) (λ a. has (x ∷ l) a ≡ true) (λ a e. or-right (bytes_eq x a) (has l a) e) l (all-stand l))
+
+pub upgrade-added : (wanted : List Address) (ls : List Listener) → only_in wanted (map (λ (l : Listener). l.address) ls) ≡ added wanted (kept wanted ls)
+upgrade-added wanted ls =
+    filter-here (λ a. not (has (map (λ (l : Listener). l.address) ls) a)) (λ a. not (listens_on (kept wanted ls) a)) wanted
+    (every-more (λ a. has wanted a ≡ true) (λ a. not (has (map (λ (l : Listener). l.address) ls) a) ≡ not (listens_on (kept wanted ls) a)) (λ a e. sym (ap not (listens-kept wanted a ls e))) wanted (all-stand wanted))

@@ -49,10 +49,10 @@ module _ (c : Given) (m : ℕ) (ne : m ≢ c.rec.pid) (r0 : Names) (only0 : Only
   abbrev P : Rattle.definitions.specs.Run.Ending → Progress → Type 0
   P = post c
 
-  abbrev v : View
+  abbrev pub v : View
   v = with_other m (u c)
 
-  abbrev image : ℕ
+  abbrev pub image : ℕ
   image = (new c).image
 
   -- what is known of the new master: its holds, its workers, how many of the names are not lost, and the files
@@ -64,42 +64,42 @@ module _ (c : Given) (m : ℕ) (ne : m ≢ c.rec.pid) (r0 : Names) (only0 : Only
     pub d : ℕ
     pub files : List File
 
-  abbrev sc : Doing → Scene c.rec.pid c.rec.generation.image
+  abbrev pub sc : Doing → Scene c.rec.pid c.rec.generation.image
   sc x = pair_scene c (w c m x.hs x.s x.r) ne (eqb-refl c.rec.pid c.rec.pid refl) x.names x.d (f c) x.files c.rec.note
 
   -- between two calls of the new master
   abbrev pub Held : Doing → ℕ → Bool → List ℕ → Progress → Type 0
   Held x k b ls q = Band v (sc x) none r0 (named (g c) (is_in (R c))) (length (R c)) k b ls q
 
-  good : (x : Doing) (names' : Names) (count : ℕ) (b : Bool) (q : Progress) → f c ≤ count → Looks (view v any any) q.table.rows → (1 ≤ f c → count ≤ ready_of v names' q + q.losses) → Marks b q.faults q.losses q.cause → Second c (w c m x.hs x.s x.r) x.names x.d q.table.rows q.losses → I q
+  pub good : (x : Doing) (names' : Names) (count : ℕ) (b : Bool) (q : Progress) → f c ≤ count → Looks (view v any any) q.table.rows → (1 ≤ f c → count ≤ ready_of v names' q + q.losses) → Marks b q.faults q.losses q.cause → Second c (w c m x.hs x.s x.r) x.names x.d q.table.rows q.losses → I q
   good x = good-pair c v (w c m x.hs x.s x.r) x.hs x.names x.d (f c) (inl (omega arith)) refl (λ h. refl)
 
   abbrev pub back : Tree
   back = back_from c.rec.generation.image image (g c) (R c) c.rec.retries c.rec.pid_path
 
-  goes-back : (x : Doing) (k : ℕ) (ls : List ℕ) (q : Progress) → Aside c c.rec.pid_path x.files → Held x k true ls q → Goes c (co c) back q
+  pub goes-back : (x : Doing) (k : ℕ) (ls : List ℕ) (q : Progress) → Aside c c.rec.pid_path x.files → Held x k true ls q → Goes c (co c) back q
   goes-back x k ls q aside b = goes-back-from c m ne x.hs x.s x.r x.names x.d r0 k ls x.files q aside only0 b
 
   ---- A step
 
-  abbrev edges : Call → Tree → Branches
+  abbrev pub edges : Call → Tree → Branches
   edges call rest = on (plain_reply call ∷ []) rest (on (others (replies_to call) ++ reply.MasterGone ∷ []) back Nothing)
 
-  abbrev Edge : Call → Tree → List ℕ → Progress → Stepped → Type 0
+  abbrev pub Edge : Call → Tree → List ℕ → Progress → Stepped → Type 0
   Edge call rest set q st = Behind I P Anyhow Unasked (co c) (edges call rest) (reply_of set st.answer) (after_call (Make call) set st q)
 
   -- A call failed, whatever became of the table.
-  abbrev failed_with : Table → Progress → Progress
+  abbrev pub failed_with : Table → Progress → Progress
   failed_with t q = record { table = t; calls = q.calls + 1; ready = q.ready; lacking = q.lacking; faults = q.faults + 1; losses = q.losses; cause = first_cause q.cause true (q.calls + 1); note = q.note }
 
   -- A call was answered plainly.
-  abbrev plain_with : Table → List ℕ → List ℕ → Progress → Progress
+  abbrev pub plain_with : Table → List ℕ → List ℕ → Progress → Progress
   plain_with t ready lacking q = record { table = t; calls = q.calls + 1; ready = ready; lacking = lacking; faults = q.faults; losses = q.losses; cause = first_cause q.cause false (q.calls + 1); note = q.note }
 
-  still-framed : (q : Progress) → Looks (view v none r0) q.table.rows → Framed (view v none r0) q.table.rows q.table.rows
+  pub still-framed : (q : Progress) → Looks (view v none r0) q.table.rows → Framed (view v none r0) q.table.rows q.table.rows
   still-framed q looks = record { looks = looks; same = λ t. refl }
 
-  held-plain : (x y : Doing) (t : Table) (ready lacking : List ℕ) (q : Progress) → Held x 0 false [] q → t.files ≡ y.files → t.limits ≡ q.table.limits → lacking ≡ [] → Framed (view v none r0) q.table.rows t.rows → Second c (w c m y.hs y.s y.r) y.names y.d t.rows q.losses → Held y 0 false [] (plain_with t ready lacking q)
+  pub held-plain : (x y : Doing) (t : Table) (ready lacking : List ℕ) (q : Progress) → Held x 0 false [] q → t.files ≡ y.files → t.limits ≡ q.table.limits → lacking ≡ [] → Framed (view v none r0) q.table.rows t.rows → Second c (w c m y.hs y.s y.r) y.names y.d t.rows q.losses → Held y 0 false [] (plain_with t ready lacking q)
   held-plain x y t ready lacking q b files limits is framed second = record {
     looks = framed.looks;
     enough = b.enough;
@@ -111,7 +111,7 @@ module _ (c : Given) (m : ℕ) (ne : m ≢ c.rec.pid) (r0 : Names) (only0 : Only
     beside = second;
   }
 
-  held-failed : (x y : Doing) (t : Table) (q : Progress) → Held x 0 false [] q → t.files ≡ y.files → t.limits ≡ q.table.limits → Framed (view v none r0) q.table.rows t.rows → Second c (w c m y.hs y.s y.r) y.names y.d t.rows q.losses → Held y 1 true [] (failed_with t q)
+  pub held-failed : (x y : Doing) (t : Table) (q : Progress) → Held x 0 false [] q → t.files ≡ y.files → t.limits ≡ q.table.limits → Framed (view v none r0) q.table.rows t.rows → Second c (w c m y.hs y.s y.r) y.names y.d t.rows q.losses → Held y 1 true [] (failed_with t q)
   held-failed x y t q b files limits framed second = record {
     looks = framed.looks;
     enough = b.enough;
@@ -124,11 +124,11 @@ module _ (c : Given) (m : ℕ) (ne : m ≢ c.rec.pid) (r0 : Names) (only0 : Only
   }
 
   -- it failed and nothing changed
-  just-failed : (x : Doing) (q : Progress) → Aside c c.rec.pid_path x.files → Held x 0 false [] q → Goes c (co c) back (failed_with q.table q)
+  pub just-failed : (x : Doing) (q : Progress) → Aside c c.rec.pid_path x.files → Held x 0 false [] q → Goes c (co c) back (failed_with q.table q)
   just-failed x q aside b = goes-back x 1 [] (failed_with q.table q) aside (held-failed x x q.table q b b.still.files_stay refl (still-framed q b.looks) b.beside)
 
   -- Where the new master lives, its call; else it is gone.
-  step : (call : Call) (set : List ℕ) (rest : Tree) (x : Doing) (q : Progress) → is_leave_call call ≡ false → Held x 0 false [] q → ((q' : Progress) → Held x 0 false [] q' → Looks (w c m x.hs x.s x.r) q'.table.rows → (fate : Option Fate) → Edge call rest set q' (step_by (co c).text image (Some (record { number = m; holds = x.hs })) call fate q'.table)) → ((q' : Progress) → Held x 0 false [] q' → Edge call rest set q' (gives answer.MasterGone q'.table)) → Goes c (co c) (tries image call set rest back) q
+  pub step : (call : Call) (set : List ℕ) (rest : Tree) (x : Doing) (q : Progress) → is_leave_call call ≡ false → Held x 0 false [] q → ((q' : Progress) → Held x 0 false [] q' → Looks (w c m x.hs x.s x.r) q'.table.rows → (fate : Option Fate) → Edge call rest set q' (step_by (co c).text image (Some (record { number = m; holds = x.hs })) call fate q'.table)) → ((q' : Progress) → Held x 0 false [] q' → Edge call rest set q' (gives answer.MasterGone q'.table)) → Goes c (co c) (tries image call set rest back) q
   step call set rest x q stays b own gone =
       let order = Make call in
       let moment = c.pattern (q.calls + 1) in
@@ -150,10 +150,10 @@ module _ (c : Given) (m : ℕ) (ne : m ≢ c.rec.pid) (r0 : Names) (only0 : Only
       go true e = absurd (cc)
       go false e = refl
 
-  apart : (view v none r0).number ≢ m
+  pub apart : (view v none r0).number ≢ m
   apart e = ne (sym e)
 
-  abbrev me : Doing → Caller
+  abbrev pub me : Doing → Caller
   me x = record { number = m; holds = x.hs }
 
   ---- Each call
@@ -165,7 +165,7 @@ module _ (c : Given) (m : ℕ) (ne : m ≢ c.rec.pid) (r0 : Names) (only0 : Only
       (next (plain_with q'.table q'.ready q'.lacking q') (held-plain x x q'.table q'.ready q'.lacking q' b' b'.still.files_stay refl b'.lacking (still-framed q' b'.looks) b'.beside)))
       (λ q' b'. just-failed x q' aside b')
 
-  abbrev with_hs : Doing → List Hold → Doing
+  abbrev pub with_hs : Doing → List Hold → Doing
   with_hs x hs = record { hs = hs; s = x.s; r = x.r; names = x.names; d = x.d; files = x.files }
 
   pub try-close : (rest : Tree) (a : Address) (x : Doing) (q : Progress) → Aside c c.rec.pid_path x.files → ((q' : Progress) → Held (with_hs x (lacks_address a x.hs)) 0 false [] q' → Goes c (co c) rest q') → Held x 0 false [] q → Goes c (co c) (tries image (CloseAt a) [] rest back) q
@@ -180,7 +180,7 @@ module _ (c : Given) (m : ℕ) (ne : m ≢ c.rec.pid) (r0 : Names) (only0 : Only
       (λ q' b'. just-failed x q' aside b')
 
   -- Only a master without workers opens.
-  abbrev bare : List Hold → List File → Doing
+  abbrev pub bare : List Hold → List File → Doing
   bare hs files = record { hs = hs; s = none; r = none; names = none; d = 0; files = files }
 
   pub try-open : (rest : Tree) (a : Address) (hs : List Hold) (files : List File) (q : Progress) → Aside c c.rec.pid_path files → ((h : Hold) (q' : Progress) → h.address ≡ a → h.fd ≡ lowest_free hs → nat_lt (length hs) c.t.limits.descriptors ≡ true → Held (bare (put_hold h hs) files) 0 false [] q' → Goes c (co c) rest q') → Held (bare hs files) 0 false [] q → Goes c (co c) (tries image (OpenAt a) [] rest back) q
@@ -199,7 +199,7 @@ module _ (c : Given) (m : ℕ) (ne : m ≢ c.rec.pid) (r0 : Names) (only0 : Only
       (inl (looks-allows (Rattle.theorems.proofs.Effects.after_open h (w c m hs none none)) (w c m (put_hold h hs) none none) (record { number = refl; others = λ k e. e; image = refl; holds = refl; starting = λ j k e. e; ready = λ j k e. e; held_starting = λ j k e. absurd (cc e); held = λ j k e. absurd (cc e) }) t'.rows (open-looks (w c m hs none none) h q'.table.rows looks)), omega arith))))
       (λ q' b'. just-failed x q' aside b')
 
-  abbrev with_starting : Doing → Names → Doing
+  abbrev pub with_starting : Doing → Names → Doing
   with_starting x s = record { hs = x.hs; s = s; r = x.r; names = x.names; d = x.d; files = x.files }
 
   pub try-fork : (rest : Tree) (k : ℕ) (x : Doing) (q : Progress) → Aside c c.rec.pid_path x.files → ((q' : Progress) → Held (with_starting x (plus x.s (new c) k)) 0 false [] q' → Goes c (co c) rest q') → Held x 0 false [] q → Goes c (co c) (tries image (Fork (new c) k) [] rest back) q
@@ -217,7 +217,7 @@ module _ (c : Given) (m : ℕ) (ne : m ≢ c.rec.pid) (r0 : Names) (only0 : Only
       (λ q' b'. just-failed x q' aside b')
 
   -- of the numbers that were forked, those that are Ready, and are counted
-  abbrev readied : List Hold → Names → List ℕ → List File → Doing
+  abbrev pub readied : List Hold → Names → List ℕ → List File → Doing
   readied hs s done files = record { hs = hs; s = s; r = named (new c) (is_in done); names = named (new c) (is_in done); d = length done; files = files }
 
   joins : (k : ℕ) (done : List ℕ) (h : Generation) (j : ℕ) → plus (named (new c) (is_in done)) (new c) k h j ≡ true → named (new c) (is_in (k ∷ done)) h j ≡ true
@@ -256,7 +256,7 @@ module _ (c : Given) (m : ℕ) (ne : m ≢ c.rec.pid) (r0 : Names) (only0 : Only
       (inl (gone-looks (w c m hs s (named (new c) (is_in done))) (new c) k q'.table.rows gone looks), omega (arith, b'.beside.1, gone-weigh m (new c) k (named (new c) (is_in done)) q'.table.rows)))))
       (λ q' b'. just-failed x q' aside b')
 
-  abbrev with_written : Doing → List File → Doing
+  abbrev pub with_written : Doing → List File → Doing
   with_written x files = record { hs = x.hs; s = x.s; r = x.r; names = x.names; d = x.d; files = files }
 
   pub try-write : (rest : Tree) (path : FilePath) (x : Doing) (q : Progress) → Aside c c.rec.pid_path x.files → ((q' : Progress) → Held (with_written x (with_file path m x.files)) 0 false [] q' → Goes c (co c) rest q') → Held x 0 false [] q → Goes c (co c) (tries image (WritePid path) [] rest back) q
