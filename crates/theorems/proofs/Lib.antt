@@ -18,6 +18,8 @@ pub mod UpgradeStage
 pub mod UpgradeBack
 pub mod UpgradeNew
 pub mod UpgradeCalls
+pub mod UpgradeRelief
+pub mod Upgrade
 pub mod Workers
 pub mod Examples
 pub mod WorkedRuns
