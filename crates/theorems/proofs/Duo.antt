@@ -3,19 +3,18 @@ use Rattle.std.proofs.Common.{◌≡◌, ◌≢◌, ℕ, ◌+◌, ◌≤◌, ◌
 use Rattle.std.specs.Prelude.{◌&&◌, ◌||◌, ◌==◌, ⊤, if◌then◌else◌}
 use Rattle.std.specs.List.{filter_map, AllByRecursion, list_any}
 use Rattle.listener_set.specs.declared.generation.Generation.{Generation}
-use Rattle.definitions.specs.declared.table.Stance.{Stance}
 use Rattle.definitions.specs.declared.table.Stance.TheVariants.{Starting, Ready, Draining, Exited}
 use Rattle.definitions.specs.declared.names.Name.{Name}
 use Rattle.definitions.specs.declared.names.Name.TheVariants as name
-use Rattle.definitions.specs.Table.{Hold, Process, Master, Worker, Foreign, Caller, number_of, bears, live_master, caller_if, is_live_master, is_worker, is_active, is_ready, is_named, is_draining}
+use Rattle.definitions.specs.Table.{Hold, Process, Master, Worker, Foreign, Caller, number_of, bears, live_master, caller_if, is_live_master, is_active, is_ready, is_named, is_draining}
 use Rattle.definitions.specs.Formed.{IsAscending}
 use Rattle.definitions.specs.Exits.{change, made_exited, first_changed, caller_exits, without_exited, kept_if, exited, all_exited}
 use Rattle.definitions.specs.Calls.{dropped, is_image, is_image_row, is_of_image, without_master}
-use Rattle.theorems.proofs.Rows.{one, weigh, worth, FitsIn, change-le, change-same, every-filter_map, every-any, every-both, every-more, every-append, weigh-append, weigh-same, pick}
-use Rattle.theorems.proofs.Views.{Names, View, Fine, FineLive, Other, Row, Looks, live_named, ready_in, master_of, finds, eqb-refl, eqb-off, eqb-is}
+use Rattle.theorems.proofs.Rows.{one, weigh, worth, FitsIn, change-same, every-filter_map, every-both, every-more, every-append, weigh-append, pick}
+use Rattle.theorems.proofs.Views.{Names, View, Fine, Other, Row, Looks, live_named, ready_in, master_of, finds, eqb-refl, eqb-off, eqb-is}
 use Rattle.theorems.proofs.Effects.{Mine, StaysOther, none}
 use Rattle.theorems.proofs.Services.{Sole, sole-fine, other-unready}
-use Rattle.theorems.proofs.Exits.{IsNot, Spares, shrinks}
+use Rattle.theorems.proofs.Exits.{IsNot, shrinks}
 
 off-true : (b : Bool) → b ≡ false → b ≡ true → ⊥
 off-true b e f = cc

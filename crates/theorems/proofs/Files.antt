@@ -1,6 +1,6 @@
 -- Who owns a file after another was written, moved or removed.
-use Rattle.std.proofs.Common.{◌≡◌, ℕ, suc, ◌+◌, Bool, true, false, not, List, [], ◌∷◌, ◌++◌, Option, Some, None, length, refl, sym, ap, ◌∙◌, subst, arith}
-use Rattle.std.specs.Prelude.{bytes_eq, codes, if◌then◌else◌, is_some, ⊤}
+use Rattle.std.proofs.Common.{◌≡◌, ℕ, ◌+◌, Bool, true, false, not, List, [], ◌∷◌, ◌++◌, Some, None, length, refl, sym, ap, subst, arith}
+use Rattle.std.specs.Prelude.{bytes_eq, codes, if◌then◌else◌}
 use Rattle.definitions.specs.Table.{FilePath, File, owner_at, owner_if}
 use Rattle.definitions.specs.Calls.{with_file, without_file}
 use Rattle.definitions.specs.declared.plans.PidNote.{PidNote}

@@ -5,7 +5,7 @@ use Rattle.std.specs.List.{AllByRecursion, list_any}
 use Rattle.definitions.specs.Table.{is_any, is_draining, FilePath, owner_at, Process, Master, Worker, Table, Caller, is_worker, is_active, is_starting, is_exited, Address, is_held}
 use Rattle.definitions.specs.declared.table.Stance.TheVariants.{Starting}
 use Rattle.listener_set.specs.declared.generation.Generation.{Generation}
-use Rattle.definitions.specs.Calls.{suits, is_image, with_file, moved, moved_if, with_files, without_file, Stepped, gives, step_by, fault_if, fault_or_own, own_step, with_new_row, each_row, has_process_room, dropped, made_ready, lowest_free, with_new_socket}
+use Rattle.definitions.specs.Calls.{suits, is_image, with_file, moved_if, with_files, without_file, Stepped, gives, step_by, fault_if, fault_or_own, own_step, with_new_row, each_row, has_process_room, dropped, made_ready, lowest_free, with_new_socket}
 use Rattle.definitions.specs.declared.calls.Fate.{Fate}
 use Rattle.definitions.specs.Handover.{reading}
 use Rattle.definitions.specs.Exits.{change}

@@ -1,17 +1,15 @@
 -- The headline for an upgrade.
-use Rattle.std.proofs.Common.{◌≡◌, ◌≢◌, ℕ, ◌+◌, ◌<◌, ◌≤◌, Bool, true, false, List, [], ◌∷◌, length, Option, Some, None, refl, sym, ap, ◌∙◌, subst, arith, inl}
-use Rattle.std.specs.Prelude.{◌&&◌, ◌==◌}
+use Rattle.std.proofs.Common.{◌≡◌, ◌≢◌, ℕ, ◌+◌, ◌<◌, true, false, List, [], ◌∷◌, length, Option, Some, None, refl, sym, ap, ◌∙◌, subst, arith, inl}
 use Rattle.listener_set.specs.Numbers.{is_in, numbers_below}
 use Rattle.definitions.specs.declared.plans.PidNote.{PidNote}
 use Rattle.definitions.specs.declared.plans.PidNote.TheVariants.{InPlace, AtOldbin, OldbinLeft, Left, NoFile}
 use Rattle.definitions.specs.declared.plans.Order.TheVariants.{Make}
 use Rattle.definitions.specs.declared.plans.Side.TheVariants.{Old}
-use Rattle.definitions.specs.declared.names.Name.{Name}
 use Rattle.definitions.specs.declared.calls.Call.TheVariants.{MovePid, SpawnMaster, Census}
 use Rattle.definitions.specs.declared.calls.Answer.TheVariants as answer
 use Rattle.definitions.specs.declared.calls.Reply.TheVariants as reply
 use Rattle.definitions.specs.declared.targets.Target.TheVariants.{Upgrade}
-use Rattle.definitions.specs.Table.{Address, FilePath, File, Hold, Master, Table, Caller, same_generation, owner_at}
+use Rattle.definitions.specs.Table.{FilePath, File, Master, Caller, same_generation, owner_at}
 use Rattle.definitions.specs.Calls.{gives, with_files, with_file, without_file, with_new_row}
 use Rattle.definitions.specs.Record.{FilesAre, oldbin}
 use Rattle.definitions.specs.Target.{want}
@@ -21,7 +19,7 @@ use Rattle.definitions.specs.Service.{service}
 use Rattle.definitions.specs.Run.{Progress, after_call, after_moment, start_at}
 use Rattle.definitions.specs.Claims.{Kept, Floor, IsBlamed, run_of, UpgradeHeadline}
 use Rattle.theorems.proofs.Rows.{every-more, and-left, and-right}
-use Rattle.theorems.proofs.Views.{Names, named, View, eqb-refl}
+use Rattle.theorems.proofs.Views.{Names, named, eqb-refl}
 use Rattle.theorems.proofs.Effects.{none, same-is}
 use Rattle.theorems.proofs.Begins.{begin-count}
 use Rattle.theorems.proofs.Ends.{first-few}
@@ -31,7 +29,6 @@ use Rattle.theorems.proofs.Rules.{Scene, view, Band, Only, marks-plain, rule-ste
 use Rattle.theorems.proofs.Duo.{master-below, spawned-looks}
 use Rattle.theorems.proofs.UpgradeStage.{Given, g, new, R, H0, A0, f, n, wanted, few-old, looks0, co, acts, inv, post, Goes, u, w, common0, alone_scene, good-alone}
 use Rattle.theorems.proofs.UpgradeBack.{Aside, settle-old, goes-back-alone}
-use Rattle.theorems.proofs.UpgradeNew.{bare}
 use Rattle.theorems.proofs.UpgradeCalls.{new-goes}
 use Rattle.theorems.proofs.UpgradeRelief.{relieves}
 

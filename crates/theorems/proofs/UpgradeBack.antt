@@ -1,24 +1,23 @@
 -- An upgrade's ways back: without a new master, with one, and after the old workers are gone.
-use Rattle.std.proofs.Common.{◌≡◌, ◌≢◌, ℕ, ◌+◌, ◌<◌, ◌≤◌, Bool, true, false, List, [], ◌∷◌, length, Option, Some, None, refl, sym, ap, ◌∙◌, subst, arith, ◌⊎◌, inl, inr, ⊎_elim}
-use Rattle.std.specs.Prelude.{◌&&◌, ◌||◌, ◌==◌, is_some, ⊤}
-use Rattle.std.specs.List.{filter_map, list_any}
+use Rattle.std.proofs.Common.{◌≡◌, ◌≢◌, ℕ, ◌+◌, ◌≤◌, Bool, true, false, List, [], ◌∷◌, length, Option, Some, None, refl, sym, ap, ◌∙◌, subst, arith, ◌⊎◌, inl, inr, ⊎_elim}
+use Rattle.std.specs.Prelude.{◌&&◌, ◌==◌}
 use Rattle.listener_set.specs.Numbers.{is_in}
 use Rattle.listener_set.specs.declared.generation.Generation.{Generation}
 use Rattle.definitions.specs.declared.plans.PidNote.{PidNote}
-use Rattle.definitions.specs.declared.plans.PidNote.TheVariants.{InPlace, AtOldbin, OldbinLeft, Left, NoFile}
+use Rattle.definitions.specs.declared.plans.PidNote.TheVariants.{InPlace, AtOldbin}
 use Rattle.definitions.specs.declared.plans.Order.TheVariants.{Make}
 use Rattle.definitions.specs.declared.plans.Side.TheVariants.{Old}
 use Rattle.definitions.specs.declared.calls.Call.TheVariants.{MovePid, TermMaster}
 use Rattle.definitions.specs.declared.calls.Answer.TheVariants as answer
-use Rattle.definitions.specs.Table.{Address, FilePath, File, Hold, Process, Master, Worker, Foreign, Table, Caller, is_ready, bears, same_generation, owner_at}
-use Rattle.definitions.specs.Calls.{gives, each_row, dropped, is_of_image, with_files, with_file, without_file, own_step}
+use Rattle.definitions.specs.Table.{FilePath, File, Hold, Process, Master, Worker, Foreign, Caller, is_ready, bears, same_generation, owner_at}
+use Rattle.definitions.specs.Calls.{gives, with_files, with_file, without_file, own_step}
 use Rattle.definitions.specs.Record.{FilesAre, oldbin}
 use Rattle.definitions.specs.Tree.{Tree}
-use Rattle.definitions.specs.Plans.{does, then_edge, note_edges, settle, move_back, back_alone, back_from, back_late, starts_any, forks_any, awaits_any}
+use Rattle.definitions.specs.Plans.{does, then_edge, note_edges, settle, move_back, back_alone, back_from, back_late, starts_any, awaits_any}
 use Rattle.definitions.specs.Run.{Progress, noted, after_call}
 use Rattle.theorems.proofs.Rows.{one, weigh, and-left, and-right, both-true}
 use Rattle.theorems.proofs.Views.{Names, named, View, Looks, ready_in, eqb-is, eqb-refl}
-use Rattle.theorems.proofs.Effects.{none, bears-is, same-refl}
+use Rattle.theorems.proofs.Effects.{none, bears-is}
 use Rattle.theorems.proofs.Counts.{Distinct}
 use Rattle.theorems.proofs.Sets.{in-here, in-there, in-cases}
 use Rattle.theorems.proofs.Small.{off-from, or-elim, true-false}

@@ -1,15 +1,14 @@
 -- All that an upgrade's new master does before it is counted, and its count.
-use Rattle.std.proofs.Common.{◌≡◌, ◌≢◌, ℕ, ◌+◌, ◌<◌, ◌≤◌, Bool, true, false, cond, not, List, [], ◌∷◌, ◌++◌, length, Option, Some, None, refl, sym, ap, ◌∙◌, subst, append_assoc, arith, ◌⊎◌, inl, inr, ⊎_elim, nat_lt}
-use Rattle.std.specs.Prelude.{map, filter, ◌&&◌, ◌||◌, ◌==◌, if◌then◌else◌, bytes_eq, ⊤}
-use Rattle.std.specs.List.{filter_map, AllByRecursion, list_any}
+use Rattle.std.proofs.Common.{◌≡◌, ◌≢◌, ℕ, ◌+◌, ◌<◌, Bool, true, false, cond, not, List, [], ◌∷◌, ◌++◌, length, Option, Some, None, refl, sym, ap, ◌∙◌, subst, append_assoc, arith, inl, inr, ⊎_elim}
+use Rattle.std.specs.Prelude.{map, ◌&&◌, ◌||◌, ◌==◌, bytes_eq}
+use Rattle.std.specs.List.{AllByRecursion, list_any}
 use Rattle.listener_set.specs.Numbers.{is_in, numbers_below, lacks, RisesFrom}
 use Rattle.listener_set.specs.AddressList.{has}
 use Rattle.listener_set.specs.declared.generation.Generation.{Generation}
 use Rattle.definitions.specs.declared.table.Listener.{Listener}
 use Rattle.definitions.specs.declared.calls.Call.{Call}
 use Rattle.definitions.specs.declared.calls.Call.TheVariants.{Adopt, CloseAt, OpenAt, Fork, AwaitReady, WritePid, Census}
-use Rattle.definitions.specs.declared.calls.Answer.TheVariants as answer
-use Rattle.definitions.specs.Table.{Address, FilePath, File, Hold, Process, Table, bears, same_generation, owner_at, is_at, has_address, is_worker, is_ready}
+use Rattle.definitions.specs.Table.{Address, FilePath, File, Hold, bears, same_generation, owner_at, is_at, has_address, is_worker, is_ready}
 use Rattle.definitions.specs.Calls.{each_row, dropped, with_file, put_hold, lacks_address, is_exited_of, census_of}
 use Rattle.definitions.specs.Record.{FilesAre, oldbin, listener_of}
 use Rattle.definitions.specs.Target.{only_in}
@@ -17,13 +16,13 @@ use Rattle.definitions.specs.Tree.{Tree, full_or_short}
 use Rattle.definitions.specs.Plans.{tries, tries_all, pid_calls, new_calls}
 use Rattle.definitions.specs.Path.{first_cause, went_wrong}
 use Rattle.definitions.specs.Run.{Progress}
-use Rattle.definitions.specs.After.{all_opened, added, kept, upgraded}
+use Rattle.definitions.specs.After.{all_opened, kept, upgraded}
 use Rattle.definitions.specs.Claims.{has_socket}
-use Rattle.theorems.proofs.Rows.{weigh, and-left, and-right, both-true}
-use Rattle.theorems.proofs.Views.{Names, named, View, Looks, ready_in}
+use Rattle.theorems.proofs.Rows.{and-left, and-right, both-true}
+use Rattle.theorems.proofs.Views.{Names, named}
 use Rattle.theorems.proofs.Effects.{none, bears-is, bears-refl, same-refl, looks-allows, mine-exited}
 use Rattle.theorems.proofs.Counts.{Distinct, census-looks, census-weigh, census-in, count-set}
-use Rattle.theorems.proofs.Sets.{in-here, in-there, in-cases, below-of, below-on, below-distinct, below-length}
+use Rattle.theorems.proofs.Sets.{in-here, in-there, in-cases, below-of, below-distinct, below-length}
 use Rattle.theorems.proofs.Small.{off-from, or-elim, true-false, not-is}
 use Rattle.theorems.proofs.Addresses.{any-put, has-lacks, socket-lacks, same-address, stands-filter}
 use Rattle.theorems.proofs.Listeners.{fds, fds-listed, opens-on, all_closed, closed-first, has-closed, rises-closed, upgrade-added}
@@ -34,7 +33,7 @@ use Rattle.theorems.proofs.Rules.{view, minus, plus, seen, Only, marks-wrong, we
 use Rattle.theorems.proofs.Duo.{framed-drop}
 use Rattle.theorems.proofs.UpgradeStage.{Given, g, new, R, H0, A0, f, n, low, wanted, wanted-of, co, Goes, w, Common, common0, Lists}
 use Rattle.theorems.proofs.UpgradeBack.{Aside}
-use Rattle.theorems.proofs.UpgradeNew.{Doing, Held, bare, readied, with_starting, with_written, v, back, edges, Edge, plain_with, held-plain, goes-back, apart, me, step, just-failed, try-adopt, try-close, try-open, try-fork, try-await, try-write}
+use Rattle.theorems.proofs.UpgradeNew.{Doing, Held, bare, readied, with_starting, with_written, v, back, edges, Edge, held-plain, goes-back, apart, me, step, just-failed, try-adopt, try-close, try-open, try-fork, try-await, try-write}
 
 module _ (c : Given) (m : ℕ) (ne : m ≢ c.rec.pid) (r0 : Names) (only0 : Only (g c) (R c) r0) where
   abbrev image : ℕ
@@ -219,15 +218,15 @@ module _ (c : Given) (m : ℕ) (ne : m ≢ c.rec.pid) (r0 : Names) (only0 : Only
       (elim (lacks S cs) as (λ l. lacks S cs ≡ l → Rattle.theorems.proofs.Logic.Behind (Rattle.theorems.proofs.UpgradeStage.inv c) (Rattle.theorems.proofs.UpgradeStage.post c) Rattle.theorems.proofs.Logic.Anyhow Rattle.theorems.proofs.Logic.Unasked (co c) (edges c m ne r0 only0 call rest) (full_or_short l) (after l)) [
         | [] ↦ λ e. next (seen T (new c) cs) (after []) (only-seen cs) (held-plain c m ne r0 only0 x (counted hs (seen T (new c) cs) files) t' cs (lacks S cs) q' b' b'.still.files_stay refl e framed second)
         | k ∷ ks ↦ λ e. goes-back c m ne r0 only0 (counted hs (seen T (new c) cs) files) 0 (k ∷ ks) (after (k ∷ ks)) aside (record {
-            looks = framed.looks;
-            enough = b'.enough;
-            secured = λ e'. omega (arith, b'.secured e', framed.same (named (g c) (is_in (R c))));
-            budget = omega (arith, b'.budget, framed.same (named (g c) (is_in (R c))));
-            lacking = e;
-            marks = marks-wrong false q'.faults q'.faults q'.losses (q'.calls + 1) q'.cause (omega (arith, b'.beside.1, count, below-length (n c), ap length e)) b'.marks;
-            still = record { files_stay = b'.still.files_stay; note_stays = b'.still.note_stays; limits_stay = b'.still.limits_stay };
-            beside = second;
-          })
+          looks = framed.looks;
+          enough = b'.enough;
+          secured = λ e'. omega (arith, b'.secured e', framed.same (named (g c) (is_in (R c))));
+          budget = omega (arith, b'.budget, framed.same (named (g c) (is_in (R c))));
+          lacking = e;
+          marks = marks-wrong false q'.faults q'.faults q'.losses (q'.calls + 1) q'.cause (omega (arith, b'.beside.1, count, below-length (n c), ap length e)) b'.marks;
+          still = record { files_stay = b'.still.files_stay; note_stays = b'.still.note_stays; limits_stay = b'.still.limits_stay };
+          beside = second;
+        })
       ] refl))
       (λ q' b'. just-failed c m ne r0 only0 x q' aside b')
 

@@ -1,45 +1,35 @@
 -- An upgrade's new master: each of its calls answers plainly, or the old master goes back.
-use Rattle.std.proofs.Common.{◌≡◌, ◌≢◌, ℕ, ◌+◌, ◌<◌, ◌≤◌, Bool, true, false, cond, not, List, [], ◌∷◌, ◌++◌, length, Option, Some, None, refl, sym, ap, ◌∙◌, subst, arith, ◌⊎◌, inl, inr, ⊎_elim, nat_lt}
-use Rattle.std.specs.Prelude.{map, filter, ◌&&◌, ◌||◌, ◌==◌, if◌then◌else◌, bytes_eq, ⊤}
-use Rattle.std.specs.List.{filter_map, AllByRecursion, list_any}
-use Rattle.listener_set.specs.Numbers.{is_in, numbers_below, lacks, RisesFrom}
-use Rattle.listener_set.specs.AddressList.{has}
+use Rattle.std.proofs.Common.{◌≡◌, ◌≢◌, ℕ, ◌+◌, ◌≤◌, Bool, true, false, List, [], ◌∷◌, ◌++◌, length, Option, Some, refl, sym, ap, ◌∙◌, subst, arith, inl, ⊎_elim, nat_lt}
+use Rattle.std.specs.Prelude.{◌&&◌, if◌then◌else◌}
+use Rattle.listener_set.specs.Numbers.{is_in}
 use Rattle.listener_set.specs.declared.generation.Generation.{Generation}
-use Rattle.definitions.specs.declared.table.Listener.{Listener}
 use Rattle.definitions.specs.declared.table.Limits.{Limits}
-use Rattle.definitions.specs.declared.names.Name.{Name}
 use Rattle.definitions.specs.declared.table.Stance.TheVariants.{Starting}
 use Rattle.definitions.specs.declared.calls.Call.{Call}
-use Rattle.definitions.specs.declared.calls.Call.TheVariants.{Adopt, CloseAt, OpenAt, Fork, AwaitReady, WritePid, Census}
+use Rattle.definitions.specs.declared.calls.Call.TheVariants.{Adopt, CloseAt, OpenAt, Fork, AwaitReady, WritePid}
 use Rattle.definitions.specs.declared.calls.Fate.{Fate}
 use Rattle.definitions.specs.declared.calls.Answer.TheVariants as answer
 use Rattle.definitions.specs.declared.calls.Reply.TheVariants as reply
 use Rattle.definitions.specs.declared.plans.Order.TheVariants.{Make}
-use Rattle.definitions.specs.Table.{Address, FilePath, File, Hold, Process, Worker, Table, Caller, bears, same_generation, owner_at, has_address, is_worker, is_ready, is_starting, is_exited}
-use Rattle.definitions.specs.Calls.{Stepped, gives, step_by, own_step, each_row, dropped, with_files, with_file, with_new_row, with_new_socket, with_holds, put_hold, lacks_address, lowest_free, is_of, is_row, is_exited_of, made_ready, census_of}
+use Rattle.definitions.specs.Table.{Address, FilePath, File, Hold, Worker, Table, Caller, bears, same_generation, is_worker, is_starting, is_exited}
+use Rattle.definitions.specs.Calls.{Stepped, gives, step_by, own_step, each_row, dropped, with_files, with_file, with_new_row, with_new_socket, with_holds, put_hold, lacks_address, lowest_free, is_of, is_row, made_ready}
 use Rattle.definitions.specs.Exits.{change}
-use Rattle.definitions.specs.Record.{FilesAre, oldbin, listener_of}
 use Rattle.definitions.specs.Manner.{is_leave_call}
-use Rattle.definitions.specs.Tree.{Tree, Branches, Nothing, plain_reply, replies_to, reply_of, full_or_short}
-use Rattle.definitions.specs.Plans.{on, others, tries, tries_all, pid_calls, back_from}
-use Rattle.definitions.specs.Path.{first_cause, went_wrong}
+use Rattle.definitions.specs.Tree.{Tree, Branches, Nothing, plain_reply, replies_to, reply_of}
+use Rattle.definitions.specs.Plans.{on, others, tries, back_from}
+use Rattle.definitions.specs.Path.{first_cause}
 use Rattle.definitions.specs.Run.{Progress, after_moment, after_call, answered}
-use Rattle.definitions.specs.After.{all_opened, opened}
 use Rattle.definitions.specs.Claims.{names_any, is_leave}
-use Rattle.theorems.proofs.Rows.{weigh, and-left, and-right, both-true}
-use Rattle.theorems.proofs.Views.{Names, named, View, Looks, ready_in, finds, eqb-is, eqb-refl}
+use Rattle.theorems.proofs.Rows.{and-left, and-right, both-true}
+use Rattle.theorems.proofs.Views.{Names, named, View, Looks, finds, eqb-refl}
 use Rattle.theorems.proofs.Effects.{none, bears-is, same-refl, looks-allows, mine-of, mine-row, mine-worker, mine-exited, holds-stay, ready-stays, close-looks, close-weigh, open-looks, open-weigh, fork-looks, fork-weigh, await-looks, await-gains, gone-looks, gone-weigh}
 use Rattle.theorems.proofs.Exits.{spares-each}
-use Rattle.theorems.proofs.Counts.{Distinct, census-looks, census-weigh, census-in, count-set}
-use Rattle.theorems.proofs.Sets.{in-here, in-there, in-cases, below-of, below-on, below-distinct, below-length}
-use Rattle.theorems.proofs.Small.{off-from, or-elim, true-false}
-use Rattle.theorems.proofs.Addresses.{any-put, has-lacks, socket-lacks, same-address}
-use Rattle.theorems.proofs.Listeners.{fds, opens-on, all_closed}
-use Rattle.theorems.proofs.Files.{written-file, other-written, other-oldbin}
+use Rattle.theorems.proofs.Sets.{in-here, in-there}
+use Rattle.theorems.proofs.Small.{or-elim}
 use Rattle.theorems.proofs.Logic.{Unasked, Course, course_after, Behind, Anyhow, adopt-cases, open-cases, fork-cases, await-cases, write-cases, unfailing}
-use Rattle.theorems.proofs.Rules.{Scene, view, any, plus, minus, seen, ready_of, Marks, Band, Only, marks-plain, marks-wrong, weigh-sub, band-exits, band-inv}
-use Rattle.theorems.proofs.Duo.{Framed, framed-change, framed-drop, framed-grow, dead-none, with_other, OnlyOf}
-use Rattle.theorems.proofs.UpgradeStage.{Given, g, new, R, H0, f, n, wanted, co, acts, inv, post, Goes, u, w, Common, Second, pair_scene, good-pair, common0, Lists}
+use Rattle.theorems.proofs.Rules.{Scene, view, any, plus, minus, ready_of, Marks, Band, Only, marks-plain, marks-wrong, weigh-sub, band-exits, band-inv}
+use Rattle.theorems.proofs.Duo.{Framed, framed-change, framed-drop, framed-grow, dead-none, with_other}
+use Rattle.theorems.proofs.UpgradeStage.{Given, g, new, R, f, co, acts, inv, post, Goes, u, w, Second, pair_scene, good-pair}
 use Rattle.theorems.proofs.UpgradeBack.{Aside, goes-back-from}
 
 module _ (c : Given) (m : ℕ) (ne : m ≢ c.rec.pid) (r0 : Names) (only0 : Only (g c) (R c) r0) where
@@ -245,9 +235,10 @@ module _ (c : Given) (m : ℕ) (ne : m ≢ c.rec.pid) (r0 : Names) (only0 : Only
       let framed = framed-change (view v none r0) m (is_worker is_starting m (new c) k) made_ready q'.table.rows apart (mine-worker is_starting m (new c) k, λ j zs. refl) ready-stays b'.looks in
       let gain = await-gains (w c m hs s (named (new c) (is_in done))) (new c) (named (new c) (is_in (k ∷ done))) k q'.table.rows (both-true (same_generation (new c) (new c)) (is_in (k ∷ done) k) (same-refl (new c)) (in-here k k done refl)) (off-named k done off) live looks in
       let more = weigh-sub m (named (new c) (is_in done)) (named (new c) (is_in (k ∷ done))) (λ h j e. both-true (same_generation h (new c)) (is_in (k ∷ done) j) (and-left _ _ e) (in-there k j done (and-right (same_generation h (new c)) _ e))) q'.table.rows in
-      next (plain_with t' q'.ready q'.lacking q') (held-plain x y t' q'.ready q'.lacking q' b' b'.still.files_stay refl b'.lacking framed
-      (inl (looks-allows (Rattle.theorems.proofs.Effects.after_wait (new c) k (w c m hs s (named (new c) (is_in done)))) (w c m hs (minus s (new c) k) (named (new c) (is_in (k ∷ done)))) (record { number = refl; others = λ j e. e; image = refl; holds = refl; starting = λ h j e. e; ready = joins k done; held_starting = λ h j e. refl; held = λ h j e. refl }) t'.rows (await-looks (w c m hs s (named (new c) (is_in done))) (new c) k q'.table.rows looks)),
-      omega (arith, b'.beside.1, gain, more))))
+      next (plain_with t' q'.ready q'.lacking q') (held-plain x y t' q'.ready q'.lacking q' b' b'.still.files_stay refl b'.lacking framed (
+        inl (looks-allows (Rattle.theorems.proofs.Effects.after_wait (new c) k (w c m hs s (named (new c) (is_in done)))) (w c m hs (minus s (new c) k) (named (new c) (is_in (k ∷ done)))) (record { number = refl; others = λ j e. e; image = refl; holds = refl; starting = λ h j e. e; ready = joins k done; held_starting = λ h j e. refl; held = λ h j e. refl }) t'.rows (await-looks (w c m hs s (named (new c) (is_in done))) (new c) k q'.table.rows looks)),
+        omega (arith, b'.beside.1, gain, more),
+      )))
       (λ gone.
       let t' = each_row (dropped (is_worker is_exited m (new c) k)) q'.table in
       let framed = framed-drop (view v none r0) m (is_worker is_exited m (new c) k) q'.table.rows apart (mine-worker is_exited m (new c) k, λ j zs. refl) b'.looks in

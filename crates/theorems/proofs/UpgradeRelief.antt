@@ -1,7 +1,6 @@
 -- An upgrade's old master is relieved: its workers quit and are waited for, it leaves, and the new one settles.
-use Rattle.std.proofs.Common.{◌≡◌, ◌≢◌, ℕ, ◌+◌, ◌<◌, ◌≤◌, Bool, true, false, not, List, [], ◌∷◌, ◌++◌, length, Option, Some, None, refl, sym, ap, ◌∙◌, subst, arith, ◌⊎◌, inl, inr, ⊎_elim}
-use Rattle.std.specs.Prelude.{◌==◌, reverse, is_some}
-use Rattle.std.specs.List.{filter_map}
+use Rattle.std.proofs.Common.{◌≡◌, ◌≢◌, ℕ, ◌+◌, ◌≤◌, Bool, true, false, List, [], ◌∷◌, length, Option, Some, None, refl, sym, ap, ◌∙◌, subst, arith, inl, inr, ⊎_elim}
+use Rattle.std.specs.Prelude.{reverse, is_some}
 use Rattle.listener_set.specs.Numbers.{is_in, numbers_below}
 use Rattle.listener_set.specs.AddressList.{has}
 use Rattle.listener_set.specs.declared.generation.Generation.{Generation}
@@ -12,13 +11,12 @@ use Rattle.definitions.specs.declared.plans.Order.TheVariants.{Make}
 use Rattle.definitions.specs.declared.calls.Call.TheVariants.{Alive, Leave, RemovePid}
 use Rattle.definitions.specs.declared.calls.Answer.TheVariants as answer
 use Rattle.definitions.specs.declared.calls.Reply.TheVariants as reply
-use Rattle.definitions.specs.Table.{Address, FilePath, File, Hold, Table, Caller, has_address, owner_at, live_master}
+use Rattle.definitions.specs.Table.{Address, FilePath, File, Hold, Caller, has_address, owner_at}
 use Rattle.definitions.specs.Calls.{Stepped, gives, step_by, each_row, dropped, is_image, asked_alive, with_files, without_file, without_master}
 use Rattle.definitions.specs.Record.{FilesAre, oldbin}
-use Rattle.definitions.specs.Tree.{Tree, Branches, Nothing, reply_of}
-use Rattle.definitions.specs.Plans.{on, does, then_edge, note_edges, quits, awaits_gone, settle, remove_oldbin, hand_over, back_late, relieve}
+use Rattle.definitions.specs.Tree.{Tree, Nothing, reply_of}
+use Rattle.definitions.specs.Plans.{on, does, then_edge, note_edges, awaits_gone, settle, remove_oldbin, hand_over, back_late, relieve}
 use Rattle.definitions.specs.Run.{Progress, noted, after_call, after_moment, answered}
-use Rattle.theorems.proofs.Rows.{weigh}
 use Rattle.theorems.proofs.Views.{Names, named, View, Looks, finds, eqb-is, eqb-refl}
 use Rattle.theorems.proofs.Effects.{none, looks-allows}
 use Rattle.theorems.proofs.Exits.{spares-each, shrinks}

@@ -1,26 +1,25 @@
 -- An upgrade: who is on the stage, what each part keeps, and the ends.
-use Rattle.std.proofs.Common.{◌≡◌, ◌≢◌, ℕ, ◌+◌, ◌<◌, ◌≤◌, Bool, true, false, not, List, [], ◌∷◌, length, Option, Some, None, refl, sym, ap, ◌∙◌, subst, arith, ◌⊎◌, inl, inr, ⊎_elim}
-use Rattle.std.specs.Prelude.{map, min, ◌&&◌, ◌||◌, ◌==◌, if◌then◌else◌, bytes_eq, is_some, ⊤}
+use Rattle.std.proofs.Common.{◌≡◌, ◌≢◌, ℕ, ◌+◌, ◌<◌, ◌≤◌, Bool, true, false, List, [], ◌∷◌, length, Some, None, refl, sym, ap, ◌∙◌, arith, ◌⊎◌, ⊎_elim}
+use Rattle.std.specs.Prelude.{map, min, if◌then◌else◌, is_some}
 use Rattle.std.specs.List.{list_any}
 use Rattle.listener_set.specs.Numbers.{is_in, numbers_below}
 use Rattle.listener_set.specs.AddressList.{has}
 use Rattle.listener_set.specs.declared.generation.Generation.{Generation}
-use Rattle.definitions.specs.declared.table.Listener.{Listener}
 use Rattle.definitions.specs.declared.targets.Target.TheVariants.{Upgrade}
 use Rattle.definitions.specs.declared.plans.PidNote.{PidNote}
 use Rattle.definitions.specs.declared.plans.End.TheVariants.{Done, RolledBack, ShortOld, ShortTarget}
 use Rattle.definitions.specs.Settings.{Settings, IsInRange}
-use Rattle.definitions.specs.Table.{Address, FilePath, File, Hold, Process, Table, same_generation, has_address, is_worker, is_ready, owner_at}
-use Rattle.definitions.specs.Service.{Service, service, uniform}
-use Rattle.definitions.specs.Record.{Record, Agrees, FilesAre, addresses_of, listener_of, oldbin}
+use Rattle.definitions.specs.Table.{Address, File, Hold, Process, Table, same_generation, has_address, is_worker, is_ready}
+use Rattle.definitions.specs.Service.{Service, service}
+use Rattle.definitions.specs.Record.{Record, Agrees, FilesAre, addresses_of, listener_of}
 use Rattle.definitions.specs.Target.{upgrade_generation, want, text_handed}
 use Rattle.definitions.specs.After.{Setup, setup_after, recorded, renewed, upgraded, next_image}
 use Rattle.definitions.specs.Tree.{Tree}
 use Rattle.definitions.specs.Run.{Pattern, Progress, Ending, At, outcome_of}
 use Rattle.definitions.specs.Claims.{AgreesAfter, IsStart, has_socket, Says, IsPaid, Kept, IsCommon, IsBlamed, HasCause, HasDescriptors, ready_with}
-use Rattle.theorems.proofs.Rows.{weigh, and-left}
+use Rattle.theorems.proofs.Rows.{weigh}
 use Rattle.theorems.proofs.Views.{Names, named, View, Looks, ready_in}
-use Rattle.theorems.proofs.Effects.{none, same-is}
+use Rattle.theorems.proofs.Effects.{none}
 use Rattle.theorems.proofs.Exits.{falls-all}
 use Rattle.theorems.proofs.Counts.{Distinct}
 use Rattle.theorems.proofs.Sets.{in-here, below-of, below-length}
@@ -31,8 +30,8 @@ use Rattle.theorems.proofs.Listeners.{some-held}
 use Rattle.theorems.proofs.After.{agrees-after}
 use Rattle.theorems.proofs.Ends.{next-image-is, moved-after, resized, report_at, service-of, service-short, first-keys, first-service, first-held, census-within, files-still, kept-after}
 use Rattle.theorems.proofs.Logic.{Unasked, Course, Along, Anyhow}
-use Rattle.theorems.proofs.Rules.{Scene, plain_scene, Still, Marks, Only, view, any, ready_of, floor-by}
-use Rattle.theorems.proofs.Duo.{Lives, Beside, beside-change, beside-drop, beside-grow, lives-exits, dead-weigh, new_view, sole}
+use Rattle.theorems.proofs.Rules.{Scene, Still, Marks, Only, view, any, ready_of, floor-by}
+use Rattle.theorems.proofs.Duo.{Lives, beside-change, beside-drop, beside-grow, lives-exits, dead-weigh, new_view, sole}
 
 -- What an upgrade is given.
 pub record Given : Type 0 where
@@ -199,13 +198,12 @@ module _ (c : Given) where
     fails = λ rows losses faults h. h;
   }
 
-
   -- The floor is the old one's workers', or the other one's.
   pub good-pair : (v x : View) (hs : List Hold) (names : Names) (d floor : ℕ) → (f ≤ floor) ⊎ ((f ≤ d) × Common hs × ((h : Generation) → x.held h ≡ hs)) → v.holds ≡ H0 → ((h : Generation) → v.held h ≡ H0) → (names' : Names) (count : ℕ) (b : Bool) (q : Progress) → floor ≤ count → Looks (view v any any) q.table.rows → (1 ≤ floor → count ≤ ready_of v names' q + q.losses) → Marks b q.faults q.losses q.cause → Second x names d q.table.rows q.losses → inv q
   good-pair v x hs names d floor kind is held names' count b q enough looks secured marks second = (
     kept-by (view v any any) H0 is common0 q looks,
     ⊎_elim (λ le. level-by (view v any any) H0 common0 held names' count q (omega (arith, le, enough)) looks (λ e. secured (omega (arith, e, le))))
-    (λ o. ⊎_elim (λ lives. level-by x hs o.1 o.2 names d q o.0 lives (λ e. second.1)) (λ dead a h. omega (arith, o.0, second.1, dead-weigh x names q.table.rows dead)) second.0) kind,
+        (λ o. ⊎_elim (λ lives. level-by x hs o.1 o.2 names d q o.0 lives (λ e. second.1)) (λ dead a h. omega (arith, o.0, second.1, dead-weigh x names q.table.rows dead)) second.0) kind,
     (marks.clean, marks.blamed),
   )
 

@@ -5,7 +5,7 @@
 ghost use Rattle.std.specs.Prelude.{ℕ, List, Bool};
 ghost use Rattle.definitions.specs.Settings.{Settings};
 ghost use Rattle.definitions.specs.declared.targets.Target.TheVariants.{Workers, Mend, Reopen, Reload, Stop};
-ghost use Rattle.definitions.specs.Claims.{InManner, MendHeadline, ReloadHeadline, ReopenHeadline, RunsWithin, StopHeadline, WorkersHeadline};
+ghost use Rattle.definitions.specs.Claims.{InManner, MendHeadline, ReloadHeadline, ReopenHeadline, RunsWithin, StopHeadline, UpgradeHeadline, WorkersHeadline};
 ghost use Rattle.theorems.specs.Examples.{HasStart};
 ghost use Rattle.theorems.specs.WorkedRuns.{WorkedRuns};
 ghost use Rattle.theorems.specs.WrongTables.{WrongTables};
@@ -38,6 +38,12 @@ pub fn reopenings_end_as_reported()
 pub fn stops_end_as_reported()
     ensures headline { StopHeadline }
     ensures manner { (quick : Bool) → InManner (Stop quick) }
+{}
+
+/// Whatever fails and whoever exits but an executing master, the new one before it takes over too,
+/// an upgrade ends as it reports.
+pub fn upgrades_end_as_reported()
+    ensures headline { UpgradeHeadline }
 {}
 
 /// A run makes no more calls than the longest path of its plan has steps.

@@ -1,0 +1,5 @@
+use Rattle.theorems.proofs.Upgrade.{upgrade_headline}
+use Rattle.theorems.proofs.upgrades_end_as_reported.Goals as goal
+
+pub returns : goal.returns
+returns c = record { headline = upgrade_headline }
