@@ -225,7 +225,7 @@ Accepts t r (Workers n) = n ≤ 1024
 Accepts t r (Mend overdue) = ⊤
 Accepts t r Reopen = ⊤
 Accepts t r (Reload s) = IsInRange s × HasDescriptors t r × (is_some (next_config r.generation) ≡ true)
-Accepts t r (Upgrade s) = IsInRange s × HasDescriptors t r × (is_some (next_image r.generation) ≡ true) × (s.pid ≡ r.pid_path)
+Accepts t r (Upgrade s) = IsInRange s × HasDescriptors t r × (is_some (next_image r.generation) ≡ true)
 Accepts t r (Stop quick) = ⊤
 
 pub record IsAccepted (t : Table) (r : Record) (target : Target) (pattern : Pattern) : Type 0 where

@@ -144,7 +144,7 @@ module _ (c : Given) where
 
 pub upgrade_headline : UpgradeHeadline
 upgrade_headline t rec st pattern a =
-    let (range, ds, numbered, same_path) = a.accepts in
+    let (range, ds, numbered) = a.accepts in
     let c : Given = record { t = t; rec = rec; st = st; pattern = pattern; start = a.start; range = range; ds = ds; numbered = numbered } in
     let at = start_at t rec.note in
     let tree = plan_tree rec (Upgrade st) in
