@@ -4,3 +4,4 @@ pub mod Listed
 pub mod Prefixes
 pub mod LinesRead
 pub mod SoFar
+pub mod Spelled

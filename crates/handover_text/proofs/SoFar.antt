@@ -16,7 +16,7 @@ use Rattle.listener_set.proofs.AddressLists.{has_address}
 use Rattle.definitions.specs.declared.handover.HandoverRefusal.{HandoverRefusal}
 use Rattle.definitions.specs.declared.table.Listener.{Listener}
 use Rattle.definitions.specs.After.{listens_on}
-use Rattle.definitions.specs.Handover.{Handover, Place, AtVersion, AtOldPid, AtGeneration, AtFirstListener, AtListeners, AtWants, AtPidFile, AtEnd, Over, Read, after_prefix, nothing_read, then_read, read_rest, read_pieces, number_within, is_space, is_address, is_above, listener_read, with_old_pid, with_generation, with_listener, with_want, with_workers, with_pid_file, read_end, read_if, read_line}
+use Rattle.definitions.specs.Handover.{Handover, Place, AtVersion, AtOldPid, AtGeneration, AtFirstListener, AtListeners, AtWants, AtPidFile, AtEnd, Over, Read, after_prefix, nothing_read, then_read, read_rest, read_pieces, reading, number_within, is_space, is_address, is_above, listener_read, with_old_pid, with_generation, with_listener, with_want, with_workers, with_pid_file, read_end, read_if, read_line}
 use Rattle.definitions.specs.Settings.{HasSuffixRoom}
 use Rattle.handover_text.specs.Reader.{read_to}
 use Rattle.handover_text.specs.Ranges.{IsHandover, AreParts, IsReadTo, lines_to, is_path_if}
@@ -265,3 +265,17 @@ module _ (n : ℕ) (place : Place) (h : Handover) (state : Place × Handover) (r
   taken_in_range ok s =
       let e : Ok state ≡ read_line n place h (before_first is_newline rest) = ap (λ q. read_to q state) (sym ok) ∙ read in
       subst (IfRead (IsReadTo (n + 1))) (sym e) (line_read n place h (before_first is_newline rest) s)
+
+pieces_in_range : (n : ℕ) (place : Place) (h : Handover) (pieces : List (List ℕ)) → IsReadTo n place h → IfOk (read_pieces n place h pieces) IsHandover
+pieces_in_range n place h [] s = rest_in_range n place h [] s
+pieces_in_range n place h (rest ∷ []) s = rest_in_range n place h rest s
+pieces_in_range n place h (line ∷ next ∷ more) s =
+    at (read_line n place h line) (line_read n place h line s) (λ place' h'. pieces_in_range (n + 1) place' h' (next ∷ more))
+  where
+    at : (r : Read) → IfRead (IsReadTo (n + 1)) r → ((place' : Place) (h' : Handover) → IsReadTo (n + 1) place' h' → IfOk (read_pieces (n + 1) place' h' (next ∷ more)) IsHandover) → IfOk (then_read r (λ place' h'. read_pieces (n + 1) place' h' (next ∷ more))) IsHandover
+    at (Err refusal) read later = tt
+    at (Ok state) read later = later state.0 state.1 read
+
+-- What is read is in range.
+pub reading_in_range : (text : List ℕ) → IfOk (reading text) IsHandover
+reading_in_range text = pieces_in_range 1 AtVersion nothing_read (slice_split is_newline text) nothing_in_range
