@@ -1,4 +1,4 @@
-use Rattle.std.proofs.Common.{◌≡◌, ◌<◌, ◌^◌, None, IfSome, ◌∙◌, subst}
+use Rattle.std.proofs.Common.{◌≡◌, ◌<◌, ◌^◌, None, IfSome, subst}
 use Rattle.std.specs.Fmt.{decimal}
 use Rattle.command_line.specs.Arguments.{IsWorkers}
 use Rattle.command_line.proofs.Values.{not_spelled, spelled, unread}
