@@ -167,23 +167,35 @@ fn a_worker_more_or_less_within_none_and_1024(rt: HostRuntime) {
     assert_eq!(rt; asked(Word::Winch, 0), Ok(Some(0)));
 }
 
-/// What a word asks of a master of two workers, in a word, where worker 1 is overdue and these settings are at hand.
-fn asked(word: Word, state: &Record, settings: Option<&Settings>) -> &'static str {
+fn kind_of(target: &Target) -> &'static str {
+    match target {
+        Target::Workers(_) => "workers",
+        Target::Mend(_) => "mend",
+        Target::Reopen => "reopen",
+        Target::Reload(_) => "reload",
+        Target::Upgrade(_) => "upgrade",
+        Target::Stop { quick } => { if *quick { "quick stop" } else { "stop" } }
+    }
+}
+
+/// The workers of the settings that are taken up, or the first that is mended.
+fn number_of(target: &Target) -> Option<u32> {
+    match target {
+        Target::Mend(numbers) => numbers.lowest(),
+        Target::Reload(settings) => Some(settings.workers),
+        Target::Upgrade(settings) => Some(settings.workers),
+        _ => None,
+    }
+}
+
+/// What a word asks of a master, in a word, where worker 1 is overdue and these settings are at hand.
+fn asked(word: Word, state: &Record, settings: Option<&Settings>) -> (&'static str, Option<u32>) {
     let mut overdue = Numbers::none();
     overdue.add(1);
     match target_of(word, state, &overdue, settings) {
-        Ok(None) => "nothing",
-        Ok(Some(Target::Workers(_))) => "workers",
-        Ok(Some(Target::Mend(numbers))) if numbers == overdue => "mend 1",
-        Ok(Some(Target::Mend(_))) => "mend",
-        Ok(Some(Target::Reopen)) => "reopen",
-        Ok(Some(Target::Reload(settings))) if settings.workers == 5 => "reload 5",
-        Ok(Some(Target::Reload(_))) => "reload",
-        Ok(Some(Target::Upgrade(settings))) if settings.workers == 5 => "upgrade 5",
-        Ok(Some(Target::Upgrade(_))) => "upgrade",
-        Ok(Some(Target::Stop { quick: true })) => "quick stop",
-        Ok(Some(Target::Stop { quick: false })) => "stop",
-        Err(refusal) => refusal.code(),
+        Ok(Some(target)) => (kind_of(&target), number_of(&target)),
+        Ok(None) => ("nothing", None),
+        Err(refusal) => (refusal.code(), None),
     }
 }
 
@@ -193,19 +205,26 @@ fn each_other_word_has_its_target(rt: HostRuntime) {
     let mut settings = Settings::plain();
     settings.workers = 5;
     let cases = [
-        (Word::Hup, "reload 5"),
-        (Word::Usr2, "upgrade 5"),
-        (Word::Usr1, "reopen"),
-        (Word::Quit, "stop"),
-        (Word::Int, "quick stop"),
-        (Word::Term, "quick stop"),
-        (Word::Tick { now: 161 }, "mend 1"),
-        (Word::Beat { nr: 0, now: 100 }, "nothing"),
+        (Word::Hup, "reload", Some(5)),
+        (Word::Usr2, "upgrade", Some(5)),
+        (Word::Usr1, "reopen", None),
+        (Word::Quit, "stop", None),
+        (Word::Int, "quick stop", None),
+        (Word::Term, "quick stop", None),
+        (Word::Tick { now: 161 }, "mend", Some(1)),
+        (Word::Beat { nr: 0, now: 100 }, "nothing", None),
     ];
-    for (word, expected) in cases {
-        assert_eq!(rt; asked(word, &state, Some(&settings)), expected, "{word}");
-        let needs_settings = word == Word::Hup || word == Word::Usr2;
-        let without = if needs_settings { "W4" } else { expected };
+    for (word, kind, number) in cases {
+        assert_eq!(rt;
+            asked(word, &state, Some(&settings)),
+            (kind, number),
+            "{word}"
+        );
+        let without = if word == Word::Hup || word == Word::Usr2 {
+            ("W4", None)
+        } else {
+            (kind, number)
+        };
         assert_eq!(rt; asked(word, &state, None), without, "{word}");
     }
 }
@@ -219,11 +238,11 @@ fn the_pid_file_does_not_change(rt: HostRuntime) -> Result<(), Fail> {
     other.pid = Some(FilePath::read(b"/run/b.pid")?);
     let start = |settings| Record::start(settings, 2, &Numbers::below(2), 100);
     for (word, renewed) in [(Word::Hup, "reload"), (Word::Usr2, "upgrade")] {
-        assert_eq!(rt; asked(word, &start(&bare), Some(&bare)), renewed);
-        assert_eq!(rt; asked(word, &start(&one), Some(&one)), renewed);
-        assert_eq!(rt; asked(word, &start(&one), Some(&other)), "W5");
-        assert_eq!(rt; asked(word, &start(&bare), Some(&one)), "W5");
-        assert_eq!(rt; asked(word, &start(&one), Some(&bare)), "W5");
+        assert_eq!(rt; asked(word, &start(&bare), Some(&bare)), (renewed, Some(1)));
+        assert_eq!(rt; asked(word, &start(&one), Some(&one)), (renewed, Some(1)));
+        assert_eq!(rt; asked(word, &start(&one), Some(&other)), ("W5", None));
+        assert_eq!(rt; asked(word, &start(&bare), Some(&one)), ("W5", None));
+        assert_eq!(rt; asked(word, &start(&one), Some(&bare)), ("W5", None));
     }
     Ok(())
 }
