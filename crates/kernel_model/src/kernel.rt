@@ -3,7 +3,7 @@ ghost use Rattle.std.specs.Prelude.{◌≡◌, ◌≤◌, ◌+◌, ◌↔◌, ma
 ghost use Rattle.std.specs.Option.{option_map};
 ghost use Rattle.definitions.specs.Table.{live_master};
 ghost use Rattle.definitions.specs.Exits.{after_exits};
-ghost use Rattle.definitions.specs.Calls.{step};
+ghost use Rattle.definitions.specs.Calls.{step_with};
 ghost use Rattle.definitions.specs.Formed.{IsFormed};
 ghost use Rattle.kernel_model.specs.Boot.{booted, AreBadLimits};
 ghost use Rattle.kernel_model.specs.Room.{LacksNumbers};
@@ -105,16 +105,17 @@ impl Kernel {
     }
 
     /// One moment: the exits, one after another, and then the call by the master of the image. A master that is gone is
-    /// answered so; then comes the fault that a fate gives; then the call's own answer. It takes no memory.
-    pub fn call(&mut self, by: Actor, call: &Call, moment: &Moment<'_>) -> Answer
+    /// answered so; then comes the fault that a fate gives; then the call's own answer. The text is what the master is
+    /// handed as it starts, which Adopt reads. It takes no memory.
+    pub fn call(&mut self, by: Actor, call: &Call, text: &[u8], moment: &Moment<'_>) -> Answer
         requires { 1 ≤ self.old.room }
-        ensures step { record { answer = result; table = self.new.table } ≡ step by call.now moment.now.fate (after_exits moment.now.exits.now self.old.table) }
+        ensures step { record { answer = result; table = self.new.table } ≡ step_with text.now by call.now moment.now.fate (after_exits moment.now.exits.now self.old.table) }
         ensures room { self.new.room + 1 ≡ self.old.room }
         ensures formed { IsFormed self.new.table }
     {
         self.room -= 1;
         exits::exit_all(&mut self.store, moment.exits);
-        calls::answered(&mut self.store, by.0, call, moment.fate)
+        calls::answered(&mut self.store, by.0, call, text, moment.fate)
     }
 
     /// The process number of the live master of an image.
