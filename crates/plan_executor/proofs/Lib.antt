@@ -5,3 +5,6 @@ pub mod Reporting
 pub mod Replaying
 pub mod Refused
 pub mod Enacting
+pub mod Exact
+pub mod Starting
+pub mod Wording

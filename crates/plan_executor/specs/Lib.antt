@@ -3,5 +3,9 @@ pub mod Fit
 pub mod Walk
 pub mod Lawful
 pub mod Naming
+pub mod Codes
+pub mod Refusals
 pub mod Patterned
 pub mod Enacted
+pub mod Started
+pub mod Words

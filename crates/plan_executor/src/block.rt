@@ -1,45 +1,100 @@
 //! What a word came to.
+ghost use Rattle.std.specs.Prelude.{◌≡◌, ◌+◌, ◌≤◌, ◌++◌, length};
+ghost use Rattle.plan_executor.specs.Codes.{plan_code, stopped_code};
+
 use crate::{EnactRefusal, Transcript};
 use arrayvec::ArrayString;
 use control_words::{Word, WordRefusal};
 use definitions::Report;
-use std::fmt::{Display, Write};
+use itoa::Buffer;
+use reload_planner::PlanRefusal;
+use std::marker::Model;
 
 /// A refusal's code as it is printed: a capital letter with a number, and then, separated by
 /// single spaces, what it is about: `W3`, `E4 1`, `E3 P2`.
-#[derive(Clone, Copy)]
+///
+/// Contracts see its bytes.
+#[derive(Drop)]
 pub struct CodeText {
     text: ArrayString<64>,
 }
 
+impl Model for CodeText {
+    ghost use Rattle.std.specs.Prelude.{List, ℕ};
+
+    ghost Value = { List ℕ };
+
+    ghost view = { λ code. code.text.bytes };
+}
+
 impl CodeText {
-    /// The code that a refusal prints. All codes of this program are shorter than 64 bytes.
-    fn of<R: Display>(refusal: &R) -> CodeText {
+    /// A code, and what it is about. All codes of this program are shorter than 64 bytes.
+    fn of(code: &str, about: &str) -> CodeText
+        requires { length code.now + length about.now ≤ 64 }
+        ensures { result ≡ code.now ++ about.now }
+    {
         let mut text = ArrayString::new();
-        let _ = write!(text, "{refusal}");
+        text.push_str(code);
+        text.push_str(about);
         CodeText { text }
     }
 
     /// `V1`: the master has stopped, and there is no record.
-    pub fn stopped() -> CodeText {
-        CodeText::of(&"V1")
+    pub fn stopped() -> CodeText
+        ensures { result ≡ stopped_code }
+    {
+        CodeText::of("V1", "")
     }
 
     /// The text of the code.
-    pub fn as_str(&self) -> &str {
+    pub fn as_str(&self) -> &str
+        ensures { result.now ≡ self.now }
+    {
         self.text.as_str()
     }
 }
 
+/// The code of a word's refusal.
 impl From<WordRefusal> for CodeText {
+    ghost use Rattle.std.specs.Prelude.{◌≡◌};
+    ghost use Rattle.control_words.specs.Words.{refusal_code};
+
+    ghost from_gives = { λ refusal code. code ≡ refusal_code refusal };
+
     fn from(refusal: WordRefusal) -> CodeText {
-        CodeText::of(&refusal)
+        CodeText::of(refusal.code(), "")
     }
 }
 
+/// The code of a target's refusal.
 impl From<EnactRefusal> for CodeText {
+    ghost use Rattle.std.specs.Prelude.{◌≡◌};
+    ghost use Rattle.plan_executor.specs.Codes.{enact_code};
+
+    ghost from_gives = { λ refusal code. code ≡ enact_code refusal };
+
     fn from(refusal: EnactRefusal) -> CodeText {
-        CodeText::of(&refusal)
+        match refusal {
+            EnactRefusal::Memory => CodeText::of("E1", ""),
+            EnactRefusal::RecordDisagrees => CodeText::of("E2", ""),
+            EnactRefusal::Plan(refusal) => CodeText::of("E3 ", plan_code(refusal)),
+            EnactRefusal::MasterNamed(moment) => {
+                CodeText::of("E4 ", Buffer::new().format(moment))
+            }
+            EnactRefusal::NoNumbers => CodeText::of("E5", ""),
+        }
+    }
+}
+
+fn plan_code(refusal: PlanRefusal) -> &'static str
+    ensures code { result.now ≡ plan_code refusal }
+    ensures short { length result.now ≤ 13 }
+{
+    match refusal {
+        PlanRefusal::TooLarge => "P1",
+        PlanRefusal::Unplanned => "P2",
+        PlanRefusal::NoGeneration => "P3",
+        PlanRefusal::Memory => "out of memory",
     }
 }
 

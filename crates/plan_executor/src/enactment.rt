@@ -1,10 +1,16 @@
 //! A target, planned and carried out on the modelled kernel.
-ghost use Rattle.std.specs.Prelude.{◌≡◌, ◌↔◌, OnErr, IfOk, IsErrOf};
+ghost use Rattle.std.specs.Prelude.{◌≡◌, ◌↔◌, ◌⊎◌, Some, OnErr, IfOk, IfErr, IsErrOf};
 ghost use Rattle.definitions.specs.Formed.{IsFormed};
 ghost use Rattle.definitions.specs.Record.{Agrees};
-ghost use Rattle.kernel_model.specs.Pattern.{moment_at};
+ghost use Rattle.definitions.specs.Plans.{planned};
 ghost use Rattle.definitions.specs.Target.{IsTarget};
+ghost use Rattle.kernel_model.specs.Pattern.{moment_at};
+ghost use Rattle.kernel_model.specs.Room.{LacksNumbers};
+ghost use Rattle.rollback_plan.specs.Plans.{tree_of, note_of};
+ghost use Rattle.reload_planner.specs.declared.refusal.PlanRefusal.{PlanRefusal as Unplannable};
 ghost use Rattle.plan_executor.specs.Enacted.{IsEnacted};
+ghost use Rattle.plan_executor.specs.Refusals.{HasNoPlan, IsRefused};
+ghost use Rattle.plan_executor.specs.declared.enactment.EnactRefusal.{EnactRefusal as Refusal};
 
 use crate::naming::first_naming;
 use crate::patterned::Patterned;
@@ -12,6 +18,7 @@ use crate::{Transcript, execute};
 use definitions::{Report, Target};
 use kernel_model::{Kernel, Pattern, ReserveRefusal};
 use reload_planner::PlanRefusal;
+use rollback_plan::Plan;
 use service_state::Record;
 use std::alloc::{AllocError, Global};
 use thiserror::Error;
@@ -60,8 +67,11 @@ pub struct Enacted {
 /// pattern of failing calls and exits.
 ///
 /// All memory is taken before the first call, on a copy: a refusal leaves the kernel as it was.
-/// Refusals in their order: E2 the record disagrees with the kernel; E3 there is no plan; E5 too
-/// few numbers are left; E4 the pattern kills the executing master. E1 may come at any place.
+/// Refusals in their order: E2 the record disagrees with the kernel; E3 there is no plan, with the
+/// planner's own refusal; E5 fewer process or socket numbers are left than the plan's longest path
+/// has steps; E4 a moment of the run kills the executing master, and the first such is named. E1
+/// may come at any place. After a run the kernel has room for as many calls as the longest path
+/// has steps, less those that were made.
 pub fn enact(
     alloc: Global,
     kernel: &mut Kernel,
@@ -70,18 +80,16 @@ pub fn enact(
     pattern: &Pattern,
 ) -> Result<Enacted, EnactRefusal>
     requires { IsTarget target.now }
-    ensures ok { IfOk result (IsEnacted kernel.old.table kernel.new.table state.now target.now (moment_at pattern.now)) }
+    ensures ok { IfOk result (IsEnacted kernel.old kernel.new state.now target.now (moment_at pattern.now)) }
     ensures disagrees { IsErrOf result EnactRefusal.RecordDisagrees ↔ (Agrees kernel.old.table state.now → ⊥) }
+    ensures exact { (why : Refusal)
+        → IsErrOf result EnactRefusal.Memory ⊎ (IsErrOf result why ↔ IsRefused kernel.old.table state.now target.now (moment_at pattern.now) why) }
     ensures err { OnErr result (kernel.new ≡ kernel.old) }
 {
     if !state.agrees(kernel) {
         return Err(EnactRefusal::RecordDisagrees);
     }
-    let plan = match reload_planner::plan(alloc, state, target) {
-        Ok(plan) => plan,
-        Err(PlanRefusal::Memory) => return Err(EnactRefusal::Memory),
-        Err(refusal) => return Err(EnactRefusal::Plan(refusal)),
-    };
+    let plan = plan_of(alloc, state, target)?;
     let longest = plan.longest();
     let copy = reserved_copy(kernel, longest)?;
     let made = Transcript::with_room(alloc, longest)?;
@@ -101,11 +109,28 @@ pub fn enact(
     })
 }
 
+/// The plan of a target.
+fn plan_of(alloc: Global, state: &Record, target: &Target) -> Result<Plan, EnactRefusal>
+    requires { IsTarget target.now }
+    ensures tree { IfOk result (λ plan. planned state.now target.now ≡ Some (tree_of plan)) }
+    ensures note { IfOk result (λ plan. note_of plan ≡ state.now.note) }
+    ensures refused { IfErr result (λ why.
+        (why ≡ EnactRefusal.Memory) ⊎ ((refusal : Unplannable) × (why ≡ EnactRefusal.Plan refusal) × HasNoPlan state.now target.now refusal)) }
+{
+    match reload_planner::plan(alloc, state, target) {
+        Ok(plan) => Ok(plan),
+        Err(PlanRefusal::Memory) => Err(EnactRefusal::Memory),
+        Err(refusal) => Err(EnactRefusal::Plan(refusal)),
+    }
+}
+
 /// A copy of a kernel with room for so many calls.
 fn reserved_copy(kernel: &Kernel, calls: u32) -> Result<Kernel, EnactRefusal>
     ensures same { IfOk result (λ k. k ≡ record { table = kernel.now.table; room = calls }) }
     ensures formed { IsFormed kernel.now.table }
-    ensures agrees { IsErrOf result EnactRefusal.RecordDisagrees → ⊥ }
+    ensures numbers { IfOk result (λ _. LacksNumbers kernel.now.table calls → ⊥) }
+    ensures refused { IfErr result (λ why.
+        (why ≡ EnactRefusal.Memory) ⊎ ((why ≡ EnactRefusal.NoNumbers) × LacksNumbers kernel.now.table calls)) }
 {
     let mut copy = kernel.copy()?;
     match copy.reserve(calls) {

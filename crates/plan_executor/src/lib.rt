@@ -9,9 +9,14 @@ mod naming;
 mod patterned;
 mod transcript;
 mod walk;
+mod words;
 
 pub use block::{Block, Body, CodeText};
 pub use calls::Calls;
 pub use enactment::{EnactRefusal, Enacted, enact};
 pub use execution::execute;
 pub use transcript::Transcript;
+pub use words::run_words;
+
+#[cfg(test)]
+mod tests;

@@ -1,5 +1,5 @@
 //! How far the execution of a plan has come.
-ghost use Rattle.std.specs.Prelude.{◌≡◌, ◌+◌, ◌<◌, ◌≤◌, ◌^◌, IsTrue, IfSome, IfNone, None};
+ghost use Rattle.std.specs.Prelude.{◌≡◌, ◌+◌, ◌<◌, ◌≤◌, ◌^◌, IsTrue, IfSome, IfNone, None, length};
 ghost use Rattle.std.specs.Option.{option_map};
 ghost use Rattle.definitions.specs.declared.calls.Answer.TheVariants.{MasterGone};
 ghost use Rattle.definitions.specs.Path.{first_cause};
@@ -121,15 +121,19 @@ impl<'a> Walk<'a> {
         match cursor.end() {
             Some(End::Done) => Outcome::Done,
             Some(End::RolledBack) => Outcome::RolledBack,
-            Some(End::ShortOld) => Outcome::Degraded {
-                side: Side::Old,
-                short: self.bound.short(),
-            },
-            Some(End::ShortTarget) => Outcome::Degraded {
-                side: Side::Target,
-                short: self.bound.short(),
-            },
+            Some(End::ShortOld) => self.degraded(Side::Old),
+            Some(End::ShortTarget) => self.degraded(Side::Target),
             None => unreachable!(),
+        }
+    }
+
+    /// A side that lacks what the last census lacked.
+    fn degraded(&self, side: Side) -> Outcome
+        ensures { result ≡ Outcome.Degraded side (length (trail_of self.now).lacking) }
+    {
+        Outcome::Degraded {
+            side,
+            short: self.bound.short(),
         }
     }
 }

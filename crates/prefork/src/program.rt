@@ -102,14 +102,14 @@ fn rehearse(
     patterns: &[Pattern],
     text: &mut Vec<u8>,
 ) -> Result<u8, Fault> {
-    let quiet = Pattern::new(alloc);
+    let mut blocks = Vec::new(alloc);
+    let done = rehearsal.act(alloc, words, patterns, &mut blocks);
     let mut status = 0;
-    for (i, word) in words.iter().enumerate() {
-        let pattern = patterns.get(i).unwrap_or(&quiet);
-        let block = rehearsal.act(alloc, *word, pattern)?;
-        text.extend_from_slice(transcript::write_transcript(alloc, &block)?.as_slice())?;
+    for block in &blocks {
+        text.extend_from_slice(transcript::write_transcript(alloc, block)?.as_slice())?;
         status = graver(status, status_of(&block.body));
     }
+    done?;
     Ok(status)
 }
 

@@ -1,12 +1,13 @@
 //! A master on the modelled kernel, word by word.
 use crate::fault::Fault;
-use control_words::{Word, target_of};
+use control_words::Word;
 use definitions::{Limits, Settings};
 use kernel_model::{BootRefusal, Kernel, Pattern};
 use listener_set::Numbers;
-use plan_executor::{Block, Body, CodeText, EnactRefusal, enact};
+use plan_executor::{Block, run_words};
 use service_state::Record;
 use std::alloc::Global;
+use worker_table::WorkerTable;
 
 /// What the modelled kernel of a rehearsal allows.
 const LIMITS: Limits = Limits {
@@ -14,11 +15,13 @@ const LIMITS: Limits = Limits {
     descriptors: 64,
 };
 
-/// A running master on the modelled kernel, with its record as long as it runs.
+/// A running master on the modelled kernel, with its record as long as it runs and the beats of
+/// its workers.
 #[derive(Drop)]
 pub struct Rehearsal {
     kernel: Kernel,
     record: Option<Record>,
+    workers: WorkerTable,
 }
 
 impl Rehearsal {
@@ -34,41 +37,34 @@ impl Rehearsal {
             Err(BootRefusal::Memory) => return Err(Fault::Memory),
         };
         let record = Record::start(&settings, workers, &Numbers::below(workers), 100);
+        let mut table = WorkerTable::new(alloc)?;
+        table.follow(&record.ready, &Numbers::none());
         Ok(Rehearsal {
             kernel,
             record: Some(record),
+            workers: table,
         })
     }
 
-    /// Carries a word out under a pattern. The only fault is want of memory, and it leaves the
-    /// master as the words before left it.
-    pub fn act(&mut self, alloc: Global, word: Word, pattern: &Pattern) -> Result<Block, Fault> {
-        let body = match self.record {
-            None => Body::Refused(CodeText::stopped()),
-            Some(record) => self.carry_out(alloc, word, &record, pattern)?,
-        };
-        Ok(Block { word, body })
-    }
-
-    fn carry_out(
+    /// Carries words out one after another, the i-th under the i-th pattern, and puts the block of
+    /// each behind `blocks`. The only fault is want of memory: the words before it are done.
+    pub fn act(
         &mut self,
         alloc: Global,
-        word: Word,
-        record: &Record,
-        pattern: &Pattern,
-    ) -> Result<Body, Fault> {
-        let target = match target_of(word, record, &Numbers::none(), None) {
-            Ok(Some(target)) => target,
-            Ok(None) => return Ok(Body::Nothing),
-            Err(refusal) => return Ok(Body::Refused(CodeText::from(refusal))),
-        };
-        match enact(alloc, &mut self.kernel, record, &target, pattern) {
-            Ok(enacted) => {
-                self.record = enacted.after;
-                Ok(Body::Ran(enacted.transcript, enacted.report))
-            }
-            Err(EnactRefusal::Memory) => Err(Fault::Memory),
-            Err(refusal) => Ok(Body::Refused(CodeText::from(refusal))),
-        }
+        words: &[Word],
+        patterns: &[Pattern],
+        blocks: &mut Vec<Block>,
+    ) -> Result<(), Fault> {
+        run_words(
+            alloc,
+            &mut self.kernel,
+            &mut self.record,
+            &mut self.workers,
+            words,
+            patterns,
+            None,
+            blocks,
+        )?;
+        Ok(())
     }
 }

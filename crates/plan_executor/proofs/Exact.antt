@@ -1,0 +1,107 @@
+-- At most one refusal fits, and none where a target is carried out.
+use Rattle.std.proofs.Common.{◌≡◌, ℕ, ◌⊎◌, inl, inr, Some, None, Result, Ok, Err, refl, sym, ◌∙◌, ap, subst}
+use Rattle.std.specs.Prelude.{◌↔◌}
+use Rattle.std.specs.Result.{IsErrOf}
+use Rattle.std.proofs.lemmas.Option.{none-some, same_Some}
+use Rattle.definitions.specs.Table.{Table}
+use Rattle.definitions.specs.Record.{Record, Agrees}
+use Rattle.definitions.specs.declared.targets.Target.{Target}
+use Rattle.definitions.specs.Tree.{Tree, height}
+use Rattle.definitions.specs.Plans.{planned}
+use Rattle.definitions.specs.Run.{Pattern, start_at}
+use Rattle.definitions.specs.Claims.{refused_moment}
+use Rattle.kernel_model.specs.Room.{LacksNumbers}
+use Rattle.kernel_model.specs.State.{State}
+use Rattle.reload_planner.specs.declared.refusal.PlanRefusal.{PlanRefusal}
+use Rattle.reload_planner.specs.declared.refusal.PlanRefusal.TheVariants as planner
+use Rattle.plan_executor.specs.declared.enactment.Enacted.{Enacted}
+use Rattle.plan_executor.specs.declared.enactment.EnactRefusal.{EnactRefusal}
+use Rattle.plan_executor.specs.declared.enactment.EnactRefusal.TheVariants.{Memory, RecordDisagrees, Plan, MasterNamed, NoNumbers}
+use Rattle.plan_executor.specs.Refusals.{HasNoPlan, IsUnplanned, IsShortOfNumbers, NamesMaster, IsRefused}
+use Rattle.plan_executor.specs.Enacted.{IsEnacted}
+
+-- the result of an enactment is a refusal exactly where that fits, want of memory aside
+abbrev pub IsExact : Table → Record → Target → Pattern → Result Enacted EnactRefusal → Type 0
+IsExact t r target pattern result = (why : EnactRefusal) → IsErrOf result Memory ⊎ (IsErrOf result why ↔ IsRefused t r target pattern why)
+
+---- One refusal alone
+
+-- a planner that refuses a target makes no plan of it
+no_tree : (r : Record) (target : Target) (p : PlanRefusal) (tree : Tree) → HasNoPlan r target p → planned r target ≡ Some tree → ⊥
+no_tree r target planner.Unplanned tree none is = none-some tree (sym none ∙ is)
+no_tree r target planner.TooLarge tree none is = none
+no_tree r target planner.NoGeneration tree none is = none
+no_tree r target planner.Memory tree none is = none
+
+is_unplanned : (r : Record) (target : Target) (p : PlanRefusal) → HasNoPlan r target p → p ≡ planner.Unplanned
+is_unplanned r target planner.Unplanned none = refl
+is_unplanned r target planner.TooLarge none = absurd none
+is_unplanned r target planner.NoGeneration none = absurd none
+is_unplanned r target planner.Memory none = absurd none
+
+same_tree : (r : Record) (target : Target) (tree other : Tree) → planned r target ≡ Some tree → planned r target ≡ Some other → tree ≡ other
+same_tree r target tree other is also = same_Some tree other (sym is ∙ also)
+
+-- too few numbers are left for no plan that has enough
+enough : (t : Table) (r : Record) (target : Target) (tree : Tree) → planned r target ≡ Some tree → (LacksNumbers t (height tree) → ⊥) → IsShortOfNumbers t r target → ⊥
+enough t r target tree is numbers h = numbers (subst (λ (x : Tree). LacksNumbers t (height x)) (same_tree r target h.tree tree h.is_planned is) h.lacks)
+
+-- the moment is the one of the plan's run
+moment-of : (t : Table) (r : Record) (target : Target) (pattern : Pattern) (k : ℕ) (tree : Tree) → planned r target ≡ Some tree → NamesMaster t r target pattern k → refused_moment r.generation.image tree pattern (start_at t r.note) ≡ Some k
+moment-of t r target pattern k tree is h =
+    subst (λ (x : Tree). refused_moment r.generation.image x pattern (start_at t r.note) ≡ Some k) (same_tree r target h.tree tree h.is_planned is) h.first
+
+one : (t : Table) (r : Record) (target : Target) (pattern : Pattern) (why other : EnactRefusal) → IsRefused t r target pattern why → IsRefused t r target pattern other → why ≡ other
+one t r target pattern Memory other h h' = absurd h
+one t r target pattern RecordDisagrees Memory h h' = absurd h'
+one t r target pattern RecordDisagrees RecordDisagrees h h' = refl
+one t r target pattern RecordDisagrees (Plan q) h h' = absurd (h h'.agrees)
+one t r target pattern RecordDisagrees NoNumbers h h' = absurd (h h'.agrees)
+one t r target pattern RecordDisagrees (MasterNamed k) h h' = absurd (h h'.agrees)
+one t r target pattern (Plan p) Memory h h' = absurd h'
+one t r target pattern (Plan p) RecordDisagrees h h' = absurd (h' h.agrees)
+one t r target pattern (Plan p) (Plan q) h h' = ap Plan (is_unplanned r target p h.no_plan ∙ sym (is_unplanned r target q h'.no_plan))
+one t r target pattern (Plan p) NoNumbers h h' = absurd (no_tree r target p h'.tree h.no_plan h'.is_planned)
+one t r target pattern (Plan p) (MasterNamed k) h h' = absurd (no_tree r target p h'.tree h.no_plan h'.is_planned)
+one t r target pattern NoNumbers Memory h h' = absurd h'
+one t r target pattern NoNumbers RecordDisagrees h h' = absurd (h' h.agrees)
+one t r target pattern NoNumbers (Plan q) h h' = absurd (no_tree r target q h.tree h'.no_plan h.is_planned)
+one t r target pattern NoNumbers NoNumbers h h' = refl
+one t r target pattern NoNumbers (MasterNamed k) h h' = absurd (enough t r target h'.tree h'.is_planned h'.numbers h)
+one t r target pattern (MasterNamed j) Memory h h' = absurd h'
+one t r target pattern (MasterNamed j) RecordDisagrees h h' = absurd (h' h.agrees)
+one t r target pattern (MasterNamed j) (Plan q) h h' = absurd (no_tree r target q h.tree h'.no_plan h.is_planned)
+one t r target pattern (MasterNamed j) NoNumbers h h' = absurd (enough t r target h.tree h.is_planned h.numbers h')
+one t r target pattern (MasterNamed j) (MasterNamed k) h h' = ap MasterNamed (same_Some j k (sym h.first ∙ moment-of t r target pattern k h.tree h.is_planned h'))
+
+-- none where it is carried out
+none_fits : (first last : State) (r : Record) (target : Target) (pattern : Pattern) (e : Enacted) → IsEnacted first last r target pattern e → (why : EnactRefusal) → IsRefused first.table r target pattern why → ⊥
+none_fits first last r target pattern e is Memory h = h
+none_fits first last r target pattern e is RecordDisagrees h = h is.agrees
+none_fits first last r target pattern e is (Plan p) h = no_tree r target p is.tree h.no_plan is.is_planned
+none_fits first last r target pattern e is NoNumbers h = enough first.table r target is.tree is.is_planned is.numbers h
+none_fits first last r target pattern e is (MasterNamed k) h = none-some k (sym is.spared ∙ moment-of first.table r target pattern k is.tree is.is_planned h)
+
+---- What an enactment answers
+
+pub exact-memory : (t : Table) (r : Record) (target : Target) (pattern : Pattern) → IsExact t r target pattern (Err Memory)
+exact-memory t r target pattern why = inl refl
+
+pub exact-refused : (t : Table) (r : Record) (target : Target) (pattern : Pattern) (because : EnactRefusal) → IsRefused t r target pattern because → IsExact t r target pattern (Err because)
+exact-refused t r target pattern because is why =
+    inr (λ h. let same : because ≡ why = cc in subst (IsRefused t r target pattern) same is, λ h. let same : because ≡ why = one t r target pattern because why is h in cc)
+
+pub exact-enacted : (first last : State) (r : Record) (target : Target) (pattern : Pattern) (e : Enacted) → IsEnacted first last r target pattern e → IsExact first.table r target pattern (Ok e)
+exact-enacted first last r target pattern e is why = inr (λ h. cc, λ h. absurd (none_fits first last r target pattern e is why h))
+
+-- where the planner refuses
+pub exact-planless : (t : Table) (r : Record) (target : Target) (pattern : Pattern) (because : EnactRefusal) → Agrees t r → (because ≡ Memory) ⊎ ((refusal : PlanRefusal) × (because ≡ Plan refusal) × HasNoPlan r target refusal) → IsExact t r target pattern (Err because)
+exact-planless t r target pattern because agrees (inl memory) = subst (λ (e : EnactRefusal). IsExact t r target pattern (Err e)) (sym memory) (exact-memory t r target pattern)
+exact-planless t r target pattern because agrees (inr h) =
+    subst (λ (e : EnactRefusal). IsExact t r target pattern (Err e)) (sym h.1) (exact-refused t r target pattern (Plan h.0) (record { agrees = agrees; no_plan = h.2 }))
+
+-- where no room can be made for the plan
+pub exact-short : (t : Table) (r : Record) (target : Target) (pattern : Pattern) (tree : Tree) (because : EnactRefusal) → Agrees t r → planned r target ≡ Some tree → (because ≡ Memory) ⊎ ((because ≡ NoNumbers) × LacksNumbers t (height tree)) → IsExact t r target pattern (Err because)
+exact-short t r target pattern tree because agrees is (inl memory) = subst (λ (e : EnactRefusal). IsExact t r target pattern (Err e)) (sym memory) (exact-memory t r target pattern)
+exact-short t r target pattern tree because agrees is (inr h) =
+    subst (λ (e : EnactRefusal). IsExact t r target pattern (Err e)) (sym h.0) (exact-refused t r target pattern NoNumbers (record { agrees = agrees; tree = tree; is_planned = is; lacks = h.1 }))

@@ -1,0 +1,24 @@
+-- The codes of refusals, as they are printed.
+use Rattle.std.specs.Prelude.{ℕ, List, ◌++◌, codes}
+use Rattle.std.specs.Fmt.{decimal}
+use Rattle.reload_planner.specs.declared.refusal.PlanRefusal.{PlanRefusal}
+use Rattle.reload_planner.specs.declared.refusal.PlanRefusal.TheVariants as planner
+use Rattle.plan_executor.specs.declared.enactment.EnactRefusal.{EnactRefusal}
+use Rattle.plan_executor.specs.declared.enactment.EnactRefusal.TheVariants.{Memory, RecordDisagrees, Plan, MasterNamed, NoNumbers}
+
+abbrev pub plan_code : PlanRefusal → List ℕ
+plan_code planner.TooLarge = codes "P1"
+plan_code planner.Unplanned = codes "P2"
+plan_code planner.NoGeneration = codes "P3"
+plan_code planner.Memory = codes "out of memory"
+
+abbrev pub enact_code : EnactRefusal → List ℕ
+enact_code Memory = codes "E1"
+enact_code RecordDisagrees = codes "E2"
+enact_code (Plan refusal) = codes "E3 " ++ plan_code refusal
+enact_code (MasterNamed moment) = codes "E4 " ++ decimal moment
+enact_code NoNumbers = codes "E5"
+
+-- there is no master any more
+abbrev pub stopped_code : List ℕ
+stopped_code = codes "V1"

@@ -1,0 +1,50 @@
+-- Why a target is not carried out.
+use Rattle.std.specs.Prelude.{ℕ, ◌≡◌, Some, None}
+use Rattle.definitions.specs.Table.{Table}
+use Rattle.definitions.specs.Record.{Record, Agrees}
+use Rattle.definitions.specs.declared.targets.Target.{Target}
+use Rattle.definitions.specs.Tree.{Tree, height}
+use Rattle.definitions.specs.Plans.{planned}
+use Rattle.definitions.specs.Run.{Pattern, start_at}
+use Rattle.definitions.specs.Claims.{refused_moment}
+use Rattle.kernel_model.specs.Room.{LacksNumbers}
+use Rattle.reload_planner.specs.declared.refusal.PlanRefusal.{PlanRefusal}
+use Rattle.reload_planner.specs.declared.refusal.PlanRefusal.TheVariants as planner
+use Rattle.plan_executor.specs.declared.enactment.EnactRefusal.{EnactRefusal}
+use Rattle.plan_executor.specs.declared.enactment.EnactRefusal.TheVariants.{Memory, RecordDisagrees, Plan, MasterNamed, NoNumbers}
+
+-- When a planner refuses a target so, want of memory aside.
+abbrev pub HasNoPlan : Record → Target → PlanRefusal → Type 0
+HasNoPlan r target planner.Unplanned = planned r target ≡ None
+HasNoPlan r target planner.TooLarge = ⊥
+HasNoPlan r target planner.NoGeneration = ⊥
+HasNoPlan r target planner.Memory = ⊥
+
+-- The record agrees, and a planner refuses the target.
+pub record IsUnplanned (t : Table) (r : Record) (target : Target) (refusal : PlanRefusal) : Type 0 where
+  pub agrees : Agrees t r
+  pub no_plan : HasNoPlan r target refusal
+
+-- The record agrees and there is a plan, but fewer process or socket numbers are left than its longest path has steps.
+pub record IsShortOfNumbers (t : Table) (r : Record) (target : Target) : Type 0 where
+  pub agrees : Agrees t r
+  pub tree : Tree
+  pub is_planned : planned r target ≡ Some tree
+  pub lacks : LacksNumbers t (height tree)
+
+-- The record agrees and there is a plan, for which enough numbers are left, but the run under the pattern has moments in which
+-- an executing master exits, and this is the first.
+pub record NamesMaster (t : Table) (r : Record) (target : Target) (pattern : Pattern) (moment : ℕ) : Type 0 where
+  pub agrees : Agrees t r
+  pub tree : Tree
+  pub is_planned : planned r target ≡ Some tree
+  pub numbers : LacksNumbers t (height tree) → ⊥
+  pub first : refused_moment r.generation.image tree pattern (start_at t r.note) ≡ Some moment
+
+-- When a target is refused so, want of memory aside. No two of these hold at once.
+abbrev pub IsRefused : Table → Record → Target → Pattern → EnactRefusal → Type 0
+IsRefused t r target pattern Memory = ⊥
+IsRefused t r target pattern RecordDisagrees = Agrees t r → ⊥
+IsRefused t r target pattern (Plan refusal) = IsUnplanned t r target refusal
+IsRefused t r target pattern NoNumbers = IsShortOfNumbers t r target
+IsRefused t r target pattern (MasterNamed moment) = NamesMaster t r target pattern moment
