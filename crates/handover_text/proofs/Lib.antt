@@ -5,3 +5,4 @@ pub mod Prefixes
 pub mod LinesRead
 pub mod SoFar
 pub mod Spelled
+pub mod Taken

@@ -232,7 +232,7 @@ nothing_in_range = record {
 abbrev pub is_newline : ℕ → Bool
 is_newline c = c == 10
 
-pieces_more : (n : ℕ) (place : Place) (h : Handover) (line : List ℕ) (rest : List ℕ) → read_pieces n place h (line ∷ slice_split is_newline rest) ≡ then_read (read_line n place h line) (λ place' h'. read_pieces (n + 1) place' h' (slice_split is_newline rest))
+pub pieces_more : (n : ℕ) (place : Place) (h : Handover) (line : List ℕ) (rest : List ℕ) → read_pieces n place h (line ∷ slice_split is_newline rest) ≡ then_read (read_line n place h line) (λ place' h'. read_pieces (n + 1) place' h' (slice_split is_newline rest))
 pieces_more n place h line rest = at (slice_split is_newline rest) (length-slice_split is_newline rest)
   where
     at : (pieces : List (List ℕ)) → length pieces ≡ count_by is_newline rest + 1 → read_pieces n place h (line ∷ pieces) ≡ then_read (read_line n place h line) (λ place' h'. read_pieces (n + 1) place' h' pieces)
