@@ -105,7 +105,7 @@ pub master-exit-falls : (m : ℕ) (t : Names) (o : Option Caller) (rows : List P
 master-exit-falls m t None rows = omega arith
 master-exit-falls m t (Some c) rows = change-falls (λ p. ⊤) (ready_in m t) live_any (without_exited c.number (λ q. list_any (is_live_master q) rows)) (λ p x. master-falls m t c.number (λ q. list_any (is_live_master q) rows) p) rows (every-any rows)
 
-kept-master : (m gone : ℕ) (lives : ℕ → Bool) → m ≢ gone → (p : Process) → worth (master_of m) (without_exited gone lives p) ≡ master_of m p
+pub kept-master : (m gone : ℕ) (lives : ℕ → Bool) → m ≢ gone → (p : Process) → worth (master_of m) (without_exited gone lives p) ≡ master_of m p
 kept-master m gone lives ne (Master n q i live hs) =
     pick (λ o. worth (master_of m) o ≡ one (n == m)) (n == gone) _ _ (λ e. both (lives q) (eqb-off n m (λ x. ne (sym x ∙ eqb-is n gone e)))) (λ e. refl)
   where

@@ -1,5 +1,5 @@
 -- A process that is Ready in the first table: it is alone with its number, and its name is one of the record's.
-use Rattle.std.proofs.Common.{◌≡◌, ℕ, ◌+◌, ◌<◌, ◌≤◌, Bool, true, false, List, [], ◌∷◌, refl, sym, subst, arith}
+use Rattle.std.proofs.Common.{◌≡◌, ℕ, ◌+◌, ◌<◌, ◌≤◌, Bool, true, false, List, [], ◌∷◌, refl, sym, subst, arith, inl}
 use Rattle.std.specs.Prelude.{◌&&◌, ◌||◌, ◌==◌}
 use Rattle.std.specs.List.{AllByRecursion, list_any}
 use Rattle.listener_set.specs.Numbers.{is_in}
@@ -17,6 +17,7 @@ use Rattle.theorems.proofs.Services.{sole-fine}
 use Rattle.theorems.proofs.Begins.{first_view, begin}
 use Rattle.theorems.proofs.Small.{every-is_in}
 use Rattle.theorems.proofs.Processes.{HasOne, IsOf, Fact}
+use Rattle.theorems.proofs.Duo.{master-below}
 use Rattle.theorems.proofs.Staying.{IsIt, is_it, Stands}
 use Rattle.theorems.proofs.Taken.{OnlyOurs, IsUntouched}
 
@@ -71,9 +72,12 @@ module _ (t : Table) (r : Record) (s : IsStart t r) (n k : ℕ) (on : has_ready 
   first-one = record { all = every-more (Fine u) (IsOf r.pid r.generation.image) of t.rows fine; some = omega (arith, (begin t r s).alone) }
     where
       of : (p : Process) → Fine u p → IsOf r.pid r.generation.image p
-      of (Master j q i live hs) h = (h.0, h.1, h.2)
+      of (Master j q i live hs) h = inl (h.0, h.1, h.2)
       of (Worker j q g x st hs) h = tt
       of (Foreign j hs) h = tt
+
+  pub first-above : r.pid < t.next_process
+  first-above = master-below r.pid 0 t.rows t.next_process s.formed.ascending (omega (arith, (begin t r s).alone))
 
   -- what is known of a Ready worker of the first table
   ready-fine : (j q : ℕ) (g : Generation) (x : ℕ) (hs : List Hold) → Fine u (Worker j q g x Ready hs) → (q ≡ r.pid) × (g ≡ r.generation) × (is_in r.ready x ≡ true)
@@ -120,6 +124,7 @@ module _ (t : Table) (r : Record) (s : IsStart t r) (n k : ℕ) (on : has_ready 
     one = first-one;
     all = every-more (λ p. (number_of p ≡ n → is_ready_as n k p ≡ true) × Fine u p) Untouched untouched-row t.rows (every-both (λ p. number_of p ≡ n → is_ready_as n k p ≡ true) (Fine u) t.rows its.0 fine);
     below = its.1;
+    above = first-above;
   }
 
   ---- Standing
@@ -160,6 +165,7 @@ module _ (t : Table) (r : Record) (s : IsStart t r) (n k : ℕ) (on : has_ready 
       one = first-one;
       all = every-more (λ p. (number_of p ≡ n → is_ready_as n k p ≡ true) × Fine u p) It (λ p h e. it-row p h.1 (h.0 (active-number p e))) t.rows (every-both (λ p. number_of p ≡ n → is_ready_as n k p ≡ true) (Fine u) t.rows its.0 fine);
       below = its.1;
+      above = first-above;
     };
     has = has-it t.rows fine on;
   }

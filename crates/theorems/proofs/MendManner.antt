@@ -145,6 +145,7 @@ module _ (t : Table) (r : Record) (overdue : List ℕ) (pattern : Pattern) (s : 
         one = after.one;
         all = every-filter_map (OnlyOurs r.pid g.image p g k low (InAny r.pid g.image p g k low)) (IsOther p) (dropped (is_worker is_any r.pid g k)) (λ row h. pick (FitsIn (IsOther p)) (is_worker is_any r.pid g k row) None (Some row) (λ e. tt) (λ e. not-killed row h e)) t'.rows named.all;
         below = after.below;
+        above = after.above;
       })
 
   abbrev RestCalm : Type 0

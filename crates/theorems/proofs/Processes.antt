@@ -1,5 +1,5 @@
 -- Facts on each row of a table with one master: what exits and calls do to them.
-use Rattle.std.proofs.Common.{◌≡◌, ◌≢◌, ℕ, ◌+◌, ◌<◌, ◌≤◌, Bool, true, false, List, [], ◌∷◌, Option, Some, None, refl, sym, ap, ◌∙◌, subst, arith}
+use Rattle.std.proofs.Common.{◌≡◌, ◌≢◌, ℕ, ◌+◌, ◌<◌, ◌≤◌, Bool, true, false, List, [], ◌∷◌, Option, Some, None, refl, sym, ap, ◌∙◌, subst, arith, not, ◌⊎◌, inl, inr, ⊎_elim}
 use Rattle.std.specs.Prelude.{filter_map, ⊤, ◌&&◌, ◌==◌, nat_lt, length, if◌then◌else◌}
 use Rattle.std.specs.List.{AllByRecursion, list_any}
 use Rattle.listener_set.specs.declared.generation.Generation.{Generation}
@@ -12,19 +12,19 @@ use Rattle.definitions.specs.declared.calls.Call.TheVariants.{OpenAt, CloseAt, F
 use Rattle.definitions.specs.declared.calls.Answer.{Answer}
 use Rattle.definitions.specs.declared.calls.Answer.TheVariants as answer
 use Rattle.definitions.specs.declared.calls.Fate.{Fate}
-use Rattle.definitions.specs.Table.{Hold, Process, Master, Worker, Foreign, Table, Caller, live_master, caller_if, is_worker, is_named, is_active, is_starting, is_draining, is_exited, is_any, is_held}
-use Rattle.definitions.specs.Exits.{change, made_exited, first_changed, caller_exits, exited, all_exited, after_exits}
+use Rattle.definitions.specs.Table.{Hold, Process, Master, Worker, Foreign, Table, Caller, live_master, caller_if, is_live_master, is_worker, is_named, is_active, is_starting, is_draining, is_exited, is_any, is_held}
+use Rattle.definitions.specs.Exits.{without_exited, kept_if, change, made_exited, first_changed, caller_exits, exited, all_exited, after_exits}
 use Rattle.definitions.specs.Calls.{census_of, Stepped, gives, each_row, dropped, with_holds, put_hold, lacks_address, is_row, is_of, is_exited_of, made_ready, made_draining, with_new_row, with_new_socket, lowest_free, has_process_room, own_step, fault_at, fault_or_own, step_by, step_with}
 use Rattle.theorems.proofs.Rows.{weigh-append, one, weigh, worth, FitsIn, change-same, every-filter_map, every-append, every-any, pick}
-use Rattle.theorems.proofs.Views.{master_of, eqb-refl, eqb-off}
+use Rattle.theorems.proofs.Views.{master_of, eqb-refl, eqb-off, eqb-is}
 use Rattle.theorems.proofs.Logic.{unfailing}
-use Rattle.theorems.proofs.Exits.{IsNot, Spares}
+use Rattle.theorems.proofs.Exits.{IsNot, Spares, kept-master}
 
 ---- The one master
 
--- each master's row is the live one of the number and the image
+-- each master's row is the live one of the number and the image, or of another number and another image
 abbrev pub IsOf : ℕ → ℕ → Process → Type 0
-IsOf m image (Master n q i live hs) = (n ≡ m) × (i ≡ image) × (live ≡ true)
+IsOf m image (Master n q i live hs) = ((n ≡ m) × (i ≡ image) × (live ≡ true)) ⊎ ((n ≢ m) × (i ≢ image))
 IsOf m image (Worker n q g k s hs) = ⊤
 IsOf m image (Foreign n hs) = ⊤
 
@@ -35,25 +35,35 @@ pub record HasOne (m image : ℕ) (rows : List Process) : Type 0 where
 
 pub one-found : (m image : ℕ) (rows : List Process) → AllByRecursion (IsOf m image) rows → 1 ≤ weigh (master_of m) rows → (hs : List Hold) × (live_master image rows ≡ Some (record { number = m; holds = hs }))
 one-found m image [] all some = absurd (omega arith)
-one-found m image (Master n q i live hs ∷ rows) all some = (hs, go live (i == image) all.0.2 (eqb-refl i image all.0.1))
+one-found m image (Master n q i live hs ∷ rows) all some =
+    ⊎_elim (λ o. (hs, go live (i == image) o.0 o.2 (eqb-refl i image o.1)))
+    (λ o. let (zs, found) = one-found m image rows all.1 (omega (arith, some, ap one (eqb-off n m o.0))) in (zs, skip live (i == image) (eqb-off i image o.1) ∙ found)) all.0
   where
-    go : (l b : Bool) → l ≡ true → b ≡ true → caller_if (l && b) n hs (live_master image rows) ≡ Some (record { number = m; holds = hs })
-    go true true e f = λ i. Some (record { number = all.0.0 i; holds = hs })
-    go true false e f = absurd (cc)
-    go false b e f = absurd (cc)
-one-found m image (Worker n q g k s hs ∷ rows) all some = one-found m image rows all.1 (omega arith)
-one-found m image (Foreign n hs ∷ rows) all some = one-found m image rows all.1 (omega arith)
+    go : (l b : Bool) → n ≡ m → l ≡ true → b ≡ true → caller_if (l && b) n hs (live_master image rows) ≡ Some (record { number = m; holds = hs })
+    go true true is e f = λ i. Some (record { number = is i; holds = hs })
+    go true false is e f = absurd (cc)
+    go false b is e f = absurd (cc)
 
-no-other : (m image i : ℕ) (rows : List Process) → i ≢ image → AllByRecursion (IsOf m image) rows → live_master i rows ≡ None
-no-other m image i [] ne all = refl
-no-other m image i (Master n q j live hs ∷ rows) ne all = go live (j == i) (eqb-off j i (λ e. ne (sym e ∙ all.0.1))) (no-other m image i rows ne all.1)
+    skip : (l b : Bool) → b ≡ false → caller_if (l && b) n hs (live_master image rows) ≡ live_master image rows
+    skip true true e = absurd (cc)
+    skip true false e = refl
+    skip false b e = refl
+one-found m image (Worker n q g k s hs ∷ rows) all some = one-found m image rows all.1 (omega (arith, some))
+one-found m image (Foreign n hs ∷ rows) all some = one-found m image rows all.1 (omega (arith, some))
+
+-- A live master of another image has another number.
+pub other-number : (m image i : ℕ) (rows : List Process) → i ≢ image → AllByRecursion (IsOf m image) rows → (c : Caller) → live_master i rows ≡ Some c → m ≢ c.number
+other-number m image i [] ne all c e = absurd (cc)
+other-number m image i (Master n q j live hs ∷ rows) ne all c e = go live (j == i) refl e (other-number m image i rows ne all.1 c)
   where
-    go : (l b : Bool) → b ≡ false → live_master i rows ≡ None → caller_if (l && b) n hs (live_master i rows) ≡ None
-    go true true e ih = absurd (cc)
-    go true false e ih = ih
-    go false b e ih = ih
-no-other m image i (Worker n q g k s hs ∷ rows) ne all = no-other m image i rows ne all.1
-no-other m image i (Foreign n hs ∷ rows) ne all = no-other m image i rows ne all.1
+    go : (l b : Bool) → (j == i) ≡ b → caller_if (l && b) n hs (live_master i rows) ≡ Some c → (live_master i rows ≡ Some c → m ≢ c.number) → m ≢ c.number
+    go true true is e ih =
+        let same : record { number = n; holds = hs } ≡ c = cc in
+        ⊎_elim (λ o. absurd (ne (sym (eqb-is j i is) ∙ o.1))) (λ o is_m. o.0 (ap (λ (x : Caller). x.number) same ∙ sym is_m)) all.0
+    go true false is e ih = ih e
+    go false b is e ih = ih e
+other-number m image i (Worker n q g k s hs ∷ rows) ne all c e = other-number m image i rows ne all.1 c e
+other-number m image i (Foreign n hs ∷ rows) ne all c e = other-number m image i rows ne all.1 c e
 
 ---- Facts that last
 
@@ -62,9 +72,11 @@ no-other m image i (Foreign n hs ∷ rows) ne all = no-other m image i rows ne a
 pub record Lasts (m n : ℕ) (P : Process → Type 0) (Quits : Generation → ℕ → Type 0) : Type 0 where
   pub ends : (p : Process) → P p → P (made_exited p)
   pub keeps : (f : List Hold → List Hold) (p : Process) → P p → P (with_holds f p)
-  pub readies : (g : Generation) (x : ℕ) (p : Process) → is_worker is_starting m g x p ≡ true → P p → P (made_ready p)
+  pub readies : (c : ℕ) (g : Generation) (x : ℕ) (p : Process) → is_worker is_starting c g x p ≡ true → P p → P (made_ready p)
   pub drains : (g : Generation) (x : ℕ) (p : Process) → Quits g x → is_worker is_active m g x p ≡ true → P p → P (made_draining p)
-  pub starts : (number : ℕ) (g : Generation) (x : ℕ) (hs : List Hold) → n < number → P (Worker number m g x Starting hs)
+  pub starts : (number c : ℕ) (g : Generation) (x : ℕ) (hs : List Hold) → n < number → P (Worker number c g x Starting hs)
+  pub spawns : (number parent i : ℕ) (hs : List Hold) → n < number → P (Master number parent i true hs)
+  pub leaves : (gone : ℕ) (lives : ℕ → Bool) (p : Process) → m ≢ gone → P p → FitsIn P (without_exited gone lives p)
 
 -- calls that let it last
 abbrev pub Lets : (Generation → ℕ → Type 0) → Call → Type 0
@@ -82,6 +94,7 @@ pub record Fact (m image n : ℕ) (P : Process → Type 0) (t : Table) : Type 0 
   pub one : HasOne m image t.rows
   pub all : AllByRecursion P t.rows
   pub below : n < t.next_process
+  pub above : m < t.next_process
 
 module _ (m n : ℕ) (P : Process → Type 0) (Quits : Generation → ℕ → Type 0) (lasts : Lasts m n P Quits) where
   every-change : (test : Process → Bool) (f : Process → Process) → ((p : Process) → test p ≡ true → P p → P (f p)) → (rows : List Process) → AllByRecursion P rows → AllByRecursion P (filter_map (change test f) rows)
@@ -95,14 +108,21 @@ module _ (m n : ℕ) (P : Process → Type 0) (Quits : Generation → ℕ → Ty
   exit-one : (image : ℕ) (e : Name) (rows : List Process) → IsNot image e → AllByRecursion (IsOf m image) rows → AllByRecursion P rows → AllByRecursion P (exited e rows)
   exit-one image (name.Worker g k) rows is one all = every-change (is_named is_active g k) made_exited (λ p e x. lasts.ends p x) rows all
   exit-one image (name.Draining g k) rows is one all = every-first (is_named is_draining g k) rows all
-  exit-one image (name.Master i) rows is one all = subst (λ o. AllByRecursion P (caller_exits o rows)) (sym (no-other m image i rows is one)) all
+  exit-one image (name.Master i) rows is one all = go (live_master i rows) refl
+    where
+      go : (o : Option Caller) → live_master i rows ≡ o → AllByRecursion P (caller_exits o rows)
+      go None e = all
+      go (Some c) e = every-filter_map P P (without_exited c.number (λ q. list_any (is_live_master q) rows)) (λ p x. lasts.leaves c.number (λ q. list_any (is_live_master q) rows) p (other-number m image i rows is one c e) x) rows all
 
 every-dropped : (P : Process → Type 0) (test : Process → Bool) (rows : List Process) → AllByRecursion P rows → AllByRecursion P (filter_map (dropped test) rows)
 every-dropped P test rows all = every-filter_map P P (dropped test) (λ p x. pick (FitsIn P) (test p) None (Some p) (λ e. tt) (λ e. x)) rows all
 
--- The master's own fact lasts.
-of-lasts : (m image n : ℕ) → Lasts m n (IsOf m image) (λ g x. ⊤)
-of-lasts m image n = record { ends = of-exited; keeps = of-holds; readies = λ g x p e h. of-ready p h; drains = λ g x p q e h. of-draining p h; starts = λ k g x hs lt. tt }
+-- The masters' own fact lasts, but for new masters.
+abbrev pub OfLasts : ℕ → ℕ → Type 0
+OfLasts m image = ((p : Process) → IsOf m image p → IsOf m image (made_exited p)) × ((f : List Hold → List Hold) (p : Process) → IsOf m image p → IsOf m image (with_holds f p)) × ((p : Process) → IsOf m image p → IsOf m image (made_ready p)) × ((p : Process) → IsOf m image p → IsOf m image (made_draining p)) × ((gone : ℕ) (lives : ℕ → Bool) (p : Process) → m ≢ gone → IsOf m image p → FitsIn (IsOf m image) (without_exited gone lives p))
+
+pub of-lasts : (m image : ℕ) → OfLasts m image
+of-lasts m image = (of-exited, of-holds, of-ready, of-draining, of-left)
   where
     of-exited : (p : Process) → IsOf m image p → IsOf m image (made_exited p)
     of-exited (Master n q i live hs) h = h
@@ -123,6 +143,20 @@ of-lasts m image n = record { ends = of-exited; keeps = of-holds; readies = λ g
     of-draining (Master n q i live hs) h = h
     of-draining (Worker n q g k s hs) h = tt
     of-draining (Foreign n hs) h = tt
+
+    of-left : (gone : ℕ) (lives : ℕ → Bool) (p : Process) → m ≢ gone → IsOf m image p → FitsIn (IsOf m image) (without_exited gone lives p)
+    of-left gone lives (Master n q i live hs) ne h =
+        pick (FitsIn (IsOf m image)) (n == gone) _ _ (λ e. ⊎_elim (λ o. absurd (ne (sym o.0 ∙ eqb-is n gone e))) (λ o. kept (lives q) o) h) (λ e. h)
+      where
+        kept : (b : Bool) → (n ≢ m) × (i ≢ image) → FitsIn (IsOf m image) (kept_if b (Master n q i false []))
+        kept true o = inr o
+        kept false o = tt
+    of-left gone lives (Worker n q g k s hs) ne h = go (not (q == gone))
+      where
+        go : (b : Bool) → FitsIn (IsOf m image) (kept_if b (Worker n q g k s hs))
+        go true = tt
+        go false = tt
+    of-left gone lives (Foreign n hs) ne h = tt
 
 -- Masters are counted as before where no change makes or takes one.
 masters-changed : (m : ℕ) (test : Process → Bool) (f : Process → Process) → ((p : Process) → master_of m (f p) ≡ master_of m p) → (rows : List Process) → weigh (master_of m) (filter_map (change test f) rows) ≡ weigh (master_of m) rows
@@ -168,19 +202,37 @@ masters-first m test (p ∷ rows) = pick (λ l. weigh (master_of m) l ≡ master
 exit-masters : (m image : ℕ) (e : Name) (rows : List Process) → IsNot image e → AllByRecursion (IsOf m image) rows → weigh (master_of m) (exited e rows) ≡ weigh (master_of m) rows
 exit-masters m image (name.Worker g k) rows is one = masters-changed m (is_named is_active g k) made_exited (exited-kind m) rows
 exit-masters m image (name.Draining g k) rows is one = masters-first m (is_named is_draining g k) rows
-exit-masters m image (name.Master i) rows is one = ap (λ o. weigh (master_of m) (caller_exits o rows)) (no-other m image i rows is one)
+exit-masters m image (name.Master i) rows is one = go (live_master i rows) refl
+  where
+    go : (o : Option Caller) → live_master i rows ≡ o → weigh (master_of m) (caller_exits o rows) ≡ weigh (master_of m) rows
+    go None e = refl
+    go (Some c) e = change-same (λ p. ⊤) (master_of m) (without_exited c.number (λ q. list_any (is_live_master q) rows)) (λ p x. kept-master m c.number (λ q. list_any (is_live_master q) rows) (other-number m image i rows is one c e) p) rows (every-any rows)
+
+-- one exit keeps the masters' own fact
+of-exit-one : (m image : ℕ) (e : Name) (rows : List Process) → IsNot image e → AllByRecursion (IsOf m image) rows → AllByRecursion (IsOf m image) (exited e rows)
+of-exit-one m image (name.Worker g k) rows is one = every-filter_map (IsOf m image) (IsOf m image) (change (is_named is_active g k) made_exited) (λ p x. pick (IsOf m image) (is_named is_active g k p) (made_exited p) p (λ e. (of-lasts m image).0 p x) (λ e. x)) rows one
+of-exit-one m image (name.Draining g k) rows is one = first (is_named is_draining g k) rows one
+  where
+    first : (test : Process → Bool) (rows : List Process) → AllByRecursion (IsOf m image) rows → AllByRecursion (IsOf m image) (first_changed test made_exited rows)
+    first test [] all = tt
+    first test (p ∷ rows) all = pick (AllByRecursion (IsOf m image)) (test p) (made_exited p ∷ rows) (p ∷ first_changed test made_exited rows) (λ e. ((of-lasts m image).0 p all.0, all.1)) (λ e. (all.0, first test rows all.1))
+of-exit-one m image (name.Master i) rows is one = go (live_master i rows) refl
+  where
+    go : (o : Option Caller) → live_master i rows ≡ o → AllByRecursion (IsOf m image) (caller_exits o rows)
+    go None e = one
+    go (Some c) e = every-filter_map (IsOf m image) (IsOf m image) (without_exited c.number (λ q. list_any (is_live_master q) rows)) (λ p x. (of-lasts m image).4 c.number (λ q. list_any (is_live_master q) rows) p (other-number m image i rows is one c e) x) rows one
 
 -- A fact lasts through all exits that spare the master.
 pub fact-exits : (m image n : ℕ) (P : Process → Type 0) (Quits : Generation → ℕ → Type 0) → Lasts m n P Quits → (es : List Name) (t : Table) → Spares image es → Fact m image n P t → Fact m image n P (after_exits es t)
 fact-exits m image n P Quits lasts es t sp fact =
     let all = go es t.rows sp fact.one fact.all in
-    record { one = all.0; all = all.1; below = fact.below }
+    record { one = all.0; all = all.1; below = fact.below; above = fact.above }
   where
     go : (es : List Name) (rows : List Process) → Spares image es → HasOne m image rows → AllByRecursion P rows → HasOne m image (all_exited es rows) × AllByRecursion P (all_exited es rows)
     go [] rows sp one all = (one, all)
     go (e ∷ es) rows sp one all =
         go es (exited e rows) sp.1
-        (record { all = exit-one m n (IsOf m image) (λ g x. ⊤) (of-lasts m image n) image e rows sp.0 one.all one.all; some = omega (arith, one.some, exit-masters m image e rows sp.0 one.all) })
+        (record { all = of-exit-one m image e rows sp.0 one.all; some = omega (arith, one.some, exit-masters m image e rows sp.0 one.all) })
         (exit-one m n P Quits lasts image e rows sp.0 one.all all)
 
 -- The call's own effect.
@@ -199,6 +251,7 @@ module _ (m image n : ℕ) (P : Process → Type 0) (Quits : Generation → ℕ 
     };
     all = every-change m n P Quits lasts test f h t.rows fact.all;
     below = fact.below;
+    above = fact.above;
   }
 
   fact-dropped : (test : Process → Bool) (t : Table) → ((p : Process) → test p ≡ true → master_of m p ≡ 0) → F t → F (each_row (dropped test) t)
@@ -206,20 +259,22 @@ module _ (m image n : ℕ) (P : Process → Type 0) (Quits : Generation → ℕ 
     one = record { all = every-dropped (IsOf m image) test t.rows fact.one.all; some = omega (arith, fact.one.some, masters-dropped m test none t.rows) };
     all = every-dropped P test t.rows fact.all;
     below = fact.below;
+    above = fact.above;
   }
 
   fact-opened : (h : Hold) (t : Table) → F t → F (with_new_socket t m h)
   fact-opened h t fact =
-      let f = fact-changed (is_row m) (with_holds (put_hold h)) t (λ p e x. lasts.keeps (put_hold h) p x) (λ p e x. (of-lasts m image n).keeps (put_hold h) p x) (holds-kind m (put_hold h)) fact in
-      record { one = f.one; all = f.all; below = f.below }
+      let f = fact-changed (is_row m) (with_holds (put_hold h)) t (λ p e x. lasts.keeps (put_hold h) p x) (λ p e x. (of-lasts m image).1 (put_hold h) p x) (holds-kind m (put_hold h)) fact in
+      record { one = f.one; all = f.all; below = f.below; above = f.above }
 
   fact-forked : (g : Generation) (x : ℕ) (t : Table) → F t → F (with_new_row t (λ k. Worker k m g x Starting hs))
   fact-forked g x t fact =
       let new = Worker t.next_process m g x Starting hs in
       record {
         one = record { all = every-append (IsOf m image) t.rows new fact.one.all tt; some = omega (arith, fact.one.some, weigh-append (master_of m) t.rows (new ∷ [])) };
-        all = every-append P t.rows new fact.all (lasts.starts t.next_process g x hs fact.below);
+        all = every-append P t.rows new fact.all (lasts.starts t.next_process m g x hs fact.below);
         below = omega (arith, fact.below);
+        above = omega (arith, fact.above);
       }
 
   own-keeps : (text : List ℕ) (call : Call) (t : Table) → Lets Quits call → F t → F (own_step text image me call t).table
@@ -228,16 +283,16 @@ module _ (m image n : ℕ) (P : Process → Type 0) (Quits : Generation → ℕ 
       let done = gives (answer.Opened (lowest_free hs)) (with_new_socket t m h) in
       pick (λ (st : Stepped). F st.table) (is_held a t.rows) (gives answer.InUse t) (if nat_lt (length hs) t.limits.descriptors then done else gives answer.TooMany t) (λ e. fact)
       (λ e. pick (λ (st : Stepped). F st.table) (nat_lt (length hs) t.limits.descriptors) done (gives answer.TooMany t) (λ e. fact-opened h t fact) (λ e. fact))
-  own-keeps text (CloseAt a) t lets fact = fact-changed (is_of m) (with_holds (lacks_address a)) t (λ p e x. lasts.keeps (lacks_address a) p x) (λ p e x. (of-lasts m image n).keeps (lacks_address a) p x) (holds-kind m (lacks_address a)) fact
+  own-keeps text (CloseAt a) t lets fact = fact-changed (is_of m) (with_holds (lacks_address a)) t (λ p e x. lasts.keeps (lacks_address a) p x) (λ p e x. (of-lasts m image).1 (lacks_address a) p x) (holds-kind m (lacks_address a)) fact
   own-keeps text (Fork g x) t lets fact =
       let done = gives answer.Forked (with_new_row t (λ k. Worker k m g x Starting hs)) in
       pick (λ (st : Stepped). F st.table) (list_any (is_worker is_active m g x) t.rows) (gives answer.Again t) (if has_process_room t then done else gives answer.Again t) (λ e. fact)
       (λ e. pick (λ (st : Stepped). F st.table) (has_process_room t) done (gives answer.Again t) (λ e. fact-forked g x t fact) (λ e. fact))
   own-keeps text (AwaitReady g x) t lets fact =
       pick (λ (st : Stepped). F st.table) (list_any (is_worker is_active m g x) t.rows) _ _
-      (λ e. fact-changed (is_worker is_starting m g x) made_ready t (lasts.readies g x) ((of-lasts m image n).readies g x) (ready-kind m) fact)
+      (λ e. fact-changed (is_worker is_starting m g x) made_ready t (lasts.readies m g x) (λ p e x. (of-lasts m image).2 p x) (ready-kind m) fact)
       (λ e. fact-dropped (is_worker is_exited m g x) t (no-master is_exited m m g x) fact)
-  own-keeps text (Quit g x) t lets fact = fact-changed (is_worker is_active m g x) made_draining t (λ p e h. lasts.drains g x p lets e h) (λ p e h. (of-lasts m image n).drains g x p tt e h) (draining-kind m) fact
+  own-keeps text (Quit g x) t lets fact = fact-changed (is_worker is_active m g x) made_draining t (λ p e h. lasts.drains g x p lets e h) (λ p e h. (of-lasts m image).3 p h) (draining-kind m) fact
   own-keeps text (Kill g x) t lets fact = fact-dropped (is_worker is_any m g x) t (no-master is_any m m g x) fact
   own-keeps text (Census g) t lets fact = fact-dropped (is_exited_of m) t (no-master-exited m m) fact
   own-keeps text (Usr1 g x) t lets fact = fact

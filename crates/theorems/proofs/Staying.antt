@@ -1,5 +1,5 @@
 -- A process that is Ready at first stays so, unless it is lost or told to quit.
-use Rattle.std.proofs.Common.{◌≡◌, ℕ, ◌<◌, Bool, true, false, List, [], ◌∷◌, ◌++◌, Option, Some, None, refl, sym, ◌∙◌, subst, arith}
+use Rattle.std.proofs.Common.{◌≡◌, ◌≢◌, not, ℕ, ◌<◌, Bool, true, false, List, [], ◌∷◌, ◌++◌, Option, Some, None, refl, sym, ◌∙◌, subst, arith}
 use Rattle.std.specs.Prelude.{filter_map, ⊤, ◌&&◌, ◌||◌, ◌==◌, nat_lt, length, if◌then◌else◌}
 use Rattle.std.specs.List.{AllByRecursion, list_any, cons_option}
 use Rattle.listener_set.specs.Numbers.{is_in}
@@ -13,10 +13,10 @@ use Rattle.definitions.specs.declared.calls.Answer.{Answer}
 use Rattle.definitions.specs.declared.calls.Answer.TheVariants as answer
 use Rattle.definitions.specs.declared.calls.Fate.{Fate}
 use Rattle.definitions.specs.Table.{Hold, Process, Master, Worker, Foreign, Table, Caller, number_of, bears, is_worker, is_ready, is_active, is_starting, is_exited, is_any, is_held}
-use Rattle.definitions.specs.Exits.{change, made_exited, all_exited, after_exits}
+use Rattle.definitions.specs.Exits.{without_exited, kept_if, change, made_exited, all_exited, after_exits}
 use Rattle.definitions.specs.Calls.{Stepped, gives, with_holds, put_hold, lacks_address, is_row, is_of, made_ready, made_draining, is_exited_of, dropped, census_of, with_new_row, with_new_socket, lowest_free, has_process_room, own_step, fault_at, fault_or_own, step_by, step_with}
 use Rattle.definitions.specs.Manner.{is_active_process}
-use Rattle.theorems.proofs.Rows.{pick, and-left, and-right, or-right}
+use Rattle.theorems.proofs.Rows.{FitsIn, pick, and-left, and-right, or-right}
 use Rattle.theorems.proofs.Views.{eqb-is}
 use Rattle.theorems.proofs.Exits.{Spares}
 use Rattle.theorems.proofs.Effects.{bears-is}
@@ -42,7 +42,7 @@ module _ (m image n : ℕ) (g0 : Generation) (k0 : ℕ) (low : k0 < 1024) where
   IsFree g x = bears g x g0 k0 ≡ false
 
   it-lasts : Lasts m n IsIt IsFree
-  it-lasts = record { ends = ends; keeps = keeps; readies = readies; drains = λ g x p free e h. drains p; starts = starts }
+  it-lasts = record { ends = ends; keeps = keeps; readies = readies; drains = λ g x p free e h. drains p; starts = starts; spawns = λ number parent i hs lt e. absurd (cc e); leaves = leaves }
     where
       ends : (p : Process) → IsIt p → IsIt (made_exited p)
       ends (Master k q i live hs) h e = absurd (cc e)
@@ -54,21 +54,34 @@ module _ (m image n : ℕ) (g0 : Generation) (k0 : ℕ) (low : k0 < 1024) where
       keeps f (Worker k q g j s hs) h e = h e
       keeps f (Foreign k hs) h e = absurd (cc e)
 
-      readies : (g : Generation) (x : ℕ) (p : Process) → is_worker is_starting m g x p ≡ true → IsIt p → IsIt (made_ready p)
-      readies g x (Master k q i live hs) t h e = absurd (cc t)
-      readies g x (Worker k q h' j Starting hs) t h e = absurd (let no = h e in cc)
-      readies g x (Worker k q h' j Ready hs) t h e = absurd (cc t)
-      readies g x (Worker k q h' j Draining hs) t h e = absurd (cc t)
-      readies g x (Worker k q h' j Exited hs) t h e = absurd (cc t)
-      readies g x (Foreign k hs) t h e = absurd (cc t)
+      readies : (c : ℕ) (g : Generation) (x : ℕ) (p : Process) → is_worker is_starting c g x p ≡ true → IsIt p → IsIt (made_ready p)
+      readies c g x (Master k q i live hs) t h e = absurd (cc t)
+      readies c g x (Worker k q h' j Starting hs) t h e = absurd (let no = h e in cc)
+      readies c g x (Worker k q h' j Ready hs) t h e = absurd (cc t)
+      readies c g x (Worker k q h' j Draining hs) t h e = absurd (cc t)
+      readies c g x (Worker k q h' j Exited hs) t h e = absurd (cc t)
+      readies c g x (Foreign k hs) t h e = absurd (cc t)
 
       drains : (p : Process) → IsIt (made_draining p)
       drains (Master k q i live hs) e = absurd (cc e)
       drains (Worker k q g j s hs) e = absurd (cc e)
       drains (Foreign k hs) e = absurd (cc e)
 
-      starts : (number : ℕ) (g : Generation) (x : ℕ) (hs : List Hold) → n < number → IsIt (Worker number m g x Starting hs)
-      starts number g x hs lt e = absurd (let same = eqb-is number n e in omega arith)
+      leaves : (gone : ℕ) (lives : ℕ → Bool) (p : Process) → m ≢ gone → IsIt p → FitsIn IsIt (without_exited gone lives p)
+      leaves gone lives (Master k q i live hs) ne h = pick (FitsIn IsIt) (k == gone) _ _ (λ e. kept (lives q)) (λ e f. absurd (cc f))
+        where
+          kept : (b : Bool) → FitsIn IsIt (kept_if b (Master k q i false []))
+          kept true = λ e. absurd (cc e)
+          kept false = tt
+      leaves gone lives (Worker k q g j s hs) ne h = kept (not (q == gone))
+        where
+          kept : (b : Bool) → FitsIn IsIt (kept_if b (Worker k q g j s hs))
+          kept true = h
+          kept false = tt
+      leaves gone lives (Foreign k hs) ne h = h
+
+      starts : (number c : ℕ) (g : Generation) (x : ℕ) (hs : List Hold) → n < number → IsIt (Worker number c g x Starting hs)
+      starts number c g x hs lt e = absurd (let same = eqb-is number n e in omega arith)
 
   ---- It is there
 

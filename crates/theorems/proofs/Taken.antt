@@ -1,6 +1,6 @@
 -- No kill takes a process that was Ready at first: as long as it is untouched, or when only other names are killed.
 use Rattle.theorems.proofs.Exits.{Spares}
-use Rattle.std.proofs.Common.{◌≡◌, ◌≢◌, ℕ, ◌<◌, Bool, true, false, List, [], ◌∷◌, Option, Some, None, refl, sym, ◌∙◌, subst, arith, ◌⊎◌, inl, inr, ⊎_elim}
+use Rattle.std.proofs.Common.{◌≡◌, ◌≢◌, not, ℕ, ◌<◌, Bool, true, false, List, [], ◌∷◌, Option, Some, None, refl, sym, ◌∙◌, subst, arith, ◌⊎◌, inl, inr, ⊎_elim}
 use Rattle.std.specs.Prelude.{⊤, ◌&&◌, ◌||◌, ◌==◌}
 use Rattle.std.specs.List.{AllByRecursion, list_any}
 use Rattle.listener_set.specs.Numbers.{is_in}
@@ -12,7 +12,7 @@ use Rattle.definitions.specs.declared.table.Stance.TheVariants.{Starting, Ready,
 use Rattle.definitions.specs.declared.calls.Call.{Call}
 use Rattle.definitions.specs.declared.calls.Call.TheVariants.{OpenAt, CloseAt, Fork, AwaitReady, Quit, Kill, Census, Usr1}
 use Rattle.definitions.specs.Table.{Hold, Process, Master, Worker, Foreign, Table, number_of, bears, is_worker, is_ready, is_active}
-use Rattle.definitions.specs.Exits.{made_exited, after_exits}
+use Rattle.definitions.specs.Exits.{without_exited, kept_if, made_exited, after_exits}
 use Rattle.definitions.specs.Calls.{with_holds, made_ready, made_draining, is_exited_of, dropped, each_row, census_of, Stepped, step_with}
 use Rattle.definitions.specs.Manner.{is_process_of}
 use Rattle.theorems.proofs.Rows.{FitsIn, every-filter_map, every-both, every-more, pick, and-right, both-true}
@@ -33,8 +33,21 @@ abbrev pub IsOther : ℕ → Process → Type 0
 IsOther n p = number_of p ≢ n
 
 pub gone-lasts : (m n : ℕ) → Lasts m n (IsOther n) (λ g x. ⊤)
-gone-lasts m n = record { ends = gone-exited; keeps = gone-holds; readies = λ g x p e h. gone-ready p h; drains = λ g x p q e h. gone-draining p h; starts = λ k g x hs lt e. absurd (omega arith) }
+gone-lasts m n = record { ends = gone-exited; keeps = gone-holds; readies = λ c g x p e h. gone-ready p h; drains = λ g x p q e h. gone-draining p h; starts = λ k c g x hs lt e. absurd (omega arith); spawns = λ k parent i hs lt e. absurd (omega arith); leaves = λ gone lives p ne h. gone-left gone lives p h }
   where
+    gone-left : (gone : ℕ) (lives : ℕ → Bool) (p : Process) → IsOther n p → FitsIn (IsOther n) (without_exited gone lives p)
+    gone-left gone lives (Master k q i live hs) h = pick (FitsIn (IsOther n)) (k == gone) _ _ (λ e. kept (lives q)) (λ e. h)
+      where
+        kept : (b : Bool) → FitsIn (IsOther n) (kept_if b (Master k q i false []))
+        kept true = h
+        kept false = tt
+    gone-left gone lives (Worker k q g j s hs) h = kept (not (q == gone))
+      where
+        kept : (b : Bool) → FitsIn (IsOther n) (kept_if b (Worker k q g j s hs))
+        kept true = h
+        kept false = tt
+    gone-left gone lives (Foreign k hs) h = h
+
     gone-exited : (p : Process) → IsOther n p → IsOther n (made_exited p)
     gone-exited (Master k q i live hs) h = h
     gone-exited (Worker k q g j s hs) h = h
@@ -92,8 +105,21 @@ module _ (m image n : ℕ) (g0 : Generation) (k0 : ℕ) (low : k0 < 1024) where
   InAny s = ⊤
 
   ours-lasts : (S : Stance → Type 0) (Quits : Generation → ℕ → Type 0) → S Ready → S Exited → ((g : Generation) (x : ℕ) → Quits g x → IsFree g x ⊎ S Draining) → Lasts m n (OnlyOurs S) Quits
-  ours-lasts S Quits at_ready at_exited quits = record { ends = ends; keeps = keeps; readies = λ g x p e h. readies p h; drains = drains; starts = λ k g x hs lt e. absurd (omega arith) }
+  ours-lasts S Quits at_ready at_exited quits = record { ends = ends; keeps = keeps; readies = λ c g x p e h. readies p h; drains = drains; starts = λ k c g x hs lt e. absurd (omega arith); spawns = λ k parent i hs lt e. absurd (omega arith); leaves = λ gone lives p ne h. leaves gone lives p h }
     where
+      leaves : (gone : ℕ) (lives : ℕ → Bool) (p : Process) → OnlyOurs S p → FitsIn (OnlyOurs S) (without_exited gone lives p)
+      leaves gone lives (Master k q i live hs) h = pick (FitsIn (OnlyOurs S)) (k == gone) _ _ (λ e. kept (lives q)) (λ e. h)
+        where
+          kept : (b : Bool) → FitsIn (OnlyOurs S) (kept_if b (Master k q i false []))
+          kept true = h
+          kept false = tt
+      leaves gone lives (Worker k q g j s hs) h = kept (not (q == gone))
+        where
+          kept : (b : Bool) → FitsIn (OnlyOurs S) (kept_if b (Worker k q g j s hs))
+          kept true = h
+          kept false = tt
+      leaves gone lives (Foreign k hs) h = h
+
       ends : (p : Process) → OnlyOurs S p → OnlyOurs S (made_exited p)
       ends (Master k q i live hs) h = h
       ends (Worker k q g j s hs) h = λ e. let o = h e in (o.0, o.1, o.2, at_exited)
@@ -187,6 +213,7 @@ module _ (m image n : ℕ) (g0 : Generation) (k0 : ℕ) (low : k0 < 1024) where
             one = dropped_now.one;
             all = every-filter_map (λ p. OnlyOurs IsUntouched p × (is_worker is_ready m g0 k0 p ≡ false)) (IsOther n) (dropped (is_exited_of m)) (λ p h. pick (FitsIn (IsOther n)) (is_exited_of m p) None (Some p) (λ e. tt) (λ e. left-out p h e)) t.rows both;
             below = dropped_now.below;
+            above = dropped_now.above;
           })
 
   lets-any : (call : Call) → Lets IsFree call → Lets (λ g x. ⊤) call
@@ -236,7 +263,7 @@ module _ (m image n : ℕ) (g0 : Generation) (k0 : ℕ) (low : k0 < 1024) where
   loose-lasts = ours-lasts InAny (λ g x. ⊤) tt tt (λ g x ok. inr tt)
 
   pub loosens : (t : Table) → Close t → Loose t
-  loosens t close = record { one = close.one; all = every-more (OnlyOurs IsUntouched) (OnlyOurs InAny) loosen t.rows close.all; below = close.below }
+  loosens t close = record { one = close.one; all = every-more (OnlyOurs IsUntouched) (OnlyOurs InAny) loosen t.rows close.all; below = close.below; above = close.above }
     where
       loosen : (p : Process) → OnlyOurs IsUntouched p → OnlyOurs InAny p
       loosen (Master k q i live hs) h = h
