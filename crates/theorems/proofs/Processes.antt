@@ -8,13 +8,14 @@ use Rattle.definitions.specs.declared.names.Name.TheVariants as name
 use Rattle.definitions.specs.declared.table.Stance.{Stance}
 use Rattle.definitions.specs.declared.table.Stance.TheVariants.{Starting}
 use Rattle.definitions.specs.declared.calls.Call.{Call}
-use Rattle.definitions.specs.declared.calls.Call.TheVariants.{OpenAt, CloseAt, Fork, AwaitReady, Quit, Kill, Census, Usr1}
+use Rattle.definitions.specs.declared.calls.Call.TheVariants.{Adopt, WritePid, MovePid, SpawnMaster, TermMaster, OpenAt, CloseAt, Fork, AwaitReady, Quit, Kill, Census, Usr1}
 use Rattle.definitions.specs.declared.calls.Answer.{Answer}
 use Rattle.definitions.specs.declared.calls.Answer.TheVariants as answer
 use Rattle.definitions.specs.declared.calls.Fate.{Fate}
-use Rattle.definitions.specs.Table.{Hold, Process, Master, Worker, Foreign, Table, Caller, live_master, caller_if, is_live_master, is_worker, is_named, is_active, is_starting, is_draining, is_exited, is_any, is_held}
+use Rattle.definitions.specs.Table.{Hold, Process, Master, Worker, Foreign, Table, Caller, owner_at, live_master, caller_if, is_live_master, is_worker, is_named, is_active, is_starting, is_draining, is_exited, is_any, is_held}
 use Rattle.definitions.specs.Exits.{without_exited, kept_if, change, made_exited, first_changed, caller_exits, exited, all_exited, after_exits}
-use Rattle.definitions.specs.Calls.{census_of, Stepped, gives, each_row, dropped, with_holds, put_hold, lacks_address, is_row, is_of, is_exited_of, made_ready, made_draining, with_new_row, with_new_socket, lowest_free, has_process_room, own_step, fault_at, fault_or_own, step_by, step_with}
+use Rattle.definitions.specs.Handover.{reading}
+use Rattle.definitions.specs.Calls.{suits, moved_if, is_image, is_image_row, is_of_image, census_of, Stepped, gives, each_row, dropped, with_holds, put_hold, lacks_address, is_row, is_of, is_exited_of, made_ready, made_draining, with_new_row, with_new_socket, lowest_free, has_process_room, own_step, fault_at, fault_or_own, step_by, step_with}
 use Rattle.theorems.proofs.Rows.{weigh-append, one, weigh, worth, FitsIn, change-same, every-filter_map, every-append, every-any, pick}
 use Rattle.theorems.proofs.Views.{master_of, eqb-refl, eqb-off, eqb-is}
 use Rattle.theorems.proofs.Logic.{unfailing}
@@ -235,6 +236,20 @@ fact-exits m image n P Quits lasts es t sp fact =
         (record { all = of-exit-one m image e rows sp.0 one.all; some = omega (arith, one.some, exit-masters m image e rows sp.0 one.all) })
         (exit-one m n P Quits lasts image e rows sp.0 one.all all)
 
+-- calls that any master may make, beside the master of the image
+abbrev pub AnyCall : ℕ → Call → Type 0
+AnyCall image (OpenAt a) = ⊤
+AnyCall image (CloseAt a) = ⊤
+AnyCall image (Fork g x) = ⊤
+AnyCall image (AwaitReady g x) = ⊤
+AnyCall image (Census g) = ⊤
+AnyCall image Adopt = ⊤
+AnyCall image (WritePid path) = ⊤
+AnyCall image (MovePid from to) = ⊤
+AnyCall image (SpawnMaster i) = i ≢ image
+AnyCall image (TermMaster i) = i ≢ image
+AnyCall image _ = ⊥
+
 -- The call's own effect.
 module _ (m image n : ℕ) (P : Process → Type 0) (Quits : Generation → ℕ → Type 0) (lasts : Lasts m n P Quits) (hs : List Hold) where
   abbrev me : Caller
@@ -297,6 +312,76 @@ module _ (m image n : ℕ) (P : Process → Type 0) (Quits : Generation → ℕ 
   own-keeps text (Census g) t lets fact = fact-dropped (is_exited_of m) t (no-master-exited m m) fact
   own-keeps text (Usr1 g x) t lets fact = fact
   own-keeps text _ t lets fact = absurd lets
+
+  -- what another image's end takes
+  kept-of-image : (i : ℕ) (rows : List Process) → i ≢ image → (p : Process) → IsOf m image p → worth (master_of m) (dropped (is_of_image i rows) p) ≡ master_of m p
+  kept-of-image i rows ne (Master k q j live zs) h =
+      pick (λ o. worth (master_of m) o ≡ one (k == m)) (j == i) None (Some (Master k q j live zs))
+      (λ e. ⊎_elim (λ o. absurd (ne (sym (eqb-is j i e) ∙ o.1))) (λ o. sym (ap one (eqb-off k m o.0))) h) (λ e. refl)
+  kept-of-image i rows ne (Worker k q g j s zs) h = pick (λ o. worth (master_of m) o ≡ 0) (list_any (is_image_row i q) rows) None (Some (Worker k q g j s zs)) (λ e. refl) (λ e. refl)
+  kept-of-image i rows ne (Foreign k zs) h = refl
+
+  any-keeps : (text : List ℕ) (by : ℕ) (c : Caller) (call : Call) (t : Table) → AnyCall image call → F t → F (own_step text by c call t).table
+  any-keeps text by c (OpenAt a) t any fact =
+      let h : Hold = record { fd = lowest_free c.holds; socket = t.next_socket; address = a } in
+      let done = gives (answer.Opened (lowest_free c.holds)) (with_new_socket t c.number h) in
+      let opened : F done.table = (let f = fact-changed (is_row c.number) (with_holds (put_hold h)) t (λ p e x. lasts.keeps (put_hold h) p x) (λ p e x. (of-lasts m image).1 (put_hold h) p x) (holds-kind m (put_hold h)) fact in record { one = f.one; all = f.all; below = f.below; above = f.above }) in
+      pick (λ (st : Stepped). F st.table) (is_held a t.rows) (gives answer.InUse t) (if nat_lt (length c.holds) t.limits.descriptors then done else gives answer.TooMany t) (λ e. fact)
+      (λ e. pick (λ (st : Stepped). F st.table) (nat_lt (length c.holds) t.limits.descriptors) done (gives answer.TooMany t) (λ e. opened) (λ e. fact))
+  any-keeps text by c (CloseAt a) t any fact = fact-changed (is_of c.number) (with_holds (lacks_address a)) t (λ p e x. lasts.keeps (lacks_address a) p x) (λ p e x. (of-lasts m image).1 (lacks_address a) p x) (holds-kind m (lacks_address a)) fact
+  any-keeps text by c (Fork g x) t any fact =
+      let new = Worker t.next_process c.number g x Starting c.holds in
+      let done = gives answer.Forked (with_new_row t (λ k. Worker k c.number g x Starting c.holds)) in
+      let forked : F done.table = record {
+        one = record { all = every-append (IsOf m image) t.rows new fact.one.all tt; some = omega (arith, fact.one.some, weigh-append (master_of m) t.rows (new ∷ [])) };
+        all = every-append P t.rows new fact.all (lasts.starts t.next_process c.number g x c.holds fact.below);
+        below = omega (arith, fact.below);
+        above = omega (arith, fact.above);
+      } in
+      pick (λ (st : Stepped). F st.table) (list_any (is_worker is_active c.number g x) t.rows) (gives answer.Again t) (if has_process_room t then done else gives answer.Again t) (λ e. fact)
+      (λ e. pick (λ (st : Stepped). F st.table) (has_process_room t) done (gives answer.Again t) (λ e. forked) (λ e. fact))
+  any-keeps text by c (AwaitReady g x) t any fact =
+      pick (λ (st : Stepped). F st.table) (list_any (is_worker is_active c.number g x) t.rows) _ _
+      (λ e. fact-changed (is_worker is_starting c.number g x) made_ready t (lasts.readies c.number g x) (λ p e x. (of-lasts m image).2 p x) (ready-kind m) fact)
+      (λ e. fact-dropped (is_worker is_exited c.number g x) t (no-master is_exited m c.number g x) fact)
+  any-keeps text by c (Census g) t any fact = fact-dropped (is_exited_of c.number) t (no-master-exited m c.number) fact
+  any-keeps text by c Adopt t any fact = pick (λ (st : Stepped). F st.table) (suits (reading text) by c.holds) (gives answer.Adopted t) (gives answer.Refused t) (λ e. fact) (λ e. fact)
+  any-keeps text by c (WritePid path) t any fact = record { one = fact.one; all = fact.all; below = fact.below; above = fact.above }
+  any-keeps text by c (MovePid from to) t any fact = go (owner_at from t.files)
+    where
+      go : (o : Option ℕ) → F (moved_if o from to t).table
+      go None = fact
+      go (Some owner) = record { one = fact.one; all = fact.all; below = fact.below; above = fact.above }
+  any-keeps text by c (SpawnMaster i) t any fact =
+      let new = Master t.next_process c.number i true c.holds in
+      let done = gives answer.Spawned (with_new_row t (λ k. Master k c.number i true c.holds)) in
+      let spawned : F done.table = record {
+        one = record { all = every-append (IsOf m image) t.rows new fact.one.all (inr ((λ e. absurd (omega (arith, e, fact.above))), any)); some = omega (arith, fact.one.some, weigh-append (master_of m) t.rows (new ∷ [])) };
+        all = every-append P t.rows new fact.all (lasts.spawns t.next_process c.number i c.holds fact.below);
+        below = omega (arith, fact.below);
+        above = omega (arith, fact.above);
+      } in
+      pick (λ (st : Stepped). F st.table) (list_any (is_image i) t.rows) (gives answer.Again t) (if has_process_room t then done else gives answer.Again t) (λ e. fact)
+      (λ e. pick (λ (st : Stepped). F st.table) (has_process_room t) done (gives answer.Again t) (λ e. spawned) (λ e. fact))
+  any-keeps text by c (TermMaster i) t any fact = record {
+    one = record { all = every-dropped (IsOf m image) (is_of_image i t.rows) t.rows fact.one.all; some = omega (arith, fact.one.some, change-same (IsOf m image) (master_of m) (dropped (is_of_image i t.rows)) (kept-of-image i t.rows any) t.rows fact.one.all) };
+    all = every-dropped P (is_of_image i t.rows) t.rows fact.all;
+    below = fact.below;
+    above = fact.above;
+  }
+  any-keeps text by c _ t any fact = absurd any
+
+  -- A fact lasts through the calls that any master may make.
+  pub fact-any : (text : List ℕ) (by : ℕ) (call : Call) (fate : Option Fate) (t : Table) → AnyCall image call → F t → F (step_with text by call fate t).table
+  fact-any text by call fate t any fact = go (live_master by t.rows)
+    where
+      or : (o : Option Answer) (c : Caller) → F (fault_or_own o text by c call t).table
+      or (Some a) c = fact
+      or None c = any-keeps text by c call t any fact
+
+      go : (o : Option Caller) → F (step_by text by o call fate t).table
+      go None = fact
+      go (Some c) = or (fault_at c call fate t) c
 
   fault-or : (o : Option Answer) (text : List ℕ) (call : Call) (t : Table) → F t → F (own_step text image me call t).table → F (fault_or_own o text image me call t).table
   fault-or (Some a) text call t same own = same

@@ -1,5 +1,5 @@
 -- A process that is Ready at first stays so, unless it is lost or told to quit.
-use Rattle.std.proofs.Common.{◌≡◌, ◌≢◌, not, ℕ, ◌<◌, Bool, true, false, List, [], ◌∷◌, ◌++◌, Option, Some, None, refl, sym, ◌∙◌, subst, arith}
+use Rattle.std.proofs.Common.{◌≡◌, ◌≢◌, not, ℕ, ◌<◌, Bool, true, false, List, [], ◌∷◌, ◌++◌, Option, Some, None, refl, sym, ◌∙◌, subst, arith, ⊎_elim}
 use Rattle.std.specs.Prelude.{filter_map, ⊤, ◌&&◌, ◌||◌, ◌==◌, nat_lt, length, if◌then◌else◌}
 use Rattle.std.specs.List.{AllByRecursion, list_any, cons_option}
 use Rattle.listener_set.specs.Numbers.{is_in}
@@ -8,13 +8,14 @@ use Rattle.definitions.specs.declared.names.Name.{Name}
 use Rattle.definitions.specs.declared.table.Stance.{Stance}
 use Rattle.definitions.specs.declared.table.Stance.TheVariants.{Starting, Ready, Draining, Exited}
 use Rattle.definitions.specs.declared.calls.Call.{Call}
-use Rattle.definitions.specs.declared.calls.Call.TheVariants.{OpenAt, CloseAt, Fork, AwaitReady, Quit, Kill, Census, Usr1}
+use Rattle.definitions.specs.declared.calls.Call.TheVariants.{Adopt, WritePid, MovePid, SpawnMaster, TermMaster, OpenAt, CloseAt, Fork, AwaitReady, Quit, Kill, Census, Usr1}
 use Rattle.definitions.specs.declared.calls.Answer.{Answer}
 use Rattle.definitions.specs.declared.calls.Answer.TheVariants as answer
 use Rattle.definitions.specs.declared.calls.Fate.{Fate}
-use Rattle.definitions.specs.Table.{Hold, Process, Master, Worker, Foreign, Table, Caller, number_of, bears, is_worker, is_ready, is_active, is_starting, is_exited, is_any, is_held}
+use Rattle.definitions.specs.Table.{Hold, Process, Master, Worker, Foreign, Table, Caller, owner_at, live_master, number_of, bears, is_worker, is_ready, is_active, is_starting, is_exited, is_any, is_held}
 use Rattle.definitions.specs.Exits.{without_exited, kept_if, change, made_exited, all_exited, after_exits}
-use Rattle.definitions.specs.Calls.{Stepped, gives, with_holds, put_hold, lacks_address, is_row, is_of, made_ready, made_draining, is_exited_of, dropped, census_of, with_new_row, with_new_socket, lowest_free, has_process_room, own_step, fault_at, fault_or_own, step_by, step_with}
+use Rattle.definitions.specs.Handover.{reading}
+use Rattle.definitions.specs.Calls.{suits, moved_if, is_image, is_image_row, is_of_image, Stepped, gives, with_holds, put_hold, lacks_address, is_row, is_of, made_ready, made_draining, is_exited_of, dropped, census_of, with_new_row, with_new_socket, lowest_free, has_process_room, own_step, fault_at, fault_or_own, step_by, step_with}
 use Rattle.definitions.specs.Manner.{is_active_process}
 use Rattle.theorems.proofs.Rows.{FitsIn, pick, and-left, and-right, or-right}
 use Rattle.theorems.proofs.Views.{eqb-is}
@@ -22,7 +23,7 @@ use Rattle.theorems.proofs.Exits.{Spares}
 use Rattle.theorems.proofs.Effects.{bears-is}
 use Rattle.theorems.proofs.Counts.{census-in}
 use Rattle.theorems.proofs.Logic.{Exiting, Unasked}
-use Rattle.theorems.proofs.Processes.{Lasts, Lets, Fact, one-found, fact-exits, fact-steps, fact-census}
+use Rattle.theorems.proofs.Processes.{IsOf, AnyCall, Lasts, Lets, Fact, one-found, fact-any, fact-exits, fact-steps, fact-census}
 use Rattle.theorems.proofs.Lights.{Light}
 
 -- the exits do not end the process while it is Starting or Ready
@@ -149,21 +150,21 @@ module _ (m image n : ℕ) (g0 : Generation) (k0 : ℕ) (low : k0 < 1024) where
       no-name false b c e = refl
   free-it stance g x free (Foreign k hs) e = refl
 
-  not-exited : (g : Generation) (x : ℕ) (p : Process) → is_it p ≡ true → is_worker is_exited m g x p ≡ false
-  not-exited g x (Master k q i live hs) e = refl
-  not-exited g x (Worker k q h j Starting hs) e = refl
-  not-exited g x (Worker k q h j Ready hs) e = refl
-  not-exited g x (Worker k q h j Draining hs) e = refl
-  not-exited g x (Worker k q h j Exited hs) e = absurd (cc e)
-  not-exited g x (Foreign k hs) e = refl
+  not-exited : (c : ℕ) (g : Generation) (x : ℕ) (p : Process) → is_it p ≡ true → is_worker is_exited c g x p ≡ false
+  not-exited c g x (Master k q i live hs) e = refl
+  not-exited c g x (Worker k q h j Starting hs) e = refl
+  not-exited c g x (Worker k q h j Ready hs) e = refl
+  not-exited c g x (Worker k q h j Draining hs) e = refl
+  not-exited c g x (Worker k q h j Exited hs) e = absurd (cc e)
+  not-exited c g x (Foreign k hs) e = refl
 
-  not-zombie : (p : Process) → is_it p ≡ true → is_exited_of m p ≡ false
-  not-zombie (Master k q i live hs) e = refl
-  not-zombie (Worker k q h j Starting hs) e = refl
-  not-zombie (Worker k q h j Ready hs) e = refl
-  not-zombie (Worker k q h j Draining hs) e = refl
-  not-zombie (Worker k q h j Exited hs) e = absurd (cc e)
-  not-zombie (Foreign k hs) e = refl
+  not-zombie : (c : ℕ) (p : Process) → is_it p ≡ true → is_exited_of c p ≡ false
+  not-zombie c (Master k q i live hs) e = refl
+  not-zombie c (Worker k q h j Starting hs) e = refl
+  not-zombie c (Worker k q h j Ready hs) e = refl
+  not-zombie c (Worker k q h j Draining hs) e = refl
+  not-zombie c (Worker k q h j Exited hs) e = absurd (cc e)
+  not-zombie c (Foreign k hs) e = refl
 
   abbrev pub Others : Call → Type 0
   Others (Kill g x) = IsFree g x
@@ -183,11 +184,11 @@ module _ (m image n : ℕ) (g0 : Generation) (k0 : ℕ) (low : k0 < 1024) where
   own-has text hs (AwaitReady g x) t lets other has =
       pick (λ (st : Stepped). Has st.table.rows) (list_any (is_worker is_active m g x) t.rows) _ _
       (λ e. has-changed (is_worker is_starting m g x) made_ready (ready-it (is_worker is_starting m g x)) t.rows has)
-      (λ e. has-dropped (is_worker is_exited m g x) (not-exited g x) t.rows has)
+      (λ e. has-dropped (is_worker is_exited m g x) (not-exited m g x) t.rows has)
   own-has text hs (Quit g x) t lets other has =
       has-changed (is_worker is_active m g x) made_draining (λ p e. pick (λ p'. is_it p' ≡ true) (is_worker is_active m g x p) (made_draining p) p (λ on. let off = free-it is_active g x lets p e in absurd (cc)) (λ off. e)) t.rows has
   own-has text hs (Kill g x) t lets other has = has-dropped (is_worker is_any m g x) (free-it is_any g x other) t.rows has
-  own-has text hs (Census g) t lets other has = has-dropped (is_exited_of m) not-zombie t.rows has
+  own-has text hs (Census g) t lets other has = has-dropped (is_exited_of m) (not-zombie m) t.rows has
   own-has text hs (Usr1 g x) t lets other has = has
   own-has text hs _ t lets other has = absurd lets
 
@@ -239,6 +240,68 @@ module _ (m image n : ℕ) (g0 : Generation) (k0 : ℕ) (low : k0 < 1024) where
         fact = fact-steps m image n IsIt IsFree it-lasts text call fate t gentle.0 st.fact;
         has = subst (λ (o : Option Caller). Has (step_by text image o call fate t).table.rows) (sym found) (has-or (fault_at me call fate t) text hs call t st.has (own-has text hs call t gentle.0 gentle.1 st.has));
       }
+
+  ---- What any master may do
+
+  -- another image's end leaves it
+  not-ended : (i : ℕ) (rows : List Process) → i ≢ image → AllByRecursion (IsOf m image) rows → (p : Process) → is_it p ≡ true → is_of_image i rows p ≡ false
+  not-ended i rows ne all (Master k q j live zs) e = absurd (cc e)
+  not-ended i rows ne all (Worker k q h j s zs) e = subst (λ z. list_any (is_image_row i z) rows ≡ false) (sym (eqb-is q m (and-left _ _ (and-right (is_ready s) _ (and-left (is_worker is_ready m g0 k0 (Worker k q h j s zs)) _ e))))) (none-here rows all)
+    where
+      off : (a b : Bool) → (a ≡ true → b ≡ true → ⊥) → (a && b) ≡ false
+      off true true no_both = absurd (no_both refl refl)
+      off true false no_both = refl
+      off false b no_both = refl
+
+      none-here : (rows : List Process) → AllByRecursion (IsOf m image) rows → list_any (is_image_row i m) rows ≡ false
+      none-here [] all = refl
+      none-here (Master k q j live zs ∷ rows) all =
+          let apart : ((j == i) && (k == m)) ≡ false = off (j == i) (k == m) (λ a b. ⊎_elim (λ o. ne (sym (eqb-is j i a) ∙ o.1)) (λ o. o.0 (eqb-is k m b)) all.0) in
+          rw apart (none-here rows all.1)
+      none-here (Worker k q h j s zs ∷ rows) all = none-here rows all.1
+      none-here (Foreign k zs ∷ rows) all = none-here rows all.1
+  not-ended i rows ne all (Foreign k zs) e = refl
+
+  any-has : (text : List ℕ) (by : ℕ) (c : Caller) (call : Call) (t : Table) → AnyCall image call → AllByRecursion (IsOf m image) t.rows → Has t.rows → Has (own_step text by c call t).table.rows
+  any-has text by c (OpenAt a) t any all has =
+      let h : Hold = record { fd = lowest_free c.holds; socket = t.next_socket; address = a } in
+      let done = gives (answer.Opened (lowest_free c.holds)) (with_new_socket t c.number h) in
+      pick (λ (st : Stepped). Has st.table.rows) (is_held a t.rows) (gives answer.InUse t) (if nat_lt (length c.holds) t.limits.descriptors then done else gives answer.TooMany t) (λ e. has)
+      (λ e. pick (λ (st : Stepped). Has st.table.rows) (nat_lt (length c.holds) t.limits.descriptors) done (gives answer.TooMany t) (λ e. has-changed (is_row c.number) (with_holds (put_hold h)) (holds-it (is_row c.number) (put_hold h)) t.rows has) (λ e. has))
+  any-has text by c (CloseAt a) t any all has = has-changed (is_of c.number) (with_holds (lacks_address a)) (holds-it (is_of c.number) (lacks_address a)) t.rows has
+  any-has text by c (Fork g x) t any all has =
+      let done = gives answer.Forked (with_new_row t (λ k. Worker k c.number g x Starting c.holds)) in
+      pick (λ (st : Stepped). Has st.table.rows) (list_any (is_worker is_active c.number g x) t.rows) (gives answer.Again t) (if has_process_room t then done else gives answer.Again t) (λ e. has)
+      (λ e. pick (λ (st : Stepped). Has st.table.rows) (has_process_room t) done (gives answer.Again t) (λ e. has-append t.rows (Worker t.next_process c.number g x Starting c.holds) has) (λ e. has))
+  any-has text by c (AwaitReady g x) t any all has =
+      pick (λ (st : Stepped). Has st.table.rows) (list_any (is_worker is_active c.number g x) t.rows) _ _
+      (λ e. has-changed (is_worker is_starting c.number g x) made_ready (ready-it (is_worker is_starting c.number g x)) t.rows has)
+      (λ e. has-dropped (is_worker is_exited c.number g x) (not-exited c.number g x) t.rows has)
+  any-has text by c (Census g) t any all has = has-dropped (is_exited_of c.number) (not-zombie c.number) t.rows has
+  any-has text by c Adopt t any all has = pick (λ (st : Stepped). Has st.table.rows) (suits (reading text) by c.holds) (gives answer.Adopted t) (gives answer.Refused t) (λ e. has) (λ e. has)
+  any-has text by c (WritePid path) t any all has = has
+  any-has text by c (MovePid from to) t any all has = go (owner_at from t.files)
+    where
+      go : (o : Option ℕ) → Has (moved_if o from to t).table.rows
+      go None = has
+      go (Some owner) = has
+  any-has text by c (SpawnMaster i) t any all has =
+      let done = gives answer.Spawned (with_new_row t (λ k. Master k c.number i true c.holds)) in
+      pick (λ (st : Stepped). Has st.table.rows) (list_any (is_image i) t.rows) (gives answer.Again t) (if has_process_room t then done else gives answer.Again t) (λ e. has)
+      (λ e. pick (λ (st : Stepped). Has st.table.rows) (has_process_room t) done (gives answer.Again t) (λ e. has-append t.rows (Master t.next_process c.number i true c.holds) has) (λ e. has))
+  any-has text by c (TermMaster i) t any all has = has-dropped (is_of_image i t.rows) (not-ended i t.rows any all) t.rows has
+  any-has text by c _ t any all has = absurd any
+
+  pub stands-any : (text : List ℕ) (by : ℕ) (call : Call) (fate : Option Fate) (t : Table) → AnyCall image call → Stands t → Stands (step_with text by call fate t).table
+  stands-any text by call fate t any st = record { fact = fact-any m image n IsIt IsFree it-lasts [] text by call fate t any st.fact; has = go (live_master by t.rows) }
+    where
+      or : (o : Option Answer) (c : Caller) → Has (fault_or_own o text by c call t).table.rows
+      or (Some a) c = st.has
+      or None c = any-has text by c call t any st.fact.one.all st.has
+
+      go : (o : Option Caller) → Has (step_by text by o call fate t).table.rows
+      go None = st.has
+      go (Some c) = or (fault_at c call fate t) c
 
   -- it is counted
   it-ready : (rows : List Process) → Has rows → list_any (is_worker is_ready m g0 k0) rows ≡ true
