@@ -20,6 +20,8 @@ pub mod UpgradeNew
 pub mod UpgradeCalls
 pub mod UpgradeRelief
 pub mod Upgrade
+pub mod Absent
+pub mod Traces
 pub mod Workers
 pub mod Examples
 pub mod WorkedRuns
