@@ -29,7 +29,7 @@ use Rattle.theorems.proofs.Logic.{Course, Along, Behind, Anyhow, Unasked, from-a
 use Rattle.theorems.proofs.Lights.{Light, no_claim, light-step, all-go, calm-along}
 use Rattle.theorems.proofs.Processes.{Fact, Lets, one-found, fact-exits, fact-steps, fact-census}
 use Rattle.theorems.proofs.Staying.{Unlost, Stands, standing}
-use Rattle.theorems.proofs.Taken.{OnlyOurs, InAny, IsOther, gone-lasts, loosens, loose-lasts}
+use Rattle.theorems.proofs.Taken.{not-killed, OnlyOurs, InAny, IsOther, gone-lasts, loosens, loose-lasts}
 use Rattle.theorems.proofs.Firsts.{first-in, first-low, first-stands, first-untouched}
 use Rattle.theorems.proofs.Calms.{IsCalm, calm-settle, calm-kills, calm-starts-any}
 use Rattle.theorems.proofs.Manners.{stays-from}
@@ -120,16 +120,6 @@ module _ (t : Table) (r : Record) (overdue : List ℕ) (pattern : Pattern) (s : 
   abbrev Named : Table → Type 0
   Named t' = Fact r.pid g.image p (OnlyOurs r.pid g.image p g k low (InAny r.pid g.image p g k low)) t'
 
-  -- who is killed is gone
-  not-killed : (row : Process) → OnlyOurs r.pid g.image p g k low (InAny r.pid g.image p g k low) row → is_worker is_any r.pid g k row ≡ false → IsOther p row
-  not-killed (Master j q i live hs) h e = h
-  not-killed (Worker j q f x st hs) h e = λ is.
-      let o = h is in
-      let name : bears g k f x ≡ true = subst (λ z. bears g k z x ≡ true) (sym o.1) (subst (λ z. bears g k g z ≡ true) (sym o.2) (bears-refl g k)) in
-      let all = both-true (q == r.pid) (bears g k f x) (eqb-refl q r.pid o.0) name in
-      absurd (cc)
-  not-killed (Foreign j hs) h e = h
-
   kill-step : (text : List ℕ) (x : ℕ) (fate : Option Fate) (t' : Table) → Named t' → step_with text g.image (Kill g x) fate t' ≡ gives answer.Fine (each_row (dropped (is_worker is_any r.pid g x)) t')
   kill-step text x fate t' named =
       let (hs, found) = one-found r.pid g.image t'.rows named.one.all named.one.some in
@@ -143,7 +133,7 @@ module _ (t : Table) (r : Record) (overdue : List ℕ) (pattern : Pattern) (s : 
       let after = subst (λ st. Named st.table) (kill-step text k fate t' named) (still-named text k fate t' named) in
       subst (λ st. Fact r.pid g.image p (IsOther p) st.table) (sym (kill-step text k fate t' named)) (record {
         one = after.one;
-        all = every-filter_map (OnlyOurs r.pid g.image p g k low (InAny r.pid g.image p g k low)) (IsOther p) (dropped (is_worker is_any r.pid g k)) (λ row h. pick (FitsIn (IsOther p)) (is_worker is_any r.pid g k row) None (Some row) (λ e. tt) (λ e. not-killed row h e)) t'.rows named.all;
+        all = every-filter_map (OnlyOurs r.pid g.image p g k low (InAny r.pid g.image p g k low)) (IsOther p) (dropped (is_worker is_any r.pid g k)) (λ row h. pick (FitsIn (IsOther p)) (is_worker is_any r.pid g k row) None (Some row) (λ e. tt) (λ e. not-killed r.pid g.image p g k low row h e)) t'.rows named.all;
         below = after.below;
         above = after.above;
       })

@@ -27,6 +27,7 @@ use Rattle.theorems.proofs.Sets.{in-here, in-there, in-cases}
 use Rattle.theorems.proofs.Small.{in-reverse}
 use Rattle.theorems.proofs.Logic.{AllDue, Unasked}
 use Rattle.theorems.proofs.Manners.{paired}
+use Rattle.theorems.proofs.Traces.{entry_of, append-nil, any-more, any-last, then-last, then-more}
 
 ---- Calls that a plan never makes
 
@@ -87,9 +88,6 @@ never-removes by (Some path) note rest h =
 abbrev Past : Type 1
 Past = List Entry → Call → Type 0
 
-abbrev entry_of : ℕ → Call → Answer → Entry
-entry_of by call a = record { by = by; call = call; answer = a }
-
 -- Each call of the tree has behind it what is asked, whatever was answered before.
 abbrev mutual
   Orderly : Past → List Entry → Tree → Type 0
@@ -127,41 +125,6 @@ mutual
         | true ↦ λ h. orderly-run P past text rest pattern (noted said p) (h refl)
         | false ↦ λ h. there
       ] h.0
-
----- Entries one after another
-
-any-more : (test : Entry → Bool) (past : List Entry) (e : Entry) → list_any test past ≡ true → list_any test (past ++ e ∷ []) ≡ true
-any-more test [] e h = absurd (cc h)
-any-more test (x ∷ past) e h = go (test x) h (any-more test past e)
-  where
-    go : (b : Bool) → (b || list_any test past) ≡ true → (list_any test past ≡ true → list_any test (past ++ e ∷ []) ≡ true) → (b || list_any test (past ++ e ∷ [])) ≡ true
-    go true h ih = refl
-    go false h ih = ih h
-
-any-last : (test : Entry → Bool) (past : List Entry) (e : Entry) → test e ≡ true → list_any test (past ++ e ∷ []) ≡ true
-any-last test [] e h = rw h refl
-any-last test (x ∷ past) e h = go (test x) (any-last test past e h)
-  where
-    go : (b : Bool) → list_any test (past ++ e ∷ []) ≡ true → (b || list_any test (past ++ e ∷ [])) ≡ true
-    go true ih = refl
-    go false ih = ih
-
-then-last : (first second : Entry → Bool) (past : List Entry) (e : Entry) → list_any first past ≡ true → second e ≡ true → one_then first second (past ++ e ∷ []) ≡ true
-then-last first second [] e h is = absurd (cc h)
-then-last first second (x ∷ past) e h is = go (first x) h (then-last first second past e)
-  where
-    go : (b : Bool) → (b || list_any first past) ≡ true → (list_any first past ≡ true → second e ≡ true → one_then first second (past ++ e ∷ []) ≡ true) → ((b && list_any second (past ++ e ∷ [])) || one_then first second (past ++ e ∷ [])) ≡ true
-    go true h ih = rw (any-last second past e is) refl
-    go false h ih = ih h is
-
-then-more : (first second : Entry → Bool) (past : List Entry) (e : Entry) → one_then first second past ≡ true → one_then first second (past ++ e ∷ []) ≡ true
-then-more first second [] e h = absurd (cc h)
-then-more first second (x ∷ past) e h = go (first x) (list_any second past) h (any-more second past e) (then-more first second past e)
-  where
-    go : (b c : Bool) → ((b && c) || one_then first second past) ≡ true → (c ≡ true → list_any second (past ++ e ∷ []) ≡ true) → (one_then first second past ≡ true → one_then first second (past ++ e ∷ []) ≡ true) → ((b && list_any second (past ++ e ∷ [])) || one_then first second (past ++ e ∷ [])) ≡ true
-    go true true h any ih = rw (any refl) refl
-    go true false h any ih = or-right (list_any second (past ++ e ∷ [])) (one_then first second (past ++ e ∷ [])) (ih h)
-    go false c h any ih = ih h
 
 -- the reply that says so is the answer late
 is-late : (set : List ℕ) (a : Answer) → among (reply.Late ∷ []) (reply_of set a) ≡ true → a ≡ answer.Late
@@ -305,16 +268,12 @@ left-in-order : (g : Generation) (ready : List ℕ) (past : List Entry) (call : 
 left-in-order g ready past Leave e h = h
 left-in-order g ready past _ e h = absurd (cc e)
 
-every-ready : (Q : ℕ → Type 0) (ks : List ℕ) → ((k : ℕ) → is_in ks k ≡ true → Q k) → AllByRecursion Q ks
+pub every-ready : (Q : ℕ → Type 0) (ks : List ℕ) → ((k : ℕ) → is_in ks k ≡ true → Q k) → AllByRecursion Q ks
 every-ready Q [] h = tt
 every-ready Q (x ∷ ks) h = (h x (in-here x x ks refl), every-ready Q ks (λ k e. h k (in-there x k ks e)))
 
-append-nil : (l : List Entry) → l ++ [] ≡ l
-append-nil [] = refl
-append-nil (e ∷ l) = ap (λ x. e ∷ x) (append-nil l)
-
 -- the entries before a Leave, after those of the past
-abbrev Before : Record → List Entry → Option (List Entry) → Type 0
+abbrev pub Before : Record → List Entry → Option (List Entry) → Type 0
 Before r past None = ⊤
 Before r past (Some front) = AllByRecursion (λ k. was_waited_for r.generation k (past ++ front) ≡ true) r.ready
 
@@ -327,7 +286,7 @@ leaves-past r past (e ∷ entries) h = go (is_leave_call e.call) refl (before_le
     go false is None ih = tt
     go false is (Some front) ih = subst (λ l. AllByRecursion (λ k. was_waited_for r.generation k l ≡ true) r.ready) (append_assoc past (e ∷ []) front) ih
 
-from-before : (r : Record) (o : Option (List Entry)) → Before r [] o → AreWaitedFor r o
+pub from-before : (r : Record) (o : Option (List Entry)) → Before r [] o → AreWaitedFor r o
 from-before r None h = tt
 from-before r (Some front) h = h
 

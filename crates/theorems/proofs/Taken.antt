@@ -11,7 +11,7 @@ use Rattle.definitions.specs.declared.table.Stance.{Stance}
 use Rattle.definitions.specs.declared.table.Stance.TheVariants.{Starting, Ready, Draining, Exited}
 use Rattle.definitions.specs.declared.calls.Call.{Call}
 use Rattle.definitions.specs.declared.calls.Call.TheVariants.{OpenAt, CloseAt, Fork, AwaitReady, Quit, Kill, Census, Usr1}
-use Rattle.definitions.specs.Table.{Hold, Process, Master, Worker, Foreign, Table, number_of, bears, is_worker, is_ready, is_active}
+use Rattle.definitions.specs.Table.{Hold, Process, Master, Worker, Foreign, Table, number_of, bears, is_worker, is_ready, is_active, is_any}
 use Rattle.definitions.specs.Exits.{without_exited, kept_if, made_exited, after_exits}
 use Rattle.definitions.specs.Calls.{with_holds, made_ready, made_draining, is_exited_of, dropped, each_row, census_of, Stepped, step_with}
 use Rattle.definitions.specs.Manner.{is_process_of}
@@ -269,6 +269,16 @@ module _ (m image n : ℕ) (g0 : Generation) (k0 : ℕ) (low : k0 < 1024) where
       loosen (Master k q i live hs) h = h
       loosen (Worker k q g j s hs) h = λ e. let o = h e in (o.0, o.1, o.2, tt)
       loosen (Foreign k hs) h = h
+
+  -- who is killed is gone
+  pub not-killed : (row : Process) → OnlyOurs InAny row → is_worker is_any m g0 k0 row ≡ false → IsOther n row
+  not-killed (Master j q i live hs) h e = h
+  not-killed (Worker j q f x st hs) h e = λ is.
+      let o = h is in
+      let name : bears g0 k0 f x ≡ true = subst (λ z. bears g0 k0 z x ≡ true) (sym o.1) (subst (λ z. bears g0 k0 g0 z ≡ true) (sym o.2) (bears-refl g0 k0)) in
+      let all = both-true (q == m) (bears g0 k0 f x) (eqb-refl q m o.0) name in
+      absurd (cc)
+  not-killed (Foreign j hs) h e = h
 
   -- Other names alone are killed.
   abbrev pub loose : Light image Anyhow (NotTaken n)

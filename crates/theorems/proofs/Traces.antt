@@ -1,6 +1,7 @@
 -- What holds along a run of each call with what was done before it, and of the end with all that was done.
 use Rattle.std.proofs.Common.{◌≡◌, ℕ, ◌+◌, Bool, true, false, List, [], ◌∷◌, ◌++◌, Option, Some, None, refl, sym, ap, ◌∙◌, subst, append_assoc}
-use Rattle.std.specs.Prelude.{⊤, if◌then◌else◌}
+use Rattle.std.specs.Prelude.{⊤, ◌&&◌, ◌||◌, if◌then◌else◌}
+use Rattle.std.specs.List.{list_any}
 use Rattle.listener_set.specs.Numbers.{is_in}
 use Rattle.definitions.specs.declared.calls.Call.{Call}
 use Rattle.definitions.specs.declared.calls.Answer.{Answer}
@@ -14,12 +15,13 @@ use Rattle.definitions.specs.declared.names.Name.{Name}
 use Rattle.definitions.specs.Table.{Table}
 use Rattle.definitions.specs.Exits.{after_exits}
 use Rattle.definitions.specs.Calls.{step_with}
-use Rattle.definitions.specs.Manner.{is_leave_call}
+use Rattle.definitions.specs.Manner.{is_leave_call, one_then}
 use Rattle.definitions.specs.Tree.{Tree, Branches, Ends, Does, Nothing, Branch, among, reply_of, call_of}
 use Rattle.definitions.specs.Run.{Progress, Ran, Ending, At, Lost, noted, after_call, after_moment, answered, run_with, goes_with}
 use Rattle.definitions.specs.Claims.{names_any, executing_at, executing_after, refused_from, refused_behind, is_leave}
 use Rattle.theorems.proofs.Logic.{Exiting, Asked, Course, course_after, Along, Behind, AreMild, AreMildBehind, refused_in, run_in}
 use Rattle.theorems.proofs.Lights.{no_claim}
+use Rattle.theorems.proofs.Rows.{or-right}
 
 abbrev pub entry_of : ℕ → Call → Answer → Entry
 entry_of by call a = record { by = by; call = call; answer = a }
@@ -60,7 +62,7 @@ pub record Tracing (due : Asking) (post : Finally) (past : List Entry) (ran : Ra
   pub dues : AllTraced due past ran.entries ran.passed
   pub last : post (past ++ ran.entries) ran.ending ran.last
 
-append-nil : (l : List Entry) → l ++ [] ≡ l
+pub append-nil : (l : List Entry) → l ++ [] ≡ l
 append-nil [] = refl
 append-nil (e ∷ l) = ap (λ x. e ∷ x) (append-nil l)
 
@@ -192,3 +194,38 @@ module _ (due : Asking) (post : Finally) (mild : Exiting) (co : Course) (lost : 
   good-call F K by call set bs stays exits grows asks keeps all =
       good-step F K by call set bs stays exits asks
       (λ past q fate k h. let st = step_with co.text by call fate q.table in all-good F K bs all (past ++ entry_of by call st.answer ∷ []) (reply_of set st.answer) (after_call (Make call) set st q) (grows past (entry_of by call st.answer) k) (keeps co.text fate q.table h))
+
+---- Entries one after another
+
+pub any-more : (test : Entry → Bool) (past : List Entry) (e : Entry) → list_any test past ≡ true → list_any test (past ++ e ∷ []) ≡ true
+any-more test [] e h = absurd (cc h)
+any-more test (x ∷ past) e h = go (test x) h (any-more test past e)
+  where
+    go : (b : Bool) → (b || list_any test past) ≡ true → (list_any test past ≡ true → list_any test (past ++ e ∷ []) ≡ true) → (b || list_any test (past ++ e ∷ [])) ≡ true
+    go true h ih = refl
+    go false h ih = ih h
+
+pub any-last : (test : Entry → Bool) (past : List Entry) (e : Entry) → test e ≡ true → list_any test (past ++ e ∷ []) ≡ true
+any-last test [] e h = rw h refl
+any-last test (x ∷ past) e h = go (test x) (any-last test past e h)
+  where
+    go : (b : Bool) → list_any test (past ++ e ∷ []) ≡ true → (b || list_any test (past ++ e ∷ [])) ≡ true
+    go true ih = refl
+    go false ih = ih
+
+pub then-last : (first second : Entry → Bool) (past : List Entry) (e : Entry) → list_any first past ≡ true → second e ≡ true → one_then first second (past ++ e ∷ []) ≡ true
+then-last first second [] e h is = absurd (cc h)
+then-last first second (x ∷ past) e h is = go (first x) h (then-last first second past e)
+  where
+    go : (b : Bool) → (b || list_any first past) ≡ true → (list_any first past ≡ true → second e ≡ true → one_then first second (past ++ e ∷ []) ≡ true) → ((b && list_any second (past ++ e ∷ [])) || one_then first second (past ++ e ∷ [])) ≡ true
+    go true h ih = rw (any-last second past e is) refl
+    go false h ih = ih h is
+
+pub then-more : (first second : Entry → Bool) (past : List Entry) (e : Entry) → one_then first second past ≡ true → one_then first second (past ++ e ∷ []) ≡ true
+then-more first second [] e h = absurd (cc h)
+then-more first second (x ∷ past) e h = go (first x) (list_any second past) h (any-more second past e) (then-more first second past e)
+  where
+    go : (b c : Bool) → ((b && c) || one_then first second past) ≡ true → (c ≡ true → list_any second (past ++ e ∷ []) ≡ true) → (one_then first second past ≡ true → one_then first second (past ++ e ∷ []) ≡ true) → ((b && list_any second (past ++ e ∷ [])) || one_then first second (past ++ e ∷ [])) ≡ true
+    go true true h any ih = rw (any refl) refl
+    go true false h any ih = or-right (list_any second (past ++ e ∷ [])) (one_then first second (past ++ e ∷ [])) (ih h)
+    go false c h any ih = ih h
