@@ -22,6 +22,8 @@ pub mod UpgradeRelief
 pub mod Upgrade
 pub mod Absent
 pub mod Traces
+pub mod UpgradeWalk
+pub mod UpgradeManner
 pub mod Workers
 pub mod Examples
 pub mod WorkedRuns

@@ -21,7 +21,7 @@ use Rattle.theorems.proofs.Firsts.{first-low, stands-ready}
 
 -- In a run that does not lose the process no moment ends it.
 mutual
-  are-unlost : (n : ℕ) (co : Course) (t : Tree) (p : Progress) → is_lost n (run_in co t p).passed ≡ false → AreMild (Unlost n) co t p
+  pub are-unlost : (n : ℕ) (co : Course) (t : Tree) (p : Progress) → is_lost n (run_in co t p).passed ≡ false → AreMild (Unlost n) co t p
   are-unlost n co (Ends end) p e = tt
   are-unlost n co (Does by order set bs) p e =
       let moment = co.pattern (p.calls + 1) in

@@ -142,7 +142,7 @@ module _ (due : Asking) (post : Finally) (mild : Exiting) (F : Table → Type 0)
         let h' = exits moment.exits p.table h in
         (asks past (call_of order middle.lacking) middle.table k h', robust-behind (course_after order co) bs (past ++ entry_of by (call_of order middle.lacking) s.answer ∷ []) (reply_of set s.answer) (after_call order set s middle) (grows past (entry_of by (call_of order middle.lacking) s.answer) k) (steps co.text by (call_of order middle.lacking) moment.fate middle.table h'))
 
-    robust-behind : (co : Course) (bs : Branches) (past : List Entry) (r : Reply) (p : Progress) → K past → F p.table → TracedBehind due post mild co past bs r p
+    pub robust-behind : (co : Course) (bs : Branches) (past : List Entry) (r : Reply) (p : Progress) → K past → F p.table → TracedBehind due post mild co past bs r p
     robust-behind co Nothing past r p k h = ends past Lost p k h
     robust-behind co (Branch replies said rest more) past r p k h =
         let here = robust co rest past (noted said p) k (subst F (sym (said-table said p)) h) in
