@@ -1,5 +1,5 @@
 -- A process that has left the table does not come back, whatever is called and whoever exits.
-use Rattle.std.proofs.Common.{◌≡◌, ◌≢◌, ℕ, ◌+◌, ◌<◌, Bool, true, false, List, [], ◌∷◌, Option, Some, None, refl, arith}
+use Rattle.std.proofs.Common.{ℕ, ◌+◌, ◌<◌, Bool, true, List, [], ◌∷◌, Option, Some, None, arith}
 use Rattle.std.specs.Prelude.{◌==◌, nat_lt, length, if◌then◌else◌}
 use Rattle.std.specs.List.{filter_map, AllByRecursion, list_any}
 use Rattle.definitions.specs.declared.names.Name.{Name}

@@ -11,7 +11,7 @@ use Rattle.definitions.specs.declared.calls.Call.TheVariants.{Kill}
 use Rattle.definitions.specs.declared.calls.Fate.{Fate}
 use Rattle.definitions.specs.declared.calls.Reply.TheVariants as reply
 use Rattle.definitions.specs.declared.calls.Answer.TheVariants as answer
-use Rattle.definitions.specs.Table.{Process, Master, Worker, Foreign, Table, Caller, number_of, bears, is_worker, is_any}
+use Rattle.definitions.specs.Table.{Process, Table, Caller, number_of, bears, is_worker, is_any}
 use Rattle.definitions.specs.Calls.{gives, each_row, dropped, step_by, step_with}
 use Rattle.definitions.specs.Record.{Record}
 use Rattle.definitions.specs.Tree.{Tree, reply_of, among, Nothing}
@@ -19,9 +19,8 @@ use Rattle.definitions.specs.Plans.{plan_tree, mend_tree, kills, starts_any, set
 use Rattle.definitions.specs.Run.{Pattern, Progress, Ending, At, Lost, noted, after_call, start_at}
 use Rattle.definitions.specs.Manner.{has_ready, has_process}
 use Rattle.definitions.specs.Claims.{IsStart, InManner, run_of}
-use Rattle.theorems.proofs.Rows.{FitsIn, every-filter_map, pick, both-true}
-use Rattle.theorems.proofs.Views.{eqb-refl, eqb-off}
-use Rattle.theorems.proofs.Effects.{bears-refl}
+use Rattle.theorems.proofs.Rows.{FitsIn, every-filter_map, pick}
+use Rattle.theorems.proofs.Views.{eqb-off}
 use Rattle.theorems.proofs.Sets.{in-filter-of, in-filter-on, in-cases}
 use Rattle.theorems.proofs.Small.{not-is, true-false, or-elim}
 use Rattle.theorems.proofs.Mend.{mend_headline}

@@ -1,5 +1,5 @@
 -- Facts on each row of a table with one master: what exits and calls do to them.
-use Rattle.std.proofs.Common.{◌≡◌, ◌≢◌, ℕ, ◌+◌, ◌<◌, ◌≤◌, Bool, true, false, List, [], ◌∷◌, Option, Some, None, refl, sym, ap, ◌∙◌, subst, arith, not, ◌⊎◌, inl, inr, ⊎_elim}
+use Rattle.std.proofs.Common.{◌≡◌, ◌≢◌, ℕ, ◌+◌, ◌<◌, ◌≤◌, Bool, true, false, List, [], ◌∷◌, Option, Some, None, refl, sym, ap, ◌∙◌, subst, arith, not, ◌⊎◌, inr, ⊎_elim}
 use Rattle.std.specs.Prelude.{filter_map, ⊤, ◌&&◌, ◌==◌, nat_lt, length, if◌then◌else◌}
 use Rattle.std.specs.List.{AllByRecursion, list_any}
 use Rattle.listener_set.specs.declared.generation.Generation.{Generation}

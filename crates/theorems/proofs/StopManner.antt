@@ -1,6 +1,6 @@
 -- The manner of a stop.
 use Rattle.std.proofs.Common.{◌≡◌, ℕ, ◌+◌, Bool, true, false, List, [], ◌∷◌, ◌++◌, Option, Some, None, refl, sym, ap, ◌∙◌, subst, append_assoc, ⊎_elim}
-use Rattle.std.specs.Prelude.{⊤, ◌&&◌, ◌||◌, reverse, if◌then◌else◌}
+use Rattle.std.specs.Prelude.{⊤, ◌&&◌, reverse, if◌then◌else◌}
 use Rattle.std.specs.List.{AllByRecursion, list_any}
 use Rattle.listener_set.specs.Numbers.{is_in, lacks}
 use Rattle.listener_set.specs.declared.generation.Generation.{Generation}
@@ -19,10 +19,10 @@ use Rattle.definitions.specs.Record.{Record, oldbin}
 use Rattle.definitions.specs.Tree.{Tree, Branches, Ends, Does, Nothing, Branch, among, reply_of, full_or_short}
 use Rattle.definitions.specs.Plans.{plan_tree, stop_tree, quits, kills, awaits_gone, removes, remove_oldbin_too, has_oldbin, stopped}
 use Rattle.definitions.specs.Run.{Pattern, Progress, Ran, run_with, goes_with, noted, after_call, after_moment, answered, start_at}
-use Rattle.definitions.specs.Manner.{is_quit_call, is_quit_of, is_wait_of, is_leave_call, is_late, one_then, was_late, was_waited_for, IsKillDue, KillsAreDue, onto, before_leave, AreWaitedFor}
+use Rattle.definitions.specs.Manner.{is_quit_call, is_quit_of, is_wait_of, is_leave_call, is_late, was_late, was_waited_for, IsKillDue, KillsAreDue, onto, before_leave, AreWaitedFor}
 use Rattle.definitions.specs.Claims.{InManner}
 use Rattle.theorems.proofs.Effects.{bears-refl}
-use Rattle.theorems.proofs.Rows.{both-true, or-right}
+use Rattle.theorems.proofs.Rows.{both-true}
 use Rattle.theorems.proofs.Sets.{in-here, in-there, in-cases}
 use Rattle.theorems.proofs.Small.{in-reverse}
 use Rattle.theorems.proofs.Logic.{AllDue, Unasked}

@@ -1,14 +1,12 @@
 -- What holds along a run of each call with what was done before it, and of the end with all that was done.
-use Rattle.std.proofs.Common.{◌≡◌, ℕ, ◌+◌, Bool, true, false, List, [], ◌∷◌, ◌++◌, Option, Some, None, refl, sym, ap, ◌∙◌, subst, append_assoc}
+use Rattle.std.proofs.Common.{◌≡◌, ℕ, ◌+◌, Bool, true, false, List, [], ◌∷◌, ◌++◌, Option, Some, None, refl, sym, ap, subst, append_assoc}
 use Rattle.std.specs.Prelude.{⊤, ◌&&◌, ◌||◌, if◌then◌else◌}
 use Rattle.std.specs.List.{list_any}
-use Rattle.listener_set.specs.Numbers.{is_in}
 use Rattle.definitions.specs.declared.calls.Call.{Call}
 use Rattle.definitions.specs.declared.calls.Answer.{Answer}
 use Rattle.definitions.specs.declared.calls.Reply.{Reply}
 use Rattle.definitions.specs.declared.calls.Fate.{Fate}
 use Rattle.definitions.specs.declared.plans.PidNote.{PidNote}
-use Rattle.definitions.specs.declared.plans.Order.{Order}
 use Rattle.definitions.specs.declared.plans.Order.TheVariants.{Make}
 use Rattle.definitions.specs.declared.reports.Entry.{Entry}
 use Rattle.definitions.specs.declared.names.Name.{Name}
@@ -17,8 +15,8 @@ use Rattle.definitions.specs.Exits.{after_exits}
 use Rattle.definitions.specs.Calls.{step_with}
 use Rattle.definitions.specs.Manner.{is_leave_call, one_then}
 use Rattle.definitions.specs.Tree.{Tree, Branches, Ends, Does, Nothing, Branch, among, reply_of, call_of}
-use Rattle.definitions.specs.Run.{Progress, Ran, Ending, At, Lost, noted, after_call, after_moment, answered, run_with, goes_with}
-use Rattle.definitions.specs.Claims.{names_any, executing_at, executing_after, refused_from, refused_behind, is_leave}
+use Rattle.definitions.specs.Run.{Progress, Ran, Ending, At, Lost, noted, after_call, after_moment, answered, goes_with}
+use Rattle.definitions.specs.Claims.{names_any, executing_at, executing_after, refused_behind, is_leave}
 use Rattle.theorems.proofs.Logic.{Exiting, Asked, Course, course_after, Along, Behind, AreMild, AreMildBehind, refused_in, run_in}
 use Rattle.theorems.proofs.Lights.{no_claim}
 use Rattle.theorems.proofs.Rows.{or-right}

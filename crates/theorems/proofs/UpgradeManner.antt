@@ -1,7 +1,7 @@
 -- The manner of an upgrade.
 use Rattle.std.proofs.Common.{◌≡◌, ◌≢◌, ℕ, zero, suc, ◌+◌, ◌<◌, Bool, true, false, List, [], ◌∷◌, ◌++◌, Option, Some, None, refl, sym, ap, ◌∙◌, subst, arith, ◌⊎◌, inl, inr, ⊎_elim}
-use Rattle.std.specs.Prelude.{⊤, ◌&&◌, ◌==◌, reverse, if◌then◌else◌}
-use Rattle.std.specs.List.{filter_map, AllByRecursion, list_any}
+use Rattle.std.specs.Prelude.{⊤, ◌&&◌, reverse, if◌then◌else◌}
+use Rattle.std.specs.List.{AllByRecursion, list_any}
 use Rattle.listener_set.specs.Numbers.{is_in}
 use Rattle.listener_set.specs.declared.generation.Generation.{Generation}
 use Rattle.definitions.specs.declared.names.Name.{Name}
@@ -17,22 +17,21 @@ use Rattle.definitions.specs.declared.plans.Order.TheVariants.{Make, ForkLacking
 use Rattle.definitions.specs.declared.reports.Entry.{Entry}
 use Rattle.definitions.specs.declared.calls.Reply.{Reply}
 use Rattle.definitions.specs.Settings.{Settings}
-use Rattle.definitions.specs.Table.{Table, Caller, Process, bears, is_worker, is_any}
+use Rattle.definitions.specs.Table.{Table, Caller, bears, is_worker, is_any}
 use Rattle.definitions.specs.Exits.{after_exits}
 use Rattle.definitions.specs.Calls.{Stepped, gives, each_row, dropped, step_by, step_with}
-use Rattle.definitions.specs.Record.{Record}
 use Rattle.definitions.specs.Tree.{Tree, Branches, Ends, Does, Nothing, Branch, among, reply_of, call_of}
 use Rattle.definitions.specs.declared.calls.Reply.TheVariants as reply
 use Rattle.definitions.specs.Plans.{on, hand_over, back_late, plan_tree, settle, quits, awaits_gone, gone_edges, then_edge, does}
-use Rattle.definitions.specs.Run.{Progress, Ending, At, Lost, start_at, outcome_of, noted, after_call, run_with}
+use Rattle.definitions.specs.Run.{Progress, Lost, start_at, outcome_of, noted, after_call}
 use Rattle.definitions.specs.Manner.{has_ready, is_lost, is_old_side, is_process_of, is_quit_of, is_wait_of, is_wait_call, is_late, is_leave_call, was_late, was_waited_for, IsKillDue, KillsAreDue, before_leave}
 use Rattle.definitions.specs.Claims.{names_any, is_leave, run_of, InManner}
 use Rattle.theorems.proofs.Rows.{FitsIn, every-filter_map, pick, both-true}
-use Rattle.theorems.proofs.Exits.{Spares, spares-each}
+use Rattle.theorems.proofs.Exits.{spares-each}
 use Rattle.theorems.proofs.Effects.{bears-refl}
 use Rattle.theorems.proofs.Sets.{in-here, in-there, in-cases}
 use Rattle.theorems.proofs.Small.{in-reverse}
-use Rattle.theorems.proofs.Logic.{Unasked, Anyhow, Course, course_after, AreMild, are-mild-anyhow, gone-cases, unfailing, refused_in, run_in}
+use Rattle.theorems.proofs.Logic.{Unasked, Anyhow, Course, course_after, are-mild-anyhow, gone-cases, unfailing, refused_in, run_in}
 use Rattle.theorems.proofs.Processes.{AnyCall, Fact, one-found, fact-any, fact-exits, fact-steps}
 use Rattle.theorems.proofs.Lights.{settle-along}
 use Rattle.theorems.proofs.Staying.{Unlost, Stands, standing, stands-any, stands-exits}

@@ -1,9 +1,8 @@
 -- An upgrade's tree up to where its old master is relieved, and the pieces from there, as calls that keep a fact on the table.
-use Rattle.std.proofs.Common.{◌≡◌, ◌≢◌, ℕ, zero, suc, ◌+◌, Bool, true, false, List, [], ◌∷◌, ◌++◌, Option, Some, None, refl, arith, ⊎_elim, subst}
+use Rattle.std.proofs.Common.{◌≡◌, ◌≢◌, ℕ, true, false, List, [], ◌∷◌, ◌++◌, Option, Some, None, refl, arith, ⊎_elim, subst}
 use Rattle.std.specs.Prelude.{⊤, map}
 use Rattle.std.specs.List.{AllByRecursion, list_any}
 use Rattle.listener_set.specs.Numbers.{is_in, numbers_below}
-use Rattle.listener_set.specs.declared.generation.Generation.{Generation}
 use Rattle.definitions.specs.declared.calls.Call.{Call}
 use Rattle.definitions.specs.declared.calls.Call.TheVariants.{OpenAt, CloseAt, Fork, AwaitReady, Census, Adopt, WritePid, MovePid, SpawnMaster, TermMaster, Quit}
 use Rattle.definitions.specs.declared.calls.Fate.{Fate}
@@ -20,7 +19,7 @@ use Rattle.definitions.specs.Manner.{is_leave_call, is_quit_of}
 use Rattle.definitions.specs.declared.calls.Reply.TheVariants as reply
 use Rattle.definitions.specs.Tree.{Tree, Branches, Nothing, Does, plain_reply, replies_to, reply_of}
 use Rattle.definitions.specs.Plans.{on, others, then_edge, note_edges, settle, back_alone, back_from, move_back, move_aside, tries, tries_all, new_calls, pid_calls, relieve, spawn_edges, upgrade_tree, does, quits}
-use Rattle.definitions.specs.Run.{Progress, Ending, Lost, after_call}
+use Rattle.definitions.specs.Run.{Progress, Lost, after_call}
 use Rattle.definitions.specs.Record.{oldbin}
 use Rattle.definitions.specs.Target.{only_in}
 use Rattle.definitions.specs.Claims.{names_any}
@@ -151,9 +150,11 @@ module _ (c : Given) (due : Asking) (post : Finally) (mild : Exiting) (lost : (p
       good-step due post mild (co c) lost F K c.rec.generation.image (Quit (g c) x) [] (then_edge more) refl exits (λ past t k h. asks past x t h)
       (λ past q fate k h.
       let st = step_with (co c).text c.rec.generation.image (Quit (g c) x) fate q.table in
-      all-good due post mild (co c) lost F (λ past. K past × Told x past) (then_edge more)
-      ((quits-good asks keeps ks rest (λ past. K past × Told x past) (λ past e h. (grows past e h.0, told-on x past e h.1))
-      (λ past' p' k' told h'. next past' p' k'.0 (λ j on. ⊎_elim (λ same. subst (λ z. Told z past') same k'.1) (λ more. told j more) (in-cases x j ks on)) h')), tt)
+      all-good due post mild (co c) lost F (λ past. K past × Told x past) (then_edge more) (
+        (quits-good asks keeps ks rest (λ past. K past × Told x past) (λ past e h. (grows past e h.0, told-on x past e h.1))
+            (λ past' p' k' told h'. next past' p' k'.0 (λ j on. ⊎_elim (λ same. subst (λ z. Told z past') same k'.1) (λ more. told j more) (in-cases x j ks on)) h')),
+        tt,
+      )
       (past ++ entry_of c.rec.generation.image (Quit (g c) x) st.answer ∷ []) (reply_of [] st.answer) (after_call (Make (Quit (g c) x)) [] st q)
       (grows past (entry_of c.rec.generation.image (Quit (g c) x) st.answer) k, any-last (λ e. is_quit_of (g c) x e.call) past (entry_of c.rec.generation.image (Quit (g c) x) st.answer) (bears-refl (g c) x))
       (keeps (co c).text x fate q.table h)) past p known h

@@ -4,7 +4,7 @@
 
 ghost use Rattle.std.specs.Prelude.{ℕ, List, Bool};
 ghost use Rattle.definitions.specs.Settings.{Settings};
-ghost use Rattle.definitions.specs.declared.targets.Target.TheVariants.{Workers, Mend, Reopen, Reload, Stop};
+ghost use Rattle.definitions.specs.declared.targets.Target.TheVariants.{Workers, Mend, Reopen, Reload, Upgrade, Stop};
 ghost use Rattle.definitions.specs.Claims.{InManner, MendHeadline, ReloadHeadline, ReopenHeadline, RunsWithin, StopHeadline, UpgradeHeadline, WorkersHeadline};
 ghost use Rattle.theorems.specs.Examples.{HasStart};
 ghost use Rattle.theorems.specs.WorkedRuns.{WorkedRuns};
@@ -44,6 +44,7 @@ pub fn stops_end_as_reported()
 /// an upgrade ends as it reports.
 pub fn upgrades_end_as_reported()
     ensures headline { UpgradeHeadline }
+    ensures manner { (s : Settings) → InManner (Upgrade s) }
 {}
 
 /// A run makes no more calls than the longest path of its plan has steps.
