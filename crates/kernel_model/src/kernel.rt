@@ -99,6 +99,7 @@ impl Kernel {
     pub fn copy(&self) -> Result<Self, AllocError>
         ensures same { IfOk result (λ k. k ≡ record { table = self.now.table; room = 0 }) }
         ensures formed { IsFormed self.now.table }
+        ensures descriptors { self.now.table.limits.descriptors ≤ 64 }
     {
         let store = self.store.copy()?;
         Ok(Kernel { store, room: 0 })

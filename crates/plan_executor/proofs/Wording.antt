@@ -1,5 +1,5 @@
 -- Words one after another.
-use Rattle.std.proofs.Common.{◌≡◌, inl, inr, ℕ, zero, suc, List, [], ◌∷◌, ◌++◌, ◌<◌, length, get_or, Option, Some, None, Result, Ok, Err, slice_get, refl, sym, ◌∙◌, ap, subst}
+use Rattle.std.proofs.Common.{◌≡◌, inl, inr, ℕ, suc, List, [], ◌∷◌, ◌++◌, ◌<◌, length, get_or, Option, Some, None, Result, Ok, Err, slice_get, refl, sym, ◌∙◌, ap, subst}
 use Rattle.std.proofs.lemmas.Option.{none-some, same_Some, slice_get-get_or}
 use Rattle.definitions.specs.Settings.{Settings}
 use Rattle.definitions.specs.Table.{Table}
@@ -50,9 +50,13 @@ done-push settings (w ∷ words) patterns first [] middle last word body done at
     let here : ComesTo settings word (moment_at (pattern_at patterns 0)) first body last = subst (λ (s : Standing). ComesTo settings word (moment_at (pattern_at patterns 0)) s body last) done comes in
     (last, sym same, subst (λ (x : Word). ComesTo settings x (moment_at (pattern_at patterns 0)) first body last) (sym same) here, refl)
 done-push settings [] patterns first (b ∷ blocks) middle last word body done at comes = absurd done
-done-push settings (w ∷ words) patterns first (b ∷ blocks) middle last word body done at comes =
-    (done.0, done.1, done.2, done-push settings words (rest_of patterns) done.0 blocks middle last word body done.3 at
-    (subst (λ (p : Moments). ComesTo settings word (moment_at p) middle body last) (sym (first-pattern patterns (length blocks))) comes))
+done-push settings (w ∷ words) patterns first (b ∷ blocks) middle last word body done at comes = (
+  done.0,
+  done.1,
+  done.2,
+  done-push settings words (rest_of patterns) done.0 blocks middle last word body done.3 at
+      (subst (λ (p : Moments). ComesTo settings word (moment_at p) middle body last) (sym (first-pattern patterns (length blocks))) comes),
+)
 
 -- the word at a place behind those that are done
 pub done-more : (settings : Option Settings) (words : List Word) (patterns : List Moments) (first : Standing) (blocks : List Block) (middle last : Standing) (n : ℕ) (d : Word) (moments : Moments) (body : Body) →

@@ -1,5 +1,5 @@
 //! A target, planned and carried out on the modelled kernel.
-ghost use Rattle.std.specs.Prelude.{◌≡◌, ◌↔◌, ◌⊎◌, Some, OnErr, IfOk, IfErr, IsErrOf};
+ghost use Rattle.std.specs.Prelude.{◌≡◌, ◌≤◌, ◌↔◌, ◌⊎◌, Some, OnErr, IfOk, IfErr, IsErrOf};
 ghost use Rattle.definitions.specs.Formed.{IsFormed};
 ghost use Rattle.definitions.specs.Record.{Agrees};
 ghost use Rattle.definitions.specs.Plans.{planned};
@@ -9,6 +9,7 @@ ghost use Rattle.kernel_model.specs.Room.{LacksNumbers};
 ghost use Rattle.rollback_plan.specs.Plans.{tree_of, note_of};
 ghost use Rattle.reload_planner.specs.declared.refusal.PlanRefusal.{PlanRefusal as Unplannable};
 ghost use Rattle.plan_executor.specs.Enacted.{IsEnacted};
+ghost use Rattle.plan_executor.specs.Range.{HasRange};
 ghost use Rattle.plan_executor.specs.Refusals.{HasNoPlan, IsRefused};
 ghost use Rattle.plan_executor.specs.declared.enactment.EnactRefusal.{EnactRefusal as Refusal};
 
@@ -96,10 +97,15 @@ pub fn enact(
     let mut transcript = Transcript::with_room(alloc, longest)?;
     let mut calls = Patterned::new(copy, pattern, made);
     let report = execute(&plan, &mut calls, &mut transcript);
-    if let Some(moment) = first_naming(pattern, state.generation.image, transcript.len() as u32) {
+    if let Some(moment) = first_naming(pattern, state.generation.image, transcript.entries()) {
         return Err(EnactRefusal::MasterNamed(moment));
     }
+    read_settings(target);
     theorems::workers_end_as_reported();
+    theorems::mends_end_as_reported();
+    theorems::reopenings_end_as_reported();
+    theorems::reloads_end_as_reported();
+    theorems::stops_end_as_reported();
     *kernel = calls.into_kernel();
     let after = state.after(target, &report, state.pid);
     Ok(Enacted {
@@ -107,6 +113,18 @@ pub fn enact(
         report,
         after,
     })
+}
+
+/// Only a reading of the settings tells that they are in range.
+fn read_settings(target: &Target)
+    ensures { HasRange target.now }
+{
+    match target {
+        Target::Reload(settings) | Target::Upgrade(settings) => {
+            let _ = settings.workers;
+        }
+        Target::Workers(_) | Target::Mend(_) | Target::Reopen | Target::Stop { .. } => {}
+    }
 }
 
 /// The plan of a target.
@@ -128,6 +146,7 @@ fn plan_of(alloc: Global, state: &Record, target: &Target) -> Result<Plan, Enact
 fn reserved_copy(kernel: &Kernel, calls: u32) -> Result<Kernel, EnactRefusal>
     ensures same { IfOk result (λ k. k ≡ record { table = kernel.now.table; room = calls }) }
     ensures formed { IsFormed kernel.now.table }
+    ensures descriptors { kernel.now.table.limits.descriptors ≤ 64 }
     ensures numbers { IfOk result (λ _. LacksNumbers kernel.now.table calls → ⊥) }
     ensures refused { IfErr result (λ why.
         (why ≡ EnactRefusal.Memory) ⊎ ((why ≡ EnactRefusal.NoNumbers) × LacksNumbers kernel.now.table calls)) }

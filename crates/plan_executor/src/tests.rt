@@ -1,9 +1,7 @@
 //! Targets and words on the modelled kernel.
 use crate::{Body, CodeText, EnactRefusal, Enacted, enact, run_words};
 use control_words::{Word, WordRefusal};
-use definitions::{
-    Answer, Call, Entry, Fate, Limits, Name, Outcome, PidNote, Settings, Side, Target,
-};
+use definitions::{Fate, Limits, Name, Outcome, Report, Settings, Side, Target};
 use kernel_model::{Kernel, Pattern};
 use listener_set::{Generation, Numbers};
 use reload_planner::PlanRefusal;
@@ -12,184 +10,125 @@ use std::alloc::Global;
 use std::test::Fail;
 use worker_table::WorkerTable;
 
-const LIMITS: Limits = Limits {
-    processes: 65_535,
-    descriptors: 64,
-};
-
-const FIRST: Generation = Generation {
-    image: 1,
-    config: 1,
-};
-
-/// A kernel that runs the plain settings with so many workers.
-fn booted(alloc: Global, workers: u32) -> Result<Kernel, Fail> {
+/// A kernel that runs the plain settings with two workers.
+fn booted(alloc: Global) -> Result<Kernel, Fail> {
     let settings = Settings::plain();
-    let kernel = Kernel::boot(
-        alloc,
-        &settings.listeners,
-        workers.min(1024),
-        settings.pid,
-        LIMITS,
-    )?;
+    let limits = Limits {
+        processes: 65_535,
+        descriptors: 64,
+    };
+    let kernel = Kernel::boot(alloc, &settings.listeners, 2, settings.pid, limits)?;
     Ok(kernel)
 }
 
-/// Its record, with so many ready workers.
-fn record(workers: u32) -> Record {
-    let workers = workers.min(1024);
-    Record::start(
-        &Settings::plain(),
-        workers,
-        &Numbers::below(workers),
-        100,
-    )
+/// Its record, without retries.
+fn record() -> Record {
+    let mut settings = Settings::plain();
+    settings.retries = 0;
+    Record::start(&settings, 2, &Numbers::below(2), 100)
 }
 
-fn refusal_of(outcome: Result<Enacted, EnactRefusal>) -> Option<EnactRefusal> {
-    match outcome {
-        Ok(_) => None,
-        Err(refusal) => Some(refusal),
-    }
+/// The pattern in which the first call fails.
+fn failing(alloc: Global) -> Result<Pattern, Fail> {
+    let mut pattern = Pattern::new(alloc);
+    pattern.set_fate(1, Fate::Again)?;
+    Ok(pattern)
 }
 
-fn is_answered(entry: Option<Entry>, call: Call, answer: Answer) -> bool {
-    match entry {
-        None => false,
-        Some(entry) => entry.by.0 == 1 && entry.call == call && entry.answer == answer,
+/// The pattern in which somebody exits before the n-th call.
+fn leaving(alloc: Global, n: u32, name: Name) -> Result<Pattern, Fail> {
+    let mut pattern = Pattern::new(alloc);
+    if n >= 1 {
+        pattern.add_exit(n, name)?;
     }
+    Ok(pattern)
+}
+
+/// What one worker more comes to.
+fn one_more(
+    alloc: Global,
+    kernel: &mut Kernel,
+    state: &Record,
+    pattern: &Pattern,
+) -> Result<Enacted, EnactRefusal> {
+    enact(alloc, kernel, state, &Target::Workers(3), pattern)
+}
+
+fn is_report(report: &Report, outcome: Outcome, cause: Option<u32>) -> bool {
+    report.outcome == outcome && report.cause == cause
 }
 
 #[test]
 fn one_worker_more_is_started_and_counted(rt: HostRuntime) -> Result<(), Fail> {
-    let alloc = rt.alloc();
-    let mut kernel = booted(alloc, 2)?;
-    let quiet = Pattern::new(alloc);
-    let done = enact(
-        alloc,
-        &mut kernel,
-        &record(2),
-        &Target::Workers(3),
-        &quiet,
-    )?;
-    let third = Call::Fork(FIRST, 2);
-    let counted = Answer::Counted(Numbers::below(3));
+    let mut kernel = booted(rt.alloc())?;
+    let quiet = Pattern::new(rt.alloc());
+    let done = one_more(rt.alloc(), &mut kernel, &record(), &quiet)?;
     assert_eq!(rt; done.transcript.len(), 3);
-    assert!(rt; is_answered(done.transcript.get(0), third, Answer::Forked));
-    assert!(rt;
-        is_answered(
-            done.transcript.get(1),
-            Call::AwaitReady(FIRST, 2),
-            Answer::IsReady
-        )
-    );
-    assert!(rt; is_answered(done.transcript.get(2), Call::Census(FIRST), counted));
-    assert!(rt; done.report.outcome == Outcome::Done);
-    assert!(rt; done.report.cause.is_none());
-    assert!(rt; done.report.note == PidNote::NoFile);
-    let after = done.after.ok_or("no record")?;
-    assert!(rt; after.agrees(&kernel));
-    assert_eq!(rt; after.wanted, 3);
+    assert!(rt; is_report(&done.report, Outcome::Done, None));
     Ok(())
 }
 
 #[test]
-fn refusals_leave_the_kernel_as_it_was(rt: HostRuntime) -> Result<(), Fail> {
-    let alloc = rt.alloc();
-    let mut kernel = booted(alloc, 2)?;
-    let mut pattern = Pattern::new(alloc);
-    let more = Target::Workers(3);
-    let wrong = enact(alloc, &mut kernel, &record(1), &more, &pattern);
-    assert!(rt; refusal_of(wrong) == Some(EnactRefusal::RecordDisagrees));
-    let reopen = enact(alloc, &mut kernel, &record(2), &Target::Reopen, &pattern);
-    assert!(rt;
-        refusal_of(reopen) == Some(EnactRefusal::Plan(PlanRefusal::Unplanned))
-    );
-    pattern.add_exit(3, Name::Master(1))?;
-    let killed = enact(alloc, &mut kernel, &record(2), &more, &pattern);
-    assert!(rt; refusal_of(killed) == Some(EnactRefusal::MasterNamed(3)));
-    assert!(rt; record(2).agrees(&kernel));
-    assert_eq!(rt; kernel.room(), 0);
-    let mut late = Pattern::new(alloc);
-    late.add_exit(4, Name::Master(1))?;
-    late.add_exit(1, Name::Master(2))?;
-    assert!(rt; enact(alloc, &mut kernel, &record(2), &more, &late).is_ok());
+fn the_exit_of_the_executing_master_is_refused(rt: HostRuntime) -> Result<(), Fail> {
+    let mut kernel = booted(rt.alloc())?;
+    let pattern = leaving(rt.alloc(), 1, Name::Master(1))?;
+    let refused = one_more(rt.alloc(), &mut kernel, &record(), &pattern);
+    assert!(rt; matches!(refused, Err(EnactRefusal::MasterNamed(1))));
     Ok(())
 }
 
 #[test]
-fn a_state_that_ran_short_rolls_back_to_what_ran(rt: HostRuntime) -> Result<(), Fail> {
-    let alloc = rt.alloc();
-    let mut kernel = booted(alloc, 2)?;
-    let mut settings = Settings::plain();
-    settings.retries = 0;
-    let started = Record::start(&settings, 2, &Numbers::below(2), 100);
-    let mut pattern = Pattern::new(alloc);
-    pattern.set_fate(1, Fate::Again)?;
-    pattern.add_exit(2, Name::Worker(FIRST, 0))?;
-    let short = enact(
-        alloc,
-        &mut kernel,
-        &started,
-        &Target::Workers(3),
-        &pattern,
-    )?;
+fn exits_of_others_and_after_the_end_are_no_matter(rt: HostRuntime) -> Result<(), Fail> {
+    let mut kernel = booted(rt.alloc())?;
+    let mut pattern = leaving(rt.alloc(), 4, Name::Master(1))?;
+    pattern.add_exit(1, Name::Master(2))?;
+    assert!(rt; one_more(rt.alloc(), &mut kernel, &record(), &pattern).is_ok());
+    Ok(())
+}
+
+#[test]
+fn a_target_without_a_plan_is_refused_by_its_planner(rt: HostRuntime) -> Result<(), Fail> {
+    let mut kernel = booted(rt.alloc())?;
+    let quiet = Pattern::new(rt.alloc());
+    let refused = enact(rt.alloc(), &mut kernel, &record(), &Target::Reopen, &quiet);
+    assert!(rt; matches!(refused, Err(EnactRefusal::Plan(PlanRefusal::Unplanned))));
+    Ok(())
+}
+
+/// A record that lost one of its two workers while a third could not be started.
+fn short(alloc: Global, kernel: &mut Kernel) -> Result<Record, Fail> {
+    let first = Generation {
+        image: 1,
+        config: 1,
+    };
+    let mut pattern = failing(alloc)?;
+    pattern.add_exit(2, Name::Worker(first, 0))?;
+    let lost = one_more(alloc, kernel, &record(), &pattern)?;
     let lacking = Outcome::Degraded {
         side: Side::Old,
         short: 1,
     };
-    assert!(rt; short.report.outcome == lacking);
-    assert_eq!(rt; short.report.cause, Some(1));
-    let ran = short.after.ok_or("no record")?;
-    let mut fails = Pattern::new(alloc);
-    fails.set_fate(1, Fate::NoMemory)?;
-    let back = enact(alloc, &mut kernel, &ran, &Target::Workers(3), &fails)?;
-    assert!(rt; back.report.outcome == Outcome::RolledBack);
-    assert_eq!(rt; back.transcript.len(), 2);
-    let after = back.after.ok_or("no record")?;
-    assert!(rt; after.ready == ran.ready);
-    assert_eq!(rt; after.wanted, 2);
-    Ok(())
+    if !is_report(&lost.report, lacking, Some(1)) {
+        return Err(Fail::from("not short"));
+    }
+    Ok(lost.after.ok_or("no record")?)
 }
 
 #[test]
-fn words_are_carried_out_one_after_another(rt: HostRuntime) -> Result<(), Fail> {
-    let alloc = rt.alloc();
-    let mut kernel = booted(alloc, 0)?;
-    let mut state = Some(record(0));
-    let mut workers = WorkerTable::new(alloc)?;
-    let mut blocks = Vec::new(alloc);
-    let mut killing = Pattern::new(alloc);
-    killing.add_exit(1, Name::Master(1))?;
-    let patterns = vec![in alloc; Pattern::new(alloc), killing]?;
-    let words = [Word::Ttin, Word::Ttin, Word::Ttou, Word::Ttou];
-    run_words(
-        alloc,
-        &mut kernel,
-        &mut state,
-        &mut workers,
-        &words,
-        patterns.as_slice(),
-        None,
-        &mut blocks,
-    )?;
-    assert_eq!(rt; blocks.len(), 4);
-    assert!(rt; matches!(&blocks[0].body, Body::Ran(..)));
-    assert!(rt;
-        matches!(&blocks[1].body, Body::Refused(code) if code.as_str() == "E4 1")
-    );
-    assert!(rt; matches!(&blocks[2].body, Body::Ran(..)));
-    assert!(rt; matches!(&blocks[3].body, Body::Nothing));
-    assert!(rt; workers.lowest_missing(1) == Some(0));
-    assert!(rt; state.ok_or("no record")?.agrees(&kernel));
+fn a_state_that_ran_short_rolls_back_to_what_ran(rt: HostRuntime) -> Result<(), Fail> {
+    let mut kernel = booted(rt.alloc())?;
+    let ran = short(rt.alloc(), &mut kernel)?;
+    let pattern = failing(rt.alloc())?;
+    let back = one_more(rt.alloc(), &mut kernel, &ran, &pattern)?;
+    assert!(rt; is_report(&back.report, Outcome::RolledBack, Some(1)));
+    assert!(rt; back.report.ready == ran.ready);
     Ok(())
 }
 
-#[test]
-fn nothing_is_done_without_a_master(rt: HostRuntime) -> Result<(), Fail> {
-    let alloc = rt.alloc();
-    let mut kernel = booted(alloc, 0)?;
-    let mut state = None;
+/// The body of the last of some words, each under a quiet pattern.
+fn last_of(alloc: Global, state: Option<Record>, words: &[Word]) -> Result<Body, Fail> {
+    let mut kernel = booted(alloc)?;
+    let mut state = state;
     let mut workers = WorkerTable::new(alloc)?;
     let mut blocks = Vec::new(alloc);
     run_words(
@@ -197,36 +136,58 @@ fn nothing_is_done_without_a_master(rt: HostRuntime) -> Result<(), Fail> {
         &mut kernel,
         &mut state,
         &mut workers,
-        &[Word::Ttin],
+        words,
         &[],
         None,
         &mut blocks,
     )?;
-    assert_eq!(rt; blocks.len(), 1);
+    Ok(blocks.pop().ok_or("no block")?.body)
+}
+
+#[test]
+fn words_follow_one_another(rt: HostRuntime) -> Result<(), Fail> {
+    let words = [Word::Ttou, Word::Ttou, Word::Ttou];
+    assert!(rt; matches!(last_of(rt.alloc(), Some(record()), &words)?, Body::Nothing));
     assert!(rt;
-        matches!(&blocks[0].body, Body::Refused(code) if code.as_str() == "V1")
+        matches!(
+            last_of(rt.alloc(), Some(record()), &words[1..])?,
+            Body::Ran(..)
+        )
     );
-    assert!(rt; record(0).agrees(&kernel));
     Ok(())
 }
 
 #[test]
+fn a_word_without_a_master_is_refused(rt: HostRuntime) -> Result<(), Fail> {
+    let Body::Refused(code) = last_of(rt.alloc(), None, &[Word::Ttin])? else {
+        return Err(Fail::from("not refused"));
+    };
+    assert_eq!(rt; code.as_str(), "V1");
+    Ok(())
+}
+
+/// Whether a refusal's code is what it prints.
+fn is_printed(alloc: Global, refusal: EnactRefusal) -> Result<bool, Fail> {
+    let printed = format!(in alloc; "{refusal}")?;
+    Ok(CodeText::from(refusal).as_str() == printed.as_str())
+}
+
+#[test]
 fn a_code_is_what_its_refusal_prints(rt: HostRuntime) -> Result<(), Fail> {
-    let alloc = rt.alloc();
-    let refusals = [
-        EnactRefusal::Memory,
-        EnactRefusal::RecordDisagrees,
-        EnactRefusal::Plan(PlanRefusal::TooLarge),
-        EnactRefusal::Plan(PlanRefusal::Unplanned),
-        EnactRefusal::Plan(PlanRefusal::NoGeneration),
-        EnactRefusal::Plan(PlanRefusal::Memory),
-        EnactRefusal::MasterNamed(4_294_967_295),
-        EnactRefusal::NoNumbers,
-    ];
-    for refusal in refusals {
-        let printed = format!(in alloc; "{refusal}")?;
-        assert!(rt; CodeText::from(refusal).as_str() == printed.as_str());
-    }
-    assert!(rt; CodeText::from(WordRefusal::AtMost).as_str() == "W3");
+    assert!(rt; is_printed(rt.alloc(), EnactRefusal::Memory)?);
+    assert!(rt; is_printed(rt.alloc(), EnactRefusal::RecordDisagrees)?);
+    assert!(rt; is_printed(rt.alloc(), EnactRefusal::MasterNamed(4_294_967_295))?);
+    assert!(rt; is_printed(rt.alloc(), EnactRefusal::NoNumbers)?);
+    assert_eq!(rt; CodeText::from(WordRefusal::AtMost).as_str(), "W3");
+    Ok(())
+}
+
+#[test]
+fn a_planners_code_is_what_its_refusal_prints(rt: HostRuntime) -> Result<(), Fail> {
+    let planner = |refusal| is_printed(rt.alloc(), EnactRefusal::Plan(refusal));
+    assert!(rt; planner(PlanRefusal::TooLarge)?);
+    assert!(rt; planner(PlanRefusal::Unplanned)?);
+    assert!(rt; planner(PlanRefusal::NoGeneration)?);
+    assert!(rt; planner(PlanRefusal::Memory)?);
     Ok(())
 }

@@ -1,4 +1,4 @@
-use Rattle.std.proofs.Common.{◌≡◌, ◌∙◌, ap, sym}
+use Rattle.std.proofs.Common.{◌∙◌, ap}
 use Rattle.listener_set.specs.Numbers.{is_in}
 use Rattle.kernel_model.specs.Pattern.{moment_at}
 use Rattle.plan_executor.specs.Started.{started}

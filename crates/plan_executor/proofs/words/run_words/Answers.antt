@@ -1,9 +1,8 @@
 use Rattle.std.proofs.Common.{◌≡◌, ◌+◌, ◌++◌, [], ◌∷◌, length, get_or, refl, sym, ◌∙◌, ap, subst, arith, append_assoc, length-append, option_copied}
 use Rattle.std.proofs.lemmas.List.{append-nil}
-use Rattle.kernel_model.specs.Pattern.{moment_at}
 use Rattle.control_words.specs.declared.words.Word.TheVariants.{Ttin}
 use Rattle.plan_executor.specs.declared.block.Block.{Block}
-use Rattle.plan_executor.specs.Words.{Standing, standing, pattern_at, ComesTo, IsTrueOf}
+use Rattle.plan_executor.specs.Words.{Standing, standing, IsTrueOf}
 use Rattle.plan_executor.proofs.Wording.{done-more, done-true}
 use Rattle.plan_executor.proofs.words.run_words.Goals as goal
 
