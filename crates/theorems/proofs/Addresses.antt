@@ -7,7 +7,7 @@ use Rattle.std.specs.List.{list_any}
 use Rattle.definitions.specs.Calls.{lacks_address, put_hold}
 use Rattle.listener_set.specs.AddressList.{has}
 use Rattle.definitions.specs.Claims.{has_socket}
-use Rattle.theorems.proofs.Rows.{pick}
+use Rattle.theorems.proofs.Rows.{pick, both-true, or-right}
 
 pub same-address : (a b : Address) → bytes_eq a b ≡ true → a ≡ b
 same-address a b e = (bytes_eq-Decides a b).0 e
@@ -148,3 +148,21 @@ stands-filter t (x ∷ l) a = go (bytes_eq x a) refl (t x) refl (stands-filter t
         and-false false = refl
     go false e true f ih = rw e ih
     go false e false f ih = ih
+
+-- An address that is held, on each socket that it had first.
+abbrev pub StaysHeld : Address → List Hold → List Hold → Type 0
+StaysHeld a first hs = (has_address a hs ≡ true) × ((k : ℕ) → has_socket a k first ≡ true → has_socket a k hs ≡ true)
+
+-- It stays so where one is closed that is not wanted, or another is opened.
+pub stays-lacks : (wanted : List Address) (a b : Address) (first hs : List Hold) → has wanted b ≡ false → has wanted a ≡ true → StaysHeld a first hs → StaysHeld a first (lacks_address b hs)
+stays-lacks wanted a b first hs off on held =
+    let ne : bytes_eq b a ≡ false = apart (bytes_eq b a) refl in
+    (has-lacks a b hs ∙ both-true (has_address a hs) (not (bytes_eq b a)) held.0 (ap not ne), λ k e. socket-lacks a b k hs ne (held.1 k e))
+  where
+    apart : (x : Bool) → bytes_eq b a ≡ x → bytes_eq b a ≡ false
+    apart true e = absurd (let same : has wanted b ≡ true = subst (λ z. has wanted z ≡ true) (sym (same-address b a e)) on in cc)
+    apart false e = e
+
+pub stays-put : (h : Hold) (a : Address) (first hs : List Hold) → StaysHeld a first hs → StaysHeld a first (put_hold h hs)
+stays-put h a first hs held =
+    (any-put (is_at a) h hs ∙ or-right (is_at a h) (has_address a hs) held.0, λ k e. any-put (λ x. bytes_eq x.address a && (x.socket == k)) h hs ∙ or-right (bytes_eq h.address a && (h.socket == k)) (has_socket a k hs) (held.1 k e))

@@ -439,7 +439,7 @@ asked-dead w image rows d = every-filter_map (Dead w) (Dead w) (dropped (is_imag
 
 ---- A second master comes
 
-rises-to : (b : ℕ) (rows : List Process) (next : ℕ) → IsAscending b rows next → b ≤ next
+pub rises-to : (b : ℕ) (rows : List Process) (next : ℕ) → IsAscending b rows next → b ≤ next
 rises-to b [] next asc = asc
 rises-to b (p ∷ rows) next asc = omega (arith, asc.0, rises-to (number_of p + 1) rows next asc.1)
 

@@ -17,15 +17,11 @@ use Rattle.theorems.proofs.Services.{sole-fine}
 use Rattle.theorems.proofs.Begins.{first_view, begin}
 use Rattle.theorems.proofs.Small.{every-is_in}
 use Rattle.theorems.proofs.Processes.{HasOne, IsOf, Fact}
-use Rattle.theorems.proofs.Duo.{master-below}
+use Rattle.theorems.proofs.Duo.{master-below, rises-to}
 use Rattle.theorems.proofs.Staying.{IsIt, is_it, Stands}
 use Rattle.theorems.proofs.Taken.{OnlyOurs, IsUntouched}
 
 ---- Process numbers rise
-
-rises-to : (b : ℕ) (rows : List Process) (next : ℕ) → IsAscending b rows next → b ≤ next
-rises-to b [] next asc = asc
-rises-to b (p ∷ rows) next asc = omega (arith, asc.0, rises-to (number_of p + 1) rows next asc.1)
 
 none-below : (n b : ℕ) (X : Process → Type 0) (rows : List Process) (next : ℕ) → n < b → IsAscending b rows next → AllByRecursion (λ p. number_of p ≡ n → X p) rows
 none-below n b X [] next lt asc = tt

@@ -29,7 +29,7 @@ use Rattle.theorems.proofs.Counts.{Distinct}
 use Rattle.theorems.proofs.Sets.{in-here, in-there, in-cases, below-of, below-on, below-distinct, below-length, weigh-either, weigh-set, weigh-part}
 use Rattle.theorems.proofs.Services.{live-with, live-with-on, fewer-same, ready-floor}
 use Rattle.theorems.proofs.Begins.{first_view, begin, begin-count, rising-distinct}
-use Rattle.theorems.proofs.Addresses.{same-address, any-put, has-lacks, socket-lacks, lacks-none, lacks-put, stands-filter}
+use Rattle.theorems.proofs.Addresses.{stays-lacks, stays-put, same-address, any-put, has-lacks, socket-lacks, lacks-none, lacks-put, stands-filter}
 use Rattle.theorems.proofs.After.{agrees-after}
 use Rattle.theorems.proofs.Logic.{Unasked, Course, Along, Anyhow, from-along, are-mild-anyhow}
 use Rattle.theorems.proofs.Small.{in-reverse, every-is_in, off-from, true-false, or-elim, map-addresses}
@@ -366,14 +366,7 @@ module _ (t : Table) (rec : Record) (st : Settings) (pattern : Pattern) (s : IsS
 
   -- b is not wanted
   common-lacks : (b : Address) (hs : List Hold) → has wanted b ≡ false → Common hs → Common (lacks_address b hs)
-  common-lacks b hs off common a c =
-      let w = wanted-of a c.1 in
-      let ne : bytes_eq b a ≡ false = apart (bytes_eq b a) refl w in
-      (has-lacks a b hs ∙ both-true (has_address a hs) (not (bytes_eq b a)) (common a c).0 (ap not ne), λ k e. socket-lacks a b k hs ne ((common a c).1 k e))
-    where
-      apart : (x : Bool) → bytes_eq b a ≡ x → has wanted a ≡ true → bytes_eq b a ≡ false
-      apart true e w = absurd (true-false (has wanted b) (subst (λ z. has wanted z ≡ true) (sym (same-address b a e)) w) off)
-      apart false e w = e
+  common-lacks b hs off common a c = stays-lacks wanted a b H0 hs off (wanted-of a c.1) (common a c)
 
   close-new : (l : List Address) (hs : List Hold) → Lists (all_closed l hs) → AllByRecursion (λ b. has wanted b ≡ false) l → ((a : Address) → (has_address a hs && not (has l a)) ≡ has wanted a) → Common hs → (r : Names) (c : ℕ) (q : Progress) → Only new (numbers_below n) r → Band (same hs) sc none r (named new (is_in (numbers_below n))) (length (numbers_below n)) c false [] q → Goes (closes g.image l (settle g.image new (numbers_below n) Target rec.retries)) q
   close-new [] hs lists off keys common r c q only b =
@@ -498,12 +491,7 @@ module _ (t : Table) (rec : Record) (st : Settings) (pattern : Pattern) (s : IsS
       }) b
 
   put-common : (h : Hold) (hs : List Hold) → Common hs → Common (put_hold h hs)
-  put-common h hs common a c =
-      (any-put (is_at a) h hs ∙ or-on (is_at a h) (has_address a hs) (common a c).0, λ k e. any-put (λ x. bytes_eq x.address a && (x.socket == k)) h hs ∙ or-on (bytes_eq h.address a && (h.socket == k)) (has_socket a k hs) ((common a c).1 k e))
-    where
-      or-on : (x y : Bool) → y ≡ true → (x || y) ≡ true
-      or-on true y e = refl
-      or-on false y e = e
+  put-common h hs common a c = stays-put h a H0 hs (common a c)
 
   opening : (todo l : List Address) (hs : List Hold) → (all_opened todo (map listener_of hs) ≡ opened st.listeners rec.listeners) × RisesFrom 3 (fds hs) → AllByRecursion (λ a. has_address a H0 ≡ false) todo → From H0 Common l hs → ((a : Address) → (has l a || has todo a) ≡ has added a) → Common hs → (r : Names) (c : ℕ) (q : Progress) → Only g R r → Band (both hs) sc none r (named g (is_in R)) (length R) c false [] q → Goes (opens g.image todo l (λ opened. starts g.image new (numbers_below n) (census g.image new (numbers_below n) (census_edges way_on (reload_back g.image g R rec.retries opened (reverse (numbers_below n))))) (λ forked. reload_back g.image g R rec.retries opened forked)) (λ opened. closes g.image opened (settle g.image g R Old rec.retries))) q
   opening [] l hs listing off o in_all common r c q only b =

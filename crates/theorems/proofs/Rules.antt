@@ -30,7 +30,7 @@ use Rattle.theorems.proofs.Views.{Names, named, View, Looks, live_any, ready_in,
 use Rattle.theorems.proofs.Exits.{Spares, spares-each, shrinks}
 use Rattle.theorems.proofs.Effects.{Mine, mine-worker, mine-exited, StaysOther, ready-stays, draining-stays, none, looks-allows, fork-looks, fork-weigh, await-looks, await-gains, gone-looks, gone-weigh, kill-looks, kill-weigh, quit-looks, quit-weigh, bears-is, bears-refl, same-refl, cut-weigh, after_close, cut-looks, after_open, close-weigh, close-looks, mine-of, holds-stay, open-weigh, unheld, open-looks, mine-row}
 use Rattle.theorems.proofs.Counts.{census-looks, census-weigh, census-in, count-set, Distinct}
-use Rattle.theorems.proofs.Sets.{in-here, in-there, in-cases}
+use Rattle.theorems.proofs.Sets.{in-here, in-there, in-cases, every-in}
 use Rattle.theorems.proofs.After.{census-exact}
 use Rattle.theorems.proofs.Logic.{Unasked, Exiting, Anyhow, Course, course_after, Along, Behind, fork-cases, await-cases, unfailing, open-cases, gone-cases}
 
@@ -399,10 +399,6 @@ module _ (inv : Progress → Type 0) (post : Ending → Progress → Type 0) (co
   -- the count is exactly what is Ready
   abbrev pub Exact : Generation → Progress → Type 0
   Exact g q = (k : ℕ) → list_any (is_worker is_ready u.number g k) q.table.rows ≡ is_in q.ready k
-
-  every-in : (P : ℕ → Type 0) (T : List ℕ) → ((k : ℕ) → is_in T k ≡ true → P k) → AllByRecursion P T
-  every-in P [] h = tt
-  every-in P (x ∷ T) h = (h x (in-here x x T refl), every-in P T (λ k e. h k (in-there x k T e)))
 
   -- the names of t that are not Ready are no fewer than those of the set that are not
   abbrev pub Part : View → Names → ℕ → Generation → List ℕ → Type 0

@@ -33,7 +33,7 @@ use Rattle.definitions.specs.After.{record_after}
 use Rattle.definitions.specs.declared.calls.Reply.{Reply}
 use Rattle.theorems.proofs.Begins.{first_view, begin}
 use Rattle.theorems.proofs.Logic.{Unasked, course_after, Behind, Course, Anyhow, Along, from-along, are-mild-anyhow, gone-cases, remove-cases, unfailing}
-use Rattle.theorems.proofs.Rules.{Scene, plain_scene, Marks, Band, view, any, ready_of, Answers, minus, marks-plain, marks-wrong, rule-step, rule-cut, rule-quits, rule-kills, band-exits, band-inv}
+use Rattle.theorems.proofs.Rules.{rule-waits, band-anew, Scene, plain_scene, Marks, Band, view, any, ready_of, Answers, minus, marks-plain, marks-wrong, rule-step, rule-cut, rule-quits, rule-kills, band-exits, band-inv}
 
 ---- Files
 
@@ -138,20 +138,9 @@ module _ (t : Table) (rec : Record) (quick : Bool) (pattern : Pattern) (s : IsSt
       rule-kills inv post co u acts (sc files note) good rest g ks any any none 0 0 false [] q (λ k e. refl) (λ st r q' less_s less b'. next q' (widen files note st r false q' b')) b
 
   waits-all : (rest : Tree) (ks : List ℕ) (files : List File) (note : PidNote) (q : Progress) → ((q' : Progress) → Holds files note false q' → Goes rest q') → Holds files note false q → Goes (awaits_gone g.image g ks rest) q
-  waits-all rest [] files note q next b = next q b
-  waits-all rest (x ∷ ks) files note q next b =
-      let order = Make (AwaitGone g x) in
-      let more = awaits_gone g.image g ks rest in
-      let bs = gone_edges more (does g.image (Kill g x) (then_edge more)) in
-      rule-step inv post co u acts (sc files note) good order [] bs any any none 0 0 false [] q refl b (λ p b' fate.
-      gone-cases co.text g.image (record { number = rec.pid; holds = s.agrees.holds }) g x fate p.table (λ st. Answers inv post co u acts (sc files note) good order [] bs p st)
-      (let late = after_call order [] (gives answer.Late p.table) p in
-      rule-cut inv post co u acts (sc files note) good more g x any any none 0 0 true [] late refl
-      (λ q' c. waits-all rest ks files note q' next (forget files note true q' (widen files note (minus any g x) (minus any g x) true q' c)))
-      (record { looks = b'.looks; enough = b'.enough; secured = λ e. absurd (omega (arith, e)); budget = omega arith; lacking = b'.lacking; still = b'.still; marks = marks-wrong false p.faults (p.faults + 1) p.losses (p.calls + 1) p.cause (omega arith) b'.marks; beside = tt }))
-      (let gone = after_call order [] (gives answer.Gone (each_row (dropped (is_worker is_any rec.pid g x)) p.table)) p in
-      waits-all rest ks files note gone next (widen files note (minus any g x) (minus any g x) false gone
-      (record { looks = cut-looks (view u any any) g x p.table.rows b'.looks; enough = b'.enough; secured = λ e. absurd (omega (arith, e)); budget = omega arith; lacking = b'.lacking; still = b'.still; marks = marks-plain false p.faults p.losses (p.calls + 1) p.cause b'.marks; beside = tt }))))
+  waits-all rest ks files note q next b =
+      rule-waits inv post co u acts (sc files note) good rest g ks any any none 0 false [] q (λ k e. refl)
+      (λ st r w k q' sub_st sub_r up b'. next q' (forget files note w q' (widen files note st r w q' (band-anew inv post co u acts (sc files note) good st r none 0 k w [] q' b')))) 0 b
 
   said-so : (said : Option PidNote) (files : List File) (note : PidNote) (w : Bool) (q : Progress) → Holds files note w q → Holds files (unwrap_or said note) w (noted said q)
   said-so None files note w q b = b

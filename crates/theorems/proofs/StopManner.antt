@@ -23,7 +23,7 @@ use Rattle.definitions.specs.Manner.{is_quit_call, is_quit_of, is_wait_of, is_le
 use Rattle.definitions.specs.Claims.{InManner}
 use Rattle.theorems.proofs.Effects.{bears-refl}
 use Rattle.theorems.proofs.Rows.{both-true}
-use Rattle.theorems.proofs.Sets.{in-here, in-there, in-cases}
+use Rattle.theorems.proofs.Sets.{in-here, in-there, in-cases, every-in}
 use Rattle.theorems.proofs.Small.{in-reverse}
 use Rattle.theorems.proofs.Logic.{AllDue, Unasked}
 use Rattle.theorems.proofs.Manners.{paired}
@@ -268,10 +268,6 @@ left-in-order : (g : Generation) (ready : List ℕ) (past : List Entry) (call : 
 left-in-order g ready past Leave e h = h
 left-in-order g ready past _ e h = absurd (cc e)
 
-pub every-ready : (Q : ℕ → Type 0) (ks : List ℕ) → ((k : ℕ) → is_in ks k ≡ true → Q k) → AllByRecursion Q ks
-every-ready Q [] h = tt
-every-ready Q (x ∷ ks) h = (h x (in-here x x ks refl), every-ready Q ks (λ k e. h k (in-there x k ks e)))
-
 -- the entries before a Leave, after those of the past
 abbrev pub Before : Record → List Entry → Option (List Entry) → Type 0
 Before r past None = ⊤
@@ -282,7 +278,7 @@ leaves-past r past [] h = tt
 leaves-past r past (e ∷ entries) h = go (is_leave_call e.call) refl (before_leave entries) (leaves-past r (past ++ e ∷ []) entries h.1)
   where
     go : (b : Bool) → is_leave_call e.call ≡ b → (o : Option (List Entry)) → Before r (past ++ e ∷ []) o → Before r past (if b then Some [] else onto e o)
-    go true is o ih = every-ready (λ k. was_waited_for r.generation k (past ++ []) ≡ true) r.ready (λ k on. subst (λ l. was_waited_for r.generation k l ≡ true) (sym (append-nil past)) (left-in-order r.generation r.ready past e.call is h.0 k on))
+    go true is o ih = every-in (λ k. was_waited_for r.generation k (past ++ []) ≡ true) r.ready (λ k on. subst (λ l. was_waited_for r.generation k l ≡ true) (sym (append-nil past)) (left-in-order r.generation r.ready past e.call is h.0 k on))
     go false is None ih = tt
     go false is (Some front) ih = subst (λ l. AllByRecursion (λ k. was_waited_for r.generation k l ≡ true) r.ready) (append_assoc past (e ∷ []) front) ih
 

@@ -22,9 +22,9 @@ use Rattle.theorems.proofs.Rows.{and-left, and-right, both-true}
 use Rattle.theorems.proofs.Views.{Names, named}
 use Rattle.theorems.proofs.Effects.{none, bears-is, bears-refl, same-refl, looks-allows, mine-exited}
 use Rattle.theorems.proofs.Counts.{Distinct, census-looks, census-weigh, census-in, count-set}
-use Rattle.theorems.proofs.Sets.{in-here, in-there, in-cases, below-of, below-distinct, below-length}
+use Rattle.theorems.proofs.Sets.{every-in, in-here, in-there, in-cases, below-of, below-distinct, below-length}
 use Rattle.theorems.proofs.Small.{off-from, or-elim, true-false, not-is}
-use Rattle.theorems.proofs.Addresses.{any-put, has-lacks, socket-lacks, same-address, stands-filter}
+use Rattle.theorems.proofs.Addresses.{stays-lacks, stays-put, any-put, has-lacks, socket-lacks, same-address, stands-filter}
 use Rattle.theorems.proofs.Listeners.{fds, fds-listed, opens-on, all_closed, closed-first, has-closed, rises-closed, upgrade-added}
 use Rattle.theorems.proofs.Files.{written-file, other-written, other-oldbin}
 use Rattle.theorems.proofs.Ends.{first-keys}
@@ -53,24 +53,11 @@ module _ (c : Given) (m : ℕ) (ne : m ≢ c.rec.pid) (r0 : Names) (only0 : Only
 
   ---- Closing and opening
 
-  -- another address is not wanted
   common-lacks : (b : Address) (hs : List Hold) → has (wanted c) b ≡ false → Common c hs → Common c (lacks_address b hs)
-  common-lacks b hs off common a h =
-      let on = wanted-of c a h.1 in
-      let ne : bytes_eq b a ≡ false = apart-from (bytes_eq b a) refl on in
-      (has-lacks a b hs ∙ both-true (has_address a hs) (not (bytes_eq b a)) (common a h).0 (ap not ne), λ k e. socket-lacks a b k hs ne ((common a h).1 k e))
-    where
-      apart-from : (x : Bool) → bytes_eq b a ≡ x → has (wanted c) a ≡ true → bytes_eq b a ≡ false
-      apart-from true e on = absurd (true-false (has (wanted c) b) (subst (λ z. has (wanted c) z ≡ true) (sym (same-address b a e)) on) off)
-      apart-from false e on = e
+  common-lacks b hs off common a h = stays-lacks (wanted c) a b (H0 c) hs off (wanted-of c a h.1) (common a h)
 
   common-put : (h : Hold) (hs : List Hold) → Common c hs → Common c (put_hold h hs)
-  common-put h hs common a e =
-      (any-put (is_at a) h hs ∙ or-on (is_at a h) (has_address a hs) (common a e).0, λ k on. any-put (λ x. bytes_eq x.address a && (x.socket == k)) h hs ∙ or-on (bytes_eq h.address a && (h.socket == k)) (has_socket a k hs) ((common a e).1 k on))
-    where
-      or-on : (x y : Bool) → y ≡ true → (x || y) ≡ true
-      or-on true y e = refl
-      or-on false y e = e
+  common-put h hs common a e = stays-put h a (H0 c) hs (common a e)
 
   abbrev pub none_yet : List Hold → List File → Doing c m ne r0 only0
   none_yet hs files = bare c m ne r0 only0 hs files
@@ -191,10 +178,6 @@ module _ (c : Given) (m : ℕ) (ne : m ≢ c.rec.pid) (r0 : Names) (only0 : Only
       next (with_file path m x.files) q' still (written-file path m x.files, still) b') b
 
   ---- The census
-
-  every-in : (Q : ℕ → Type 0) (ks : List ℕ) → ((k : ℕ) → is_in ks k ≡ true → Q k) → AllByRecursion Q ks
-  every-in Q [] h = tt
-  every-in Q (k ∷ ks) h = (h k (in-here k k ks refl), every-in Q ks (λ j e. h j (in-there k j ks e)))
 
   only-seen : (cs : List ℕ) → Only (new c) S (seen T (new c) cs)
   only-seen cs h k e = let on = and-left (T h k) _ e in (Rattle.theorems.proofs.Effects.same-is h (new c) (and-left _ _ on), and-right (same_generation h (new c)) _ on)

@@ -29,7 +29,7 @@ use Rattle.definitions.specs.Claims.{names_any, is_leave, run_of, InManner}
 use Rattle.theorems.proofs.Rows.{FitsIn, every-filter_map, pick, both-true}
 use Rattle.theorems.proofs.Exits.{spares-each}
 use Rattle.theorems.proofs.Effects.{bears-refl}
-use Rattle.theorems.proofs.Sets.{in-here, in-there, in-cases}
+use Rattle.theorems.proofs.Sets.{in-here, in-there, in-cases, every-in}
 use Rattle.theorems.proofs.Small.{in-reverse}
 use Rattle.theorems.proofs.Logic.{Unasked, Anyhow, Course, course_after, are-mild-anyhow, gone-cases, unfailing, refused_in, run_in}
 use Rattle.theorems.proofs.Processes.{AnyCall, Fact, one-found, fact-any, fact-exits, fact-steps}
@@ -40,7 +40,7 @@ use Rattle.theorems.proofs.Absent.{Absent, absent-exits, absent-steps}
 use Rattle.theorems.proofs.Firsts.{first-in, first-low, first-stands, first-untouched, stands-ready}
 use Rattle.theorems.proofs.Manners.{are-unlost}
 use Rattle.theorems.proofs.Traces.{Asking, Finally, Growing, Traced, TracedBehind, AllTraced, from-traced, along-traced, robust, robust-behind, all-good, good-step, entry_of, any-more, any-last, then-last, then-more, append-nil}
-use Rattle.theorems.proofs.StopManner.{Before, from-before, every-ready}
+use Rattle.theorems.proofs.StopManner.{Before, from-before}
 use Rattle.theorems.proofs.UpgradeStage.{Given, g, new, R, n, co, acts}
 use Rattle.theorems.proofs.UpgradeWalk.{Free, IsGood, upgrade-good, quits-good, Told, told-on}
 
@@ -363,7 +363,7 @@ leaves-due c past (e ∷ entries) (q ∷ []) h = absurd h
 leaves-due c past (e ∷ entries) (q ∷ middle ∷ rest) h = go (is_leave_call e.call) refl (before_leave entries) (leaves-due c (past ++ e ∷ []) entries rest h.1)
   where
     go : (b : Bool) → is_leave_call e.call ≡ b → (o : Option (List Entry)) → Before c.rec (past ++ e ∷ []) o → Before c.rec past (if b then Some [] else Rattle.definitions.specs.Manner.onto e o)
-    go true is o ih = every-ready (λ k. was_waited_for c.rec.generation k (past ++ []) ≡ true) c.rec.ready (λ k on. subst (λ l. was_waited_for c.rec.generation k l ≡ true) (sym (append-nil past)) (leave-due c past e.call middle.table is h.0 k on))
+    go true is o ih = every-in (λ k. was_waited_for c.rec.generation k (past ++ []) ≡ true) c.rec.ready (λ k on. subst (λ l. was_waited_for c.rec.generation k l ≡ true) (sym (append-nil past)) (leave-due c past e.call middle.table is h.0 k on))
     go false is None ih = tt
     go false is (Some front) ih = subst (λ l. AllByRecursion (λ k. was_waited_for c.rec.generation k l ≡ true) c.rec.ready) (Rattle.std.proofs.Common.append_assoc past (e ∷ []) front) ih
 
