@@ -29,7 +29,7 @@ use Rattle.theorems.proofs.Counts.{Distinct}
 use Rattle.theorems.proofs.Sets.{in-here, in-there, in-cases, below-of, below-on, below-distinct, below-length, weigh-either, weigh-set, weigh-part}
 use Rattle.theorems.proofs.Services.{live-with, live-with-on, fewer-same, ready-floor}
 use Rattle.theorems.proofs.Begins.{first_view, begin, begin-count, rising-distinct}
-use Rattle.theorems.proofs.Addresses.{stays-lacks, stays-put, same-address, any-put, has-lacks, socket-lacks, lacks-none, lacks-put, stands-filter}
+use Rattle.theorems.proofs.Addresses.{stays-lacks, stays-put, any-put, has-lacks, lacks-none, lacks-put, stands-filter}
 use Rattle.theorems.proofs.After.{agrees-after}
 use Rattle.theorems.proofs.Logic.{Unasked, Course, Along, Anyhow, from-along, are-mild-anyhow}
 use Rattle.theorems.proofs.Small.{in-reverse, every-is_in, off-from, true-false, or-elim, map-addresses}

@@ -1,6 +1,6 @@
 -- A rule for each piece of a plan of one master.
 use Rattle.std.proofs.Common.{◌≡◌, ℕ, zero, suc, ◌+◌, ◌<◌, ◌≤◌, Bool, true, false, cond, not, List, [], ◌∷◌, ◌++◌, length, Option, Some, None, refl, sym, ap, ◌∙◌, subst, arith, ◌⊎◌, inl, inr, ⊎_elim, nat_lt}
-use Rattle.std.specs.List.{filter_map, AllByRecursion, list_any}
+use Rattle.std.specs.List.{filter_map, list_any}
 use Rattle.std.specs.Prelude.{if◌then◌else◌, filter, ◌&&◌, ◌||◌, ◌==◌, ⊤, is_some}
 use Rattle.definitions.specs.declared.table.Limits.{Limits}
 use Rattle.definitions.specs.Table.{same_generation, Hold, Process, Master, Worker, Foreign, File, Table, bears, Caller, with_rows, is_worker, is_active, is_ready, is_starting, is_exited, is_any, Address, is_at}

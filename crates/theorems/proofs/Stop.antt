@@ -8,23 +8,23 @@ use Rattle.definitions.specs.declared.plans.PidNote.{PidNote}
 use Rattle.definitions.specs.declared.plans.PidNote.TheVariants.{InPlace, AtOldbin, OldbinLeft, Left, NoFile}
 use Rattle.definitions.specs.declared.plans.End.TheVariants.{Done, RolledBack, ShortOld, ShortTarget}
 use Rattle.definitions.specs.declared.plans.Order.TheVariants.{Make}
-use Rattle.definitions.specs.declared.calls.Call.TheVariants.{AwaitGone, Kill, RemovePid, Leave}
+use Rattle.definitions.specs.declared.calls.Call.TheVariants.{RemovePid, Leave}
 use Rattle.definitions.specs.declared.calls.Answer.TheVariants as answer
 use Rattle.definitions.specs.declared.targets.Target.TheVariants.{Stop}
-use Rattle.definitions.specs.Table.{FilePath, File, Process, Master, Worker, Foreign, Table, Hold, Caller, is_any, is_worker, owner_at, owner_if, has_address}
-use Rattle.definitions.specs.Calls.{Stepped, gives, step_by, each_row, dropped, with_files, without_file, without_master}
+use Rattle.definitions.specs.Table.{FilePath, File, Process, Master, Worker, Foreign, Table, Hold, Caller, owner_at, owner_if, has_address}
+use Rattle.definitions.specs.Calls.{Stepped, gives, step_by, each_row, with_files, without_file, without_master}
 use Rattle.definitions.specs.Service.{is_live_with, service, IsSame}
 use Rattle.definitions.specs.Record.{Record, FilesAre, oldbin}
 use Rattle.definitions.specs.Target.{want}
 use Rattle.definitions.specs.Tree.{Tree, Ends, reply_of}
-use Rattle.definitions.specs.Plans.{plan_tree, stop_tree, quits, kills, awaits_gone, gone_edges, then_edge, note_edges, removes, remove_oldbin_too, has_oldbin, stopped, does}
+use Rattle.definitions.specs.Plans.{plan_tree, stop_tree, quits, kills, awaits_gone, then_edge, note_edges, removes, remove_oldbin_too, has_oldbin, stopped, does}
 use Rattle.definitions.specs.Run.{outcome_of, Pattern, Progress, Ending, At, Lost, Ran, start_at, noted, after_call, after_moment, answered}
 use Rattle.definitions.specs.Claims.{is_failed_removal, Says, HasCause, IsPaid, IsStart, Kept, IsBlamed, StopNote, StopHeadline, run_of}
 use Rattle.theorems.proofs.Rows.{every-more}
 use Rattle.theorems.proofs.Files.{gone-file}
 use Rattle.theorems.proofs.Views.{Names, View, Looks, Fine, finds, eqb-refl}
 use Rattle.theorems.proofs.Exits.{spares-each}
-use Rattle.theorems.proofs.Effects.{none, looks-allows, cut-looks}
+use Rattle.theorems.proofs.Effects.{none, looks-allows}
 use Rattle.theorems.proofs.Sets.{in-here}
 use Rattle.theorems.proofs.Services.{sole-fine}
 use Rattle.theorems.proofs.Notes.{LeftByFault, SaidBy, left-by}
@@ -32,8 +32,8 @@ use Rattle.theorems.proofs.Ends.{report_at}
 use Rattle.definitions.specs.After.{record_after}
 use Rattle.definitions.specs.declared.calls.Reply.{Reply}
 use Rattle.theorems.proofs.Begins.{first_view, begin}
-use Rattle.theorems.proofs.Logic.{Unasked, course_after, Behind, Course, Anyhow, Along, from-along, are-mild-anyhow, gone-cases, remove-cases, unfailing}
-use Rattle.theorems.proofs.Rules.{rule-waits, band-anew, Scene, plain_scene, Marks, Band, view, any, ready_of, Answers, minus, marks-plain, marks-wrong, rule-step, rule-cut, rule-quits, rule-kills, band-exits, band-inv}
+use Rattle.theorems.proofs.Logic.{Unasked, course_after, Behind, Course, Anyhow, Along, from-along, are-mild-anyhow, remove-cases, unfailing}
+use Rattle.theorems.proofs.Rules.{rule-waits, band-anew, Scene, plain_scene, Marks, Band, view, any, ready_of, Answers, marks-plain, marks-wrong, rule-step, rule-quits, rule-kills, band-exits, band-inv}
 
 ---- Files
 

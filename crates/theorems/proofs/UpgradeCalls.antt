@@ -1,6 +1,6 @@
 -- All that an upgrade's new master does before it is counted, and its count.
 use Rattle.std.proofs.Common.{◌≡◌, ◌≢◌, ℕ, ◌+◌, ◌<◌, Bool, true, false, cond, not, List, [], ◌∷◌, ◌++◌, length, Option, Some, None, refl, sym, ap, ◌∙◌, subst, append_assoc, arith, inl, inr, ⊎_elim}
-use Rattle.std.specs.Prelude.{map, ◌&&◌, ◌||◌, ◌==◌, bytes_eq}
+use Rattle.std.specs.Prelude.{map, ◌&&◌, ◌||◌, bytes_eq}
 use Rattle.std.specs.List.{AllByRecursion, list_any}
 use Rattle.listener_set.specs.Numbers.{is_in, numbers_below, lacks, RisesFrom}
 use Rattle.listener_set.specs.AddressList.{has}
@@ -17,14 +17,13 @@ use Rattle.definitions.specs.Plans.{tries, tries_all, pid_calls, new_calls}
 use Rattle.definitions.specs.Path.{first_cause, went_wrong}
 use Rattle.definitions.specs.Run.{Progress}
 use Rattle.definitions.specs.After.{all_opened, kept, upgraded}
-use Rattle.definitions.specs.Claims.{has_socket}
 use Rattle.theorems.proofs.Rows.{and-left, and-right, both-true}
 use Rattle.theorems.proofs.Views.{Names, named}
 use Rattle.theorems.proofs.Effects.{none, bears-is, bears-refl, same-refl, looks-allows, mine-exited}
 use Rattle.theorems.proofs.Counts.{Distinct, census-looks, census-weigh, census-in, count-set}
 use Rattle.theorems.proofs.Sets.{every-in, in-here, in-there, in-cases, below-of, below-distinct, below-length}
 use Rattle.theorems.proofs.Small.{off-from, or-elim, true-false, not-is}
-use Rattle.theorems.proofs.Addresses.{stays-lacks, stays-put, any-put, has-lacks, socket-lacks, same-address, stands-filter}
+use Rattle.theorems.proofs.Addresses.{stays-lacks, stays-put, any-put, stands-filter}
 use Rattle.theorems.proofs.Listeners.{fds, fds-listed, opens-on, all_closed, closed-first, has-closed, rises-closed, upgrade-added}
 use Rattle.theorems.proofs.Files.{written-file, other-written, other-oldbin}
 use Rattle.theorems.proofs.Ends.{first-keys}
