@@ -22,6 +22,7 @@ pub mod UpgradeRelief
 pub mod Upgrade
 pub mod Absent
 pub mod Traces
+pub mod Waits
 pub mod UpgradeWalk
 pub mod UpgradeManner
 pub mod Workers

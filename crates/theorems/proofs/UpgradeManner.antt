@@ -40,9 +40,9 @@ use Rattle.theorems.proofs.Absent.{Absent, absent-exits, absent-steps}
 use Rattle.theorems.proofs.Firsts.{first-in, first-low, first-stands, first-untouched, stands-ready}
 use Rattle.theorems.proofs.Manners.{are-unlost}
 use Rattle.theorems.proofs.Traces.{Asking, Finally, Growing, Traced, TracedBehind, AllTraced, from-traced, along-traced, robust, robust-behind, all-good, good-step, entry_of, any-more, any-last, then-last, then-more, append-nil}
-use Rattle.theorems.proofs.StopManner.{Before, from-before}
 use Rattle.theorems.proofs.UpgradeStage.{Given, g, new, R, n, co, acts}
-use Rattle.theorems.proofs.UpgradeWalk.{Free, IsGood, upgrade-good, quits-good, Told, told-on}
+use Rattle.theorems.proofs.UpgradeWalk.{Free, IsGood, upgrade-good, any-stays}
+use Rattle.theorems.proofs.Waits.{Told, AllWaited, told-on, all-waited-on, quits-told, waits-told, leaves-traced}
 
 -- the rest of the plan, when the old workers were waited for
 abbrev asking : Given → Tree
@@ -99,7 +99,7 @@ module _ (c : Given) (p k : ℕ) (on : has_ready c.t p k ≡ true) where
   relieved-it : (rest : Tree) → IsGood c no_asking stays (Unlost p) never-lost F exits-it Free (quits c.rec.generation.image (g c) (reverse (R c)) (awaits_gone c.rec.generation.image (g c) (reverse (R c)) rest))
   relieved-it rest past q known h =
       let (x, xs, is) = first-of (reverse (R c)) (in-reverse (R c) k ∙ first-in c.t c.rec c.start p k on) in
-      quits-good c no_asking stays (Unlost p) never-lost (λ t. ⊤) (λ es t spared mild h. tt) (λ past x t h. tt) (λ text x fate t h. tt) (reverse (R c)) (awaits_gone c.rec.generation.image (g c) (reverse (R c)) rest) Free (λ past e h. tt)
+      quits-told c.rec.generation.image (g c) no_asking stays (Unlost p) (co c) never-lost (λ t. ⊤) (λ es t spared mild h. tt) (λ past x t h. tt) (λ text x fate t h. tt) (reverse (R c)) (awaits_gone c.rec.generation.image (g c) (reverse (R c)) rest) Free (λ past e h. tt)
       (λ past q' k' told h'. waited-any (reverse (R c)) x xs rest is past q') past q tt tt
 
   pub stays-traced : Traced no_asking stays (Unlost p) (co c) [] (plan_tree c.rec (Upgrade c.st)) (start_at c.t c.rec.note)
@@ -181,18 +181,18 @@ module _ (c : Given) (p k : ℕ) (on : has_ready c.t p k ≡ true) where
     below = h.below;
   }
 
-  waits-late : (ks : List ℕ) (rest : Tree) → is_in ks k ≡ true → (past : List Entry) (q : Progress) → ((x : ℕ) → is_in ks x ≡ true → Told c LateFirst anyway Anyhow not-lost Loose exits-loose x past) → Loose q.table → Traced LateFirst anyway Anyhow (co c) past (awaits_gone c.rec.generation.image (g c) ks rest) q
+  waits-late : (ks : List ℕ) (rest : Tree) → is_in ks k ≡ true → (past : List Entry) (q : Progress) → ((x : ℕ) → is_in ks x ≡ true → Told (g c) x past) → Loose q.table → Traced LateFirst anyway Anyhow (co c) past (awaits_gone c.rec.generation.image (g c) ks rest) q
   waits-late [] rest in_it past q told h = absurd (cc in_it)
   waits-late (x ∷ ks) rest in_it past q told h =
       let by = c.rec.generation.image in
       let more = awaits_gone by (g c) ks rest in
       let killing = does by (Kill (g c) x) (then_edge more) in
       let bs = gone_edges more killing in
-      let after : (past' : List Entry) (q' : Progress) (t' : Table) → ((j : ℕ) → is_in ks j ≡ true → Told c LateFirst anyway Anyhow not-lost Loose exits-loose j past') → Loose t' → q'.table ≡ Cut x t' → Traced LateFirst anyway Anyhow (co c) past' more q' = λ past' q' t' told' h' is.
+      let after : (past' : List Entry) (q' : Progress) (t' : Table) → ((j : ℕ) → is_in ks j ≡ true → Told (g c) j past') → Loose t' → q'.table ≡ Cut x t' → Traced LateFirst anyway Anyhow (co c) past' more q' = λ past' q' t' told' h' is.
       ⊎_elim
       (λ same. absent-traced more past' q' (subst (λ z. Absent p z) (sym (is ∙ ap (λ j. Cut j t') same)) (cut-absent t' h')))
       (λ later. waits-late ks rest later past' q' told' (subst Loose (sym is) (cut-loose x t' h'))) (in-cases x k ks in_it) in
-      good-step LateFirst anyway Anyhow (co c) not-lost Loose (λ l. (j : ℕ) → is_in (x ∷ ks) j ≡ true → Told c LateFirst anyway Anyhow not-lost Loose exits-loose j l) by (AwaitGone (g c) x) [] bs refl exits-loose (λ past t k h. tt)
+      good-step LateFirst anyway Anyhow (co c) not-lost Loose (λ l. (j : ℕ) → is_in (x ∷ ks) j ≡ true → Told (g c) j l) by (AwaitGone (g c) x) [] bs refl exits-loose (λ past t k h. tt)
       (λ past q' fate told' h'.
       let (hs, found) = one-found c.rec.pid by q'.table.rows h'.one.all h'.one.some in
       let P : Stepped → Type 0 = λ st. TracedBehind LateFirst anyway Anyhow (co c) (past ++ entry_of by (AwaitGone (g c) x) st.answer ∷ []) bs (reply_of [] st.answer) (after_call (Make (AwaitGone (g c) x)) [] st q') in
@@ -200,7 +200,7 @@ module _ (c : Given) (p k : ℕ) (on : has_ready c.t p k ≡ true) where
       (gone-cases (co c).text by (record { number = c.rec.pid; holds = hs }) (g c) x fate q'.table P
       (let late = entry_of by (AwaitGone (g c) x) answer.Late in
       let was : was_late (g c) x (past ++ late ∷ []) ≡ true = then-last (λ e. is_quit_of (g c) x e.call) (λ e. is_wait_of (g c) x e.call && is_late e.answer) past late (told' x (in-here x x ks refl)) (both-true (bears (g c) x (g c) x) true (bears-refl (g c) x) refl) in
-      good-step LateFirst anyway Anyhow (co c) not-lost Loose (λ l. (was_late (g c) x l ≡ true) × ((j : ℕ) → is_in ks j ≡ true → Told c LateFirst anyway Anyhow not-lost Loose exits-loose j l)) by (Kill (g c) x) [] (then_edge more) refl exits-loose (λ past t k h taken. k.0)
+      good-step LateFirst anyway Anyhow (co c) not-lost Loose (λ l. (was_late (g c) x l ≡ true) × ((j : ℕ) → is_in ks j ≡ true → Told (g c) j l)) by (Kill (g c) x) [] (then_edge more) refl exits-loose (λ past t k h taken. k.0)
       (λ past2 q2 fate2 k2 h2.
       let st = step_with (co c).text by (Kill (g c) x) fate2 q2.table in
       let is = kill-is (co c).text x fate2 q2.table h2 in
@@ -216,7 +216,7 @@ module _ (c : Given) (p k : ℕ) (on : has_ready c.t p k ≡ true) where
 
   relieved-close : (rest : Tree) → IsGood c LateFirst anyway Anyhow not-lost Close exits-close Free (quits c.rec.generation.image (g c) (reverse (R c)) (awaits_gone c.rec.generation.image (g c) (reverse (R c)) rest))
   relieved-close rest past q known h =
-      quits-good c LateFirst anyway Anyhow not-lost Loose exits-loose (λ past x t h. tt)
+      quits-told c.rec.generation.image (g c) LateFirst anyway Anyhow (co c) not-lost Loose exits-loose (λ past x t h. tt)
       (λ text x fate t h. fact-steps c.rec.pid c.rec.generation.image p _ _ (loose-lasts c.rec.pid c.rec.generation.image p c.rec.generation k low) text (Quit (g c) x) fate t tt h)
       (reverse (R c)) (awaits_gone c.rec.generation.image (g c) (reverse (R c)) rest) Free (λ past e h. tt)
       (λ past q' k' told h'. waits-late (reverse (R c)) rest (in-reverse (R c) k ∙ first-in c.t c.rec c.start p k on) past q' told h') past q tt
@@ -231,7 +231,7 @@ module _ (c : Given) (p k : ℕ) (on : has_ready c.t p k ≡ true) where
 
 module _ (c : Given) where
   abbrev pub WaitedFirst : Asking
-  WaitedFirst past Leave t = (k : ℕ) → is_in (R c) k ≡ true → was_waited_for (g c) k past ≡ true
+  WaitedFirst past Leave t = AllWaited (g c) (R c) past
   WaitedFirst past _ t = ⊤
 
   abbrev whatever : Finally
@@ -287,55 +287,22 @@ module _ (c : Given) where
       let rest = no-leave-settle by h S side rounds in
       (refl, (tt, ((refl, ((refl, (rest, ((refl, (rest, tt)), tt))), (rest, tt))), tt)))
 
-  -- all were waited for
-  abbrev AllWaited : List Entry → Type 0
-  AllWaited past = (k : ℕ) → is_in (R c) k ≡ true → was_waited_for (g c) k past ≡ true
-
-  abbrev Waited : ℕ → List Entry → Type 0
-  Waited k past = was_waited_for (g c) k past ≡ true
-
-  waited-on : (k : ℕ) → Growing (Waited k)
-  waited-on k past e h = then-more (λ e. is_quit_of (g c) k e.call) (λ e. is_wait_of (g c) k e.call) past e h
-
-  abbrev T : List Entry → Tree → Progress → Type 0
-  T past t q = Traced WaitedFirst whatever Anyhow (co c) past t q
-
-  waits-told : (ks : List ℕ) (rest : Tree) (K : List Entry → Type 0) → Growing K → ((past : List Entry) → K past → (x : ℕ) → is_in ks x ≡ true → Told c WaitedFirst whatever Anyhow not-lost-either Any exits-any x past) → ((past : List Entry) (q : Progress) → K past → ((x : ℕ) → is_in ks x ≡ true → Waited x past) → T past rest q) → (past : List Entry) (q : Progress) → K past → T past (awaits_gone c.rec.generation.image (g c) ks rest) q
-  waits-told [] rest K grows told next past q known = next past q known (λ x e. absurd (cc e))
-  waits-told (x ∷ ks) rest K grows told next past q known =
-      let by = c.rec.generation.image in
-      let more = awaits_gone by (g c) ks rest in
-      let K' : List Entry → Type 0 = λ past. K past × Waited x past in
-      let grows' : Growing K' = λ past e h. (grows past e h.0, waited-on x past e h.1) in
-      let on : (past' : List Entry) (q' : Progress) → K' past' → Any q'.table → T past' more q' = λ past' q' h any. waits-told ks rest K' grows' (λ past'' h k e. told past'' h.0 k (in-there x k ks e))
-      (λ past'' q'' h waited. next past'' q'' h.0 (λ k e. ⊎_elim (λ same. subst (λ z. Waited z past'') same h.1) (λ later. waited k later) (in-cases x k ks e))) past' q' h in
-      let killing : (past' : List Entry) (q' : Progress) → K' past' → Any q'.table → T past' (does by (Kill (g c) x) (then_edge more)) q' =
-      good-step WaitedFirst whatever Anyhow (co c) not-lost-either Any K' by (Kill (g c) x) [] (then_edge more) refl exits-any (λ past t k h. tt)
-      (λ past2 q2 fate2 k2 h2.
-      let st = step_with (co c).text by (Kill (g c) x) fate2 q2.table in
-      all-good WaitedFirst whatever Anyhow (co c) not-lost-either Any K' (then_edge more) (on, tt) (past2 ++ entry_of by (Kill (g c) x) st.answer ∷ []) (reply_of [] st.answer) (after_call (Make (Kill (g c) x)) [] st q2) (grows' past2 (entry_of by (Kill (g c) x) st.answer) k2) tt) in
-      good-step WaitedFirst whatever Anyhow (co c) not-lost-either Any K by (AwaitGone (g c) x) [] (gone_edges more (does by (Kill (g c) x) (then_edge more))) refl exits-any (λ past t k h. tt)
-      (λ past1 q1 fate1 k1 h1.
-      let st = step_with (co c).text by (AwaitGone (g c) x) fate1 q1.table in
-      let e = entry_of by (AwaitGone (g c) x) st.answer in
-      let waited : Waited x (past1 ++ e ∷ []) = then-last (λ e. is_quit_of (g c) x e.call) (λ e. is_wait_of (g c) x e.call) past1 e (told past1 k1 x (in-here x x ks refl)) (bears-refl (g c) x) in
-      all-good WaitedFirst whatever Anyhow (co c) not-lost-either Any K' (gone_edges more (does by (Kill (g c) x) (then_edge more))) (on, (killing, tt)) (past1 ++ e ∷ []) (reply_of [] st.answer) (after_call (Make (AwaitGone (g c) x)) [] st q1) (grows past1 e k1, waited) tt)
-      past q known tt
-
   relieved-waits : (rest : Tree) → IsGood c WaitedFirst whatever Anyhow not-lost-either Any exits-any Free (quits c.rec.generation.image (g c) (reverse (R c)) (awaits_gone c.rec.generation.image (g c) (reverse (R c)) rest))
   relieved-waits rest past q known h =
-      quits-good c WaitedFirst whatever Anyhow not-lost-either Any exits-any (λ past x t h. tt) (λ text x fate t h. tt) (reverse (R c)) (awaits_gone c.rec.generation.image (g c) (reverse (R c)) rest) Free (λ past e h. tt)
-      (λ past1 q1 k1 told h1. waits-told (reverse (R c)) rest (λ l. (x : ℕ) → is_in (reverse (R c)) x ≡ true → Told c WaitedFirst whatever Anyhow not-lost-either Any exits-any x l) (λ l e h x on. told-on c WaitedFirst whatever Anyhow not-lost-either Any exits-any x l e (h x on)) (λ l h. h)
-      (λ past2 q2 k2 waited. robust WaitedFirst whatever Anyhow Any AllWaited (λ es t h. tt) (λ text by call fate t h. tt) (λ l e h x on. waited-on x l e (h x on)) asked (λ past e q k h. tt) (co c) rest past2 q2 (λ x on. waited x (in-reverse (R c) x ∙ on)) tt)
-      past1 q1 told) past q tt tt
+      let by = c.rec.generation.image in
+      let L = reverse (R c) in
+      quits-told by (g c) WaitedFirst whatever Anyhow (co c) not-lost-either Any exits-any (λ past x t h. tt) (λ text x fate t h. tt) L (awaits_gone by (g c) L rest) Free (λ past e h. tt)
+      (λ past1 q1 k1 told h1. waits-told by (g c) WaitedFirst whatever Anyhow (co c) not-lost-either Any exits-any (λ past x t h. tt) (λ text x fate t h. tt) (λ past x t late h. tt) (λ text x fate t h. tt) L rest (λ l. (x : ℕ) → is_in L x ≡ true → Told (g c) x l) (λ l e h x on. told-on (g c) x l e (h x on)) (λ l h. h)
+      (λ past2 q2 k2 waited h2. robust WaitedFirst whatever Anyhow Any (AllWaited (g c) (R c)) (λ es t h. tt) (λ text by call fate t h. tt) (all-waited-on (g c) (R c)) asked (λ past e q k h. tt) (co c) rest past2 q2 (λ x on. waited x (in-reverse (R c) x ∙ on)) tt)
+      past1 q1 told tt) past q tt tt
     where
-      asked : (past : List Entry) (call : Call) (t : Table) → AllWaited past → Any t → WaitedFirst past call t
+      asked : (past : List Entry) (call : Call) (t : Table) → AllWaited (g c) (R c) past → Any t → WaitedFirst past call t
       asked past Leave t k h = k
       asked past _ t k h = tt
 
   pub leave-traced : Traced WaitedFirst whatever Anyhow (co c) [] (plan_tree c.rec (Upgrade c.st)) (start_at c.t c.rec.note)
   leave-traced =
-      upgrade-good c WaitedFirst whatever Anyhow not-lost-either Any exits-any (λ text by call fate t is h. tt) (λ past call t is h. stays-on past call t (Rattle.theorems.proofs.UpgradeWalk.any-stays c.rec.generation.image call is))
+      upgrade-good c WaitedFirst whatever Anyhow not-lost-either Any exits-any (λ text by call fate t is h. tt) (λ past call t is h. stays-on past call t (any-stays c.rec.generation.image call is))
       (λ past q k h. no-leave (co c) (settle c.rec.generation.image (g c) (R c) Old c.rec.retries) past q (no-leave-settle c.rec.generation.image (g c) (R c) Old c.rec.retries)) (relieved-waits (asking c))
       [] (start_at c.t c.rec.note) tt tt
 
@@ -352,20 +319,9 @@ kills-due c past (e ∷ entries) [] pairs h = absurd pairs
 kills-due c past (e ∷ entries) (q ∷ []) pairs h = absurd pairs
 kills-due c past (e ∷ entries) (q ∷ middle ∷ rest) pairs h = (kill-due c past e.call middle.table (λ p k on. (h p k on).0), kills-due c (past ++ e ∷ []) entries rest pairs.1 (λ p k on. (h p k on).1))
 
-leave-due : (c : Given) (past : List Entry) (call : Call) (t : Table) → is_leave_call call ≡ true → WaitedFirst c past call t → (k : ℕ) → is_in (R c) k ≡ true → was_waited_for (g c) k past ≡ true
+leave-due : (c : Given) (past : List Entry) (call : Call) (t : Table) → is_leave_call call ≡ true → WaitedFirst c past call t → AllWaited (g c) (R c) past
 leave-due c past Leave t e h = h
 leave-due c past _ t e h = absurd (cc e)
-
-leaves-due : (c : Given) (past entries : List Entry) (passed : List Progress) → AllTraced (WaitedFirst c) past entries passed → Before c.rec past (before_leave entries)
-leaves-due c past [] passed h = tt
-leaves-due c past (e ∷ entries) [] h = absurd h
-leaves-due c past (e ∷ entries) (q ∷ []) h = absurd h
-leaves-due c past (e ∷ entries) (q ∷ middle ∷ rest) h = go (is_leave_call e.call) refl (before_leave entries) (leaves-due c (past ++ e ∷ []) entries rest h.1)
-  where
-    go : (b : Bool) → is_leave_call e.call ≡ b → (o : Option (List Entry)) → Before c.rec (past ++ e ∷ []) o → Before c.rec past (if b then Some [] else Rattle.definitions.specs.Manner.onto e o)
-    go true is o ih = every-in (λ k. was_waited_for c.rec.generation k (past ++ []) ≡ true) c.rec.ready (λ k on. subst (λ l. was_waited_for c.rec.generation k l ≡ true) (sym (append-nil past)) (leave-due c past e.call middle.table is h.0 k on))
-    go false is None ih = tt
-    go false is (Some front) ih = subst (λ l. AllByRecursion (λ k. was_waited_for c.rec.generation k l ≡ true) c.rec.ready) (Rattle.std.proofs.Common.append_assoc past (e ∷ []) front) ih
 
 pub upgrade_manner : (s : Settings) → InManner (Upgrade s)
 upgrade_manner s t r pattern a =
@@ -377,7 +333,7 @@ upgrade_manner s t r pattern a =
     let left = from-traced (WaitedFirst c) (λ past e q. ⊤) Anyhow (co c) [] tree at (leave-traced c) a.spared (are-mild-anyhow (co c) tree at) in (
       (λ old none p k on need. stays-it c p k on a.spared old none (is_lost p ran.passed) refl),
       kills-due c [] ran.entries ran.passed left.dues (λ p k on. (from-traced (LateFirst c p k on) (λ past e q. ⊤) Anyhow (co c) [] tree at (late-traced c p k on) a.spared (are-mild-anyhow (co c) tree at)).dues),
-      from-before r (before_leave ran.entries) (leaves-due c [] ran.entries ran.passed left.dues),
+      leaves-traced r (WaitedFirst c) (leave-due c) ran.entries ran.passed left.dues,
     )
   where
     stays-it : (c : Given) (p k : ℕ) (on : has_ready c.t p k ≡ true) →

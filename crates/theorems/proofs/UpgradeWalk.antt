@@ -134,27 +134,3 @@ module _ (c : Given) (due : Asking) (post : Finally) (mild : Exiting) (lost : (p
 
     pub upgrade-good : IsGood Free (upgrade_tree c.rec.generation.image (g c) (R c) c.rec.retries c.rec.pid_path c.rec.note (A0 c) (wanted c) (n c))
     upgrade-good = aside-good c.rec.pid_path c.rec.note (does c.rec.generation.image (SpawnMaster (new c).image) (spawn_edges ok alone)) (settle c.rec.generation.image (g c) (R c) Old c.rec.retries) spawn-good settled
-
-  ---- The workers are told to quit
-
-  abbrev pub Told : ℕ → List Entry → Type 0
-  Told k past = list_any (λ e. is_quit_of (g c) k e.call) past ≡ true
-
-  pub told-on : (k : ℕ) → Growing (Told k)
-  told-on k past e h = any-more (λ e. is_quit_of (g c) k e.call) past e h
-
-  pub quits-good : (asks : (past : List Entry) (x : ℕ) (t : Table) → F t → due past (Quit (g c) x) t) (keeps : (text : List ℕ) (x : ℕ) (fate : Option Fate) (t : Table) → F t → F (step_with text c.rec.generation.image (Quit (g c) x) fate t).table) (ks : List ℕ) (rest : Tree) (K : List Entry → Type 0) → Growing K → ((past : List Entry) (p : Progress) → K past → ((k : ℕ) → is_in ks k ≡ true → Told k past) → F p.table → Traced due post mild (co c) past rest p) → IsGood K (quits c.rec.generation.image (g c) ks rest)
-  quits-good asks keeps [] rest K grows next past p known h = next past p known (λ k e. absurd (cc e)) h
-  quits-good asks keeps (x ∷ ks) rest K grows next past p known h =
-      let more = quits c.rec.generation.image (g c) ks rest in
-      good-step due post mild (co c) lost F K c.rec.generation.image (Quit (g c) x) [] (then_edge more) refl exits (λ past t k h. asks past x t h)
-      (λ past q fate k h.
-      let st = step_with (co c).text c.rec.generation.image (Quit (g c) x) fate q.table in
-      all-good due post mild (co c) lost F (λ past. K past × Told x past) (then_edge more) (
-        (quits-good asks keeps ks rest (λ past. K past × Told x past) (λ past e h. (grows past e h.0, told-on x past e h.1))
-            (λ past' p' k' told h'. next past' p' k'.0 (λ j on. ⊎_elim (λ same. subst (λ z. Told z past') same k'.1) (λ more. told j more) (in-cases x j ks on)) h')),
-        tt,
-      )
-      (past ++ entry_of c.rec.generation.image (Quit (g c) x) st.answer ∷ []) (reply_of [] st.answer) (after_call (Make (Quit (g c) x)) [] st q)
-      (grows past (entry_of c.rec.generation.image (Quit (g c) x) st.answer) k, any-last (λ e. is_quit_of (g c) x e.call) past (entry_of c.rec.generation.image (Quit (g c) x) st.answer) (bears-refl (g c) x))
-      (keeps (co c).text x fate q.table h)) past p known h
