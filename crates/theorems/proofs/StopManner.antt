@@ -1,36 +1,29 @@
 -- The manner of a stop.
-use Rattle.std.proofs.Common.{◌≡◌, ℕ, ◌+◌, Bool, true, false, List, [], ◌∷◌, ◌++◌, Option, Some, None, refl, sym, ap, ◌∙◌, subst, append_assoc, ⊎_elim}
-use Rattle.std.specs.Prelude.{⊤, ◌&&◌, reverse, if◌then◌else◌}
-use Rattle.std.specs.List.{AllByRecursion, list_any}
-use Rattle.listener_set.specs.Numbers.{is_in, lacks}
+use Rattle.std.proofs.Common.{◌≡◌, ℕ, ◌+◌, Bool, true, false, List, [], ◌∷◌, ◌++◌, Option, Some, None, refl, ◌∙◌}
+use Rattle.std.specs.Prelude.{⊤, reverse}
+use Rattle.std.specs.List.{list_any}
+use Rattle.listener_set.specs.Numbers.{is_in}
 use Rattle.listener_set.specs.declared.generation.Generation.{Generation}
 use Rattle.definitions.specs.declared.plans.PidNote.{PidNote}
 use Rattle.definitions.specs.declared.plans.Order.TheVariants.{Make, ForkLacking, AwaitLacking, KillLacking}
 use Rattle.definitions.specs.declared.targets.Target.TheVariants.{Stop}
 use Rattle.definitions.specs.declared.calls.Call.{Call}
-use Rattle.definitions.specs.declared.calls.Call.TheVariants.{Quit, Kill, AwaitGone, RemovePid, Leave}
-use Rattle.definitions.specs.declared.calls.Answer.{Answer}
-use Rattle.definitions.specs.declared.calls.Answer.TheVariants as answer
+use Rattle.definitions.specs.declared.calls.Call.TheVariants.{Kill, RemovePid, Leave}
 use Rattle.definitions.specs.declared.calls.Reply.{Reply}
-use Rattle.definitions.specs.declared.calls.Reply.TheVariants as reply
 use Rattle.definitions.specs.declared.reports.Entry.{Entry}
-use Rattle.definitions.specs.Table.{FilePath, Table, bears}
+use Rattle.definitions.specs.Table.{FilePath, Table}
 use Rattle.definitions.specs.Record.{Record, oldbin}
-use Rattle.definitions.specs.Tree.{Tree, Branches, Ends, Does, Nothing, Branch, among, reply_of, full_or_short}
-use Rattle.definitions.specs.Plans.{then_edge, note_edges, plan_tree, stop_tree, quits, kills, awaits_gone, removes, remove_oldbin_too, has_oldbin, stopped}
+use Rattle.definitions.specs.Tree.{Tree, Branches, Ends, Does, Nothing, Branch, among, reply_of}
+use Rattle.definitions.specs.Plans.{then_edge, note_edges, plan_tree, stop_tree, kills, awaits_gone, removes, remove_oldbin_too, has_oldbin, stopped}
 use Rattle.definitions.specs.Run.{Lost, Pattern, Progress, Ran, run_with, goes_with, noted, after_call, after_moment, answered, start_at}
-use Rattle.definitions.specs.Manner.{is_quit_call, is_quit_of, is_wait_of, is_leave_call, is_late, was_late, was_waited_for, IsKillDue, KillsAreDue, onto, before_leave, AreWaitedFor}
+use Rattle.definitions.specs.Manner.{is_quit_call, is_leave_call, was_late, IsKillDue}
 use Rattle.definitions.specs.Claims.{names_any, InManner}
-use Rattle.theorems.proofs.Effects.{bears-refl}
-use Rattle.theorems.proofs.Rows.{both-true}
-use Rattle.theorems.proofs.Sets.{in-here, in-there, in-cases, every-in}
 use Rattle.theorems.proofs.Small.{in-reverse}
 use Rattle.theorems.proofs.Logic.{Course, course_after, Anyhow, are-mild-anyhow}
 use Rattle.definitions.specs.declared.names.Name.{Name}
 use Rattle.definitions.specs.declared.plans.PidNote.TheVariants.{NoFile, Left}
 use Rattle.definitions.specs.declared.plans.End.TheVariants.{Done}
 use Rattle.definitions.specs.Exits.{after_exits}
-use Rattle.theorems.proofs.Manners.{paired}
 use Rattle.theorems.proofs.Traces.{entry_of, Asking, Finally, Traced, Good, AllGood, all-good, good-call, from-traced}
 use Rattle.theorems.proofs.Waits.{Told, AllWaited, told-on, all-waited-on, quits-told, waits-told, kills-traced, leaves-traced}
 use Rattle.theorems.proofs.WorkersManner.{own_course}

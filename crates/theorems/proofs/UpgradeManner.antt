@@ -1,7 +1,7 @@
 -- The manner of an upgrade.
-use Rattle.std.proofs.Common.{◌≡◌, ◌≢◌, ℕ, zero, suc, ◌+◌, ◌<◌, Bool, true, false, List, [], ◌∷◌, ◌++◌, Option, Some, None, refl, sym, ap, ◌∙◌, subst, arith, ◌⊎◌, inl, inr, ⊎_elim}
-use Rattle.std.specs.Prelude.{⊤, ◌&&◌, reverse, if◌then◌else◌}
-use Rattle.std.specs.List.{AllByRecursion, list_any}
+use Rattle.std.proofs.Common.{◌≡◌, ℕ, zero, suc, ◌<◌, Bool, true, false, List, [], ◌∷◌, ◌++◌, Option, Some, None, refl, sym, ap, ◌∙◌, subst, ◌⊎◌, inl, inr, ⊎_elim}
+use Rattle.std.specs.Prelude.{⊤, ◌&&◌, reverse}
+use Rattle.std.specs.List.{list_any}
 use Rattle.listener_set.specs.Numbers.{is_in}
 use Rattle.listener_set.specs.declared.generation.Generation.{Generation}
 use Rattle.definitions.specs.declared.names.Name.{Name}
@@ -24,12 +24,12 @@ use Rattle.definitions.specs.Tree.{Tree, Branches, Ends, Does, Nothing, Branch, 
 use Rattle.definitions.specs.declared.calls.Reply.TheVariants as reply
 use Rattle.definitions.specs.Plans.{on, hand_over, back_late, plan_tree, settle, quits, awaits_gone, gone_edges, then_edge, does}
 use Rattle.definitions.specs.Run.{Progress, Lost, start_at, outcome_of, noted, after_call}
-use Rattle.definitions.specs.Manner.{has_ready, is_lost, is_old_side, is_process_of, is_quit_of, is_wait_of, is_wait_call, is_late, is_leave_call, was_late, was_waited_for, IsKillDue, KillsAreDue, before_leave}
+use Rattle.definitions.specs.Manner.{has_ready, is_lost, is_old_side, is_process_of, is_quit_of, is_wait_of, is_wait_call, is_late, is_leave_call, was_late, IsKillDue, KillsAreDue}
 use Rattle.definitions.specs.Claims.{names_any, is_leave, run_of, InManner}
 use Rattle.theorems.proofs.Rows.{FitsIn, every-filter_map, pick, both-true}
 use Rattle.theorems.proofs.Exits.{spares-each}
 use Rattle.theorems.proofs.Effects.{bears-refl}
-use Rattle.theorems.proofs.Sets.{in-here, in-there, in-cases, every-in}
+use Rattle.theorems.proofs.Sets.{in-here, in-there, in-cases}
 use Rattle.theorems.proofs.Small.{in-reverse}
 use Rattle.theorems.proofs.Logic.{Unasked, Anyhow, Course, course_after, are-mild-anyhow, gone-cases, unfailing, refused_in, run_in}
 use Rattle.theorems.proofs.Processes.{AnyCall, Fact, one-found, fact-any, fact-exits, fact-steps}
@@ -39,7 +39,7 @@ use Rattle.theorems.proofs.Taken.{NotTaken, IsOther, OnlyOurs, InAny, IsUntouche
 use Rattle.theorems.proofs.Absent.{Absent, absent-exits, absent-steps}
 use Rattle.theorems.proofs.Firsts.{first-in, first-low, first-stands, first-untouched, stands-ready}
 use Rattle.theorems.proofs.Manners.{are-unlost}
-use Rattle.theorems.proofs.Traces.{Asking, Finally, Growing, Traced, TracedBehind, AllTraced, from-traced, along-traced, robust, robust-behind, all-good, good-step, entry_of, any-more, any-last, then-last, then-more, append-nil}
+use Rattle.theorems.proofs.Traces.{Asking, Finally, Traced, TracedBehind, AllTraced, from-traced, along-traced, robust, robust-behind, good-step, entry_of, any-more, any-last, then-last}
 use Rattle.theorems.proofs.UpgradeStage.{Given, g, new, R, n, co, acts}
 use Rattle.theorems.proofs.UpgradeWalk.{Free, IsGood, upgrade-good, any-stays}
 use Rattle.theorems.proofs.Waits.{Told, AllWaited, told-on, all-waited-on, quits-told, waits-told, leaves-traced}

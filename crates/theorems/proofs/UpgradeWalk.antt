@@ -1,10 +1,10 @@
 -- An upgrade's tree up to where its old master is relieved, and the pieces from there, as calls that keep a fact on the table.
-use Rattle.std.proofs.Common.{◌≡◌, ◌≢◌, ℕ, true, false, List, [], ◌∷◌, ◌++◌, Option, Some, None, refl, arith, ⊎_elim, subst}
+use Rattle.std.proofs.Common.{◌≡◌, ◌≢◌, ℕ, false, List, [], ◌∷◌, ◌++◌, Option, Some, None, refl, arith}
 use Rattle.std.specs.Prelude.{⊤, map}
-use Rattle.std.specs.List.{AllByRecursion, list_any}
-use Rattle.listener_set.specs.Numbers.{is_in, numbers_below}
+use Rattle.std.specs.List.{AllByRecursion}
+use Rattle.listener_set.specs.Numbers.{numbers_below}
 use Rattle.definitions.specs.declared.calls.Call.{Call}
-use Rattle.definitions.specs.declared.calls.Call.TheVariants.{OpenAt, CloseAt, Fork, AwaitReady, Census, Adopt, WritePid, MovePid, SpawnMaster, TermMaster, Quit}
+use Rattle.definitions.specs.declared.calls.Call.TheVariants.{OpenAt, CloseAt, Fork, AwaitReady, Census, Adopt, WritePid, MovePid, SpawnMaster, TermMaster}
 use Rattle.definitions.specs.declared.calls.Fate.{Fate}
 use Rattle.definitions.specs.declared.names.Name.{Name}
 use Rattle.definitions.specs.declared.plans.PidNote.{PidNote}
@@ -15,19 +15,17 @@ use Rattle.definitions.specs.declared.reports.Entry.{Entry}
 use Rattle.definitions.specs.Table.{Address, FilePath, Table}
 use Rattle.definitions.specs.Exits.{after_exits}
 use Rattle.definitions.specs.Calls.{step_with}
-use Rattle.definitions.specs.Manner.{is_leave_call, is_quit_of}
+use Rattle.definitions.specs.Manner.{is_leave_call}
 use Rattle.definitions.specs.declared.calls.Reply.TheVariants as reply
-use Rattle.definitions.specs.Tree.{Tree, Branches, Nothing, Does, plain_reply, replies_to, reply_of}
-use Rattle.definitions.specs.Plans.{on, others, then_edge, note_edges, settle, back_alone, back_from, move_back, move_aside, tries, tries_all, new_calls, pid_calls, relieve, spawn_edges, upgrade_tree, does, quits}
-use Rattle.definitions.specs.Run.{Progress, Lost, after_call}
+use Rattle.definitions.specs.Tree.{Tree, Branches, Nothing, Does, plain_reply, replies_to}
+use Rattle.definitions.specs.Plans.{on, others, then_edge, note_edges, settle, back_alone, back_from, move_back, move_aside, tries, tries_all, new_calls, pid_calls, relieve, spawn_edges, upgrade_tree, does}
+use Rattle.definitions.specs.Run.{Progress, Lost}
 use Rattle.definitions.specs.Record.{oldbin}
 use Rattle.definitions.specs.Target.{only_in}
 use Rattle.definitions.specs.Claims.{names_any}
 use Rattle.theorems.proofs.Logic.{Exiting}
 use Rattle.theorems.proofs.Processes.{AnyCall}
-use Rattle.theorems.proofs.Effects.{bears-refl}
-use Rattle.theorems.proofs.Sets.{in-cases}
-use Rattle.theorems.proofs.Traces.{Asking, Finally, Growing, Traced, Good, AllGood, good-step, all-good, good-call, entry_of, any-more, any-last}
+use Rattle.theorems.proofs.Traces.{Asking, Finally, Good, AllGood, good-call}
 use Rattle.theorems.proofs.UpgradeStage.{Given, g, new, R, A0, n, wanted, co}
 
 -- nothing is known of what was done

@@ -1,5 +1,5 @@
 -- Workers are told to quit, and waited for: what was done before each call.
-use Rattle.std.proofs.Common.{◌≡◌, ℕ, ◌+◌, Bool, true, false, List, [], ◌∷◌, ◌++◌, Option, Some, None, refl, sym, ap, subst, append_assoc, ⊎_elim}
+use Rattle.std.proofs.Common.{◌≡◌, ℕ, Bool, true, false, List, [], ◌∷◌, ◌++◌, Option, Some, None, refl, sym, ap, subst, append_assoc, ⊎_elim}
 use Rattle.std.specs.Prelude.{⊤, ◌&&◌, if◌then◌else◌}
 use Rattle.std.specs.List.{AllByRecursion, list_any}
 use Rattle.listener_set.specs.Numbers.{is_in, lacks}
@@ -17,7 +17,7 @@ use Rattle.definitions.specs.Table.{Table, bears}
 use Rattle.definitions.specs.Exits.{after_exits}
 use Rattle.definitions.specs.Calls.{step_with}
 use Rattle.definitions.specs.Record.{Record}
-use Rattle.definitions.specs.Tree.{Tree, Branches, Nothing, among, reply_of, full_or_short}
+use Rattle.definitions.specs.Tree.{Tree, Nothing, among, reply_of, full_or_short}
 use Rattle.definitions.specs.Plans.{on, does, then_edge, gone_edges, quits, awaits_gone}
 use Rattle.definitions.specs.Run.{Progress, Lost, after_call}
 use Rattle.definitions.specs.Manner.{is_quit_of, is_wait_of, is_late, is_leave_call, was_late, was_waited_for, IsKillDue, KillsAreDue, onto, before_leave, AreWaitedFor}
@@ -88,9 +88,11 @@ module _ (by : ℕ) (g : Generation) (due : Asking) (post : Finally) (mild : Exi
       (λ past q fate k h.
       let st = step_with co.text by (Quit g x) fate q.table in
       let e = entry_of by (Quit g x) st.answer in
-      all-good due post mild co lost F K' (then_edge more)
-      ((quits-told asks keeps ks rest K' (λ past e h. (grows past e h.0, told-on g x past e h.1))
-      (λ past' p' k' told h'. next past' p' k'.0 (λ j on. ⊎_elim (λ same. subst (λ z. Told g z past') same k'.1) (λ more. told j more) (in-cases x j ks on)) h')), tt)
+      all-good due post mild co lost F K' (then_edge more) (
+        (quits-told asks keeps ks rest K' (λ past e h. (grows past e h.0, told-on g x past e h.1))
+            (λ past' p' k' told h'. next past' p' k'.0 (λ j on. ⊎_elim (λ same. subst (λ z. Told g z past') same k'.1) (λ more. told j more) (in-cases x j ks on)) h')),
+        tt,
+      )
       (past ++ e ∷ []) (reply_of [] st.answer) (after_call (Make (Quit g x)) [] st q) (grows past e k, any-last (λ e. is_quit_of g x e.call) past e (bears-refl g x)) (keeps co.text x fate q.table h)) past p known h
 
   -- what follows a wait, where the answer tells which
