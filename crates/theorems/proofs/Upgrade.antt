@@ -14,9 +14,9 @@ use Rattle.definitions.specs.Calls.{gives, with_files, with_file, without_file, 
 use Rattle.definitions.specs.Record.{FilesAre, oldbin}
 use Rattle.definitions.specs.Target.{want}
 use Rattle.definitions.specs.Tree.{Tree, Nothing}
-use Rattle.definitions.specs.Plans.{plan_tree, on, does, settle, spawn_edges, move_aside, back_alone, tries, tries_all, new_calls, relieve, upgrade_tree}
+use Rattle.definitions.specs.Plans.{back_from, plan_tree, on, does, settle, spawn_edges, move_aside, back_alone, tries, tries_all, new_calls, relieve, upgrade_tree}
 use Rattle.definitions.specs.Service.{service}
-use Rattle.definitions.specs.Run.{Progress, after_call, after_moment, start_at}
+use Rattle.definitions.specs.Run.{Ending, Progress, after_call, after_moment, start_at}
 use Rattle.definitions.specs.Claims.{Kept, Floor, IsBlamed, run_of, UpgradeHeadline}
 use Rattle.theorems.proofs.Rows.{every-more, and-left, and-right}
 use Rattle.theorems.proofs.Views.{Names, named, eqb-refl}
@@ -36,7 +36,7 @@ module _ (c : Given) where
   abbrev I : Progress → Type 0
   I = inv c
 
-  abbrev P : Rattle.definitions.specs.Run.Ending → Progress → Type 0
+  abbrev P : Ending → Progress → Type 0
   P = post c
 
   abbrev image : ℕ
@@ -52,7 +52,7 @@ module _ (c : Given) where
   rest = relieve c.rec.generation.image image (g c) (R c) c.rec.retries c.rec.pid_path (n c)
 
   abbrev back : Tree
-  back = Rattle.definitions.specs.Plans.back_from c.rec.generation.image image (g c) (R c) c.rec.retries c.rec.pid_path
+  back = back_from c.rec.generation.image image (g c) (R c) c.rec.retries c.rec.pid_path
 
   abbrev ok : Tree
   ok = tries_all image (new_calls (g c) c.rec.pid_path (A0 c) (wanted c) (n c)) (tries image (Census (new c)) (numbers_below (n c)) rest back) back

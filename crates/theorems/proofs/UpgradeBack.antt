@@ -14,7 +14,7 @@ use Rattle.definitions.specs.Calls.{gives, with_files, with_file, without_file, 
 use Rattle.definitions.specs.Record.{FilesAre, oldbin}
 use Rattle.definitions.specs.Tree.{Tree}
 use Rattle.definitions.specs.Plans.{does, then_edge, note_edges, settle, move_back, back_alone, back_from, back_late, starts_any, awaits_any}
-use Rattle.definitions.specs.Run.{Progress, noted, after_call}
+use Rattle.definitions.specs.Run.{Ending, Progress, noted, after_call}
 use Rattle.theorems.proofs.Rows.{one, weigh, and-left, and-right, both-true}
 use Rattle.theorems.proofs.Views.{Names, named, View, Looks, ready_in, eqb-is, eqb-refl}
 use Rattle.theorems.proofs.Effects.{none, bears-is}
@@ -64,7 +64,7 @@ module _ (c : Given) where
   abbrev I : Progress → Type 0
   I = inv c
 
-  abbrev P : Rattle.definitions.specs.Run.Ending → Progress → Type 0
+  abbrev P : Ending → Progress → Type 0
   P = post c
 
   -- the old master's pid file is aside

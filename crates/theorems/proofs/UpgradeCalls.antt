@@ -19,7 +19,7 @@ use Rattle.definitions.specs.Run.{Progress}
 use Rattle.definitions.specs.After.{all_opened, kept, upgraded}
 use Rattle.theorems.proofs.Rows.{and-left, and-right, both-true}
 use Rattle.theorems.proofs.Views.{Names, named}
-use Rattle.theorems.proofs.Effects.{none, bears-is, bears-refl, same-refl, looks-allows, mine-exited}
+use Rattle.theorems.proofs.Effects.{same-is, none, bears-is, bears-refl, looks-allows, mine-exited}
 use Rattle.theorems.proofs.Counts.{Distinct, census-looks, census-weigh, census-in, count-set}
 use Rattle.theorems.proofs.Sets.{every-in, in-here, in-there, in-cases, below-of, below-distinct, below-length}
 use Rattle.theorems.proofs.Small.{off-from, or-elim, true-false, not-is}
@@ -27,10 +27,10 @@ use Rattle.theorems.proofs.Addresses.{stays-lacks, stays-put, any-put, stands-fi
 use Rattle.theorems.proofs.Listeners.{fds, fds-listed, opens-on, all_closed, closed-first, has-closed, rises-closed, upgrade-added}
 use Rattle.theorems.proofs.Files.{written-file, other-written, other-oldbin}
 use Rattle.theorems.proofs.Ends.{first-keys}
-use Rattle.theorems.proofs.Logic.{unfailing}
+use Rattle.theorems.proofs.Logic.{Unasked, Anyhow, Behind, unfailing}
 use Rattle.theorems.proofs.Rules.{view, minus, plus, seen, Only, marks-wrong, weigh-sub}
 use Rattle.theorems.proofs.Duo.{framed-drop}
-use Rattle.theorems.proofs.UpgradeStage.{Given, g, new, R, H0, A0, f, n, low, wanted, wanted-of, co, Goes, w, Common, common0, Lists}
+use Rattle.theorems.proofs.UpgradeStage.{post, inv, Second, Given, g, new, R, H0, A0, f, n, low, wanted, wanted-of, co, Goes, w, Common, common0, Lists}
 use Rattle.theorems.proofs.UpgradeBack.{Aside}
 use Rattle.theorems.proofs.UpgradeNew.{Doing, Held, bare, readied, with_starting, with_written, v, back, edges, Edge, held-plain, goes-back, apart, me, step, just-failed, try-adopt, try-close, try-open, try-fork, try-await, try-write}
 
@@ -179,7 +179,7 @@ module _ (c : Given) (m : ℕ) (ne : m ≢ c.rec.pid) (r0 : Names) (only0 : Only
   ---- The census
 
   only-seen : (cs : List ℕ) → Only (new c) S (seen T (new c) cs)
-  only-seen cs h k e = let on = and-left (T h k) _ e in (Rattle.theorems.proofs.Effects.same-is h (new c) (and-left _ _ on), and-right (same_generation h (new c)) _ on)
+  only-seen cs h k e = let on = and-left (T h k) _ e in (same-is h (new c) (and-left _ _ on), and-right (same_generation h (new c)) _ on)
 
   counts : (rest : Tree) (hs : List Hold) (files : List File) (q : Progress) → A files → ((r : Names) (q' : Progress) → Only (new c) S r → H (counted hs r files) q' → G rest q') → H (counted hs T files) q → G (tries image (Census (new c)) S rest B) q
   counts rest hs files q aside next b =
@@ -194,10 +194,10 @@ module _ (c : Given) (m : ℕ) (ne : m ≢ c.rec.pid) (r0 : Names) (only0 : Only
       let count = count-set (w c m hs none T) (new c) rows cs looks S (below-distinct (n c)) (every-in (λ k. list_any (is_worker is_ready m (new c) k) rows ≡ is_in cs k) S (λ k e. sym (census-in m (new c) rows k (omega (arith, below-of (n c) k e, low c))))) in
       let same = census-weigh m m T rows in
       let bound : (k : ℕ) → T (new c) k ≡ true → k < 1024 = λ k e. omega (arith, below-of (n c) k (and-right (same_generation (new c) (new c)) _ e), low c) in
-      let second : Rattle.theorems.proofs.UpgradeStage.Second c (w c m hs none (seen T (new c) cs)) T (n c) t'.rows q'.losses = (inl (census-looks (w c m hs none T) (new c) rows bound looks), omega (arith, b'.beside.1, same)) in
+      let second : Second c (w c m hs none (seen T (new c) cs)) T (n c) t'.rows q'.losses = (inl (census-looks (w c m hs none T) (new c) rows bound looks), omega (arith, b'.beside.1, same)) in
       let after : List ℕ → Progress = λ l. record { table = t'; calls = q'.calls + 1; ready = cs; lacking = lacks S cs; faults = q'.faults; losses = q'.losses; cause = first_cause q'.cause (went_wrong call (full_or_short l)) (q'.calls + 1); note = q'.note } in
       subst (λ st. Edge c m ne r0 only0 call rest S q' st) (sym (unfailing (co c).text image (me c m ne r0 only0 x) call fate q'.table tt))
-      (elim (lacks S cs) as (λ l. lacks S cs ≡ l → Rattle.theorems.proofs.Logic.Behind (Rattle.theorems.proofs.UpgradeStage.inv c) (Rattle.theorems.proofs.UpgradeStage.post c) Rattle.theorems.proofs.Logic.Anyhow Rattle.theorems.proofs.Logic.Unasked (co c) (edges c m ne r0 only0 call rest) (full_or_short l) (after l)) [
+      (elim (lacks S cs) as (λ l. lacks S cs ≡ l → Behind (inv c) (post c) Anyhow Unasked (co c) (edges c m ne r0 only0 call rest) (full_or_short l) (after l)) [
         | [] ↦ λ e. next (seen T (new c) cs) (after []) (only-seen cs) (held-plain c m ne r0 only0 x (counted hs (seen T (new c) cs) files) t' cs (lacks S cs) q' b' b'.still.files_stay refl e framed second)
         | k ∷ ks ↦ λ e. goes-back c m ne r0 only0 (counted hs (seen T (new c) cs) files) 0 (k ∷ ks) (after (k ∷ ks)) aside (record {
           looks = framed.looks;

@@ -18,11 +18,11 @@ use Rattle.definitions.specs.Manner.{is_leave_call}
 use Rattle.definitions.specs.Tree.{Tree, Branches, Nothing, plain_reply, replies_to, reply_of}
 use Rattle.definitions.specs.Plans.{on, others, tries, back_from}
 use Rattle.definitions.specs.Path.{first_cause}
-use Rattle.definitions.specs.Run.{Progress, after_moment, after_call, answered}
+use Rattle.definitions.specs.Run.{Ending, Progress, after_moment, after_call, answered}
 use Rattle.definitions.specs.Claims.{names_any, is_leave}
 use Rattle.theorems.proofs.Rows.{and-left, and-right, both-true}
 use Rattle.theorems.proofs.Views.{Names, named, View, Looks, finds, eqb-refl}
-use Rattle.theorems.proofs.Effects.{none, bears-is, same-refl, looks-allows, mine-of, mine-row, mine-worker, mine-exited, holds-stay, ready-stays, close-looks, close-weigh, open-looks, open-weigh, fork-looks, fork-weigh, await-looks, await-gains, gone-looks, gone-weigh}
+use Rattle.theorems.proofs.Effects.{after_wait, after_open, none, bears-is, same-refl, looks-allows, mine-of, mine-row, mine-worker, holds-stay, ready-stays, close-looks, close-weigh, open-looks, fork-looks, fork-weigh, await-looks, await-gains, gone-looks, gone-weigh}
 use Rattle.theorems.proofs.Exits.{spares-each}
 use Rattle.theorems.proofs.Sets.{in-here, in-there}
 use Rattle.theorems.proofs.Small.{or-elim}
@@ -36,7 +36,7 @@ module _ (c : Given) (m : ℕ) (ne : m ≢ c.rec.pid) (r0 : Names) (only0 : Only
   abbrev I : Progress → Type 0
   I = inv c
 
-  abbrev P : Rattle.definitions.specs.Run.Ending → Progress → Type 0
+  abbrev P : Ending → Progress → Type 0
   P = post c
 
   abbrev pub v : View
@@ -186,7 +186,7 @@ module _ (c : Given) (m : ℕ) (ne : m ≢ c.rec.pid) (r0 : Names) (only0 : Only
       let framed = framed-change (view v none r0) m (is_row m) (with_holds (put_hold h)) q'.table.rows apart (mine-row m, λ k zs. refl) (holds-stay (put_hold h)) b'.looks in
       next h (plain_with t' q'.ready q'.lacking q') refl refl (ap (λ (l : Limits). nat_lt (length hs) l.descriptors) (sym b'.still.limits_stay) ∙ room)
       (held-plain x (bare (put_hold h hs) files) t' q'.ready q'.lacking q' b' b'.still.files_stay refl b'.lacking framed
-      (inl (looks-allows (Rattle.theorems.proofs.Effects.after_open h (w c m hs none none)) (w c m (put_hold h hs) none none) (record { number = refl; others = λ k e. e; image = refl; holds = refl; starting = λ j k e. e; ready = λ j k e. e; held_starting = λ j k e. absurd (cc e); held = λ j k e. absurd (cc e) }) t'.rows (open-looks (w c m hs none none) h q'.table.rows looks)), omega arith))))
+      (inl (looks-allows (after_open h (w c m hs none none)) (w c m (put_hold h hs) none none) (record { number = refl; others = λ k e. e; image = refl; holds = refl; starting = λ j k e. e; ready = λ j k e. e; held_starting = λ j k e. absurd (cc e); held = λ j k e. absurd (cc e) }) t'.rows (open-looks (w c m hs none none) h q'.table.rows looks)), omega arith))))
       (λ q' b'. just-failed x q' aside b')
 
   abbrev pub with_starting : Doing → Names → Doing
@@ -236,7 +236,7 @@ module _ (c : Given) (m : ℕ) (ne : m ≢ c.rec.pid) (r0 : Names) (only0 : Only
       let gain = await-gains (w c m hs s (named (new c) (is_in done))) (new c) (named (new c) (is_in (k ∷ done))) k q'.table.rows (both-true (same_generation (new c) (new c)) (is_in (k ∷ done) k) (same-refl (new c)) (in-here k k done refl)) (off-named k done off) live looks in
       let more = weigh-sub m (named (new c) (is_in done)) (named (new c) (is_in (k ∷ done))) (λ h j e. both-true (same_generation h (new c)) (is_in (k ∷ done) j) (and-left _ _ e) (in-there k j done (and-right (same_generation h (new c)) _ e))) q'.table.rows in
       next (plain_with t' q'.ready q'.lacking q') (held-plain x y t' q'.ready q'.lacking q' b' b'.still.files_stay refl b'.lacking framed (
-        inl (looks-allows (Rattle.theorems.proofs.Effects.after_wait (new c) k (w c m hs s (named (new c) (is_in done)))) (w c m hs (minus s (new c) k) (named (new c) (is_in (k ∷ done)))) (record { number = refl; others = λ j e. e; image = refl; holds = refl; starting = λ h j e. e; ready = joins k done; held_starting = λ h j e. refl; held = λ h j e. refl }) t'.rows (await-looks (w c m hs s (named (new c) (is_in done))) (new c) k q'.table.rows looks)),
+        inl (looks-allows (after_wait (new c) k (w c m hs s (named (new c) (is_in done)))) (w c m hs (minus s (new c) k) (named (new c) (is_in (k ∷ done)))) (record { number = refl; others = λ j e. e; image = refl; holds = refl; starting = λ h j e. e; ready = joins k done; held_starting = λ h j e. refl; held = λ h j e. refl }) t'.rows (await-looks (w c m hs s (named (new c) (is_in done))) (new c) k q'.table.rows looks)),
         omega (arith, b'.beside.1, gain, more),
       )))
       (λ gone.

@@ -16,7 +16,7 @@ use Rattle.definitions.specs.Calls.{Stepped, gives, step_by, each_row, dropped, 
 use Rattle.definitions.specs.Record.{FilesAre, oldbin}
 use Rattle.definitions.specs.Tree.{Tree, Nothing, reply_of}
 use Rattle.definitions.specs.Plans.{on, does, then_edge, note_edges, awaits_gone, settle, remove_oldbin, hand_over, back_late, relieve}
-use Rattle.definitions.specs.Run.{Progress, noted, after_call, after_moment, answered}
+use Rattle.definitions.specs.Run.{Ending, Progress, noted, after_call, after_moment, answered}
 use Rattle.theorems.proofs.Views.{Names, named, View, Looks, finds, eqb-is, eqb-refl}
 use Rattle.theorems.proofs.Effects.{none, looks-allows}
 use Rattle.theorems.proofs.Exits.{spares-each, shrinks}
@@ -34,7 +34,7 @@ module _ (c : Given) (m : ℕ) (ne : m ≢ c.rec.pid) (some : 1 ≤ m) (r0 : Nam
   abbrev I : Progress → Type 0
   I = inv c
 
-  abbrev P : Rattle.definitions.specs.Run.Ending → Progress → Type 0
+  abbrev P : Ending → Progress → Type 0
   P = post c
 
   abbrev S : List ℕ
