@@ -1,5 +1,5 @@
 -- At most one refusal fits, and none where a target is carried out.
-use Rattle.std.proofs.Common.{◌≡◌, ℕ, ◌⊎◌, inl, inr, Some, Result, Ok, Err, refl, sym, ◌∙◌, ap, subst}
+use Rattle.std.proofs.Common.{◌≡◌, ℕ, ◌⊎◌, inl, inr, Option, Some, None, Result, Ok, Err, refl, sym, ◌∙◌, ap, subst}
 use Rattle.std.specs.Prelude.{◌↔◌}
 use Rattle.std.specs.Result.{IsErrOf}
 use Rattle.std.proofs.lemmas.Option.{none-some, same_Some}
@@ -11,7 +11,7 @@ use Rattle.definitions.specs.Plans.{planned, plan_tree}
 use Rattle.definitions.specs.After.{next_config}
 use Rattle.definitions.specs.Table.{Generation}
 use Rattle.std.proofs.lemmas.Bool.{false≢true}
-use Rattle.std.specs.Prelude.{is_none, option_map, true, Option}
+use Rattle.std.specs.Prelude.{is_none, option_map, true}
 use Rattle.reload_planner.specs.Planning.{is_upgrade, lacks_generation}
 use Rattle.definitions.specs.declared.targets.Target.TheVariants.{Workers, Mend, Reopen, Reload, Upgrade, Stop}
 use Rattle.definitions.specs.Run.{Pattern, start_at}

@@ -35,6 +35,10 @@ leave-is (KillLacking g) lacking = refl
 abbrev pub Behind : List ℕ → List ℕ → Pattern → ℕ → List Entry → Bool → Option ℕ
 Behind executing heirs pattern n entries leaves = first_naming (cond leaves heirs executing) heirs pattern n entries
 
+by-test : (b : Bool) (here : Option ℕ) {one other : Option ℕ} → one ≡ other → by_reply_refused b here one ≡ cond b here other
+by-test true here same = refl
+by-test false here same = same
+
 mutual
   pub refused-is : (text executing heirs : List ℕ) (tree : Tree) (pattern : Pattern) (p : Progress) →
       refused_from text executing heirs tree pattern p ≡ first_naming executing heirs pattern p.calls (run_with text tree pattern p).entries
@@ -63,10 +67,6 @@ mutual
         | true ↦ refused-is text executing heirs rest pattern (noted said p) ∙ ap (λ n. first_naming executing heirs pattern n (run_with text rest pattern (noted said p)).entries) (noted-calls said p)
         | false ↦ behind-is text executing heirs more r pattern p
       ]
-
-  by-test : (b : Bool) (here : Option ℕ) {one other : Option ℕ} → one ≡ other → by_reply_refused b here one ≡ cond b here other
-  by-test true here same = refl
-  by-test false here same = same
 
 ---- One moment after another is looked at
 

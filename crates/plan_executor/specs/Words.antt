@@ -14,7 +14,7 @@ use Rattle.worker_table.specs.Codes.{table_code}
 use Rattle.worker_table.specs.declared.refusal.TableRefusal.{TableRefusal}
 use Rattle.control_words.specs.declared.words.Word.{Word}
 use Rattle.control_words.specs.declared.words.Word.TheVariants.{Beat, Tick}
-use Rattle.control_words.specs.declared.words.WordRefusal.{WordRefusal}
+use Rattle.control_words.specs.declared.refusal.WordRefusal.{WordRefusal}
 use Rattle.control_words.specs.Words.{target_of, refusal_code}
 use Rattle.plan_executor.specs.declared.block.Block.{Block}
 use Rattle.plan_executor.specs.declared.block.Body.{Body}
@@ -25,6 +25,7 @@ use Rattle.plan_executor.specs.Codes.{enact_code, stopped_code}
 use Rattle.plan_executor.specs.Refusals.{IsRefused}
 use Rattle.plan_executor.specs.Enacted.{IsEnacted}
 use Rattle.plan_executor.specs.Started.{started}
+use Rattle.plan_executor.specs.declared.words.HeardBeat.{HeardBeat}
 
 -- Where things stand between two words: the kernel, the record of the running master, if there is one, and its workers' beats.
 pub record Standing : Type 0 where
@@ -81,10 +82,17 @@ abbrev pub IsNoted : Result (Unit {0}) TableRefusal → ℕ → ℕ → Standing
 IsNoted (Ok u) nr now old body new = (body ≡ Nothing) × (new ≡ standing old.kernel old.state (with_worker old.workers nr (Some now)))
 IsNoted (Err refusal) nr now old body new = IsStill (table_code refusal) old body new
 
--- What a running master makes of a word.
+abbrev pub beat_in : Word → Option HeardBeat
+beat_in (Beat nr now) = Some (record { nr = nr; now = now })
+beat_in _ = None
+
+-- What a running master makes of a word, which may be a beat.
+abbrev pub IsAsked : Option HeardBeat → Option Settings → Word → Record → Pattern → Standing → Body → Standing → Type 0
+IsAsked (Some beat) settings word r pattern old body new = IsNoted (beating old.workers beat.nr beat.now) beat.nr beat.now old body new
+IsAsked None settings word r pattern old body new = IsAnswered (target_of word r (overdue_at word r old.workers) settings) r pattern old body new
+
 abbrev pub IsObeyed : Option Settings → Word → Record → Pattern → Standing → Body → Standing → Type 0
-IsObeyed settings (Beat nr now) r pattern old body new = IsNoted (beating old.workers nr now) nr now old body new
-IsObeyed settings word r pattern old body new = IsAnswered (target_of word r (overdue_at word r old.workers) settings) r pattern old body new
+IsObeyed settings word r pattern old body new = IsAsked (beat_in word) settings word r pattern old body new
 
 abbrev pub IsHeard : Option Record → Option Settings → Word → Pattern → Standing → Body → Standing → Type 0
 IsHeard None settings word pattern old body new = IsStill stopped_code old body new

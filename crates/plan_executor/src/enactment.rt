@@ -3,6 +3,7 @@ ghost use Rattle.std.specs.Prelude.{◌≡◌, ◌≤◌, ◌↔◌, ◌⊎◌, 
 ghost use Rattle.definitions.specs.Formed.{IsFormed};
 ghost use Rattle.definitions.specs.Record.{Agrees};
 ghost use Rattle.definitions.specs.Plans.{planned};
+ghost use Rattle.definitions.specs.Settings.{IsInRange};
 ghost use Rattle.definitions.specs.Target.{IsTarget};
 ghost use Rattle.kernel_model.specs.Pattern.{moment_at};
 ghost use Rattle.kernel_model.specs.Room.{LacksNumbers};
@@ -16,7 +17,7 @@ ghost use Rattle.plan_executor.specs.declared.enactment.EnactRefusal.{EnactRefus
 use crate::naming::first_naming;
 use crate::patterned::Patterned;
 use crate::{Transcript, execute};
-use definitions::{Report, Target};
+use definitions::{Report, Settings, Target};
 use kernel_model::{Kernel, Pattern, ReserveRefusal};
 use reload_planner::PlanRefusal;
 use rollback_plan::Plan;
@@ -115,16 +116,25 @@ pub fn enact(
     })
 }
 
-/// Only a reading of the settings tells that they are in range.
+/// A target's settings are in range, which only a reading of them tells.
 fn read_settings(target: &Target)
     ensures { HasRange target.now }
 {
     match target {
-        Target::Reload(settings) | Target::Upgrade(settings) => {
-            let _ = settings.workers;
+        Target::Reload(settings) => {
+            let _workers = workers_of(settings);
         }
-        Target::Workers(_) | Target::Mend(_) | Target::Reopen | Target::Stop { .. } => {}
+        Target::Upgrade(settings) => {
+            let _workers = workers_of(settings);
+        }
+        _ => (),
     }
+}
+
+fn workers_of(settings: &Settings) -> u32
+    ensures { IsInRange settings.now }
+{
+    settings.workers
 }
 
 /// The plan of a target.

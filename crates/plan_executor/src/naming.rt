@@ -1,7 +1,7 @@
 //! Which moment of a run kills the executing master.
-ghost use Rattle.std.specs.Prelude.{◌≡◌, ◌∷◌, [], length};
+ghost use Rattle.std.specs.Prelude.{◌≡◌, ◌<◌, ◌∷◌, [], length};
 ghost use Rattle.std.specs.List.{list_any};
-ghost use Rattle.definitions.specs.Claims.{names_any};
+
 ghost use Rattle.definitions.specs.Manner.{is_leave_call};
 ghost use Rattle.kernel_model.specs.Pattern.{moment_at};
 ghost use Rattle.plan_executor.specs.Naming.{first_naming, is_master};
@@ -34,7 +34,7 @@ fn is_leave(call: &Call) -> bool
 }
 
 fn names_master(exits: &[Name], image: u32) -> bool
-    ensures { result ≡ names_any (image ∷ []) exits.now }
+    ensures { result ≡ list_any (is_master image) exits.now }
 {
     exits.iter().any(|name| is_master(name, image))
 }

@@ -9,7 +9,7 @@ ghost use Rattle.kernel_model.specs.Pattern.{moment_at};
 ghost use Rattle.listener_set.specs.Numbers.{is_in};
 ghost use Rattle.plan_executor.specs.Codes.{enact_code};
 ghost use Rattle.plan_executor.specs.Started.{start_of, started_in, started};
-ghost use Rattle.plan_executor.specs.Words.{standing, overdue_at, pattern_at, IsActed, IsNoted, ComesTo, AreDone, IsTrueOf};
+ghost use Rattle.plan_executor.specs.Words.{standing, beat_in, overdue_at, pattern_at, IsActed, IsNoted, ComesTo, AreDone, IsTrueOf};
 ghost use Rattle.plan_executor.specs.declared.block.Block.{Block as Done};
 
 use crate::{Block, Body, CodeText, EnactRefusal, enact};
@@ -79,8 +79,8 @@ fn run_word(
     let Some(running) = *state else {
         return Ok(Body::Refused(CodeText::stopped()));
     };
-    if let Word::Beat { nr, now } = word {
-        return Ok(beat(workers, nr, now));
+    if let Some(heard) = beat_in(word) {
+        return Ok(beat(workers, heard));
     }
     let overdue = overdue_at(word, &running, workers);
     let target = match target_of(word, &running, &overdue, settings) {
@@ -91,11 +91,28 @@ fn run_word(
     act(alloc, kernel, state, workers, &running, &target, pattern)
 }
 
-/// Notes a beat; the table of workers may refuse it.
-fn beat(workers: &mut WorkerTable, nr: u32, now: u64) -> Body
-    ensures { (kernel : State) (state : Option Known) → IsNoted (beating workers.old nr now) nr now (standing kernel state workers.old) result (standing kernel state workers.new) }
+/// A worker's beat.
+#[derive(Clone, Copy)]
+struct HeardBeat {
+    nr: u32,
+    now: u64,
+}
+
+/// The beat that a word tells of.
+fn beat_in(word: Word) -> Option<HeardBeat>
+    ensures { result ≡ beat_in word }
 {
-    match workers.beat(nr, now) {
+    match word {
+        Word::Beat { nr, now } => Some(HeardBeat { nr, now }),
+        _ => None,
+    }
+}
+
+/// Notes a beat; the table of workers may refuse it.
+fn beat(workers: &mut WorkerTable, heard: HeardBeat) -> Body
+    ensures { (kernel : State) (state : Option Known) → IsNoted (beating workers.old heard.nr heard.now) heard.nr heard.now (standing kernel state workers.old) result (standing kernel state workers.new) }
+{
+    match workers.beat(heard.nr, heard.now) {
         Ok(()) => Body::Nothing,
         Err(refusal) => Body::Refused(CodeText::from(refusal)),
     }
