@@ -1,23 +1,18 @@
 -- A new worker and a new socket keep what every table keeps.
-use Rattle.std.proofs.Common.{◌≡◌, ℕ, ◌+◌, ◌<◌, ◌≤◌, Bool, true, false, cond, ◌&&◌, ◌||◌, nat_eq, nat_lt, List, [], ◌∷◌, ◌++◌, length, Option, Some, None, count_by, refl, ap, subst, ◌∙◌, arith}
+use Rattle.std.proofs.Common.{◌≡◌, ℕ, ◌+◌, ◌<◌, ◌≤◌, Bool, true, false, cond, ◌&&◌, ◌||◌, nat_eq, nat_lt, List, [], ◌∷◌, ◌++◌, Some, count_by, refl, ap, subst, ◌∙◌, arith}
 use Rattle.std.specs.List.{AllByRecursion, filter_map, list_any}
 use Rattle.std.proofs.lemmas.Bool.{true≢false, false≢true}
 use Rattle.std.proofs.lemmas.Bool.Decides.{nat_tests}
 use Rattle.std.proofs.lemmas.List.Sums.{sum_by-cons}
 use Rattle.std.proofs.lemmas.List.Folds.{list_any-append}
 use Rattle.definitions.specs.declared.table.Stance.TheVariants.{Starting}
-use Rattle.definitions.specs.declared.calls.Call.{Call}
-use Rattle.definitions.specs.declared.calls.Call.TheVariants.{OpenAt, CloseAt, Fork, AwaitReady, Quit, Kill, Census}
-use Rattle.definitions.specs.declared.calls.Answer.{Answer}
-use Rattle.definitions.specs.declared.calls.Fate.{Fate}
-use Rattle.definitions.specs.declared.names.Name.{Name}
-use Rattle.definitions.specs.Table.{Generation, same_generation, Hold, Process, Master, Worker, Foreign, Table, with_rows, number_of, holds_of, is_active, is_starting, is_exited, is_any, is_worker, is_live_master, is_held, Caller, live_master, caller_if}
-use Rattle.definitions.specs.Exits.{change, after_exits}
-use Rattle.definitions.specs.Calls.{is_image, Stepped, made_ready, made_draining, with_holds, put_hold, lacks_address, lowest_free, is_row, is_of, is_exited_of, has_process_room, with_new_row, with_new_socket, own_step, fault_at, fault_or_own, step_by, step}
+use Rattle.definitions.specs.Table.{Generation, same_generation, Hold, Process, Master, Worker, Foreign, number_of, holds_of, is_active, is_worker, is_live_master, Caller, live_master, caller_if}
+use Rattle.definitions.specs.Exits.{change}
+use Rattle.definitions.specs.Calls.{is_image, with_holds, put_hold, is_row}
 use Rattle.definitions.specs.Formed.{IsQuiet, HasParent, IsAscending}
-use Rattle.kernel_model.specs.Room.{HasSockets, IsKept}
+use Rattle.kernel_model.specs.Room.{HasSockets}
 use Rattle.kernel_model.proofs.Keeping.{AreKept, Follows, AreKept-becomes, Becomes-filter_map, says-change}
-use Rattle.kernel_model.proofs.Steps.{KeepsMasters, HasParent-up, live-change, same-draining, same-ready, same-holds, worker-named, worker-of, kept-change, kept-dropped, drains_so, ready_so, closes_so, kept-all_exited}
+use Rattle.kernel_model.proofs.Steps.{KeepsMasters, HasParent-up, live-change, same-holds}
 
 -- ---- the caller is a live master
 abbrev pub AreWithin : ℕ → List Hold → Type 0
@@ -139,7 +134,7 @@ module _ (rows : List Process) (next socket : ℕ) (h : AreKept rows next socket
   }
 
 -- ---- a new socket
-within-wider : (socket : ℕ) (hs : List Hold) → AreWithin socket hs → AreWithin (socket + 1) hs
+pub within-wider : (socket : ℕ) (hs : List Hold) → AreWithin socket hs → AreWithin (socket + 1) hs
 within-wider socket [] w = tt
 within-wider socket (h ∷ hs) w = ((w.0.0, omega (arith, w.0.1)), within-wider socket hs w.1)
 

@@ -1,31 +1,27 @@
 -- Calls keep what every table keeps.
-use Rattle.std.proofs.Common.{◌≡◌, ℕ, ◌+◌, ◌<◌, ◌≤◌, Bool, true, false, cond, ◌&&◌, ◌||◌, nat_eq, nat_lt, List, [], ◌∷◌, ◌++◌, length, Option, Some, None, count_by, refl, ap, subst, ◌∙◌, arith}
-use Rattle.std.specs.List.{AllByRecursion, filter_map, list_any}
-use Rattle.std.proofs.lemmas.Bool.{true≢false, false≢true}
-use Rattle.std.proofs.lemmas.Bool.Decides.{nat_tests}
-use Rattle.std.proofs.lemmas.List.Sums.{sum_by-cons}
-use Rattle.std.proofs.lemmas.List.Folds.{list_any-append}
+use Rattle.std.proofs.Common.{◌≡◌, ℕ, ◌≤◌, Bool, true, false, cond, nat_lt, List, length, Option, Some, None, refl, arith}
+use Rattle.std.specs.List.{list_any}
 use Rattle.definitions.specs.declared.table.Stance.TheVariants.{Starting}
 use Rattle.definitions.specs.declared.calls.Call.{Call}
 use Rattle.definitions.specs.declared.calls.Call.TheVariants.{OpenAt, CloseAt, Fork, AwaitReady, Quit, Kill, Census, AwaitGone, SpawnMaster, Adopt, WritePid, MovePid, RemovePid, Alive, Leave, Usr1, TermMaster}
 use Rattle.definitions.specs.declared.calls.Answer.{Answer}
 use Rattle.definitions.specs.declared.calls.Fate.{Fate}
 use Rattle.definitions.specs.declared.names.Name.{Name}
-use Rattle.definitions.specs.Table.{Address, FilePath, File, owner_at, Generation, same_generation, Hold, Process, Master, Worker, Foreign, Table, with_rows, number_of, holds_of, is_active, is_starting, is_exited, is_any, is_worker, is_live_master, is_held, Caller, live_master, caller_if}
-use Rattle.definitions.specs.Exits.{change, after_exits}
-use Rattle.definitions.specs.Calls.{is_image, opened, forked, spawned, awaited, killed, moved_if, asked_alive, suits, with_files, Stepped, made_ready, made_draining, with_holds, put_hold, lacks_address, lowest_free, is_row, is_of, is_exited_of, has_process_room, with_new_row, with_new_socket, own_step, fault_at, fault_or_own, step_by, step_with}
+use Rattle.definitions.specs.Table.{Address, FilePath, File, owner_at, Generation, Hold, Process, Master, Worker, Table, with_rows, is_active, is_starting, is_exited, is_any, is_worker, is_held, Caller, live_master}
+use Rattle.definitions.specs.Exits.{after_exits}
+use Rattle.definitions.specs.Calls.{is_image, opened, forked, spawned, awaited, killed, moved_if, asked_alive, suits, with_files, Stepped, made_ready, made_draining, with_holds, lacks_address, lowest_free, is_of, is_exited_of, has_process_room, with_new_row, with_new_socket, own_step, fault_at, fault_or_own, step_by, step_with}
 use Rattle.definitions.specs.Handover.{reading}
-use Rattle.kernel_model.specs.Room.{HasSockets, IsKept}
-use Rattle.kernel_model.proofs.Keeping.{AreKept, Follows, AreKept-becomes, Becomes-filter_map, says-change}
-use Rattle.kernel_model.proofs.Steps.{KeepsMasters, HasParent-up, live-change, same-draining, same-ready, same-holds, worker-named, worker-of, kept-change, kept-dropped, drains_so, ready_so, closes_so, kept-all_exited}
+use Rattle.kernel_model.specs.Room.{IsKept}
+use Rattle.kernel_model.proofs.Keeping.{AreKept}
+use Rattle.kernel_model.proofs.Steps.{same-draining, same-ready, same-holds, worker-named, worker-of, kept-change, kept-dropped, drains_so, ready_so, closes_so, kept-all_exited}
 use Rattle.kernel_model.proofs.CallSteps.{live-caller, caller-sockets, kept-fork, kept-open}
 use Rattle.kernel_model.proofs.MasterSteps.{kept-spawn, kept-reaped, kept-left, kept-terminated}
 
 -- ---- tables
-kept-table : (t : Table) → IsKept t → AreKept t.rows t.next_process t.next_socket
+pub kept-table : (t : Table) → IsKept t → AreKept t.rows t.next_process t.next_socket
 kept-table t h = record { once = h.formed.once; masters = h.masters; quiet = h.formed.quiet; parents = h.formed.parents; ascending = h.formed.ascending; sockets = h.sockets }
 
-kept-rows : (t t' : Table) → IsKept t → AreKept t'.rows t'.next_process t'.next_socket → t.next_socket ≤ t'.next_socket → t'.limits.descriptors ≡ t.limits.descriptors → IsKept t'
+pub kept-rows : (t t' : Table) → IsKept t → AreKept t'.rows t'.next_process t'.next_socket → t.next_socket ≤ t'.next_socket → t'.limits.descriptors ≡ t.limits.descriptors → IsKept t'
 kept-rows t t' h rows le same = record {
   masters = rows.masters;
   formed = record { once = rows.once; quiet = rows.quiet; parents = rows.parents; ascending = rows.ascending };

@@ -8,6 +8,7 @@ pub mod MasterSteps
 pub mod CallsKept
 pub mod Ended
 pub mod Adopted
+pub mod Foreigners
 pub mod WrittenFiles
 pub mod Census
 pub mod First

@@ -1,11 +1,11 @@
 -- Masters that are started, leave or are ended keep what every table keeps.
-use Rattle.std.proofs.Common.{◌≡◌, ℕ, ◌+◌, ◌<◌, ◌≤◌, Bool, true, false, cond, ◌&&◌, ◌||◌, not, nat_eq, List, [], ◌∷◌, ◌++◌, Option, Some, None, count_by, refl, sym, ap, subst, ◌∙◌, arith}
-use Rattle.std.specs.List.{AllByRecursion, filter_map, cons_option, list_any}
+use Rattle.std.proofs.Common.{◌≡◌, ℕ, ◌+◌, ◌≤◌, Bool, true, false, cond, ◌&&◌, ◌||◌, not, nat_eq, List, [], ◌∷◌, ◌++◌, Some, None, count_by, refl, ap, subst, ◌∙◌, arith}
+use Rattle.std.specs.List.{filter_map, cons_option, list_any}
 use Rattle.std.specs.Prelude.{IfSome}
-use Rattle.std.proofs.lemmas.Bool.{true≢false, false≢true}
+use Rattle.std.proofs.lemmas.Bool.{true≢false}
 use Rattle.std.proofs.lemmas.Bool.Decides.{nat_tests}
 use Rattle.std.proofs.lemmas.List.Folds.{list_any-append}
-use Rattle.definitions.specs.Table.{Generation, Hold, Process, Master, Worker, Foreign, is_active, is_worker, is_live_master, Caller, live_master, caller_if}
+use Rattle.definitions.specs.Table.{Hold, Process, Master, Worker, Foreign, is_active, is_worker, is_live_master, live_master, caller_if}
 use Rattle.definitions.specs.Exits.{kept_if, without_exited}
 use Rattle.definitions.specs.Calls.{dropped, is_image, is_image_row, is_of_image, without_master}
 use Rattle.definitions.specs.Formed.{IsQuiet, HasParent}

@@ -4,6 +4,7 @@ pub mod Edits
 pub mod Room
 pub mod Rows
 pub mod Files
+pub mod Foreign
 pub mod State
 pub mod Boot
 pub mod Readers

@@ -21,7 +21,7 @@ mod service;
 mod store;
 
 pub use boot::BootRefusal;
-pub use kernel::{Kernel, ReserveRefusal};
+pub use kernel::{ForeignRefusal, Kernel, ReserveRefusal};
 pub use moments::Moment;
 pub use pattern::Pattern;
 pub use process::Row;

@@ -80,6 +80,7 @@ impl Store {
     ghost use Rattle.kernel_model.specs.Seen.{has_stance, seen_caller, caller_row, seen};
     ghost use Rattle.kernel_model.specs.Room.{EditsRows, GrowsByOne, HasMemoryFor, LacksNumbers, IsKept};
     ghost use Rattle.kernel_model.specs.Rows.{IsOwn, master_number};
+    ghost use Rattle.kernel_model.specs.Foreign.{with_foreign};
 
     /// The live master of an image.
     pub fn live_master(&self, image: u32) -> Option<Caller>
@@ -220,6 +221,27 @@ impl Store {
         self.addresses.push(*address).unwrap();
         self.edit(&Edit::Hold(caller.number, holds));
         descriptor
+    }
+
+    /// Adds a process of somebody else, which holds the address at descriptor 3 by a new socket.
+    pub fn add_foreign(&mut self, address: &Address)
+        requires holder_room { vec_len self.old.holders < vec_capacity self.old.holders }
+        requires address_room { vec_len self.old.addresses < vec_capacity self.old.addresses }
+        requires process_number { self.old.next_process < 2 ^ 32 }
+        requires socket_number { length self.old.addresses.items + 1 < 2 ^ 32 }
+        requires kept { IsKept (seen self.old) }
+        ensures table { seen self.new ≡ with_foreign address.now (seen self.old) }
+        ensures grows { GrowsByOne self.old self.new }
+    {
+        let socket = self.addresses.len() as u32 + 1;
+        let mut holds = DescriptorTable::new();
+        let _ = holds.put(socket).unwrap();
+        let row = Row::Foreign {
+            number: self.next_process as u32,
+        };
+        self.addresses.push(*address).unwrap();
+        self.holders.push(Holder { row, holds }).unwrap();
+        self.next_process += 1;
     }
 
     /// Whether fewer process or socket numbers are left than that many.

@@ -269,3 +269,114 @@ fn fails_by_a_fate_whose_condition_holds(rt: HostRuntime) -> Result<(), Fail> {
     );
     Ok(())
 }
+
+#[test]
+fn starts_and_ends_another_master(rt: HostRuntime) -> Result<(), Fail> {
+    let mut kernel = started(rt.alloc(), 1, 65_535)?;
+    let next = Actor(2);
+    let text =
+        b"handover 1\nold-pid 100\ngeneration 2 1\nlistener 3 0.0.0.0:8080\nwant 0.0.0.0:8080\nworkers 1\nend\n";
+    kernel.reserve(8)?;
+    assert_eq!(rt; kernel.room(), 8);
+    assert_eq!(rt;
+        kernel.call(next, &Call::Adopt, text, &quiet()),
+        Answer::MasterGone
+    );
+    assert_eq!(rt; kernel.room(), 7);
+    assert_eq!(rt;
+        kernel.call(BY, &Call::SpawnMaster(2), &[], &failing(Fate::NoImage)),
+        Answer::NoImage
+    );
+    assert_eq!(rt; kernel.room(), 6);
+    assert_eq!(rt;
+        kernel.call(BY, &Call::SpawnMaster(2), &[], &quiet()),
+        Answer::Spawned
+    );
+    assert_eq!(rt; kernel.master(2), Some(102));
+    assert_eq!(rt; kernel.room(), 5);
+    assert_eq!(rt;
+        kernel.call(next, &Call::Adopt, &text[1..], &quiet()),
+        Answer::Refused
+    );
+    assert_eq!(rt; kernel.room(), 4);
+    assert_eq!(rt;
+        kernel.call(next, &Call::Adopt, text, &quiet()),
+        Answer::Adopted
+    );
+    assert_eq!(rt; kernel.room(), 3);
+    assert_eq!(rt;
+        kernel.call(BY, &Call::Alive(2), &[], &quiet()),
+        Answer::IsAlive
+    );
+    assert_eq!(rt; kernel.room(), 2);
+    assert_eq!(rt;
+        kernel.call(next, &Call::TermMaster(1), &[], &quiet()),
+        Answer::Fine
+    );
+    assert_eq!(rt; kernel.master(1), None);
+    assert_eq!(rt; kernel.row(1), None);
+    assert_eq!(rt; kernel.room(), 1);
+    assert_eq!(rt;
+        kernel.call(next, &Call::Leave, &[], &quiet()),
+        Answer::Fine
+    );
+    assert_eq!(rt; kernel.row(0), None);
+    Ok(())
+}
+
+#[test]
+fn writes_moves_and_removes_files(rt: HostRuntime) -> Result<(), Fail> {
+    let mut kernel = started(rt.alloc(), 0, 65_535)?;
+    let path = FilePath::read(b"/run/app.pid")?;
+    let beside = FilePath::read(b"/run/app.pid.oldbin")?;
+    kernel.reserve(4)?;
+    assert_eq!(rt; kernel.room(), 4);
+    assert_eq!(rt;
+        kernel.call(BY, &Call::MovePid(beside, path), &[], &quiet()),
+        Answer::IoFault
+    );
+    assert_eq!(rt; kernel.room(), 3);
+    assert_eq!(rt;
+        kernel.call(BY, &Call::MovePid(path, beside), &[], &quiet()),
+        Answer::Fine
+    );
+    let file = kernel.file(0).ok_or("the moved file")?;
+    assert_eq!(rt; file.path.bytes(), b"/run/app.pid.oldbin".as_slice());
+    assert_eq!(rt; file.owner, 100);
+    assert_eq!(rt; kernel.room(), 2);
+    assert_eq!(rt;
+        kernel.call(BY, &Call::WritePid(path), &[], &quiet()),
+        Answer::Fine
+    );
+    assert!(rt; kernel.file(1).is_some(), "the written file");
+    assert_eq!(rt; kernel.room(), 1);
+    assert_eq!(rt;
+        kernel.call(BY, &Call::RemovePid(beside), &[], &quiet()),
+        Answer::Fine
+    );
+    assert!(rt; kernel.file(1).is_none(), "one file is left");
+    Ok(())
+}
+
+#[test]
+fn leaves_an_address_to_somebody_else(rt: HostRuntime) -> Result<(), Fail> {
+    let mut kernel = started(rt.alloc(), 0, 65_535)?;
+    let other = Address::read(b"127.0.0.1:9090")?;
+    assert_eq!(rt;
+        kernel.foreign(&Address::plain()),
+        Err(ForeignRefusal::Held)
+    );
+    assert_eq!(rt; kernel.foreign(&other), Ok(()));
+    assert_eq!(rt; kernel.foreign(&other), Err(ForeignRefusal::Held));
+    assert_eq!(rt; kernel.row(1), Some(Row::Foreign { number: 101 }));
+    let hold = kernel.hold(1).ok_or("the hold of the other process")?;
+    assert_eq!(rt; (hold.process, hold.descriptor, hold.socket), (101, 3, 2));
+    assert_eq!(rt; hold.address.bytes(), b"127.0.0.1:9090".as_slice());
+    kernel.reserve(1)?;
+    assert_eq!(rt; kernel.room(), 1);
+    assert_eq!(rt;
+        kernel.call(BY, &Call::OpenAt(other), &[], &quiet()),
+        Answer::InUse
+    );
+    Ok(())
+}

@@ -1,5 +1,5 @@
 use Rattle.std.proofs.Common.{◌++◌, ◌∷◌, [], is_some, map, length, sym, ap, ◌∙◌, arith}
-use Rattle.definitions.specs.Table.{File, owner_at}
+use Rattle.definitions.specs.Table.{owner_at}
 use Rattle.kernel_model.specs.declared.readers.FileRow.{FileRow}
 use Rattle.kernel_model.specs.Seen.{seen_file}
 use Rattle.kernel_model.specs.Files.{rewritten}
