@@ -13,3 +13,4 @@ pub mod Pattern
 pub mod Events
 pub mod Services
 pub mod Served
+pub mod TableText

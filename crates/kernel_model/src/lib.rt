@@ -19,6 +19,7 @@ mod readers;
 mod running;
 mod service;
 mod store;
+mod table_text;
 
 pub use boot::BootRefusal;
 pub use kernel::{ForeignRefusal, Kernel, ReserveRefusal};

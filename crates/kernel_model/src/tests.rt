@@ -380,3 +380,19 @@ fn leaves_an_address_to_somebody_else(rt: HostRuntime) -> Result<(), Fail> {
     );
     Ok(())
 }
+
+#[test]
+fn tells_the_table_as_text(rt: HostRuntime) -> Result<(), Fail> {
+    let mut kernel = started(rt.alloc(), 2, 65_535)?;
+    kernel.reserve(1)?;
+    assert_eq!(rt; kernel.room(), 1);
+    assert_eq!(rt;
+        kernel.call(BY, &Call::Quit(FIRST, 1), &[], &quiet()),
+        Answer::Fine
+    );
+    let text = kernel.table_text()?;
+    let lines =
+        b"process 100 parent 1 m1 live fds 3=0.0.0.0:8080\nprocess 101 parent 100 w1.1.0 ready fds 3=0.0.0.0:8080\nprocess 102 parent 100 w1.1.1 draining fds none\nfile /run/app.pid 100\nservice 0.0.0.0:8080 1.1=1\n";
+    assert_eq!(rt; text.as_slice(), lines.as_slice());
+    Ok(())
+}
