@@ -1,7 +1,11 @@
 -- What is read, line by line.
-use Rattle.std.proofs.Common.{◌≡◌, ℕ, ◌≤◌, ◌<◌, Bool, true, false, ◌&&◌, cond, nat_le, Option, Some, None, Result, Ok, Err, List, [], ◌∷◌, ◌++◌, length, refl, sym, ap, ◌∙◌, arith}
+use Rattle.std.proofs.Common.{◌≡◌, ℕ, ◌≤◌, ◌<◌, Bool, true, false, ◌&&◌, ◌==◌, cond, nat_le, Option, Some, None, Result, Ok, Err, List, [], ◌∷◌, ◌++◌, length, refl, sym, ap, ◌∙◌, arith}
 use Rattle.std.specs.List.{before_first, after_first}
-use Rattle.std.proofs.lemmas.Bool.{and_parts, leb-true, lt-ltb}
+use Rattle.std.proofs.lemmas.Bool.{and_parts, and_from, leb-true, le-leb, lt-ltb}
+use Rattle.std.proofs.lemmas.Option.{none-some, same_Some}
+use Rattle.std.proofs.lemmas.List.Sums.{list_all-from_AllPass}
+use Rattle.std.specs.Char.{is_ascii_graphic}
+use Rattle.listener_set.specs.PathText.{is_path, IsFilePath}
 use Rattle.listener_set.specs.NumberText.{number_of}
 use Rattle.listener_set.specs.AddressText.{reading, check, accepted}
 use Rattle.listener_set.specs.declared.address.AddressRefusal.{AddressRefusal}
@@ -61,3 +65,12 @@ want_taken n h text a new e absent room is =
 -- a listener that is taken up
 pub listener_taken : (n : ℕ) (h : Handover) (o : Option Listener) (l : Listener) (new : List Listener) → o ≡ Some l → is_above l.descriptor h.listeners ≡ true → listens_on h.listeners l.address ≡ false → new ≡ h.listeners ++ l ∷ [] → Ok (AtListeners, record { old_pid = h.old_pid; generation = h.generation; listeners = new; want = h.want; workers = h.workers; pid_file = h.pid_file }) ≡ with_listener n h o
 listener_taken n h o l new read above absent is = rw (read, above, absent, is) refl
+
+-- the path of a file that leaves room for a suffix
+pub file_path_is : (path : List ℕ) → IsFilePath path → length path ≤ 100 → is_path path ≡ true
+file_path_is [] h room = absurd (none-some 47 h.slash)
+file_path_is (c ∷ cs) h room =
+    let slash : c ≡ 47 = same_Some c 47 h.slash in
+    and_from _ _
+    (and_from _ _ (le-leb (length (c ∷ cs)) 100 room) (ap (λ b. b == 47) slash))
+    (list_all-from_AllPass is_ascii_graphic (c ∷ cs) h.graphic)

@@ -1,8 +1,8 @@
 -- What is read is spelled as it stands.
-use Rattle.std.proofs.Common.{◌≡◌, ℕ, ◌+◌, ◌≤◌, Bool, true, false, ◌&&◌, cond, nat_eq, nat_le, nat_lt, not, Option, Some, None, Result, Ok, Err, List, [], ◌∷◌, ◌++◌, length, refl, sym, ap, subst, ◌∙◌, arith, inl, inr, append_assoc}
-use Rattle.std.specs.Prelude.{bytes_eq, codes, ⊤}
+use Rattle.std.proofs.Common.{◌≡◌, ℕ, ◌+◌, Bool, true, false, ◌&&◌, nat_eq, nat_le, nat_lt, not, Option, Some, None, Result, Ok, Err, List, [], ◌∷◌, ◌++◌, length, refl, sym, ap, ◌∙◌, arith, inl, inr, append_assoc}
+use Rattle.std.specs.Prelude.{bytes_eq, codes, ⊤, IfOk}
 use Rattle.std.specs.Fmt.{decimal}
-use Rattle.std.specs.List.{list_any, flat_map, before_first, after_first, slice_split, join_with_byte, position_or_len}
+use Rattle.std.specs.List.{flat_map, before_first, after_first, slice_split, join_with_byte, position_or_len}
 use Rattle.std.specs.Cmp.Lexicographic.{same_text}
 use Rattle.std.proofs.lemmas.Bool.{cond_both, cases_lt, both_ways}
 use Rattle.std.proofs.lemmas.Option.{none-some, cond_some}
@@ -15,9 +15,7 @@ use Rattle.listener_set.specs.PathText.{is_path}
 use Rattle.listener_set.specs.AddressList.{has}
 use Rattle.listener_set.proofs.NumberTextLemmas.{decimal-number_of}
 use Rattle.definitions.specs.declared.handover.HandoverRefusal.{HandoverRefusal}
-use Rattle.definitions.specs.declared.handover.HandoverRefusal.TheVariants as refusal
 use Rattle.definitions.specs.declared.table.Listener.{Listener}
-use Rattle.definitions.specs.Table.{FilePath}
 use Rattle.definitions.specs.After.{listens_on}
 use Rattle.definitions.specs.Handover.{Handover, Place, AtVersion, AtOldPid, AtGeneration, AtFirstListener, AtListeners, AtWants, AtPidFile, AtEnd, Over, Read, nothing_read, line_of, listener_line, want_line, pid_file_line, spelling, after_prefix, is_space, is_address, is_above, number_if_within, number_within, listener_if, listener_read, with_old_pid, with_generation, with_listener, with_want, with_workers, with_pid_file, read_version, read_end, read_if, read_line, then_read, read_rest, read_pieces, reading}
 use Rattle.handover_text.proofs.SoFar.{IfRead}
@@ -344,3 +342,10 @@ pub spelling-reading : (text : List ℕ) (told : Handover) → reading text ≡ 
 spelling-reading text told e =
     pieces_spelled 1 AtVersion nothing_read told [] (slice_split (λ c. nat_eq c 10) text) (record { stands = refl; listeners = refl; wants = refl; path = refl }) e
     ∙ join_with_byte-slice_split 10 text
+
+pub reading_spelled : (text : List ℕ) → IfOk (reading text) (λ told. spelling told ≡ text)
+reading_spelled text = at (reading text) refl
+  where
+    at : (r : Result Handover HandoverRefusal) → reading text ≡ r → IfOk r (λ told. spelling told ≡ text)
+    at (Ok told) e = spelling-reading text told e
+    at (Err refusal) e = tt

@@ -1,9 +1,9 @@
 -- What is spelled is read back.
-use Rattle.std.proofs.Common.{◌≡◌, ℕ, suc, ◌+◌, ◌^◌, ◌≤◌, ◌<◌, Bool, true, false, ◌&&◌, ◌==◌, cond, nat_eq, nat_le, nat_lt, not, Option, Some, None, Result, Ok, Err, List, [], ◌∷◌, ◌++◌, length, get_or, refl, sym, ap, subst, ◌∙◌, arith, inl, inr, append_assoc}
-use Rattle.std.specs.Prelude.{bytes_eq, codes, ⊤}
+use Rattle.std.proofs.Common.{◌≡◌, ℕ, suc, ◌+◌, ◌≤◌, ◌<◌, Bool, true, false, ◌&&◌, ◌==◌, nat_eq, nat_le, not, Option, Some, None, Result, Ok, Err, List, [], ◌∷◌, ◌++◌, length, get_or, refl, sym, ap, subst, ◌∙◌, arith, inl, inr, append_assoc}
+use Rattle.std.specs.Prelude.{bytes_eq, codes}
 use Rattle.std.specs.Fmt.{decimal}
 use Rattle.std.specs.Char.{is_ascii_digit, is_ascii_graphic}
-use Rattle.std.specs.List.{All, AllPass, list_all, list_any, flat_map, before_first, after_first, slice_split, onto_first}
+use Rattle.std.specs.List.{All, AllPass, list_all, flat_map, after_first, slice_split, onto_first}
 use Rattle.std.specs.Cmp.Lexicographic.{nat_list_eq_equiv, same_text}
 use Rattle.std.proofs.lemmas.Bool.{and_parts, and_from, or_parts, or_from, both_ways, not-true, not_from_false, false_from_ne_true, lt-ltb, le-leb, cond_both}
 use Rattle.std.proofs.lemmas.Bool.Decides.{eqb_tells}
@@ -19,11 +19,10 @@ use Rattle.listener_set.specs.PathText.{is_path, begins_with_slash}
 use Rattle.listener_set.specs.AddressList.{AreDistinct, has}
 use Rattle.listener_set.proofs.NumberTextLemmas.{number_of-decimal}
 use Rattle.listener_set.proofs.AddressGrammar.{graphic_from_reading, digit_apart, decimal_all, before_first-at, after_first-at}
-use Rattle.definitions.specs.declared.handover.HandoverRefusal.{HandoverRefusal}
 use Rattle.definitions.specs.declared.handover.HandoverRefusal.TheVariants as refusal
 use Rattle.definitions.specs.declared.table.Listener.{Listener}
 use Rattle.definitions.specs.After.{listens_on}
-use Rattle.definitions.specs.Handover.{Handover, Place, AtVersion, AtOldPid, AtGeneration, AtFirstListener, AtListeners, AtWants, AtPidFile, AtEnd, Over, Read, nothing_read, line_of, listener_line, want_line, pid_file_line, spelling, passes, is_space, is_address, is_above, number_if_within, number_within, listener_if, listener_read, with_old_pid, with_generation, with_listener, with_want, with_workers, with_pid_file, read_line, then_read, read_rest, read_pieces, reading}
+use Rattle.definitions.specs.Handover.{Handover, Place, AtVersion, AtOldPid, AtGeneration, AtFirstListener, AtListeners, AtWants, AtPidFile, AtEnd, Over, nothing_read, line_of, listener_line, want_line, pid_file_line, spelling, passes, is_space, is_address, is_above, number_if_within, number_within, listener_if, listener_read, with_old_pid, with_generation, with_listener, with_want, with_workers, read_line, then_read, read_pieces, reading}
 use Rattle.handover_text.specs.Listeners.{AreListedFrom}
 use Rattle.handover_text.specs.Ranges.{IsHandover, is_path_if}
 use Rattle.handover_text.proofs.SoFar.{is_newline, pieces_more}
@@ -103,13 +102,15 @@ stays : (p : Place) (h : Handover) (text : List ℕ) → Goes p h text p h text
 stays p h text = record { on = λ n. (n, refl) }
 
 goes_line : (place : Place) (h : Handover) (line more : List ℕ) (place' : Place) (h' : Handover) → IsLine line → ((n : ℕ) → read_line n place h line ≡ Ok (place', h')) → Goes place h (line_of line ++ more) place' h' more
-goes_line place h line more place' h' is reads = record { on = λ n. (
-  n + 1,
-  ap (λ t. read_pieces n place h (slice_split is_newline t)) (append_assoc line (10 ∷ []) more)
-  ∙ ap (read_pieces n place h) (slice_split_at is_newline line 10 more (λ k d lt. not-true _ (AllPass-from_list_all is_inside line is k d lt)) refl)
-  ∙ pieces_more n place h line more
-  ∙ ap (λ r. then_read r (λ p q. read_pieces (n + 1) p q (slice_split is_newline more))) (reads n),
-) }
+goes_line place h line more place' h' is reads = record {
+  on = λ n. (
+    n + 1,
+    ap (λ t. read_pieces n place h (slice_split is_newline t)) (append_assoc line (10 ∷ []) more)
+        ∙ ap (read_pieces n place h) (slice_split_at is_newline line 10 more (λ k d lt. not-true _ (AllPass-from_list_all is_inside line is k d lt)) refl)
+        ∙ pieces_more n place h line more
+        ∙ ap (λ r. then_read r (λ p q. read_pieces (n + 1) p q (slice_split is_newline more))) (reads n),
+  );
+}
 
 ---- Lists
 
@@ -118,8 +119,7 @@ listed_before : (fd : ℕ) (done : List Listener) (l : Listener) (ls : List List
 listed_before fd [] l ls h = (h.0, h.1, refl, refl)
 listed_before fd (m ∷ ms) l ls h =
     let rest = listed_before (m.descriptor + 1) ms l ls h.3 in
-    let above : m.descriptor < l.descriptor = omega (arith, rest.0) in
-    (
+    let above : m.descriptor < l.descriptor = omega (arith, rest.0) in (
       omega (arith, h.0, rest.0),
       rest.1,
       and_from _ _ (lt-ltb m.descriptor l.descriptor above) rest.2,
@@ -291,3 +291,12 @@ module _ (t : Handover) (h : IsHandover t) where
           longer [] = refl
           longer (piece ∷ []) = refl
           longer (piece ∷ next ∷ rest) = refl
+
+-- No spelling begins another.
+pub spellings_apart : (told other : Handover) (more : List ℕ) → IsHandover told → IsHandover other → spelling told ++ more ≡ spelling other → (more ≡ []) × (told ≡ other)
+spellings_apart told other [] h k e =
+    let same = sym (reading-spelling told h) ∙ ap reading (sym (append-nil (spelling told)) ∙ e) ∙ reading-spelling other k in
+    (refl, cc)
+spellings_apart told other (c ∷ cs) h k e =
+    let both = sym (trailing told h c cs) ∙ ap reading e ∙ reading-spelling other k in
+    cc

@@ -1,6 +1,6 @@
 //! Reading a handover.
 ghost use Rattle.std.specs.Prelude.{◌≡◌, IfOk};
-ghost use Rattle.definitions.specs.Handover.{reading};
+ghost use Rattle.definitions.specs.Handover.{reading, spelling};
 ghost use Rattle.handover_text.specs.Ranges.{IsHandover};
 
 use crate::Handover;
@@ -20,6 +20,7 @@ use definitions::HandoverRefusal;
 pub fn read(text: &[u8]) -> Result<Handover, HandoverRefusal>
     ensures exact { result ≡ reading text.now }
     ensures in_range { IfOk result IsHandover }
+    ensures spelled { IfOk result (λ told. spelling told ≡ text.now) }
 {
     let mut reader = Reader::new();
     let mut rest = text;

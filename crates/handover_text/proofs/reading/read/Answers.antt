@@ -1,9 +1,11 @@
-use Rattle.std.proofs.Common.{◌≡◌, ℕ, ◌+◌, ◌-◌, ◌<◌, List, length, take, drop, arith, sym, ap, ◌∙◌}
+use Rattle.std.proofs.Common.{◌≡◌, ℕ, ◌+◌, ◌-◌, ◌<◌, List, length, take, drop, arith, sym, ap, subst, ◌∙◌}
+use Rattle.std.specs.Prelude.{IfOk}
 use Rattle.std.specs.List.{position_or_len, slice_split, after_first}
 use Rattle.std.proofs.lemmas.List.{length-drop, take_all}
 use Rattle.std.proofs.lemmas.Result.{err_from_is_err_and}
-use Rattle.definitions.specs.Handover.{read_line, read_pieces}
+use Rattle.definitions.specs.Handover.{read_line, read_pieces, spelling}
 use Rattle.handover_text.proofs.SoFar.{is_newline, number_small, pieces_last, line_taken, line_refused, taken_in_range}
+use Rattle.handover_text.proofs.Spelled.{reading_spelled}
 use Rattle.handover_text.proofs.reading.read.Goals as goal
 
 -- what follows the line
@@ -46,3 +48,6 @@ pub returns-clause-exact : goal.returns-clause-exact
 returns-clause-exact c =
     let e = pieces_last c.loop-end.number c.loop-end.reader.0 c.loop-end.reader.1 c.loop-end.rest.now (let past = c.loop-end-test.false in omega (arith, past, c.loop-end.invariant.1)) in
     c.finish.ensures ∙ sym e ∙ c.loop-end.invariant.0
+
+pub returns-clause-spelled : goal.returns-clause-spelled
+returns-clause-spelled c = subst (λ r. IfOk r (λ told. spelling told ≡ c.args.text.now)) (sym (returns-clause-exact c)) (reading_spelled c.args.text.now)
