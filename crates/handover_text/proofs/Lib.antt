@@ -1,4 +1,5 @@
 pub mod Additions
+pub mod Cuts
 pub mod Insertion
 pub mod Listed
 pub mod Prefixes

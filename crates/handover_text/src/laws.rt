@@ -10,5 +10,6 @@ pub fn handovers_have_one_text()
     ensures spelled { (text : List ℕ) (told : Told) → reading text ≡ Ok told → spelling told ≡ text }
     ensures read_back { (told : Told) → IsHandover told → reading (spelling told) ≡ Ok told }
     ensures trailing { (told : Told) (byte : ℕ) (more : List ℕ) → IsHandover told → reading (spelling told ++ byte ∷ more) ≡ Err HandoverRefusal.Trailing }
+    ensures cut { (told : Told) (start : List ℕ) (byte : ℕ) (more : List ℕ) → IsHandover told → start ++ byte ∷ more ≡ spelling told → reading start ≡ Err HandoverRefusal.Cut }
     ensures apart { (told other : Told) (more : List ℕ) → IsHandover told → IsHandover other → spelling told ++ more ≡ spelling other → (more ≡ []) × (told ≡ other) }
 {}

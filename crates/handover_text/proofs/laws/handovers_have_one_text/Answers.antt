@@ -1,3 +1,4 @@
+use Rattle.handover_text.proofs.Cuts.{cut_short}
 use Rattle.handover_text.proofs.SoFar.{reading_in_range}
 use Rattle.handover_text.proofs.Spelled.{spelling-reading}
 use Rattle.handover_text.proofs.Taken.{reading-spelling, trailing, spellings_apart}
@@ -17,3 +18,6 @@ returns-clause-trailing c = λ told byte more h. trailing told h byte more
 
 pub returns-clause-apart : goal.returns-clause-apart
 returns-clause-apart c = spellings_apart
+
+pub returns-clause-cut : goal.returns-clause-cut
+returns-clause-cut c = cut_short
