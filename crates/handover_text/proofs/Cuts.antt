@@ -1,8 +1,7 @@
 -- The beginning of a handover's text is a cut.
 use Rattle.std.proofs.Common.{◌≡◌, ℕ, ◌+◌, Bool, true, false, cond, Result, Ok, Err, List, [], ◌∷◌, ◌++◌, length, refl, sym, ap, subst, ◌∙◌, arith}
-use Rattle.std.specs.Prelude.{⊤, IfOk}
+use Rattle.std.specs.Prelude.{⊤}
 use Rattle.std.specs.List.{slice_split, onto_first, count_by}
-use Rattle.std.proofs.lemmas.Bool.{cond_both, cases_Bool}
 use Rattle.std.proofs.lemmas.Result.{IfOk-at_ok}
 use Rattle.std.proofs.lemmas.List.Splits.{length-slice_split}
 use Rattle.definitions.specs.declared.handover.HandoverRefusal.{HandoverRefusal}
