@@ -1,13 +1,13 @@
 //! Plans whose steps are written out, and the largest ones.
 ghost use Rattle.std.specs.Prelude.{◌≡◌, ◌≤◌};
+ghost use Rattle.definitions.specs.Target.{IsTarget};
 
-use crate::{
-    PlanRefusal, Scene, plan, plan_mend, plan_reload, plan_reopen, plan_stop, plan_workers,
-};
+use crate::{PlanRefusal, Scene, plan, plan_reload, plan_reopen, plan_stop, plan_workers};
 use definitions::{Actor, Call, End, Order, PidNote, Reply, Settings, Target};
 use listener_set::{Address, FilePath, Generation, ListenerSet, Numbers};
-use rollback_plan::{Edge, Next, Place, Plan, Step};
+use rollback_plan::{Edge, MOST_STEPS, Next, Place, Plan, Step};
 use service_state::Record;
+use std::alloc::Global;
 use std::test::Fail;
 
 const GENERATION: Generation = Generation {
@@ -135,17 +135,18 @@ fn running(workers: u32) -> Result<Record, Fail>
 /// master leaves.
 #[test]
 fn stops(rt: HostRuntime) -> Result<(), Fail> {
-    for (workers, quick, steps) in [
+    let cases = [
         (13, false, 41),
         (14, false, 44),
         (14, true, 16),
         (0, false, 2),
-    ] {
-        assert!(rt; workers <= 1024);
+    ];
+    for (workers, quick, steps) in cases {
+        assert!(rt; workers <= 1024 && steps >= 1);
         let stop = plan(rt.alloc(), &running(workers)?, &Target::Stop { quick })?;
-        assert_eq!(rt; stop.len(), steps, "{workers}");
-        assert_eq!(rt; stop.longest() as usize, steps, "{workers}");
-        let last = stop.get(steps as u32).ok_or("a step is missing")?;
+        assert_eq!(rt; stop.len(), steps as usize, "{workers}");
+        assert_eq!(rt; stop.longest(), steps, "{workers}");
+        let last = stop.get(steps).ok_or("a step is missing")?;
         assert_eq!(rt; last.order, Order::Make(Call::Leave));
         let edge = last.edge(Reply::Fine).ok_or("an edge is missing")?;
         assert_eq!(rt; edge.next, Next::Over(End::Done));
@@ -157,6 +158,7 @@ fn stops(rt: HostRuntime) -> Result<(), Fail> {
 #[test]
 fn a_stop_notes_its_removals(rt: HostRuntime) -> Result<(), Fail> {
     let path = FilePath::read(b"/run/a.pid")?;
+    assert!(rt; path.bytes().len() <= 100);
     let stop = plan_stop(
         rt.alloc(),
         &scene(0, 0),
@@ -197,11 +199,12 @@ fn mendings(rt: HostRuntime) -> Result<(), Fail> {
     let calls = [
         Call::Kill(GENERATION, 1),
         Call::Fork(GENERATION, 1),
-        Call::Fork(GENERATION, 2),
         Call::AwaitReady(GENERATION, 1),
+        Call::Kill(GENERATION, 1),
+        Call::Census(GENERATION),
     ];
-    let mend = plan_mend(rt.alloc(), &scene(2, 0), &overdue, 3, PidNote::NoFile)?;
-    assert_eq!(rt; mend.len(), 8);
+    let mend = plan(rt.alloc(), &running(3)?, &Target::Mend(overdue))?;
+    assert_eq!(rt; mend.len(), 13);
     assert!(rt; begins_with(&mend, &calls));
     Ok(())
 }
@@ -222,10 +225,15 @@ fn a_reopening(rt: HostRuntime) -> Result<(), Fail> {
 
 /// Whether the first steps of a plan make these calls.
 fn begins_with(plan: &Plan, calls: &[Call]) -> bool {
-    calls.iter().enumerate().all(|(i, call)| {
-        plan.get(i as u32 + 1)
-            .is_some_and(|step| step.order == Order::Make(*call))
-    })
+    for i in 0..calls.len().min(MOST_STEPS) as u32 {
+        let Some(step) = plan.get(i + 1) else {
+            return false;
+        };
+        if step.order != Order::Make(calls[i as usize]) {
+            return false;
+        }
+    }
+    true
 }
 
 /// A reload that adds an address and drops one, with one worker before and after.
@@ -302,8 +310,9 @@ fn are_alike(a: &Step, b: &Step) -> bool {
 
 /// Whether two steps of a plan are alike.
 fn repeats(plan: &Plan) -> bool {
-    for number in 1..plan.len() as u32 {
-        for later in number + 1..plan.len() as u32 + 1 {
+    let steps = plan.len().min(MOST_STEPS) as u32;
+    for number in 1..steps {
+        for later in number + 1..steps + 1 {
             if let (Some(a), Some(b)) = (plan.get(number), plan.get(later)) {
                 if are_alike(a, b) {
                     return true;
@@ -314,31 +323,35 @@ fn repeats(plan: &Plan) -> bool {
     false
 }
 
+/// Whether no two steps of a target's plan are alike.
+fn is_distinct(alloc: Global, state: &Record, target: &Target) -> Result<bool, Fail>
+    requires { IsTarget target.now }
+{
+    Ok(!repeats(&plan(alloc, state, target)?))
+}
+
 /// Places with the same step and the same edges are one.
 #[test]
 fn no_two_steps_are_alike(rt: HostRuntime) -> Result<(), Fail> {
     let mut overdue = Numbers::none();
     overdue.add(0);
     overdue.add(2);
+    let other = settings(&["0.0.0.0:9090", "0.0.0.0:7070"], 3)?;
+    let none = settings(&["0.0.0.0:8080", "0.0.0.0:9090"], 0)?;
     for workers in 0..5 {
         let mut state = running(workers)?;
         for rounds in 0..3 {
             state.retries = rounds;
             for note in [PidNote::InPlace, PidNote::AtOldbin, PidNote::OldbinLeft] {
                 state.note = note;
-                let targets = [
-                    Target::Workers(2),
-                    Target::Workers(5),
-                    Target::Mend(overdue),
-                    Target::Reopen,
-                    Target::Reload(settings(&["0.0.0.0:9090", "0.0.0.0:7070"], 3)?),
-                    Target::Reload(settings(&["0.0.0.0:8080", "0.0.0.0:9090"], 0)?),
-                    Target::Stop { quick: false },
-                    Target::Stop { quick: true },
-                ];
-                for target in targets {
-                    assert!(rt; !repeats(&plan(rt.alloc(), &state, &target)?));
-                }
+                assert!(rt; is_distinct(rt.alloc(), &state, &Target::Workers(2))?);
+                assert!(rt; is_distinct(rt.alloc(), &state, &Target::Workers(5))?);
+                assert!(rt; is_distinct(rt.alloc(), &state, &Target::Mend(overdue))?);
+                assert!(rt; is_distinct(rt.alloc(), &state, &Target::Reopen)?);
+                assert!(rt; is_distinct(rt.alloc(), &state, &Target::Reload(other))?);
+                assert!(rt; is_distinct(rt.alloc(), &state, &Target::Reload(none))?);
+                assert!(rt; is_distinct(rt.alloc(), &state, &Target::Stop { quick: false })?);
+                assert!(rt; is_distinct(rt.alloc(), &state, &Target::Stop { quick: true })?);
             }
         }
     }
