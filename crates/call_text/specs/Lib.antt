@@ -1,0 +1,4 @@
+pub mod NumberText
+pub mod CallText
+pub mod Words
+pub mod ReportText
