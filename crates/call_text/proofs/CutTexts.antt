@@ -7,6 +7,7 @@ use Rattle.std.specs.Str.{all_ascii_digits}
 use Rattle.std.specs.Char.{is_ascii_digit}
 use Rattle.std.proofs.lemmas.Bool.{cases_Bool, cases_lt, lt-ltb, le-ltb}
 use Rattle.std.proofs.lemmas.Bool.Decides.{nat_tests}
+use Rattle.std.proofs.lemmas.List.{length-append}
 use Rattle.listener_set.proofs.NumberTextLemmas.{both, digits-decimal}
 use Rattle.call_text.specs.Reading.{cut}
 
@@ -114,3 +115,8 @@ lacks-digits b off (c ∷ cs) h =
 
 pub lacks-decimal : (b n : ℕ) → is_ascii_digit b ≡ false → n < 2 ^ 64 → lacks b (decimal n) ≡ true
 lacks-decimal b n off lt = lacks-digits b off (decimal n) (digits-decimal n lt)
+
+pub cut_shorter : (b : ℕ) (text : List ℕ) (p : List ℕ × List ℕ) → cut b text ≡ Some p → length p.1 < length text
+cut_shorter b text p e =
+    let written : length text ≡ length (p.0 ++ b ∷ p.1) = ap length (cut_found b text p e) in
+    omega (arith, written, length-append p.0 (b ∷ p.1))

@@ -1,5 +1,5 @@
 -- Texts of calls and of their answers.
-use Rattle.std.specs.Prelude.{ℕ, List, ◌++◌, codes}
+use Rattle.std.specs.Prelude.{ℕ, List, [], ◌∷◌, ◌++◌, codes}
 use Rattle.std.specs.Fmt.{decimal}
 use Rattle.listener_set.specs.declared.generation.Generation.{Generation}
 use Rattle.definitions.specs.declared.calls.Call.{Call}
@@ -13,7 +13,7 @@ use Rattle.call_text.specs.NumberText.{generation_text, set_text}
 ---- Calls
 
 abbrev pub worker_text : Generation → ℕ → List ℕ
-worker_text g nr = generation_text g ++ codes " " ++ decimal nr
+worker_text g nr = generation_text g ++ 32 ∷ decimal nr
 
 abbrev pub call_text : Call → List ℕ
 call_text (OpenAt a) = codes "open " ++ a
@@ -27,7 +27,7 @@ call_text (AwaitGone g nr) = codes "await-gone " ++ worker_text g nr
 call_text (SpawnMaster i) = codes "spawn-master " ++ decimal i
 call_text Adopt = codes "adopt"
 call_text (WritePid path) = codes "write-pid " ++ path
-call_text (MovePid from to) = codes "move-pid " ++ (from ++ codes " " ++ to)
+call_text (MovePid from to) = codes "move-pid " ++ (from ++ 32 ∷ to)
 call_text (RemovePid path) = codes "remove-pid " ++ path
 call_text (Alive i) = codes "alive " ++ decimal i
 call_text Leave = codes "leave"
@@ -39,7 +39,7 @@ master_text by = codes "m" ++ decimal by
 
 -- a call with the master that makes it
 abbrev pub call_line : ℕ → Call → List ℕ
-call_line by call = master_text by ++ codes " " ++ call_text call
+call_line by call = master_text by ++ 32 ∷ call_text call
 
 ---- Steps of plans
 
@@ -54,27 +54,36 @@ order_text (AwaitLacking g) = missing_text (codes "await-ready ") g
 order_text (KillLacking g) = missing_text (codes "kill ") g
 
 abbrev pub order_line : ℕ → Order → List ℕ
-order_line by order = master_text by ++ codes " " ++ order_text order
+order_line by order = master_text by ++ 32 ∷ order_text order
 
 ---- Answers
 
+abbrev pub answer_word : Answer → List ℕ
+answer_word (answer.Opened fd) = codes "opened"
+answer_word answer.InUse = codes "in-use"
+answer_word answer.TooMany = codes "too-many"
+answer_word answer.Denied = codes "denied"
+answer_word answer.NoMemory = codes "no-memory"
+answer_word answer.Fine = codes "ok"
+answer_word answer.Forked = codes "forked"
+answer_word answer.Again = codes "again"
+answer_word answer.IsReady = codes "ready"
+answer_word answer.Gone = codes "gone"
+answer_word answer.Late = codes "late"
+answer_word (answer.Counted ns) = codes "counted"
+answer_word answer.Spawned = codes "spawned"
+answer_word answer.NoImage = codes "no-image"
+answer_word answer.Adopted = codes "adopted"
+answer_word answer.Refused = codes "refused"
+answer_word answer.IoFault = codes "io-fault"
+answer_word answer.IsAlive = codes "alive"
+answer_word answer.MasterGone = codes "master-gone"
+
+-- what follows the word, if something does
+abbrev pub word_tail : Answer → List ℕ
+word_tail (answer.Opened fd) = 32 ∷ decimal fd
+word_tail (answer.Counted ns) = 32 ∷ set_text ns
+word_tail _ = []
+
 abbrev pub answer_text : Answer → List ℕ
-answer_text (answer.Opened fd) = codes "opened " ++ decimal fd
-answer_text answer.InUse = codes "in-use"
-answer_text answer.TooMany = codes "too-many"
-answer_text answer.Denied = codes "denied"
-answer_text answer.NoMemory = codes "no-memory"
-answer_text answer.Fine = codes "ok"
-answer_text answer.Forked = codes "forked"
-answer_text answer.Again = codes "again"
-answer_text answer.IsReady = codes "ready"
-answer_text answer.Gone = codes "gone"
-answer_text answer.Late = codes "late"
-answer_text (answer.Counted ns) = codes "counted " ++ set_text ns
-answer_text answer.Spawned = codes "spawned"
-answer_text answer.NoImage = codes "no-image"
-answer_text answer.Adopted = codes "adopted"
-answer_text answer.Refused = codes "refused"
-answer_text answer.IoFault = codes "io-fault"
-answer_text answer.IsAlive = codes "alive"
-answer_text answer.MasterGone = codes "master-gone"
+answer_text a = answer_word a ++ word_tail a

@@ -5,3 +5,8 @@ pub mod ReportText
 pub mod Reads
 pub mod Ranges
 pub mod Reading
+pub mod SetReading
+pub mod CallReading
+pub mod AnswerReading
+pub mod NameText
+pub mod NameReading

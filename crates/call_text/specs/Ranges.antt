@@ -58,6 +58,10 @@ IsCall Leave = ⊤
 IsCall (Usr1 g nr) = IsWorker g nr
 IsCall (TermMaster i) = IsNumber i
 
+-- a call with the master that makes it
+abbrev pub IsCallLine : ℕ × Call → Type 0
+IsCallLine line = IsNumber line.0 × IsCall line.1
+
 -- A listener's descriptor is from 3 to 66.
 abbrev pub IsAnswer : Answer → Type 0
 IsAnswer (answer.Opened fd) = (3 ≤ fd) × (fd ≤ 66)

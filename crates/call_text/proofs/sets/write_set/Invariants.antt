@@ -1,6 +1,6 @@
 use Rattle.std.proofs.Common.{◌≡◌, ◌++◌}
 use Rattle.call_text.specs.NumberText.{runs_text, set_text}
-use Rattle.call_text.proofs.numbers.write_set.Given as goal
+use Rattle.call_text.proofs.sets.write_set.Given as goal
 
 abbrev pub invariant-loop-number : goal.invariant-loop-number
 invariant-loop-number l =
