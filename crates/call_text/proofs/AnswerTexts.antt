@@ -141,14 +141,14 @@ answer_only answer.MasterGone h = word_only answer.MasterGone (codes "master-gon
 answers_to : (call : Call) → IsReader (IsAnswerTo call) answer_text (answer_to call)
 answers_to call = record {
   found = λ text a e.
-    let from = then (λ a. some_if (listed call a) a) (answer_of text) a e in
-    let is = chosen (listed call from.0) from.0 a from.2 in
-    let got = answer_found text from.0 from.1 in
-    let W : Answer → Type 0 = λ a. IsAnswerTo call a × (text ≡ answer_text a) in
-    subst W is.1 ((got.0, sym (listed-is_listed call from.0) ∙ is.0), got.1);
+      let from = then (λ a. some_if (listed call a) a) (answer_of text) a e in
+      let is = chosen (listed call from.0) from.0 a from.2 in
+      let got = answer_found text from.0 from.1 in
+      let W : Answer → Type 0 = λ a. IsAnswerTo call a × (text ≡ answer_text a) in
+      subst W is.1 ((got.0, sym (listed-is_listed call from.0) ∙ is.0), got.1);
   only = λ a h.
-    ap (option_and_then (λ a. some_if (listed call a) a)) (answer_only a h.0)
-    ∙ ap (λ b. some_if b a) (listed-is_listed call a ∙ h.1);
+      ap (option_and_then (λ a. some_if (listed call a) a)) (answer_only a h.0)
+      ∙ ap (λ b. some_if b a) (listed-is_listed call a ∙ h.1);
 }
 
 pub Reads-answer : (call : Call) (text : List ℕ) → Reads (IsAnswerTo call) answer_text text (answer_to call text)

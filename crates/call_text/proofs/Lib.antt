@@ -6,3 +6,4 @@ pub mod Runs
 pub mod SetTexts
 pub mod AnswerTexts
 pub mod NameTexts
+pub mod ReportTexts

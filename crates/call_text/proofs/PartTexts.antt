@@ -27,8 +27,8 @@ number_lacks b n off lt = lacks-decimal b n off (omega (arith, lt))
 pub generation_reads : IsReader IsGeneration generation_text generation_of
 generation_reads =
     mapped_reads (λ (p : ℕ × ℕ). IsNumber p.0 × IsNumber p.1) IsGeneration (λ (p : ℕ × ℕ). decimal p.0 ++ 46 ∷ decimal p.1) generation_text (joined 46 number_of number_of) generation_from (λ (g : Generation). (g.image, g.config))
-      (λ p h. (h, refl)) (λ g h. (h, refl))
-      (joined_reads IsNumber IsNumber decimal decimal number_of number_of 46 (λ n lt. number_lacks 46 n refl lt) number_reads number_reads)
+    (λ p h. (h, refl)) (λ g h. (h, refl))
+    (joined_reads IsNumber IsNumber decimal decimal number_of number_of 46 (λ n lt. number_lacks 46 n refl lt) number_reads number_reads)
 
 pub generation_lacks : (b : ℕ) → is_ascii_digit b ≡ false → lacks b (codes ".") ≡ true → (g : Generation) → IsGeneration g → lacks b (generation_text g) ≡ true
 generation_lacks b off dot g h =

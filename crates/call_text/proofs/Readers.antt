@@ -47,32 +47,32 @@ module _ {A B : Type 0} (P : A → Type 0) (Q : B → Type 0) (f : A → List �
   pub joined_reads : (b : ℕ) → ((v : A) → P v → lacks b (f v) ≡ true) → IsReader P f r → IsReader Q g s → IsReader (λ (p : A × B). P p.0 × Q p.1) (λ (p : A × B). f p.0 ++ b ∷ g p.1) (joined b r s)
   joined_reads b apart hr hs = record {
     found = λ text p e.
-      let parts = then (λ (q : List ℕ × List ℕ). option_and_then (λ v. option_and_then (λ w. Some (v, w)) (s q.1)) (r q.0)) (cut b text) p e in
-      let left = then (λ v. option_and_then (λ w. Some (v, w)) (s parts.0.1)) (r parts.0.0) p parts.2 in
-      let right = then (λ w. Some (left.0, w)) (s parts.0.1) p left.2 in
-      let pair : (left.0, right.0) ≡ p = (let same : Some (left.0, right.0) ≡ Some p = right.2 in cc) in
-      let one = hr.found parts.0.0 left.0 left.1 in
-      let two = hs.found parts.0.1 right.0 right.1 in
-      let P' : A × B → Type 0 = λ p. (P p.0 × Q p.1) × (text ≡ f p.0 ++ b ∷ g p.1) in
-      subst P' pair ((one.0, two.0), cut_found b text parts.0 parts.1 ∙ ap (λ t. t ++ b ∷ parts.0.1) one.1 ∙ ap (λ t. f left.0 ++ b ∷ t) two.1);
+        let parts = then (λ (q : List ℕ × List ℕ). option_and_then (λ v. option_and_then (λ w. Some (v, w)) (s q.1)) (r q.0)) (cut b text) p e in
+        let left = then (λ v. option_and_then (λ w. Some (v, w)) (s parts.0.1)) (r parts.0.0) p parts.2 in
+        let right = then (λ w. Some (left.0, w)) (s parts.0.1) p left.2 in
+        let pair : (left.0, right.0) ≡ p = (let same : Some (left.0, right.0) ≡ Some p = right.2 in cc) in
+        let one = hr.found parts.0.0 left.0 left.1 in
+        let two = hs.found parts.0.1 right.0 right.1 in
+        let P' : A × B → Type 0 = λ p. (P p.0 × Q p.1) × (text ≡ f p.0 ++ b ∷ g p.1) in
+        subst P' pair ((one.0, two.0), cut_found b text parts.0 parts.1 ∙ ap (λ t. t ++ b ∷ parts.0.1) one.1 ∙ ap (λ t. f left.0 ++ b ∷ t) two.1);
     only = λ p h.
-      ap (option_and_then (λ (q : List ℕ × List ℕ). option_and_then (λ v. option_and_then (λ w. Some (v, w)) (s q.1)) (r q.0))) (cut_at b (f p.0) (g p.1) (apart p.0 h.0))
-      ∙ ap (option_and_then (λ v. option_and_then (λ w. Some (v, w)) (s (g p.1)))) (hr.only p.0 h.0)
-      ∙ ap (option_and_then (λ w. Some (p.0, w))) (hs.only p.1 h.1);
+        ap (option_and_then (λ (q : List ℕ × List ℕ). option_and_then (λ v. option_and_then (λ w. Some (v, w)) (s q.1)) (r q.0))) (cut_at b (f p.0) (g p.1) (apart p.0 h.0))
+        ∙ ap (option_and_then (λ v. option_and_then (λ w. Some (v, w)) (s (g p.1)))) (hr.only p.0 h.0)
+        ∙ ap (option_and_then (λ w. Some (p.0, w))) (hs.only p.1 h.1);
   }
 
 -- ---- a value made of what is read
 pub mapped_reads : {A B : Type 0} (P : A → Type 0) (Q : B → Type 0) (f : A → List ℕ) (g : B → List ℕ) (r : List ℕ → Option A) (to : A → B) (back : B → A) → ((v : A) → P v → Q (to v) × (f v ≡ g (to v))) → ((w : B) → Q w → P (back w) × (to (back w) ≡ w)) → IsReader P f r → IsReader Q g (λ text. option_map to (r text))
 mapped_reads {B = B} P Q f g r to back there again h = record {
   found = λ text w e.
-    let from = mapped to (r text) w e in
-    let got = h.found text from.0 from.1 in
-    let made = there from.0 got.0 in
-    let W : B → Type 0 = λ w. Q w × (text ≡ g w) in
-    subst W from.2 (made.0, got.1 ∙ made.1);
+      let from = mapped to (r text) w e in
+      let got = h.found text from.0 from.1 in
+      let made = there from.0 got.0 in
+      let W : B → Type 0 = λ w. Q w × (text ≡ g w) in
+      subst W from.2 (made.0, got.1 ∙ made.1);
   only = λ w q.
-    let b = again w q in
-    ap (λ t. option_map to (r t)) (sym ((there (back w) b.0).1 ∙ ap g b.1)) ∙ ap (option_map to) (h.only (back w) b.0) ∙ ap Some b.1;
+      let b = again w q in
+      ap (λ t. option_map to (r t)) (sym ((there (back w) b.0).1 ∙ ap g b.1)) ∙ ap (option_map to) (h.only (back w) b.0) ∙ ap Some b.1;
 }
 
 -- ---- what follows a word and a space
@@ -107,14 +107,14 @@ number_reads = record {
 worker_number_reads' : (limit : ℕ) → limit < 2 ^ 32 → IsReader (λ n. n < limit) decimal (λ text. option_and_then (λ n. some_if (ltb n limit) n) (number_of text))
 worker_number_reads' limit small = record {
   found = λ text n e.
-    let from = then (λ n. some_if (ltb n limit) n) (number_of text) n e in
-    let is = chosen (ltb from.0 limit) from.0 n from.2 in
-    let below : ltb from.0 limit ≡ true = is.0 in
-    let lt : from.0 < limit = grind (arith, nat_tests) in
-    (omega (arith, lt, is.1), (number_reads.found text from.0 from.1).1 ∙ ap decimal is.1);
+      let from = then (λ n. some_if (ltb n limit) n) (number_of text) n e in
+      let is = chosen (ltb from.0 limit) from.0 n from.2 in
+      let below : ltb from.0 limit ≡ true = is.0 in
+      let lt : from.0 < limit = grind (arith, nat_tests) in
+      (omega (arith, lt, is.1), (number_reads.found text from.0 from.1).1 ∙ ap decimal is.1);
   only = λ n lt.
-    let below : ltb n limit ≡ true = grind (arith, nat_tests) in
-    ap (option_and_then (λ n. some_if (ltb n limit) n)) (number_reads.only n (omega arith)) ∙ ap (λ b. some_if b n) below;
+      let below : ltb n limit ≡ true = grind (arith, nat_tests) in
+      ap (option_and_then (λ n. some_if (ltb n limit) n)) (number_reads.only n (omega arith)) ∙ ap (λ b. some_if b n) below;
 }
 
 pub worker_number_reads : IsReader IsWorkerNumber decimal worker_number
@@ -123,32 +123,32 @@ worker_number_reads = worker_number_reads' 1024 (omega arith)
 pub within_reads : (least most : ℕ) → most < 2 ^ 32 → IsReader (λ n. (least ≤ n) × (n ≤ most)) decimal (number_within least most)
 within_reads least most small = record {
   found = λ text n e.
-    let from = then (λ n. some_if (leb least n && leb n most) n) (number_of text) n e in
-    let is = chosen (leb least from.0 && leb from.0 most) from.0 n from.2 in
-    let tests = both (leb least from.0) (leb from.0 most) is.0 in
-    let low : leb least from.0 ≡ true = tests.0 in
-    let high : leb from.0 most ≡ true = tests.1 in
-    let ge : least ≤ from.0 = grind (arith, nat_tests) in
-    let le : from.0 ≤ most = grind (arith, nat_tests) in
-    ((omega (arith, ge, is.1), omega (arith, le, is.1)), (number_reads.found text from.0 from.1).1 ∙ ap decimal is.1);
+      let from = then (λ n. some_if (leb least n && leb n most) n) (number_of text) n e in
+      let is = chosen (leb least from.0 && leb from.0 most) from.0 n from.2 in
+      let tests = both (leb least from.0) (leb from.0 most) is.0 in
+      let low : leb least from.0 ≡ true = tests.0 in
+      let high : leb from.0 most ≡ true = tests.1 in
+      let ge : least ≤ from.0 = grind (arith, nat_tests) in
+      let le : from.0 ≤ most = grind (arith, nat_tests) in
+      ((omega (arith, ge, is.1), omega (arith, le, is.1)), (number_reads.found text from.0 from.1).1 ∙ ap decimal is.1);
   only = λ n h.
-    let low : leb least n ≡ true = (let ge : least ≤ n = h.0 in grind (arith, nat_tests)) in
-    let high : leb n most ≡ true = (let le : n ≤ most = h.1 in grind (arith, nat_tests)) in
-    let le : n ≤ most = h.1 in
-    ap (option_and_then (λ n. some_if (leb least n && leb n most) n)) (number_reads.only n (omega arith)) ∙ rw (low, high) refl;
+      let low : leb least n ≡ true = (let ge : least ≤ n = h.0 in grind (arith, nat_tests)) in
+      let high : leb n most ≡ true = (let le : n ≤ most = h.1 in grind (arith, nat_tests)) in
+      let le : n ≤ most = h.1 in
+      ap (option_and_then (λ n. some_if (leb least n && leb n most) n)) (number_reads.only n (omega arith)) ∙ rw (low, high) refl;
 }
 
 pub count_reads : IsReader IsCount decimal count_of
 count_reads = record {
   found = λ text n e.
-    let from = then (λ n. some_if (leb 1 n) n) (number_of text) n e in
-    let is = chosen (leb 1 from.0) from.0 n from.2 in
-    let test : leb 1 from.0 ≡ true = is.0 in
-    let ge : 1 ≤ from.0 = grind (arith, nat_tests) in
-    let got = number_reads.found text from.0 from.1 in
-    ((omega (arith, ge, is.1), omega (arith, got.0, is.1)), got.1 ∙ ap decimal is.1);
+      let from = then (λ n. some_if (leb 1 n) n) (number_of text) n e in
+      let is = chosen (leb 1 from.0) from.0 n from.2 in
+      let test : leb 1 from.0 ≡ true = is.0 in
+      let ge : 1 ≤ from.0 = grind (arith, nat_tests) in
+      let got = number_reads.found text from.0 from.1 in
+      ((omega (arith, ge, is.1), omega (arith, got.0, is.1)), got.1 ∙ ap decimal is.1);
   only = λ n h.
-    let ge : 1 ≤ n = h.0 in
-    let test : leb 1 n ≡ true = grind (arith, nat_tests) in
-    ap (option_and_then (λ n. some_if (leb 1 n) n)) (number_reads.only n h.1) ∙ ap (λ b. some_if b n) test;
+      let ge : 1 ≤ n = h.0 in
+      let test : leb 1 n ≡ true = grind (arith, nat_tests) in
+      ap (option_and_then (λ n. some_if (leb 1 n) n)) (number_reads.only n h.1) ∙ ap (λ b. some_if b n) test;
 }

@@ -10,3 +10,4 @@ pub mod CallReading
 pub mod AnswerReading
 pub mod NameText
 pub mod NameReading
+pub mod ReportReading

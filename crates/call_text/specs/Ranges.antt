@@ -10,6 +10,7 @@ use Rattle.definitions.specs.declared.calls.Call.{Call}
 use Rattle.definitions.specs.declared.calls.Call.TheVariants.{OpenAt, CloseAt, Fork, AwaitReady, Quit, Kill, Census, AwaitGone, SpawnMaster, Adopt, WritePid, MovePid, RemovePid, Alive, Leave, Usr1, TermMaster}
 use Rattle.definitions.specs.declared.calls.Answer.{Answer}
 use Rattle.definitions.specs.declared.calls.Answer.TheVariants as answer
+use Rattle.definitions.specs.declared.reports.Report.{Report}
 use Rattle.definitions.specs.declared.reports.Outcome.{Outcome}
 use Rattle.definitions.specs.declared.reports.Outcome.TheVariants as outcome
 use Rattle.definitions.specs.Tree.{is_listed}
@@ -85,3 +86,7 @@ IsOutcome outcome.Done = ⊤
 IsOutcome outcome.RolledBack = ⊤
 IsOutcome (outcome.Degraded side short) = IsCount short
 IsOutcome outcome.Lost = ⊤
+
+-- a report of which the text says all but the numbers that were ready
+abbrev pub IsReport : List ℕ → Report → Type 0
+IsReport ready r = IsOutcome r.outcome × IsCause r.cause × (r.ready ≡ ready)

@@ -7,6 +7,7 @@
 mod answers;
 mod calls;
 mod cuts;
+mod ends;
 mod names;
 mod numbers;
 mod parts;
@@ -19,6 +20,7 @@ mod words;
 pub use answers::{read_answer, write_answer};
 pub use calls::{write_call, write_order};
 pub use cuts::cut;
+pub use ends::read_report;
 pub use names::{read_fate, read_name, write_name};
 pub use numbers::write_number;
 pub use replies::{replies_of, replies_to};
@@ -26,3 +28,6 @@ pub use reports::{write_entries, write_report};
 pub use sets::{read_set, write_set};
 pub use verbs::read_call;
 pub use words::{end_text, fate_text, note_text, reply_text, side_text};
+
+#[cfg(test)]
+mod tests;
