@@ -168,7 +168,8 @@ fn read_listed(call: &Call, text: &[u8]) -> Option<Answer>
 /// Reads an answer to a call as `write_answer` writes it, and no other text. It is one that the call
 /// can have; a descriptor is from 3 to 66, and numbers of workers are below 1024. Any bytes may come.
 pub fn read_answer(call: &Call, text: &[u8]) -> Option<Answer>
-    ensures { Reads (IsAnswerTo call.now) answer_text text.now result }
+    ensures exact { result ≡ answer_to call.now text.now }
+    ensures reads { Reads (IsAnswerTo call.now) answer_text text.now result }
 {
     read_listed(call, text)
 }

@@ -140,7 +140,8 @@ fn read_whole(text: &[u8], ready: &Numbers) -> Option<Report>
 /// not say which numbers were ready, so they are handed in. A shortfall and a cause are from 1 to
 /// 4,294,967,295. Any bytes may come.
 pub fn read_report(text: &[u8], ready: &Numbers) -> Option<Report>
-    ensures { Reads (IsReport ready.now) report_text text.now result }
+    ensures exact { result ≡ report_of ready.now text.now }
+    ensures reads { Reads (IsReport ready.now) report_text text.now result }
 {
     read_whole(text, ready)
 }

@@ -79,7 +79,8 @@ fn read_any(text: &[u8]) -> Option<Name>
 /// Reads the name of who exits as `write_name` writes it, and no other text. Images and
 /// configurations are at most 4,294,967,295, a worker's number is below 1024. Any bytes may come.
 pub fn read_name(text: &[u8]) -> Option<Name>
-    ensures { Reads IsName name_text text.now result }
+    ensures exact { result ≡ name_of text.now }
+    ensures reads { Reads IsName name_text text.now result }
 {
     read_any(text)
 }
@@ -111,7 +112,8 @@ fn find_fate(text: &[u8]) -> Option<Fate>
 
 /// Reads the word of a fate, and no other text. Any bytes may come.
 pub fn read_fate(text: &[u8]) -> Option<Fate>
-    ensures { Reads (λ _. ⊤) fate_text text.now result }
+    ensures exact { result ≡ fate_of text.now }
+    ensures reads { Reads (λ _. ⊤) fate_text text.now result }
 {
     find_fate(text)
 }

@@ -148,7 +148,8 @@ pub(crate) fn read_numbers(text: &[u8]) -> Option<Numbers>
 
 /// Reads a set of numbers below 1024 as `write_set` writes it, and no other text. Any bytes may come.
 pub fn read_set(text: &[u8]) -> Option<Numbers>
-    ensures { Reads (λ ns. AreNumbers 1024 ns) set_text text.now result }
+    ensures exact { result ≡ set_of text.now }
+    ensures reads { Reads (λ ns. AreNumbers 1024 ns) set_text text.now result }
 {
     read_numbers(text)
 }

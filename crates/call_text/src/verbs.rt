@@ -155,7 +155,8 @@ fn read_line(text: &[u8]) -> Option<(Actor, Call)>
 /// are as `Address::read` and `FilePath::read` accept them, or such a path with `.oldbin` behind it.
 /// Any bytes may come.
 pub fn read_call(text: &[u8]) -> Option<(Actor, Call)>
-    ensures { Reads IsCallLine (λ line. call_line line.0 line.1) text.now result }
+    ensures exact { result ≡ line_of text.now }
+    ensures reads { Reads IsCallLine (λ line. call_line line.0 line.1) text.now result }
 {
     read_line(text)
 }

@@ -6,5 +6,5 @@ use Rattle.call_text.specs.Words.{fate_text}
 use Rattle.call_text.proofs.NameTexts.{Reads-fate}
 use Rattle.call_text.proofs.names.read_fate.Goals as goal
 
-pub returns : goal.returns
-returns c = subst (Reads (λ (f : Fate). ⊤) fate_text c.args.text.now) (sym c.find_fate.ensures) (Reads-fate c.args.text.now)
+pub returns-clause-reads : goal.returns-clause-reads
+returns-clause-reads c = subst (Reads (λ (f : Fate). ⊤) fate_text c.args.text.now) (sym c.find_fate.ensures) (Reads-fate c.args.text.now)

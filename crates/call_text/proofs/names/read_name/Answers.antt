@@ -5,5 +5,5 @@ use Rattle.call_text.specs.NameText.{name_text}
 use Rattle.call_text.proofs.NameTexts.{Reads-name}
 use Rattle.call_text.proofs.names.read_name.Goals as goal
 
-pub returns : goal.returns
-returns c = subst (Reads IsName name_text c.args.text.now) (sym c.read_any.ensures) (Reads-name c.args.text.now)
+pub returns-clause-reads : goal.returns-clause-reads
+returns-clause-reads c = subst (Reads IsName name_text c.args.text.now) (sym c.read_any.ensures) (Reads-name c.args.text.now)
