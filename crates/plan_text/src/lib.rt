@@ -3,7 +3,6 @@
 
 mod edges;
 mod plans;
-mod replies;
 
 pub use plans::write_plan;
 

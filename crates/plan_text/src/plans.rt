@@ -5,8 +5,7 @@ ghost use Rattle.rollback_plan.specs.Plans.{tree_of, steps_of};
 ghost use Rattle.plan_text.specs.PlanText.{set_part, step_text, steps_text, plan_text};
 
 use crate::edges::write_edges;
-use crate::replies::replies_of;
-use call_text::{write_number, write_order, write_set};
+use call_text::{replies_of, write_number, write_order, write_set};
 use definitions::{Call, Order};
 use listener_set::Numbers;
 use rollback_plan::{Plan, Step};
