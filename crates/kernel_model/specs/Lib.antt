@@ -3,6 +3,8 @@ pub mod Seen
 pub mod Edits
 pub mod Room
 pub mod Rows
+pub mod Files
+pub mod Foreign
 pub mod State
 pub mod Boot
 pub mod Readers

@@ -1,0 +1,25 @@
+-- The listeners of a running master.
+use Rattle.std.specs.Prelude.{◌≡◌, ℕ, ◌+◌, ◌-◌, ◌<◌, ◌≤◌, false, List, [], ◌∷◌, length, take, drop, replicate}
+use Rattle.listener_set.specs.AddressList.{blank}
+use Rattle.definitions.specs.declared.table.Listener.{Listener}
+use Rattle.definitions.specs.After.{listens_on}
+
+-- Descriptors rise, from a first one on, and stay below 67, and no address comes twice.
+abbrev pub AreListedFrom : ℕ → List Listener → Type 0
+AreListedFrom fd [] = Unit {0}
+AreListedFrom fd (l ∷ ls) =
+    (fd ≤ l.descriptor) × (l.descriptor < 67) × (listens_on ls l.address ≡ false) × AreListedFrom (l.descriptor + 1) ls
+
+abbrev pub AreListed : List Listener → Type 0
+AreListed ls = AreListedFrom 3 ls
+
+-- what stands in an unused place
+unfoldable pub blank_listener : Listener
+blank_listener = record { descriptor = 3; address = blank }
+
+-- the listeners stand in front, and blanks behind them
+pub record AreKept (items : List Listener) (len : ℕ) : Type 0 where
+  pub size : length items ≡ 64
+  pub fits : len ≤ 64
+  pub blanks : drop len items ≡ replicate (64 - len) blank_listener
+  pub listed : AreListed (take len items)

@@ -1,0 +1,3 @@
+pub mod PatternsReading
+pub mod Reader
+pub mod PatternsText
