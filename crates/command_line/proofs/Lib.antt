@@ -1,3 +1,2 @@
-mod Numbers
 mod Simple
 mod Values

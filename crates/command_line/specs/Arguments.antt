@@ -1,29 +1,39 @@
 -- The command line in the terms of `clap`, and what arguments ask for.
-use Rattle.std.specs.Prelude.{◌≡◌, ◌≢◌, ◌⊎◌, ⊤, ℕ, List, [], ◌∷◌, Option, Some, None, true}
-use Rattle.std.specs.Prelude.{codes}
+use Rattle.std.specs.Prelude.{◌≡◌, ◌≢◌, ◌⊎◌, ⊤, ℕ, Bool, List, [], ◌∷◌, Option, Some, None, false, true}
+use Rattle.std.specs.Prelude.{bytes_eq, codes, option_map}
 use Rattle.clap.specs.Lexer.{usize_max}
 use Rattle.clap.specs.Walk.{Row, Rule, Text, all_of, first_of, texts}
 use Rattle.clap.specs.Simple.{App, new_app, new_rule, on_top, subcommand_of, with_rule}
 use Rattle.clap.specs.Simple.{subcommand_rows_of, with_subcommand}
 use Rattle.clap.specs.Faults.{fault_of}
 use Rattle.clap.specs.Kinds.{IsAmong}
-use Rattle.clap.specs.declared.builder.action.ArgAction.TheVariants.{Append, Set}
+use Rattle.clap.specs.declared.builder.action.ArgAction.TheVariants.{Append, Set, SetTrue}
 use Rattle.clap.specs.declared.parser.matches.ArgMatches.{ArgMatches}
 use Rattle.clap.specs.declared.error.kind.ErrorKind.TheVariants.{DisplayHelp, DisplayVersion}
 use Rattle.command_line.specs.Number.{Spells}
+use Rattle.command_line.specs.declared.options.EnactOptions.{EnactOptions}
+use Rattle.command_line.specs.declared.options.PlanOptions.{PlanOptions}
+use Rattle.command_line.specs.declared.options.StartOptions.{StartOptions}
 use Rattle.command_line.specs.declared.Request.{Request}
-use Rattle.command_line.specs.declared.Request.TheVariants.{Enact, Show}
+use Rattle.command_line.specs.declared.Request.TheVariants.{Enact, Plan, Show}
 use Rattle.command_line.specs.declared.Refusal.{Refusal}
 use Rattle.command_line.specs.declared.Refusal.TheVariants.{Usage, Memory}
 
 -- ---- the command line
 
--- `--workers N`
-abbrev pub workers_rule : Rule
-workers_rule = record (new_rule (codes "workers")) {
-  long = Some (codes "workers");
+-- `--NAME VALUE`
+abbrev pub option_rule : Text → Rule
+option_rule name = record (new_rule name) {
+  long = Some name;
   action = Some Set;
   value_names = 1;
+}
+
+-- `--NAME`
+abbrev pub flag_rule : Text → Rule
+flag_rule name = record (new_rule name) {
+  long = Some name;
+  action = Some SetTrue;
 }
 
 -- `WORD..`
@@ -35,17 +45,75 @@ words_rule = record (new_rule (codes "words")) {
   value_names = 1;
 }
 
+-- `WORD`
+abbrev pub word_rule : Rule
+word_rule = record (new_rule (codes "word")) {
+  required = true;
+  action = Some Set;
+  value_names = 1;
+}
+
+-- `[--from FILE] [--to FILE] [--workers N] [--bare]`
+abbrev pub with_start : App → App
+with_start app = with_rule (with_rule (with_rule (with_rule app (option_rule (codes "from"))) (option_rule (codes "to"))) (option_rule (codes "workers"))) (flag_rule (codes "bare"))
+
 abbrev pub enact_app : App
-enact_app = with_rule (with_rule (new_app (codes "enact")) workers_rule) words_rule
+enact_app = with_rule (with_rule (with_rule (with_start (new_app (codes "enact"))) (option_rule (codes "held"))) (flag_rule (codes "state"))) words_rule
+
+abbrev pub plan_app : App
+plan_app = with_rule (with_start (new_app (codes "plan"))) word_rule
 
 abbrev pub prefork_app : App
-prefork_app = with_subcommand (on_top (λ top. record top {
+prefork_app = with_subcommand (with_subcommand (on_top (λ top. record top {
   has_version = true;
   subcommand_required = true;
   disable_help_subcommand = true;
-}) (new_app (codes "prefork"))) enact_app.top
+}) (new_app (codes "prefork"))) enact_app.top) plan_app.top
 
--- ---- what arguments ask for
+-- ---- what a subcommand is given
+
+-- how a master starts, and which files it reads
+pub record Start : Type 0 where
+  pub from : Option Text
+  pub to : Option Text
+  pub workers : Option ℕ
+  pub bare : Bool
+
+-- what `enact` is given
+pub record Enactment : Type 0 where
+  pub start : Start
+  pub held : Option Text
+  pub state : Bool
+  pub words : List Text
+
+-- what `plan` is given
+pub record Planning : Type 0 where
+  pub start : Start
+  pub word : Text
+
+abbrev pub start_of : StartOptions → Start
+start_of options = record {
+  from = option_map (λ text. text.now) options.from;
+  to = option_map (λ text. text.now) options.to;
+  workers = options.workers;
+  bare = options.bare;
+}
+
+abbrev pub enactment_of : EnactOptions → Enactment
+enactment_of options = record {
+  start = start_of options.start;
+  held = option_map (λ text. text.now) options.held;
+  state = options.state;
+  words = texts options.words.items;
+}
+
+abbrev pub planning_of : PlanOptions → Planning
+planning_of options = record {
+  start = start_of options.start;
+  word = options.word.now;
+}
+
+-- ---- what `clap` finds for a subcommand
 
 -- the value of `--workers` is a number, or there is none
 abbrev pub IsWorkers : Option Text → Option ℕ → Type 0
@@ -53,17 +121,41 @@ IsWorkers None None = ⊤
 IsWorkers (Some text) (Some n) = Spells text n
 IsWorkers _ _ = ⊥
 
--- the values that `clap` found for `enact`
-pub record Finds (rows : List Row) (workers : Option ℕ) (words : List Text) : Type 0 where
-  pub number : IsWorkers (first_of (codes "workers") rows) workers
-  pub given : all_of (codes "words") rows ≡ Some words
+-- a flag is given where `clap` finds it true
+abbrev pub is_given : Option Text → Bool
+is_given None = false
+is_given (Some text) = bytes_eq text (codes "true")
 
--- `clap` takes the arguments as those of `enact`, with these values
-pub record AsksEnact (arguments : List Text) (workers : Option ℕ) (words : List Text) : Type 0 where
+pub record FindsStart (rows : List Row) (start : Start) : Type 0 where
+  pub from : start.from ≡ first_of (codes "from") rows
+  pub to : start.to ≡ first_of (codes "to") rows
+  pub workers : IsWorkers (first_of (codes "workers") rows) start.workers
+  pub bare : start.bare ≡ is_given (first_of (codes "bare") rows)
+
+pub record FindsEnactment (rows : List Row) (values : Enactment) : Type 0 where
+  pub start : FindsStart rows values.start
+  pub held : values.held ≡ first_of (codes "held") rows
+  pub state : values.state ≡ is_given (first_of (codes "state") rows)
+  pub words : all_of (codes "words") rows ≡ Some values.words
+
+pub record FindsPlanning (rows : List Row) (values : Planning) : Type 0 where
+  pub start : FindsStart rows values.start
+  pub word : first_of (codes "word") rows ≡ Some values.word
+
+-- ---- what arguments ask for
+
+-- `clap` takes the arguments as those of a subcommand, and finds what the test says
+pub record AsksFor (name : Text) (Finds : List Row → Type 0) (arguments : List Text) : Type 0 where
   pub rows : List Row
   pub taken : fault_of prefork_app arguments ≡ []
-  pub command : subcommand_of prefork_app arguments ≡ Some (codes "enact", rows)
-  pub values : Finds rows workers words
+  pub command : subcommand_of prefork_app arguments ≡ Some (name, rows)
+  pub values : Finds rows
+
+abbrev pub AsksEnact : List Text → Enactment → Type 0
+AsksEnact arguments values = AsksFor (codes "enact") (λ rows. FindsEnactment rows values) arguments
+
+abbrev pub AsksPlan : List Text → Planning → Type 0
+AsksPlan arguments values = AsksFor (codes "plan") (λ rows. FindsPlanning rows values) arguments
 
 -- `clap` answers the arguments with the help or the version
 abbrev pub AsksText : List Text → Type 0
@@ -71,13 +163,14 @@ AsksText arguments = IsAmong DisplayHelp (fault_of prefork_app arguments)
     ⊎ IsAmong DisplayVersion (fault_of prefork_app arguments)
 
 abbrev pub Asks : List Text → Request → Type 0
-Asks arguments (Enact options) =
-    AsksEnact arguments options.workers (texts options.words.items)
+Asks arguments (Enact options) = AsksEnact arguments (enactment_of options)
+Asks arguments (Plan options) = AsksPlan arguments (planning_of options)
 Asks arguments (Show text) = AsksText arguments
 
--- the arguments ask for nothing: neither for `enact` nor for a text alone
+-- the arguments ask for nothing: neither for a subcommand nor for a text alone
 pub record IsUsageFault (arguments : List Text) : Type 0 where
-  pub no_enact : (workers : Option ℕ) (words : List Text) → ¬ AsksEnact arguments workers words
+  pub no_enact : (values : Enactment) → ¬ AsksEnact arguments values
+  pub no_plan : (values : Planning) → ¬ AsksPlan arguments values
   pub no_help : fault_of prefork_app arguments ≢ DisplayHelp ∷ []
   pub no_version : fault_of prefork_app arguments ≢ DisplayVersion ∷ []
 

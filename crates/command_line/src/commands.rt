@@ -2,43 +2,14 @@
 ghost use Rattle.std.specs.Prelude.{◌≡◌, IfOk, false};
 ghost use Rattle.clap.specs.Words.{app_of, rule_of};
 ghost use Rattle.clap.specs.declared.builder.command.Command.TheViews.{out-Command};
-ghost use Rattle.command_line.specs.Arguments.{enact_app, prefork_app, workers_rule, words_rule};
+ghost use Rattle.command_line.specs.Arguments.{enact_app, flag_rule, option_rule, plan_app, prefork_app, with_start, word_rule, words_rule};
 
+use crate::help::{
+    BARE_HELP, ENACT_NOTES, FROM_HELP, HELD_HELP, PLAN_NOTES, PROGRAM_NOTES, STATE_HELP, TO_HELP,
+    WORD_HELP, WORDS_HELP, WORKERS_HELP,
+};
 use clap::{Arg, ArgAction, Command};
 use std::alloc::{AllocError, Global};
-
-const WORDS_HELP: &str = "\
-Control words, named after Unicorn's signals, carried out in this order:
-TTIN  one worker more
-TTOU  one worker less, down to none";
-
-const WORKERS_HELP: &str = "\
-How many workers are wanted and run at the start, 0 to 1024 [default: 1]";
-
-const ENACT_NOTES: &str = "\
-Standard input says what goes wrong; empty input means that nothing does.
-Each line names a moment, the number of a call from 1:
-  2 fail late     call 2 is answered 'late', if it can be
-  2 exit w1.1.0   worker 0 of generation 1.1 exits just before call 2
-  next            what follows is for the next control word
-Faults: again, no-memory, late. Moments ascend; a 'fail' comes after the
-exits of its moment.
-
-For each word the output has the calls in order, and then one line:
-  done            the wanted workers run
-  rolled-back     the plan failed, and what ran before runs again
-  degraded        some workers are missing, on the old or the target's side
-with the first call that went wrong and the state of the pid file.
-
-Exit status: 0 done, 1 a word was refused or nothing could be run, 2 usage,
-3 rolled back, 4 degraded; of several, 1 comes before 4 and 4 before 3.
-
-Example: add a worker to two, where the third is not ready in time:
-  echo '2 fail late' | prefork enact --workers 2 TTIN";
-
-const PROGRAM_NOTES: &str = "\
-Example: what a master with two workers does on TTIN:
-  prefork enact --workers 2 TTIN";
 
 /// The whole command line.
 pub fn program<'a>(alloc: Global) -> Result<Command<'a>, AllocError>
@@ -50,29 +21,67 @@ pub fn program<'a>(alloc: Global) -> Result<Command<'a>, AllocError>
         .version("0.1.0")
         .subcommand_required(true)
         .disable_help_subcommand(true)
-        .subcommand(enact(alloc)?)
+        .subcommand(enact(alloc)?)?
+        .subcommand(plan(alloc)?)
 }
 
 fn enact<'a>(alloc: Global) -> Result<Command<'a>, AllocError>
     ensures app { IfOk result (λ command. app_of command ≡ enact_app) }
     ensures own { IfOk result (λ command. (out-Command command).has_globals ≡ false) }
 {
-    Command::new(alloc, "enact")
+    let command = Command::new(alloc, "enact")
         .about("Carry out control words on a modelled kernel, and print each call with its answer")
-        .after_help(ENACT_NOTES)
-        .arg(workers(alloc))?
+        .after_help(ENACT_NOTES);
+    with_start(alloc, command)?
+        .arg(option(alloc, "held", "ADDRESS", HELD_HELP))?
+        .arg(flag(alloc, "state", STATE_HELP))?
         .arg(words(alloc))
 }
 
-fn workers<'a>(alloc: Global) -> Arg<'a>
-    ensures rule { rule_of result ≡ workers_rule }
+fn plan<'a>(alloc: Global) -> Result<Command<'a>, AllocError>
+    ensures app { IfOk result (λ command. app_of command ≡ plan_app) }
+    ensures own { IfOk result (λ command. (out-Command command).has_globals ≡ false) }
+{
+    let command = Command::new(alloc, "plan")
+        .about("Print the plan of a control word: each step, and what follows each answer")
+        .after_help(PLAN_NOTES);
+    with_start(alloc, command)?.arg(word(alloc))
+}
+
+/// The options of each subcommand that starts a master.
+fn with_start<'a>(alloc: Global, command: Command<'a>) -> Result<Command<'a>, AllocError>
+    requires { (out-Command command).has_globals ≡ false }
+    ensures app { IfOk result (λ more. app_of more ≡ with_start (app_of command.entry)) }
+    ensures own { IfOk result (λ more. (out-Command more).has_globals ≡ false) }
+{
+    command
+        .arg(option(alloc, "from", "FILE", FROM_HELP))?
+        .arg(option(alloc, "to", "FILE", TO_HELP))?
+        .arg(option(alloc, "workers", "N", WORKERS_HELP))?
+        .arg(flag(alloc, "bare", BARE_HELP))
+}
+
+/// `--NAME VALUE`
+fn option<'a>(alloc: Global, name: &'a str, value: &'a str, help: &'a str) -> Arg<'a>
+    ensures rule { rule_of result ≡ option_rule name.entry.now }
     ensures own { result.global ≡ false }
 {
-    Arg::new(alloc, "workers")
-        .long("workers")
-        .value_name("N")
+    Arg::new(alloc, name)
+        .long(name)
+        .value_name(value)
         .action(ArgAction::Set)
-        .help(WORKERS_HELP)
+        .help(help)
+}
+
+/// `--NAME`
+fn flag<'a>(alloc: Global, name: &'a str, help: &'a str) -> Arg<'a>
+    ensures rule { rule_of result ≡ flag_rule name.entry.now }
+    ensures own { result.global ≡ false }
+{
+    Arg::new(alloc, name)
+        .long(name)
+        .action(ArgAction::SetTrue)
+        .help(help)
 }
 
 fn words<'a>(alloc: Global) -> Arg<'a>
@@ -85,4 +94,15 @@ fn words<'a>(alloc: Global) -> Arg<'a>
         .num_args(1..)
         .action(ArgAction::Append)
         .help(WORDS_HELP)
+}
+
+fn word<'a>(alloc: Global) -> Arg<'a>
+    ensures rule { rule_of result ≡ word_rule }
+    ensures own { result.global ≡ false }
+{
+    Arg::new(alloc, "word")
+        .value_name("WORD")
+        .required(true)
+        .action(ArgAction::Set)
+        .help(WORD_HELP)
 }

@@ -1,18 +1,19 @@
 //! The command line of `prefork`, read by `clap`.
 #![tactic(auto)]
 
-ghost use Rattle.std.specs.Prelude.{◌≡◌, IfErr, IfOk, IsErrOf, List, Option, ℕ, codes, map, string_bytes};
-ghost use Rattle.clap.specs.Words.{HasKind, fault_of, first_of, found_of, rows_of};
-ghost use Rattle.clap.specs.Walk.{texts};
-ghost use Rattle.command_line.specs.Arguments.{AreMatchesOf, Asks, Finds, IsRefusedBy, IsWorkers, prefork_app};
+ghost use Rattle.std.specs.Prelude.{◌≡◌, IfErr, IfOk, List, ℕ, map, string_bytes};
+ghost use Rattle.clap.specs.Words.{HasKind, fault_of};
+ghost use Rattle.command_line.specs.Arguments.{AreMatchesOf, Asks, IsRefusedBy, prefork_app};
 ghost use Rattle.command_line.specs.declared.Refusal.TheVariants.{Memory};
 
 mod commands;
-mod number;
+mod help;
+mod options;
 
 use clap::error::ErrorKind;
 use clap::{ArgMatches, Error};
-use number::read_number;
+pub use options::{EnactOptions, PlanOptions, StartOptions};
+use options::{enact_options, plan_options};
 use std::alloc::{AllocError, Global};
 
 /// What the command line asks for.
@@ -20,18 +21,10 @@ use std::alloc::{AllocError, Global};
 pub enum Request<'a> {
     /// `enact`: carry out control words on a modelled kernel.
     Enact(EnactOptions<'a>),
+    /// `plan`: show what a control word would do.
+    Plan(PlanOptions<'a>),
     /// `--help` or `--version`: write this text to standard output.
     Show(String),
-}
-
-/// The options and words of `enact`.
-#[derive(Drop)]
-pub struct EnactOptions<'a> {
-    /// `--workers`: how many workers are wanted and run at the start. Without it the
-    /// configuration's count holds.
-    pub workers: Option<u32>,
-    /// The control words in their order, at least one.
-    pub words: Vec<&'a str>,
 }
 
 /// Why a command line asks for nothing.
@@ -76,34 +69,9 @@ fn request_of<'a>(alloc: Global, matches: &ArgMatches<'a>) -> Result<Request<'a>
 {
     match matches.subcommand_matches("enact") {
         Some(found) => Ok(Request::Enact(enact_options(alloc, found)?)),
-        None => Err(Refusal::Usage),
-    }
-}
-
-fn enact_options<'a>(alloc: Global, found: &ArgMatches<'a>) -> Result<EnactOptions<'a>, Refusal>
-    ensures found { IfOk result (λ options.
-        Finds (rows_of (found_of found.now)) options.workers (texts options.words.items)) }
-    ensures usage { IsErrOf result Refusal.Usage → (workers : Option ℕ) (words : List (List ℕ))
-        → ¬ Finds (rows_of (found_of found.now)) workers words }
-{
-    let workers = workers_of(found)?;
-    let Some(words) = found.get_strs("words") else {
-        return Err(Refusal::Usage);
-    };
-    let words = words.iter().copied().collect(alloc)?;
-    Ok(EnactOptions { workers, words })
-}
-
-fn workers_of(found: &ArgMatches<'_>) -> Result<Option<u32>, Refusal>
-    ensures found { IfOk result (IsWorkers (first_of (codes "workers") (rows_of (found_of found.now)))) }
-    ensures usage { IfErr result (λ _. (workers : Option ℕ)
-        → ¬ IsWorkers (first_of (codes "workers") (rows_of (found_of found.now))) workers) }
-{
-    match found.get_str("workers") {
-        None => Ok(None),
-        Some(text) => match read_number(text) {
+        None => match matches.subcommand_matches("plan") {
+            Some(found) => Ok(Request::Plan(plan_options(found)?)),
             None => Err(Refusal::Usage),
-            number => Ok(number),
         },
     }
 }

@@ -1,11 +1,13 @@
 -- Calls: what each is answered, and what it changes in the table.
-use Rattle.std.specs.Prelude.{ℕ, ◌+◌, Bool, true, false, ◌&&◌, ◌==◌, nat_lt, not, List, [], ◌∷◌, ◌++◌, Option, Some, None, filter, count_by, length, if◌then◌else◌, zero, suc}
+use Rattle.std.specs.Prelude.{ℕ, ◌+◌, Bool, true, false, ◌&&◌, ◌==◌, nat_lt, not, List, [], ◌∷◌, ◌++◌, Option, Some, None, filter, count_by, length, if◌then◌else◌, zero, suc, bytes_eq, Result, Ok, Err}
 use Rattle.std.specs.List.{list_any, filter_map}
 use Rattle.listener_set.specs.Numbers.{numbers_below}
-use Rattle.definitions.specs.Table.{Address, Generation, Hold, Starting, Ready, Draining, Process, Master, Worker, Foreign, Table, with_rows, is_starting, is_ready, is_active, is_exited, is_any, is_worker, is_own, is_at, is_held, Caller, live_master}
+use Rattle.definitions.specs.declared.table.Listener.{Listener}
+use Rattle.definitions.specs.Handover.{Handover, HandoverRefusal, reading}
+use Rattle.definitions.specs.Table.{FilePath, File, owner_at, is_draining, Address, Generation, Hold, Starting, Ready, Draining, Process, Master, Worker, Foreign, Table, with_rows, is_starting, is_ready, is_active, is_exited, is_any, is_worker, is_own, is_at, is_held, Caller, live_master}
 use Rattle.definitions.specs.Exits.{change}
 pub use Rattle.definitions.specs.declared.calls.Call.{Call}
-pub use Rattle.definitions.specs.declared.calls.Call.TheVariants.{OpenAt, CloseAt, Fork, AwaitReady, Quit, Kill, Census}
+pub use Rattle.definitions.specs.declared.calls.Call.TheVariants.{OpenAt, CloseAt, Fork, AwaitReady, Quit, Kill, Census, AwaitGone, SpawnMaster, Adopt, WritePid, MovePid, RemovePid, Alive, Leave, Usr1, TermMaster}
 pub use Rattle.definitions.specs.declared.calls.Answer.{Answer}
 pub use Rattle.definitions.specs.declared.calls.Answer.TheVariants as answer
 pub use Rattle.definitions.specs.declared.calls.Fate.{Fate}
@@ -154,17 +156,129 @@ is_exited_of caller (Foreign n hs) = false
 abbrev pub counted : Caller → Generation → Table → Stepped
 counted c g t = gives (answer.Counted (census_of c.number g t.rows)) (each_row (dropped (is_exited_of c.number)) t)
 
+---- AwaitGone
+
+-- Late while an active worker bears the name; else all of the name leave, and it is gone.
+abbrev pub ended : Caller → Generation → ℕ → Table → Stepped
+ended c g k t =
+    if list_any (is_worker is_active c.number g k) t.rows then gives answer.Late t
+    else gives answer.Gone (each_row (dropped (is_worker is_any c.number g k)) t)
+
+---- SpawnMaster, Alive and TermMaster
+
+-- a master of the image, live or exited
+abbrev pub is_image : ℕ → Process → Bool
+is_image image (Master n q i live hs) = i == image
+is_image image (Worker n q g k s hs) = false
+is_image image (Foreign n hs) = false
+
+-- A new master with the caller's holds, unless a master of the image is there or the process limit is reached.
+abbrev pub spawned : Caller → ℕ → Table → Stepped
+spawned c image t =
+    if list_any (is_image image) t.rows then gives answer.Again t
+    else if has_process_room t then gives answer.Spawned (with_new_row t (λ n. Master n c.number image true c.holds))
+    else gives answer.Again t
+
+-- Where no live master is of the image, an exited one leaves.
+abbrev pub asked_alive : Option Caller → ℕ → Table → Stepped
+asked_alive (Some c) image t = gives answer.IsAlive t
+asked_alive None image t = gives answer.Gone (each_row (dropped (is_image image)) t)
+
+-- a master of the image with the number
+abbrev pub is_image_row : ℕ → ℕ → Process → Bool
+is_image_row image m (Master n q i live hs) = (i == image) && (n == m)
+is_image_row image m (Worker n q g k s hs) = false
+is_image_row image m (Foreign n hs) = false
+
+-- a master of the image or one of its workers
+abbrev pub is_of_image : ℕ → List Process → Process → Bool
+is_of_image image rows (Master n q i live hs) = i == image
+is_of_image image rows (Worker n q g k s hs) = list_any (is_image_row image q) rows
+is_of_image image rows (Foreign n hs) = false
+
+-- The master of the image leaves, live or exited, and its workers do.
+abbrev pub terminated : ℕ → Table → Stepped
+terminated image t = gives answer.Fine (each_row (dropped (is_of_image image t.rows)) t)
+
+---- Adopt
+
+-- the descriptors and addresses of these holds, and no other
+abbrev pub are_listeners : List Listener → List Hold → Bool
+are_listeners [] [] = true
+are_listeners [] (h ∷ hs) = false
+are_listeners (l ∷ ls) [] = false
+are_listeners (l ∷ ls) (h ∷ hs) = (l.descriptor == h.fd) && (bytes_eq l.address h.address && are_listeners ls hs)
+
+abbrev pub suits : Result Handover HandoverRefusal → ℕ → List Hold → Bool
+suits (Ok h) image holds = (h.generation.image == image) && are_listeners h.listeners holds
+suits (Err e) image holds = false
+
+-- The text reads as a handover to the caller's image, with exactly the caller's descriptors and addresses.
+abbrev pub adopted : List ℕ → ℕ → Caller → Table → Stepped
+adopted text image c t = if suits (reading text) image c.holds then gives answer.Adopted t else gives answer.Refused t
+
+---- Files
+
+abbrev pub with_files : List File → Table → Table
+with_files files t = record { rows = t.rows; files = files; next_process = t.next_process; next_socket = t.next_socket; limits = t.limits }
+
+-- a file's number in its place, or a file more
+abbrev pub with_file : FilePath → ℕ → List File → List File
+with_file path owner [] = (record { path = path; owner = owner }) ∷ []
+with_file path owner (f ∷ files) = if bytes_eq f.path path then record { path = path; owner = owner } ∷ files else f ∷ with_file path owner files
+
+abbrev pub without_file : FilePath → List File → List File
+without_file path files = filter (λ f. not (bytes_eq f.path path)) files
+
+-- The file has the caller's process number.
+abbrev pub written : Caller → FilePath → Table → Stepped
+written c path t = gives answer.Fine (with_files (with_file path c.number t.files) t)
+
+abbrev pub moved_if : Option ℕ → FilePath → FilePath → Table → Stepped
+moved_if None from to t = gives answer.IoFault t
+moved_if (Some owner) from to t = gives answer.Fine (with_files (with_file to owner (without_file from t.files)) t)
+
+-- The second path has the number of the first, which is gone; a fault where the first isn't there.
+abbrev pub moved : FilePath → FilePath → Table → Stepped
+moved from to t = moved_if (owner_at from t.files) from to t
+
+-- The file is gone, also where it wasn't there.
+abbrev pub unlinked : FilePath → Table → Stepped
+unlinked path t = gives answer.Fine (with_files (without_file path t.files) t)
+
+---- Leave
+
+-- what becomes of a row where a master leaves: its own and its workers' leave, and a master whose parent it was gets parent 1
+abbrev pub without_master : ℕ → Process → Option Process
+without_master m (Master n q i live hs) = if n == m then None else Some (Master n (if q == m then 1 else q) i live hs)
+without_master m (Worker n q g k s hs) = if q == m then None else Some (Worker n q g k s hs)
+without_master m (Foreign n hs) = Some (Foreign n hs)
+
+-- The caller leaves, with its workers.
+abbrev pub left : Caller → Table → Stepped
+left c t = gives answer.Fine (each_row (without_master c.number) t)
+
 ---- The order in a call
 
--- the call's own answer, to a caller that lives
-abbrev pub own_step : Caller → Call → Table → Stepped
-own_step c (OpenAt a) t = opened c a t
-own_step c (CloseAt a) t = closed c a t
-own_step c (Fork g k) t = forked c g k t
-own_step c (AwaitReady g k) t = awaited c g k t
-own_step c (Quit g k) t = quitted c g k t
-own_step c (Kill g k) t = killed c g k t
-own_step c (Census g) t = counted c g t
+-- The call's own answer, to a caller that lives, of that image, which is handed that text.
+abbrev pub own_step : List ℕ → ℕ → Caller → Call → Table → Stepped
+own_step text image c (OpenAt a) t = opened c a t
+own_step text image c (CloseAt a) t = closed c a t
+own_step text image c (Fork g k) t = forked c g k t
+own_step text image c (AwaitReady g k) t = awaited c g k t
+own_step text image c (Quit g k) t = quitted c g k t
+own_step text image c (Kill g k) t = killed c g k t
+own_step text image c (Census g) t = counted c g t
+own_step text image c (AwaitGone g k) t = ended c g k t
+own_step text image c (SpawnMaster i) t = spawned c i t
+own_step text image c Adopt t = adopted text image c t
+own_step text image c (WritePid path) t = written c path t
+own_step text image c (MovePid from to) t = moved from to t
+own_step text image c (RemovePid path) t = unlinked path t
+own_step text image c (Alive i) t = asked_alive (live_master i t.rows) i t
+own_step text image c Leave t = left c t
+own_step text image c (Usr1 g k) t = gives answer.Fine t
+own_step text image c (TermMaster i) t = terminated i t
 
 abbrev pub fault_if : Bool → Answer → Option Answer
 fault_if true a = Some a
@@ -179,21 +293,33 @@ fault_of c (OpenAt a) fate.NoMemory t = Some answer.NoMemory
 fault_of c (Fork g k) fate.Again t = Some answer.Again
 fault_of c (Fork g k) fate.NoMemory t = Some answer.NoMemory
 fault_of c (AwaitReady g k) fate.Late t = fault_if (list_any (is_worker is_starting c.number g k) t.rows) answer.Late
+fault_of c (AwaitGone g k) fate.Late t = fault_if (list_any (is_worker is_draining c.number g k) t.rows) answer.Late
+fault_of c (SpawnMaster i) fate.Again t = Some answer.Again
+fault_of c (SpawnMaster i) fate.NoMemory t = Some answer.NoMemory
+fault_of c (SpawnMaster i) fate.NoImage t = Some answer.NoImage
+fault_of c Adopt fate.Refused t = Some answer.Refused
+fault_of c (WritePid path) fate.IoFault t = Some answer.IoFault
+fault_of c (MovePid from to) fate.IoFault t = Some answer.IoFault
+fault_of c (RemovePid path) fate.IoFault t = Some answer.IoFault
 fault_of c _ _ t = None
 
 abbrev pub fault_at : Caller → Call → Option Fate → Table → Option Answer
 fault_at c call None t = None
 fault_at c call (Some f) t = fault_of c call f t
 
-abbrev pub fault_or_own : Option Answer → Caller → Call → Table → Stepped
-fault_or_own (Some a) c call t = gives a t
-fault_or_own None c call t = own_step c call t
+abbrev pub fault_or_own : Option Answer → List ℕ → ℕ → Caller → Call → Table → Stepped
+fault_or_own (Some a) text image c call t = gives a t
+fault_or_own None text image c call t = own_step text image c call t
 
-abbrev pub step_by : Option Caller → Call → Option Fate → Table → Stepped
-step_by None call f t = gives answer.MasterGone t
-step_by (Some c) call f t = fault_or_own (fault_at c call f t) c call t
+abbrev pub step_by : List ℕ → ℕ → Option Caller → Call → Option Fate → Table → Stepped
+step_by text image None call f t = gives answer.MasterGone t
+step_by text image (Some c) call f t = fault_or_own (fault_at c call f t) text image c call t
 
--- A call by the master of an image: master-gone where it is not live, without effect; then the fate, without effect; then
--- the call's own answer.
+-- A call by the master of an image, which is handed a text: master-gone where it is not live, without effect; then the fate,
+-- without effect; then the call's own answer.
+abbrev pub step_with : List ℕ → ℕ → Call → Option Fate → Table → Stepped
+step_with text image call f t = step_by text image (live_master image t.rows) call f t
+
+-- A call that is handed no text.
 abbrev pub step : ℕ → Call → Option Fate → Table → Stepped
-step image call f t = step_by (live_master image t.rows) call f t
+step image call f t = step_with [] image call f t

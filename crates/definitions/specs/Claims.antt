@@ -1,21 +1,25 @@
 -- What the run of a plan keeps, and how it ends.
-use Rattle.std.specs.Prelude.{ℕ, ◌≡◌, ◌≤◌, ◌+◌, min, Bool, true, false, ◌&&◌, ◌||◌, ◌==◌, List, [], ◌∷◌, length, Option, Some, None, is_some, count_by, bytes_eq, ⊤}
+use Rattle.std.specs.Prelude.{map, ℕ, ◌≡◌, ◌≤◌, ◌+◌, min, Bool, true, false, ◌&&◌, ◌||◌, ◌==◌, nat_le, ◌++◌, List, [], if◌then◌else◌, ◌∷◌, length, Option, Some, None, is_some, count_by, bytes_eq, ⊤}
 use Rattle.std.specs.List.{list_any, AllByRecursion}
-use Rattle.listener_set.specs.Numbers.{IsRising}
-use Rattle.definitions.specs.Table.{Address, same_generation, Hold, Process, Master, Worker, Foreign, Table, Generation, is_ready, has_address}
+use Rattle.listener_set.specs.Numbers.{IsRising, RisesFrom, is_in}
+use Rattle.definitions.specs.Table.{FilePath, owner_at, Address, same_generation, Hold, Process, Master, Worker, Foreign, Table, Generation, is_ready, has_address}
 use Rattle.definitions.specs.Exits.{Name}
 use Rattle.definitions.specs.declared.names.Name.TheVariants as name
 use Rattle.definitions.specs.Formed.{IsFormed}
 use Rattle.definitions.specs.Service.{Service, is_live_with, service, IsSame}
-use Rattle.definitions.specs.Record.{Record, IsRecord, Agrees}
-use Rattle.definitions.specs.Target.{Target, Workers, want, count_wanted}
-use Rattle.definitions.specs.Tree.{Reply, among, reply_of, Tree, Branches, Ends, Does, Nothing, Branch, height}
-use Rattle.definitions.specs.Plans.{workers_tree}
+use Rattle.definitions.specs.Record.{Listener, Record, IsRecord, Agrees, PidNote, InPlace, AtOldbin, OldbinLeft, Left, NoFile, oldbin}
+use Rattle.definitions.specs.Target.{Target, Workers, Mend, Reopen, Reload, Upgrade, Stop, want, count_wanted, upgrade_generation, text_handed}
+use Rattle.definitions.specs.Tree.{Order, Make, ForkLacking, AwaitLacking, KillLacking, Reply, among, reply_of, Tree, Branches, Ends, Does, Nothing, Branch, height}
+use Rattle.definitions.specs.Plans.{plan_tree}
 use Rattle.definitions.specs.Path.{Report, Outcome}
 use Rattle.definitions.specs.declared.reports.Outcome.TheVariants as outcome
 use Rattle.definitions.specs.declared.plans.Side.TheVariants as side
-use Rattle.definitions.specs.After.{record_after}
-use Rattle.definitions.specs.Run.{report_of, Pattern, Progress, start_at, after_moment, after_call, noted, answered, Ran, run}
+use Rattle.definitions.specs.After.{record_after, next_config, next_image}
+use Rattle.definitions.specs.Manner.{Manner, is_leave_call}
+use Rattle.definitions.specs.Settings.{Settings, IsInRange}
+use Rattle.definitions.specs.Calls.{Call, Answer, RemovePid}
+use Rattle.definitions.specs.declared.calls.Answer.TheVariants as answer
+use Rattle.definitions.specs.Run.{report_of, run_with, Pattern, Progress, start_at, after_moment, after_call, noted, answered, Ran}
 
 ---- Where a run starts
 
@@ -26,34 +30,73 @@ pub record IsStart (t : Table) (r : Record) : Type 0 where
   pub record_in_range : IsRecord r
   pub rising : IsRising r.ready
 
--- Among those who exit is the master of the image.
-abbrev pub names_master : ℕ → List Name → Bool
-names_master image [] = false
-names_master image (name.Master i ∷ es) = (i == image) || names_master image es
-names_master image (name.Worker g k ∷ es) = names_master image es
-names_master image (name.Draining g k ∷ es) = names_master image es
+---- Which patterns are refused
 
--- The first moment of the run in which the executing master exits: a pattern with such a moment is refused, with its number.
+-- Among those who exit is the master of one of the images.
+abbrev pub names_any : List ℕ → List Name → Bool
+names_any images [] = false
+names_any images (name.Master i ∷ es) = is_in images i || names_any images es
+names_any images (name.Worker g k ∷ es) = names_any images es
+names_any images (name.Draining g k ∷ es) = names_any images es
+
+abbrev pub is_leave : Order → Bool
+is_leave (Make call) = is_leave_call call
+is_leave (ForkLacking g) = false
+is_leave (AwaitLacking g) = false
+is_leave (KillLacking g) = false
+
+-- The executing masters, at a step and after it: those who leave are executing up to and at their Leave, and their heirs from it on.
+abbrev pub executing_at : Order → List ℕ → List ℕ → List ℕ
+executing_at order executing heirs = if is_leave order then executing ++ heirs else executing
+
+abbrev pub executing_after : Order → List ℕ → List ℕ → List ℕ
+executing_after order executing heirs = if is_leave order then heirs else executing
+
+-- The first moment of the run in which an executing master exits: a pattern with such a moment is refused, with its number.
 -- Moments after the run's end aren't looked at.
 abbrev mutual
-  pub refused_moment : ℕ → Tree → Pattern → Progress → Option ℕ
-  refused_moment image (Ends end) pattern p = None
-  refused_moment image (Does by order set branches) pattern p =
+  pub refused_from : List ℕ → List ℕ → List ℕ → Tree → Pattern → Progress → Option ℕ
+  refused_from text executing heirs (Ends end) pattern p = None
+  refused_from text executing heirs (Does by order set branches) pattern p =
       let moment = pattern (p.calls + 1) in
       let middle = after_moment moment.exits p in
-      let s = answered by order moment.fate middle in
-      elim (names_master image moment.exits) as (λ b. Option ℕ) [
+      let s = answered text by order moment.fate middle in
+      elim (names_any (executing_at order executing heirs) moment.exits) as (λ b. Option ℕ) [
         | true ↦ Some (p.calls + 1)
-        | false ↦ refused_behind image branches (reply_of set s.answer) pattern (after_call order set s middle)
+        | false ↦ refused_behind text (executing_after order executing heirs) heirs branches (reply_of set s.answer) pattern (after_call order set s middle)
       ]
 
-  pub refused_behind : ℕ → Branches → Reply → Pattern → Progress → Option ℕ
-  refused_behind image Nothing r pattern p = None
-  refused_behind image (Branch replies said rest more) r pattern p =
+  pub refused_behind : List ℕ → List ℕ → List ℕ → Branches → Reply → Pattern → Progress → Option ℕ
+  refused_behind text executing heirs Nothing r pattern p = None
+  refused_behind text executing heirs (Branch replies said rest more) r pattern p =
       elim (among replies r) as (λ b. Option ℕ) [
-        | true ↦ refused_moment image rest pattern (noted said p)
-        | false ↦ refused_behind image more r pattern p
+        | true ↦ refused_from text executing heirs rest pattern (noted said p)
+        | false ↦ refused_behind text executing heirs more r pattern p
       ]
+
+-- The same for a plan of one master, which hands nothing over.
+abbrev pub refused_moment : ℕ → Tree → Pattern → Progress → Option ℕ
+refused_moment image tree pattern p = refused_from [] (image ∷ []) [] tree pattern p
+
+-- An upgrade's new master takes over.
+abbrev pub heirs_of : Record → Target → List ℕ
+heirs_of r (Upgrade s) = (upgrade_generation r.generation).image ∷ []
+heirs_of r (Workers n) = []
+heirs_of r (Mend overdue) = []
+heirs_of r Reopen = []
+heirs_of r (Reload s) = []
+heirs_of r (Stop quick) = []
+
+-- The run of a target's plan, and the moment of it that is refused.
+abbrev pub run_of : Record → Target → Pattern → Table → Ran
+run_of r target pattern t = run_with (text_handed r target) (plan_tree r target) pattern (start_at t r.note)
+
+abbrev pub refusal_of : Record → Target → Pattern → Table → Option ℕ
+refusal_of r target pattern t = refused_from (text_handed r target) (r.generation.image ∷ []) (heirs_of r target) (plan_tree r target) pattern (start_at t r.note)
+
+-- Process and socket numbers end at 4,294,967,295: whether as many of each are left as the plan's longest path has steps.
+abbrev pub has_numbers_for : Tree → Table → Bool
+has_numbers_for plan t = nat_le (t.next_process + height plan) 4294967296 && nat_le (t.next_socket + height plan) 4294967296
 
 ---- How it ends
 
@@ -78,12 +121,34 @@ Says (outcome.Degraded side.Old short) old target t = (1 ≤ short) × IsFewer s
 Says (outcome.Degraded side.Target short) old target t = (1 ≤ short) × IsFewer short target (service t)
 Says outcome.Lost old target t = ⊥
 
--- The record that the report leaves agrees with the last table, and its values are in range.
+-- The record that the report leaves agrees with the last table, and its values are in range. Its note says what the files are.
 pub record AgreesAfter (r : Record) (target : Target) (report : Report) (pid : ℕ) (t : Table) : Type 0 where
   pub record_then : Record
   pub is : record_after r target report pid ≡ Some record_then
   pub agrees : Agrees t record_then
   pub record_in_range : IsRecord record_then
+
+abbrev pub is_failed_removal : Call → Answer → Bool
+is_failed_removal (RemovePid path) answer.IoFault = true
+is_failed_removal _ _ = false
+
+-- The note after a stop: no file, or a removal that failed.
+abbrev pub StopNote : PidNote → Option FilePath → Ran → Type 0
+StopNote NoFile None ran = ⊤
+StopNote NoFile (Some path) ran = (owner_at path ran.last.table.files ≡ None) × (owner_at (oldbin path) ran.last.table.files ≡ None)
+StopNote Left path ran = list_any (λ e. is_failed_removal e.call e.answer) ran.entries ≡ true
+StopNote InPlace path ran = ⊥
+StopNote AtOldbin path ran = ⊥
+StopNote OldbinLeft path ran = ⊥
+
+-- After a stop there is no record.
+abbrev pub IsLeft : Record → Target → ℕ → Ran → Type 0
+IsLeft r (Workers n) pid ran = AgreesAfter r (Workers n) (report_of ran) pid ran.last.table
+IsLeft r (Mend overdue) pid ran = AgreesAfter r (Mend overdue) (report_of ran) pid ran.last.table
+IsLeft r Reopen pid ran = AgreesAfter r Reopen (report_of ran) pid ran.last.table
+IsLeft r (Reload s) pid ran = AgreesAfter r (Reload s) (report_of ran) pid ran.last.table
+IsLeft r (Upgrade s) pid ran = AgreesAfter r (Upgrade s) (report_of ran) pid ran.last.table
+IsLeft r (Stop quick) pid ran = (record_after r (Stop quick) (report_of ran) pid ≡ None) × StopNote ran.last.note r.pid_path ran
 
 ---- What is kept throughout
 
@@ -136,10 +201,11 @@ IsPaid retries outcome.Lost p = ⊥
 
 ---- The headline
 
--- The run of a target's plan ends as its report says, and keeps what it has to.
+-- The run of a target's plan ends as its report says, and keeps what it has to; `pid` is the process number of the master that
+-- reigns then.
 pub record Keeps (t : Table) (r : Record) (target : Target) (pid : ℕ) (ran : Ran) : Type 0 where
   pub says : Says (report_of ran).outcome (service t) (want r target) ran.last.table
-  pub after : AgreesAfter r target (report_of ran) pid ran.last.table
+  pub after : IsLeft r target pid ran
   pub kept : AllByRecursion (λ p. Kept (service t) (want r target) t p.table) ran.passed
   pub blamed : AllByRecursion IsBlamed ran.passed
   pub cause : HasCause (report_of ran).outcome ran.last.cause
@@ -148,15 +214,60 @@ pub record Keeps (t : Table) (r : Record) (target : Target) (pid : ℕ) (ran : R
 abbrev pub KeepsFloor : Table → Record → Target → Ran → Type 0
 KeepsFloor t r target ran = AllByRecursion (Floor (service t) (want r target) t (count_wanted r target)) ran.passed
 
--- Whatever fails and whoever exits but the master itself, a change of the number of workers ends as it reports.
+-- Descriptors rise, from 3 on, and a process may have at most 64.
+pub record HasDescriptors (t : Table) (r : Record) : Type 0 where
+  pub descriptors : RisesFrom 3 (map (λ (l : Listener). l.descriptor) r.listeners)
+  pub limit : t.limits.descriptors ≤ 64
+
+-- What is asked of the start, beside that it is one: of the target, and of the pattern, which must not name an executing master.
+abbrev pub Accepts : Table → Record → Target → Type 0
+Accepts t r (Workers n) = n ≤ 1024
+Accepts t r (Mend overdue) = ⊤
+Accepts t r Reopen = ⊤
+Accepts t r (Reload s) = IsInRange s × HasDescriptors t r × (is_some (next_config r.generation) ≡ true)
+Accepts t r (Upgrade s) = IsInRange s × HasDescriptors t r × (is_some (next_image r.generation) ≡ true)
+Accepts t r (Stop quick) = ⊤
+
+pub record IsAccepted (t : Table) (r : Record) (target : Target) (pattern : Pattern) : Type 0 where
+  pub start : IsStart t r
+  pub accepts : Accepts t r target
+  pub spared : refusal_of r target pattern t ≡ None
+
+-- Each headline: whatever fails and whoever exits but an executing master, the target's plan ends as it reports.
 abbrev pub WorkersHeadline : Type 0
 WorkersHeadline =
-    (t : Table) (r : Record) (n : ℕ) (pattern : Pattern) → IsStart t r → n ≤ 1024 →
-    let plan = workers_tree r.generation.image r.generation r.ready r.retries n in
-    let ran = run plan pattern (start_at t r.note) in
-    refused_moment r.generation.image plan pattern (start_at t r.note) ≡ None →
-    Keeps t r (Workers n) r.pid ran × KeepsFloor t r (Workers n) ran
+    (t : Table) (r : Record) (n : ℕ) (pattern : Pattern) → IsAccepted t r (Workers n) pattern →
+    Keeps t r (Workers n) r.pid (run_of r (Workers n) pattern t) × KeepsFloor t r (Workers n) (run_of r (Workers n) pattern t)
+
+abbrev pub MendHeadline : Type 0
+MendHeadline =
+    (t : Table) (r : Record) (overdue : List ℕ) (pattern : Pattern) → IsAccepted t r (Mend overdue) pattern →
+    Keeps t r (Mend overdue) r.pid (run_of r (Mend overdue) pattern t)
+
+abbrev pub ReopenHeadline : Type 0
+ReopenHeadline = (t : Table) (r : Record) (pattern : Pattern) → IsAccepted t r Reopen pattern → Keeps t r Reopen r.pid (run_of r Reopen pattern t)
+
+abbrev pub ReloadHeadline : Type 0
+ReloadHeadline =
+    (t : Table) (r : Record) (s : Settings) (pattern : Pattern) → IsAccepted t r (Reload s) pattern →
+    Keeps t r (Reload s) r.pid (run_of r (Reload s) pattern t) × KeepsFloor t r (Reload s) (run_of r (Reload s) pattern t)
+
+abbrev pub StopHeadline : Type 0
+StopHeadline =
+    (t : Table) (r : Record) (quick : Bool) (pattern : Pattern) → IsAccepted t r (Stop quick) pattern → Keeps t r (Stop quick) r.pid (run_of r (Stop quick) pattern t)
+
+-- The master that reigns at the end is the old one or the new one.
+abbrev pub UpgradeHeadline : Type 0
+UpgradeHeadline =
+    (t : Table) (r : Record) (s : Settings) (pattern : Pattern) → IsAccepted t r (Upgrade s) pattern →
+    (pid : ℕ) × Keeps t r (Upgrade s) pid (run_of r (Upgrade s) pattern t) × KeepsFloor t r (Upgrade s) (run_of r (Upgrade s) pattern t)
+
+-- And its run has the target's manner.
+abbrev pub InManner : Target → Type 0
+InManner target =
+    (t : Table) (r : Record) (pattern : Pattern) → IsAccepted t r target pattern →
+    Manner r target (report_of (run_of r target pattern t)).outcome t (run_of r target pattern t)
 
 -- A run makes no more calls than the longest path of its plan has steps.
 abbrev pub RunsWithin : Type 0
-RunsWithin = (plan : Tree) (pattern : Pattern) (p : Progress) → length (run plan pattern p).entries ≤ height plan
+RunsWithin = (text : List ℕ) (plan : Tree) (pattern : Pattern) (p : Progress) → length (run_with text plan pattern p).entries ≤ height plan

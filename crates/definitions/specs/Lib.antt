@@ -1,14 +1,16 @@
 pub mod Table
 pub mod Exits
+pub mod Handover
 pub mod Calls
 pub mod Settings
 pub mod Formed
 pub mod Service
 pub mod Record
+pub mod Target
 pub mod Tree
 pub mod Plans
 pub mod Path
-pub mod Target
 pub mod Run
 pub mod After
+pub mod Manner
 pub mod Claims

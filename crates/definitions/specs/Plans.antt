@@ -1,12 +1,13 @@
 -- The tree of each target, from named pieces.
-use Rattle.std.specs.Prelude.{ℕ, zero, suc, not, nat_lt, List, [], ◌∷◌, Option, Some, None, filter, reverse}
+use Rattle.std.specs.Prelude.{ℕ, zero, suc, not, ◌||◌, nat_lt, Bool, true, false, List, [], ◌∷◌, ◌++◌, Option, Some, None, filter, map, reverse, option_map}
 use Rattle.listener_set.specs.Numbers.{numbers_below, is_in}
-use Rattle.definitions.specs.Table.{Generation}
-use Rattle.definitions.specs.Calls.{Call, Fork, AwaitReady, Quit, Kill, Census}
-use Rattle.definitions.specs.Record.{Record}
-use Rattle.definitions.specs.declared.targets.Target.{Target as Wanted}
-use Rattle.definitions.specs.declared.targets.Target.TheVariants as target
-use Rattle.definitions.specs.Tree.{Reply, Side, Old, Target, End, Done, RolledBack, ShortOld, ShortTarget, Make, ForkLacking, AwaitLacking, KillLacking, Tree, Branches, Ends, Does, Nothing, Branch}
+use Rattle.definitions.specs.Table.{Address, FilePath, Generation}
+use Rattle.definitions.specs.Calls.{Call, OpenAt, CloseAt, Fork, AwaitReady, Quit, Kill, Census, AwaitGone, SpawnMaster, Adopt, WritePid, MovePid, RemovePid, Alive, Leave, Usr1, TermMaster}
+use Rattle.definitions.specs.Record.{Record, PidNote, InPlace, AtOldbin, OldbinLeft, Left, NoFile, oldbin, addresses_of}
+use Rattle.definitions.specs.Target.{Target, Workers, Mend, Reopen, Reload, Upgrade, Stop, only_in, reload_generation, upgrade_generation}
+use Rattle.definitions.specs.After.{next_config}
+use Rattle.definitions.specs.Tree.{Reply, plain_reply, replies_to, Side, End, Done, RolledBack, ShortOld, ShortTarget, Make, ForkLacking, AwaitLacking, KillLacking, Tree, Branches, Ends, Does, Nothing, Branch}
+use Rattle.definitions.specs.declared.plans.Side.TheVariants as side
 use Rattle.definitions.specs.declared.calls.Reply.TheVariants as reply
 
 ---- Edges
@@ -31,6 +32,20 @@ then_edge rest = on (reply.Fine ∷ []) rest Nothing
 abbrev pub census_edges : Tree → Tree → Branches
 census_edges full short = on (reply.Full ∷ []) full (on (reply.Short ∷ []) short Nothing)
 
+abbrev pub open_edges : Tree → Tree → Branches
+open_edges ok bad = on (reply.Opened ∷ []) ok (on (reply.InUse ∷ reply.TooMany ∷ reply.Denied ∷ reply.NoMemory ∷ []) bad Nothing)
+
+-- whatever is answered
+abbrev pub fork_any_edges : Tree → Branches
+fork_any_edges next = on (reply.Forked ∷ reply.Again ∷ reply.NoMemory ∷ []) next Nothing
+
+abbrev pub gone_edges : Tree → Tree → Branches
+gone_edges gone late = on (reply.Gone ∷ []) gone (on (reply.Late ∷ []) late Nothing)
+
+-- the rest is the same, and the note is another
+abbrev pub note_edges : Option PidNote → Option PidNote → Tree → Branches
+note_edges fine fault rest = Branch (reply.Fine ∷ []) fine rest (Branch (reply.IoFault ∷ []) fault rest Nothing)
+
 abbrev pub does : ℕ → Call → Branches → Tree
 does by call branches = Does by (Make call) [] branches
 
@@ -40,12 +55,12 @@ census by g set branches = Does by (Make (Census g)) set branches
 ---- Settle
 
 abbrev pub full_end : Side → End
-full_end Old = RolledBack
-full_end Target = Done
+full_end side.Old = RolledBack
+full_end side.Target = Done
 
 abbrev pub short_end : Side → End
-short_end Old = ShortOld
-short_end Target = ShortTarget
+short_end side.Old = ShortOld
+short_end side.Target = ShortTarget
 
 -- One round: start the lowest number that is lacking, and go on whatever was answered. A failed fork goes straight on.
 abbrev pub round : ℕ → Generation → Tree → Tree
@@ -78,21 +93,206 @@ abbrev pub quits : ℕ → Generation → List ℕ → Tree → Tree
 quits by g [] rest = rest
 quits by g (k ∷ ks) rest = does by (Quit g k) (then_edge (quits by g ks rest))
 
----- Targets
+-- Fork these numbers upwards, whatever is answered.
+abbrev pub forks_any : ℕ → Generation → List ℕ → Tree → Tree
+forks_any by g [] rest = rest
+forks_any by g (k ∷ ks) rest = does by (Fork g k) (fork_any_edges (forks_any by g ks rest))
+
+-- Wait for these numbers upwards, whatever is answered; one that is late is killed.
+abbrev pub awaits_any : ℕ → Generation → List ℕ → Tree → Tree
+awaits_any by g [] rest = rest
+awaits_any by g (k ∷ ks) rest =
+    does by (AwaitReady g k) (await_any_edges (awaits_any by g ks rest) (does by (Kill g k) (then_edge (awaits_any by g ks rest))))
+
+-- Fork all, then wait for all, going on after a failure.
+abbrev pub starts_any : ℕ → Generation → List ℕ → Tree → Tree
+starts_any by g ks rest = forks_any by g ks (awaits_any by g ks rest)
+
+abbrev pub kills : ℕ → Generation → List ℕ → Tree → Tree
+kills by g [] rest = rest
+kills by g (k ∷ ks) rest = does by (Kill g k) (then_edge (kills by g ks rest))
+
+abbrev pub usr1s : ℕ → Generation → List ℕ → Tree → Tree
+usr1s by g [] rest = rest
+usr1s by g (k ∷ ks) rest = does by (Usr1 g k) (then_edge (usr1s by g ks rest))
+
+-- Wait until these are gone, in their order; one that is late is killed.
+abbrev pub awaits_gone : ℕ → Generation → List ℕ → Tree → Tree
+awaits_gone by g [] rest = rest
+awaits_gone by g (k ∷ ks) rest =
+    does by (AwaitGone g k) (gone_edges (awaits_gone by g ks rest) (does by (Kill g k) (then_edge (awaits_gone by g ks rest))))
+
+---- Opens and closes
+
+-- Open these in their order. The first that fails leads to `bad` of those that were opened, the last first.
+abbrev pub opens : ℕ → List Address → List Address → (List Address → Tree) → (List Address → Tree) → Tree
+opens by [] done ok bad = ok done
+opens by (a ∷ rest) done ok bad = does by (OpenAt a) (open_edges (opens by rest (a ∷ done) ok bad) (bad done))
+
+abbrev pub closes : ℕ → List Address → Tree → Tree
+closes by [] rest = rest
+closes by (a ∷ more) rest = does by (CloseAt a) (then_edge (closes by more rest))
+
+---- One master
 
 -- The numbers below n that are lacking are started, those from n on quit downwards, and the target settles. A failed start
 -- quits what was forked, downwards, and the old side settles.
 abbrev pub workers_tree : ℕ → Generation → List ℕ → ℕ → ℕ → Tree
 workers_tree by g ready retries n =
     starts by g (filter (λ k. not (is_in ready k)) (numbers_below n))
-    (quits by g (reverse (filter (λ k. not (nat_lt k n)) ready)) (settle by g (numbers_below n) Target retries))
-    (λ forked. quits by g forked (settle by g ready Old retries))
+    (quits by g (reverse (filter (λ k. not (nat_lt k n)) ready)) (settle by g (numbers_below n) side.Target retries))
+    (λ forked. quits by g forked (settle by g ready side.Old retries))
 
--- The plan of a target for a running master; targets that have none yet aside.
-abbrev pub planned : Record → Wanted → Option Tree
-planned r (target.Workers n) = Some (workers_tree r.generation.image r.generation r.ready r.retries n)
-planned r (target.Mend overdue) = None
-planned r target.Reopen = None
-planned r (target.Reload settings) = None
-planned r (target.Upgrade settings) = None
-planned r (target.Stop quick) = None
+-- Those that are overdue and ready are killed; each wanted number that isn't ready or is overdue is started, going on after
+-- a failure; and the target settles.
+abbrev pub mend_tree : ℕ → Generation → List ℕ → ℕ → List ℕ → ℕ → Tree
+mend_tree by g ready retries overdue wanted =
+    kills by g (filter (is_in ready) overdue)
+    (starts_any by g (filter (λ k. not (is_in ready k) || is_in overdue k) (numbers_below wanted)) (settle by g (numbers_below wanted) side.Target retries))
+
+-- Each ready worker is told, and the target settles.
+abbrev pub reopen_tree : ℕ → Generation → List ℕ → ℕ → Tree
+reopen_tree by g ready retries = usr1s by g ready (settle by g ready side.Target retries)
+
+-- Back from a reload: the new workers quit, what was opened is closed, the last first, and the old side settles.
+abbrev pub reload_back : ℕ → Generation → List ℕ → ℕ → List Address → List ℕ → Tree
+reload_back by g ready retries opened forked = quits by (reload_generation g) forked (closes by opened (settle by g ready side.Old retries))
+
+-- On with a reload: the old workers quit, the dropped addresses are closed in the old order, and the target settles.
+abbrev pub reload_on : ℕ → Generation → List ℕ → ℕ → List Address → ℕ → Tree
+reload_on by g ready retries dropped n =
+    quits by g (reverse ready) (closes by dropped (settle by (reload_generation g) (numbers_below n) side.Target retries))
+
+-- The added addresses are opened, the new workers started and counted; if all is well, it goes on, and else back.
+abbrev pub reload_tree : ℕ → Generation → List ℕ → ℕ → List Address → List Address → ℕ → Tree
+reload_tree by g ready retries old wanted n =
+    opens by (only_in wanted old) []
+    (λ opened. starts by (reload_generation g) (numbers_below n)
+    (census by (reload_generation g) (numbers_below n) (census_edges
+    (reload_on by g ready retries (only_in old wanted) n)
+    (reload_back by g ready retries opened (reverse (numbers_below n)))))
+    (reload_back by g ready retries opened))
+    (λ opened. closes by opened (settle by g ready side.Old retries))
+
+---- Stop
+
+-- whether a file stands at the path with the suffix
+abbrev pub has_oldbin : PidNote → Bool
+has_oldbin InPlace = false
+has_oldbin AtOldbin = true
+has_oldbin OldbinLeft = true
+has_oldbin Left = false
+has_oldbin NoFile = false
+
+-- The file with the suffix is removed, where there is one; a fault leaves it.
+abbrev pub remove_oldbin_too : ℕ → FilePath → Bool → Tree → Tree
+remove_oldbin_too by path true rest = does by (RemovePid (oldbin path)) (note_edges None (Some Left) rest)
+remove_oldbin_too by path false rest = rest
+
+-- The pid files are removed.
+abbrev pub removes : ℕ → Option FilePath → PidNote → Tree → Tree
+removes by None note rest = rest
+removes by (Some path) note rest = does by (RemovePid path) (note_edges (Some NoFile) (Some Left) (remove_oldbin_too by path (has_oldbin note) rest))
+
+abbrev pub stopped : ℕ → Tree
+stopped by = does by Leave (then_edge (Ends Done))
+
+-- The workers quit and are waited for, or are killed at once; the files are removed, and the master leaves.
+abbrev pub stop_tree : ℕ → Generation → List ℕ → Option FilePath → PidNote → Bool → Tree
+stop_tree by g ready path note true = kills by g ready (removes by path note (stopped by))
+stop_tree by g ready path note false = quits by g (reverse ready) (awaits_gone by g (reverse ready) (removes by path note (stopped by)))
+
+---- Upgrade
+
+abbrev pub others : List Reply → List Reply
+others [] = []
+others (r ∷ rs) = rs
+
+-- A step of the new master: the plain reply goes on; any other, and that the master is gone, goes back.
+abbrev pub tries : ℕ → Call → List ℕ → Tree → Tree → Tree
+tries by call set rest back = Does by (Make call) set (on (plain_reply call ∷ []) rest (on (others (replies_to call) ++ reply.MasterGone ∷ []) back Nothing))
+
+abbrev pub tries_all : ℕ → List Call → Tree → Tree → Tree
+tries_all by [] rest back = rest
+tries_all by (call ∷ calls) rest back = tries by call [] (tries_all by calls rest back) back
+
+abbrev pub pid_calls : Option FilePath → (FilePath → Call) → List Call
+pid_calls None call = []
+pid_calls (Some path) call = call path ∷ []
+
+-- What the new master does before it is counted: it adopts, closes the dropped addresses and opens the added ones, forks its
+-- workers and waits for them, and writes its pid.
+abbrev pub new_calls : Generation → Option FilePath → List Address → List Address → ℕ → List Call
+new_calls g path old wanted n =
+    Adopt ∷ map CloseAt (only_in old wanted) ++ map OpenAt (only_in wanted old) ++ map (Fork (upgrade_generation g)) (numbers_below n)
+    ++ map (AwaitReady (upgrade_generation g)) (numbers_below n) ++ pid_calls path WritePid
+
+-- The pid file goes aside, where it isn't yet.
+abbrev pub move_aside : ℕ → Option FilePath → PidNote → Tree → Tree → Tree
+move_aside by None note ok bad = ok
+move_aside by (Some path) AtOldbin ok bad = ok
+move_aside by (Some path) note ok bad = does by (MovePid path (oldbin path)) (on (reply.Fine ∷ []) ok (on (reply.IoFault ∷ []) bad Nothing))
+
+-- The pid file goes back to its path.
+abbrev pub move_back : ℕ → Option FilePath → Tree → Tree
+move_back by None rest = rest
+move_back by (Some path) rest = does by (MovePid (oldbin path) path) (note_edges (Some InPlace) (Some AtOldbin) rest)
+
+-- The file with the suffix goes.
+abbrev pub remove_oldbin : ℕ → Option FilePath → Tree → Tree
+remove_oldbin by None rest = rest
+remove_oldbin by (Some path) rest = does by (RemovePid (oldbin path)) (note_edges (Some InPlace) (Some OldbinLeft) rest)
+
+-- Back without a new master, and with one.
+abbrev pub back_alone : ℕ → Generation → List ℕ → ℕ → Option FilePath → Tree
+back_alone by g ready retries path = move_back by path (settle by g ready side.Old retries)
+
+abbrev pub back_from : ℕ → ℕ → Generation → List ℕ → ℕ → Option FilePath → Tree
+back_from by new g ready retries path = does by (TermMaster new) (then_edge (back_alone by g ready retries path))
+
+-- Back after the old workers are gone: they are started again.
+abbrev pub back_late : ℕ → ℕ → Generation → List ℕ → ℕ → Option FilePath → Tree
+back_late by new g ready retries path = does by (TermMaster new) (then_edge (starts_any by g ready (back_alone by g ready retries path)))
+
+-- The old master leaves; the new one removes the old file and settles.
+abbrev pub hand_over : ℕ → ℕ → Generation → ℕ → Option FilePath → ℕ → Tree
+hand_over by new g retries path n = does by Leave (then_edge (remove_oldbin new path (settle new (upgrade_generation g) (numbers_below n) side.Target retries)))
+
+-- The old workers quit and are waited for; then, if the new master still lives, the old one leaves.
+abbrev pub relieve : ℕ → ℕ → Generation → List ℕ → ℕ → Option FilePath → ℕ → Tree
+relieve by new g ready retries path n =
+    quits by g (reverse ready) (awaits_gone by g (reverse ready)
+    (does by (Alive new) (on (reply.IsAlive ∷ []) (hand_over by new g retries path n) (on (reply.Gone ∷ []) (back_late by new g ready retries path) Nothing))))
+
+abbrev pub spawn_edges : Tree → Tree → Branches
+spawn_edges ok bad = on (reply.Spawned ∷ []) ok (on (reply.Again ∷ reply.NoMemory ∷ reply.NoImage ∷ []) bad Nothing)
+
+abbrev pub upgrade_tree : ℕ → Generation → List ℕ → ℕ → Option FilePath → PidNote → List Address → List Address → ℕ → Tree
+upgrade_tree by g ready retries path note old wanted n =
+    let new = (upgrade_generation g).image in
+    let back = back_from by new g ready retries path in
+    move_aside by path note
+    (does by (SpawnMaster new) (spawn_edges
+    (tries_all new (new_calls g path old wanted n) (tries new (Census (upgrade_generation g)) (numbers_below n) (relieve by new g ready retries path n) back) back)
+    (back_alone by g ready retries path)))
+    (settle by g ready side.Old retries)
+
+---- The plan of a target
+
+abbrev pub plan_tree : Record → Target → Tree
+plan_tree r (Workers n) = workers_tree r.generation.image r.generation r.ready r.retries n
+plan_tree r (Mend overdue) = mend_tree r.generation.image r.generation r.ready r.retries overdue r.wanted
+plan_tree r Reopen = reopen_tree r.generation.image r.generation r.ready r.retries
+plan_tree r (Reload s) = reload_tree r.generation.image r.generation r.ready r.retries (addresses_of r) s.listeners s.workers
+plan_tree r (Upgrade s) = upgrade_tree r.generation.image r.generation r.ready r.retries r.pid_path r.note (addresses_of r) s.listeners s.workers
+plan_tree r (Stop quick) = stop_tree r.generation.image r.generation r.ready r.pid_path r.note quick
+
+-- The plan of a target for a running master. A reload has none where the number of its configuration would pass its limit,
+-- and an upgrade is planned apart.
+abbrev pub planned : Record → Target → Option Tree
+planned r (Workers n) = Some (plan_tree r (Workers n))
+planned r (Mend overdue) = Some (plan_tree r (Mend overdue))
+planned r Reopen = Some (plan_tree r Reopen)
+planned r (Reload s) = option_map (λ g. plan_tree r (Reload s)) (next_config r.generation)
+planned r (Upgrade s) = None
+planned r (Stop quick) = Some (plan_tree r (Stop quick))

@@ -2,7 +2,7 @@
 use Rattle.std.specs.Prelude.{ℕ, ◌≡◌, ◌+◌, Bool, true, false, List, [], ◌∷◌, Option, Some, None, if◌then◌else◌}
 use Rattle.definitions.specs.Table.{Table}
 use Rattle.definitions.specs.Exits.{Name, after_exits, losses_of}
-use Rattle.definitions.specs.Calls.{Call, Answer, Fate, Stepped, step}
+use Rattle.definitions.specs.Calls.{Call, Answer, Fate, Stepped, step, step_with}
 use Rattle.definitions.specs.Tree.{Reply, among, reply_of, same_reply, plain_reply, End, PidNote, Order, call_of, Tree, Branches, Ends, Does, Nothing, Branch}
 use Rattle.definitions.specs.Path.{Report, Outcome, outcome_at, Entry, ready_after, lacking_after, went_wrong, first_cause}
 use Rattle.definitions.specs.declared.calls.Answer.TheVariants as answer
@@ -78,9 +78,9 @@ noted (Some n) p = record {
   note = n;
 }
 
--- what a step's call is answered after the exits of its moment
-abbrev pub answered : ℕ → Order → Option Fate → Progress → Stepped
-answered by order f p = step by (call_of order p.lacking) f p.table
+-- what a step's call, which is handed a text, is answered after the exits of its moment
+abbrev pub answered : List ℕ → ℕ → Order → Option Fate → Progress → Stepped
+answered text by order f p = step_with text by (call_of order p.lacking) f p.table
 
 -- how a run ends: at an end of the plan, or where a step has no edge for the answer
 pub data Ending : Type 0 where
@@ -105,24 +105,31 @@ with_entry entry before middle rest = record {
   last = rest.last;
 }
 
--- The run of a tree, and of what is behind the first of some edges that has the reply.
+-- The run of a tree, each call of which is handed a text, and of what is behind the first of some edges that has the reply.
 abbrev mutual
-  pub run : Tree → Pattern → Progress → Ran
-  run (Ends end) pattern p = ended (At end) p
-  run (Does by order set branches) pattern p =
+  pub run_with : List ℕ → Tree → Pattern → Progress → Ran
+  run_with text (Ends end) pattern p = ended (At end) p
+  run_with text (Does by order set branches) pattern p =
       let moment = pattern (p.calls + 1) in
       let middle = after_moment moment.exits p in
-      let s = answered by order moment.fate middle in
+      let s = answered text by order moment.fate middle in
       with_entry (record { by = by; call = call_of order middle.lacking; answer = s.answer }) p middle
-      (goes branches (reply_of set s.answer) pattern (after_call order set s middle))
+      (goes_with text branches (reply_of set s.answer) pattern (after_call order set s middle))
 
-  pub goes : Branches → Reply → Pattern → Progress → Ran
-  goes Nothing r pattern p = ended Lost p
-  goes (Branch replies said rest more) r pattern p =
+  pub goes_with : List ℕ → Branches → Reply → Pattern → Progress → Ran
+  goes_with text Nothing r pattern p = ended Lost p
+  goes_with text (Branch replies said rest more) r pattern p =
       elim (among replies r) as (λ b. Ran) [
-        | true ↦ run rest pattern (noted said p)
-        | false ↦ goes more r pattern p
+        | true ↦ run_with text rest pattern (noted said p)
+        | false ↦ goes_with text more r pattern p
       ]
+
+-- A run of a plan that hands nothing over.
+abbrev pub run : Tree → Pattern → Progress → Ran
+run tree pattern p = run_with [] tree pattern p
+
+abbrev pub goes : Branches → Reply → Pattern → Progress → Ran
+goes branches r pattern p = goes_with [] branches r pattern p
 
 -- the outcome of a run that ends so, by what its last census lacked
 abbrev pub outcome_of : Ending → List ℕ → Outcome

@@ -1,6 +1,9 @@
 -- The service that a target wants.
-use Rattle.std.specs.Prelude.{ℕ, ◌+◌, ◌≤◌, List, [], length, ⊤}
+use Rattle.std.specs.Prelude.{⊤, ℕ, ◌≤◌, ◌+◌, not, List, [], length, filter}
 use Rattle.definitions.specs.Table.{Address, Generation}
+use Rattle.listener_set.specs.AddressList.{has}
+use Rattle.definitions.specs.Handover.{Handover, spelling}
+use Rattle.definitions.specs.Settings.{Settings}
 use Rattle.definitions.specs.Service.{Service, uniform}
 use Rattle.definitions.specs.Record.{Record, addresses_of}
 pub use Rattle.definitions.specs.declared.targets.Target.{Target}
@@ -14,6 +17,10 @@ IsTarget Reopen = ⊤
 IsTarget (Reload s) = ⊤
 IsTarget (Upgrade s) = ⊤
 IsTarget (Stop quick) = ⊤
+
+-- what the first list has and the second lacks
+abbrev pub only_in : List Address → List Address → List Address
+only_in addresses others = filter (λ a. not (has others a)) addresses
 
 -- A reload's workers are of the next configuration; an upgrade's are of the next image too.
 abbrev pub reload_generation : Generation → Generation
@@ -52,3 +59,24 @@ count_wanted r (Stop quick) = 0
 -- The service that a target wants: so many workers of one generation at each of its addresses.
 abbrev pub want : Record → Target → Service
 want r target = uniform (addresses_wanted r target) (generation_wanted r target) (count_wanted r target)
+
+---- What a new master is handed
+
+abbrev pub handover_of : Record → Settings → Handover
+handover_of r s = record {
+  old_pid = r.pid;
+  generation = upgrade_generation r.generation;
+  listeners = r.listeners;
+  want = s.listeners;
+  workers = s.workers;
+  pid_file = r.pid_path;
+}
+
+-- The text that goes with each call of a plan.
+abbrev pub text_handed : Record → Target → List ℕ
+text_handed r (Upgrade s) = spelling (handover_of r s)
+text_handed r (Workers n) = []
+text_handed r (Mend overdue) = []
+text_handed r Reopen = []
+text_handed r (Reload s) = []
+text_handed r (Stop quick) = []

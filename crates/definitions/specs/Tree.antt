@@ -2,7 +2,7 @@
 use Rattle.std.specs.Prelude.{ℕ, suc, max, Bool, true, false, ◌&&◌, ◌||◌, not, List, [], ◌∷◌, Option, Some, None, is_some}
 use Rattle.std.specs.List.{list_any, list_all}
 use Rattle.listener_set.specs.Numbers.{lacks}
-use Rattle.definitions.specs.Calls.{Call, OpenAt, CloseAt, Fork, AwaitReady, Quit, Kill, Census, Answer}
+use Rattle.definitions.specs.Calls.{Call, OpenAt, CloseAt, Fork, AwaitReady, Quit, Kill, Census, AwaitGone, SpawnMaster, Adopt, WritePid, MovePid, RemovePid, Alive, Leave, Usr1, TermMaster, Answer}
 use Rattle.definitions.specs.declared.calls.Answer.TheVariants as answer
 pub use Rattle.definitions.specs.declared.calls.Reply.{Reply}
 pub use Rattle.definitions.specs.declared.calls.Reply.TheVariants as reply
@@ -54,6 +54,12 @@ reply_of set answer.IsReady = reply.IsReady
 reply_of set answer.Gone = reply.Gone
 reply_of set answer.Late = reply.Late
 reply_of set (answer.Counted ns) = full_or_short (lacks set ns)
+reply_of set answer.Spawned = reply.Spawned
+reply_of set answer.NoImage = reply.NoImage
+reply_of set answer.Adopted = reply.Adopted
+reply_of set answer.Refused = reply.Refused
+reply_of set answer.IoFault = reply.IoFault
+reply_of set answer.IsAlive = reply.IsAlive
 reply_of set answer.MasterGone = reply.MasterGone
 
 -- the replies to a call, the plain one first; besides, each may be answered that the master is gone
@@ -65,6 +71,16 @@ replies_to (AwaitReady g k) = reply.IsReady ∷ reply.Gone ∷ reply.Late ∷ []
 replies_to (Quit g k) = reply.Fine ∷ []
 replies_to (Kill g k) = reply.Fine ∷ []
 replies_to (Census g) = reply.Full ∷ reply.Short ∷ []
+replies_to (AwaitGone g k) = reply.Gone ∷ reply.Late ∷ []
+replies_to (SpawnMaster i) = reply.Spawned ∷ reply.Again ∷ reply.NoMemory ∷ reply.NoImage ∷ []
+replies_to Adopt = reply.Adopted ∷ reply.Refused ∷ []
+replies_to (WritePid path) = reply.Fine ∷ reply.IoFault ∷ []
+replies_to (MovePid from to) = reply.Fine ∷ reply.IoFault ∷ []
+replies_to (RemovePid path) = reply.Fine ∷ reply.IoFault ∷ []
+replies_to (Alive i) = reply.IsAlive ∷ reply.Gone ∷ []
+replies_to Leave = reply.Fine ∷ []
+replies_to (Usr1 g k) = reply.Fine ∷ []
+replies_to (TermMaster i) = reply.Fine ∷ []
 
 -- the plain reply to a call; of a census, a full one
 abbrev pub plain_reply : Call → Reply
@@ -75,6 +91,16 @@ plain_reply (AwaitReady g k) = reply.IsReady
 plain_reply (Quit g k) = reply.Fine
 plain_reply (Kill g k) = reply.Fine
 plain_reply (Census g) = reply.Full
+plain_reply (AwaitGone g k) = reply.Gone
+plain_reply (SpawnMaster i) = reply.Spawned
+plain_reply Adopt = reply.Adopted
+plain_reply (WritePid path) = reply.Fine
+plain_reply (MovePid from to) = reply.Fine
+plain_reply (RemovePid path) = reply.Fine
+plain_reply (Alive i) = reply.IsAlive
+plain_reply Leave = reply.Fine
+plain_reply (Usr1 g k) = reply.Fine
+plain_reply (TermMaster i) = reply.Fine
 
 -- whether a call can be answered so
 abbrev pub is_listed : Call → Answer → Bool

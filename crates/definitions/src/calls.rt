@@ -1,5 +1,5 @@
 //! Calls of the kernel, their answers, and how a pattern makes them fail.
-use listener_set::{Address, Generation, Numbers};
+use listener_set::{Address, FilePath, Generation, Numbers};
 
 /// A call that a master makes.
 #[derive(Clone, Copy, Debug, PartialEq, Eq)]
@@ -18,6 +18,26 @@ pub enum Call {
     Kill(Generation, u32),
     /// Counts the caller's ready workers of the generation.
     Census(Generation),
+    /// Waits until a worker is gone.
+    AwaitGone(Generation, u32),
+    /// Starts a master of the image, with the caller's sockets under the same descriptors.
+    SpawnMaster(u32),
+    /// The caller takes over what the handover's text says.
+    Adopt,
+    /// Writes the caller's process number to the file.
+    WritePid(FilePath),
+    /// Renames a file, from the first path to the second.
+    MovePid(FilePath, FilePath),
+    /// Removes the file.
+    RemovePid(FilePath),
+    /// Asks whether the master of the image lives.
+    Alive(u32),
+    /// The caller ends, with its workers.
+    Leave,
+    /// Tells a worker to open its logs anew.
+    Usr1(Generation, u32),
+    /// Ends the master of the image, with its workers.
+    TermMaster(u32),
 }
 
 /// What a call is answered.
@@ -47,6 +67,18 @@ pub enum Answer {
     Late,
     /// These workers are ready.
     Counted(Numbers),
+    /// The master is started.
+    Spawned,
+    /// There is no program of the image.
+    NoImage,
+    /// The handover is the caller's own image, descriptors and addresses.
+    Adopted,
+    /// The handover is no such text.
+    Refused,
+    /// The file could not be written, renamed or removed.
+    IoFault,
+    /// The master lives.
+    IsAlive,
     /// The master that should make the call is gone.
     MasterGone,
 }
@@ -83,5 +115,11 @@ pub enum Reply {
     Full,
     /// A census that lacks a number of its step's set.
     Short,
+    Spawned,
+    NoImage,
+    Adopted,
+    Refused,
+    IoFault,
+    IsAlive,
     MasterGone,
 }

@@ -5,6 +5,7 @@
 #![tactic(auto)]
 
 mod calls;
+mod handover;
 mod names;
 mod plans;
 mod reports;
@@ -13,6 +14,7 @@ mod table;
 mod targets;
 
 pub use calls::{Answer, Call, Fate, Reply};
+pub use handover::HandoverRefusal;
 pub use names::{Actor, Name};
 pub use plans::{End, Order, PidNote, Side};
 pub use reports::{Entry, Outcome, Report};

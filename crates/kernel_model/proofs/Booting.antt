@@ -12,13 +12,14 @@ use Rattle.listener_set.specs.Descriptors as pairs
 use Rattle.definitions.specs.declared.table.Limits.{Limits}
 use Rattle.definitions.specs.Table.{Address, FilePath, Generation, same_generation, Hold, Process, Master, is_active, is_worker}
 use Rattle.definitions.specs.Record.{first_generation}
+use Rattle.definitions.specs.Calls.{is_image}
 use Rattle.definitions.specs.Formed.{IsQuiet, HasParent, IsAscending}
 use Rattle.kernel_model.specs.Holds.{address_of, seen_hold, seen_holds}
 use Rattle.kernel_model.specs.declared.store.Store.{Store}
 use Rattle.kernel_model.specs.Seen.{seen_rows, seen_file, seen}
 use Rattle.kernel_model.specs.Room.{HasSockets, IsKept, IsSound}
 use Rattle.kernel_model.specs.Boot.{first_pairs, holds_from, first_worker, first_rows, first_files, booted}
-use Rattle.kernel_model.proofs.Lists.{list_any-map}
+use Rattle.kernel_model.proofs.Lists.{list_any-map, map-push}
 use Rattle.kernel_model.proofs.CallSteps.{all-append, ascending-append, count-append, and-both}
 
 -- ---- the first descriptors
@@ -102,10 +103,6 @@ holds_from-push fd s (x ∷ xs) a =
     let last : record { fd = fd + 1 + length xs; socket = s + 1 + length xs; address = a } ≡ (let h : Hold = record { fd = fd + suc (length xs); socket = s + suc (length xs); address = a } in h) = λ i. record { fd = d i; socket = n i; address = a } in
     ap (λ hs. (record { fd = fd; socket = s; address = x }) ∷ hs) (holds_from-push (fd + 1) (s + 1) xs a ∙ ap (λ (h : Hold). holds_from (fd + 1) (s + 1) xs ++ h ∷ []) last)
 
-map-push : {X Y : Type 0} (f : X → Y) (xs : List X) (x : X) → map f (xs ++ x ∷ []) ≡ map f xs ++ f x ∷ []
-map-push f [] x = refl
-map-push f (y ∷ xs) x = ap (λ ys. f y ∷ ys) (map-push f xs x)
-
 seen-first : (addresses : List Address) (n : ℕ) → n ≤ length addresses → seen_holds addresses (first_pairs n) ≡ holds_from 3 1 (take n addresses)
 seen-first addresses zero le = ap (seen_holds addresses) first_pairs-none
 seen-first addresses (suc n) le =
@@ -170,6 +167,18 @@ module _ (holds : List Hold) where
         at true same ih more = let e = same refl in let none = ih.0 (omega arith) in (λ le. absurd (omega arith), omega arith)
         at false same ih more = (λ le. (let none = ih.0 (omega arith) in omega arith), (let most = ih.1 in omega arith))
 
+-- no worker is a master
+count-masters : (holds : List Hold) (i n : ℕ) → count_by (is_image i) (map (first_worker holds) (numbers_below n)) ≡ 0
+count-masters holds i zero = refl
+count-masters holds i (suc n) =
+    let more = ap (count_by (is_image i)) (map-push (first_worker holds) (numbers_below n) n) ∙ count-append (is_image i) (map (first_worker holds) (numbers_below n)) (first_worker holds n) in
+    let rest = count-masters holds i n in
+    omega arith
+
+one-at-most : (b : Bool) {m n : ℕ} → m ≡ cond b 1 0 + n → n ≡ 0 → m ≤ 1
+one-at-most true e z = omega (arith, e, z)
+one-at-most false e z = omega (arith, e, z)
+
 within-from : (next fd s : ℕ) (xs : List Address) → 1 ≤ s → s + length xs ≤ next → AllByRecursion (λ (h : Hold). (1 ≤ h.socket) × (h.socket < next)) (holds_from fd s xs)
 within-from next fd s [] least le = tt
 within-from next fd s (x ∷ xs) least le = ((least, omega arith), within-from next (fd + 1) (s + 1) xs (omega arith) (omega arith))
@@ -181,6 +190,10 @@ IsKept-booted listeners n pid_file limits most =
     let rows = first_rows holds n in
     let sockets = within-from (length listeners + 1) 3 1 listeners (omega arith) (omega arith) in
     record {
+      masters = λ i.
+          let first = sum_by-cons (λ (p : Process). cond (is_image i p) 1 0) (Master 100 1 1 true holds) (map (first_worker holds) (numbers_below n)) in
+          let rest = count-masters holds i n in
+          one-at-most (is_image i (Master 100 1 1 true holds)) first rest;
       formed = record {
         once = λ q g k.
             let test = is_worker is_active q g k in
@@ -208,7 +221,7 @@ module _ (s : Store) (listeners : List Address) (n : ℕ) (pid_file : Option Fil
   pub sound-booted : n ≤ 1024 → limits.descriptors ≤ 64 → length listeners ≤ 64 → IsSound 0 s
   sound-booted few most short = record {
     room = record {
-      memory = record { holders = omega (arith, s.holders.ok.1); addresses = omega (arith, s.addresses.ok.1) };
+      memory = record { holders = omega (arith, s.holders.ok.1); addresses = omega (arith, s.addresses.ok.1); files = omega (arith, s.files.ok.1) };
       process_numbers = omega (arith, next);
       socket_numbers = (let count = ap length same in omega arith);
     };

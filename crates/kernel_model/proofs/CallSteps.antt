@@ -1,26 +1,21 @@
--- Calls keep what every table keeps.
-use Rattle.std.proofs.Common.{◌≡◌, ℕ, ◌+◌, ◌<◌, ◌≤◌, Bool, true, false, cond, ◌&&◌, ◌||◌, nat_eq, nat_lt, List, [], ◌∷◌, ◌++◌, length, Option, Some, None, count_by, refl, ap, subst, ◌∙◌, arith}
+-- A new worker and a new socket keep what every table keeps.
+use Rattle.std.proofs.Common.{◌≡◌, ℕ, ◌+◌, ◌<◌, ◌≤◌, Bool, true, false, cond, ◌&&◌, ◌||◌, nat_eq, nat_lt, List, [], ◌∷◌, ◌++◌, Some, count_by, refl, ap, subst, ◌∙◌, arith}
 use Rattle.std.specs.List.{AllByRecursion, filter_map, list_any}
 use Rattle.std.proofs.lemmas.Bool.{true≢false, false≢true}
 use Rattle.std.proofs.lemmas.Bool.Decides.{nat_tests}
 use Rattle.std.proofs.lemmas.List.Sums.{sum_by-cons}
 use Rattle.std.proofs.lemmas.List.Folds.{list_any-append}
 use Rattle.definitions.specs.declared.table.Stance.TheVariants.{Starting}
-use Rattle.definitions.specs.declared.calls.Call.{Call}
-use Rattle.definitions.specs.declared.calls.Call.TheVariants.{OpenAt, CloseAt, Fork, AwaitReady, Quit, Kill, Census}
-use Rattle.definitions.specs.declared.calls.Answer.{Answer}
-use Rattle.definitions.specs.declared.calls.Fate.{Fate}
-use Rattle.definitions.specs.declared.names.Name.{Name}
-use Rattle.definitions.specs.Table.{Generation, same_generation, Hold, Process, Master, Worker, Foreign, Table, with_rows, number_of, holds_of, is_active, is_starting, is_exited, is_any, is_worker, is_live_master, is_held, Caller, live_master, caller_if}
-use Rattle.definitions.specs.Exits.{change, after_exits}
-use Rattle.definitions.specs.Calls.{Stepped, made_ready, made_draining, with_holds, put_hold, lacks_address, lowest_free, is_row, is_of, is_exited_of, has_process_room, with_new_row, with_new_socket, own_step, fault_at, fault_or_own, step_by, step}
+use Rattle.definitions.specs.Table.{Generation, same_generation, Hold, Process, Master, Worker, Foreign, number_of, holds_of, is_active, is_worker, is_live_master, Caller, live_master, caller_if}
+use Rattle.definitions.specs.Exits.{change}
+use Rattle.definitions.specs.Calls.{is_image, with_holds, put_hold, is_row}
 use Rattle.definitions.specs.Formed.{IsQuiet, HasParent, IsAscending}
-use Rattle.kernel_model.specs.Room.{HasSockets, IsKept}
+use Rattle.kernel_model.specs.Room.{HasSockets}
 use Rattle.kernel_model.proofs.Keeping.{AreKept, Follows, AreKept-becomes, Becomes-filter_map, says-change}
-use Rattle.kernel_model.proofs.Steps.{KeepsMasters, HasParent-up, live-change, same-draining, same-ready, same-holds, worker-named, worker-of, kept-change, kept-dropped, drains_so, ready_so, closes_so, kept-all_exited}
+use Rattle.kernel_model.proofs.Steps.{KeepsMasters, HasParent-up, live-change, same-holds}
 
 -- ---- the caller is a live master
-abbrev AreWithin : ℕ → List Hold → Type 0
+abbrev pub AreWithin : ℕ → List Hold → Type 0
 AreWithin socket hs = AllByRecursion (λ (h : Hold). (1 ≤ h.socket) × (h.socket < socket)) hs
 
 and-left : (a b : Bool) → (a && b) ≡ true → a ≡ true
@@ -63,7 +58,7 @@ pub all-append : (P : Process → Type 0) (rows : List Process) (p : Process) �
 all-append P [] p h one = (one, tt)
 all-append P (x ∷ rows) p h one = (h.0, all-append P rows p h.1 one)
 
-all-up : (P Q : Process → Type 0) → ((p : Process) → P p → Q p) → (rows : List Process) → AllByRecursion P rows → AllByRecursion Q rows
+pub all-up : (P Q : Process → Type 0) → ((p : Process) → P p → Q p) → (rows : List Process) → AllByRecursion P rows → AllByRecursion Q rows
 all-up P Q up [] h = tt
 all-up P Q up (x ∷ rows) h = (up x h.0, all-up P Q up rows h.1)
 
@@ -79,7 +74,7 @@ count-append test (x ∷ rows) p =
     let rest = count-append test rows p in
     omega (arith, first, old, rest)
 
-count-none : (test : Process → Bool) (rows : List Process) → list_any test rows ≡ false → count_by test rows ≡ 0
+pub count-none : (test : Process → Bool) (rows : List Process) → list_any test rows ≡ false → count_by test rows ≡ 0
 count-none test [] e = refl
 count-none test (x ∷ rows) e = sum_by-cons (λ y. cond (test y) 1 0) x rows ∙ at (test x) e (count-none test rows)
   where
@@ -131,6 +126,7 @@ module _ (rows : List Process) (next socket : ℕ) (h : AreKept rows next socket
   pub kept-fork : list_any (is_worker is_active m g k) rows ≡ false → list_any (is_live_master m) rows ≡ true → AreWithin socket hs → AreKept (rows ++ worker_at next m g k hs ∷ []) (next + 1) socket
   kept-fork free lives sockets = record {
     once = once-append free;
+    masters = λ i. (let most = h.masters i in let same = count-append (is_image i) rows (worker_at next m g k hs) in omega arith);
     quiet = all-append IsQuiet rows (worker_at next m g k hs) h.quiet tt;
     parents = parents-append lives;
     ascending = ascending-append rows 0 next (worker_at next m g k hs) refl h.ascending;
@@ -138,7 +134,7 @@ module _ (rows : List Process) (next socket : ℕ) (h : AreKept rows next socket
   }
 
 -- ---- a new socket
-within-wider : (socket : ℕ) (hs : List Hold) → AreWithin socket hs → AreWithin (socket + 1) hs
+pub within-wider : (socket : ℕ) (hs : List Hold) → AreWithin socket hs → AreWithin (socket + 1) hs
 within-wider socket [] w = tt
 within-wider socket (h ∷ hs) w = ((w.0.0, omega (arith, w.0.1)), within-wider socket hs w.1)
 
@@ -152,7 +148,7 @@ within-put socket h (x ∷ xs) least less w = at (nat_lt h.fd x.fd) (within-put 
 
 module _ (rows rows' : List Process) (socket : ℕ) (first : 1 ≤ socket) (up : KeepsMasters rows rows') where
   same_wider : (p : Process) → Follows rows rows' socket (socket + 1) p p
-  same_wider p = record { number = refl; quiet = λ h. h; active = λ q g k e. e; parent = HasParent-up rows rows' up p; sockets = within-wider socket (holds_of p) }
+  same_wider p = record { number = refl; quiet = λ h. h; active = λ q g k e. e; image = λ i e. e; parent = HasParent-up rows rows' up p; sockets = within-wider socket (holds_of p) }
 
   opens_so : (n : ℕ) (h : Hold) → h.socket ≡ socket → (p : Process) → is_row n p ≡ true → Follows rows rows' socket (socket + 1) p (with_holds (put_hold h) p)
   opens_so n h e (Worker m q g k s hs) t = absurd (false≢true t)
@@ -161,6 +157,7 @@ module _ (rows rows' : List Process) (socket : ℕ) (first : 1 ≤ socket) (up :
     number = refl;
     quiet = λ x. tt;
     active = λ q' g k f. f;
+    image = λ i e. e;
     parent = λ x. tt;
     sockets = λ w. within-put (socket + 1) h hs (omega arith) (omega arith) (within-wider socket hs w);
   }
@@ -171,66 +168,3 @@ kept-open rows next socket kept first n h e =
     let up : KeepsMasters rows rows' = λ q t. live-change (is_row n) (with_holds (put_hold h)) (same-holds (put_hold h)) rows q ∙ t in
     let R = Follows rows rows' socket (socket + 1) in
     AreKept-becomes rows rows' next socket (socket + 1) (Becomes-filter_map R (change (is_row n) (with_holds (put_hold h))) (says-change R (same_wider rows rows' socket first up) (is_row n) (with_holds (put_hold h)) (opens_so rows rows' socket first up n h e)) rows) kept
-
--- ---- tables
-kept-table : (t : Table) → IsKept t → AreKept t.rows t.next_process t.next_socket
-kept-table t h = record { once = h.formed.once; quiet = h.formed.quiet; parents = h.formed.parents; ascending = h.formed.ascending; sockets = h.sockets }
-
-kept-rows : (t t' : Table) → IsKept t → AreKept t'.rows t'.next_process t'.next_socket → t.next_socket ≤ t'.next_socket → t'.limits.descriptors ≡ t.limits.descriptors → IsKept t'
-kept-rows t t' h rows le same = record {
-  formed = record { once = rows.once; quiet = rows.quiet; parents = rows.parents; ascending = rows.ascending };
-  sockets = rows.sockets;
-  first = (let first = h.first in omega arith);
-  descriptors = (let most = h.descriptors in omega arith);
-}
-
-pub IsKept-exits : (es : List Name) (t : Table) → IsKept t → IsKept (after_exits es t)
-IsKept-exits es t h = kept-rows t (after_exits es t) h (kept-all_exited t.next_process t.next_socket es t.rows (kept-table t h)) (omega arith) refl
-
--- ---- calls
-one_of : (b : Bool) (x y : Stepped) → (b ≡ true → IsKept x.table) → (b ≡ false → IsKept y.table) → (let z : Stepped = cond b x y in IsKept z.table)
-one_of true x y h g = h refl
-one_of false x y h g = g refl
-
-module _ (image : ℕ) (c : Caller) (t : Table) (h : IsKept t) (found : live_master image t.rows ≡ Some c) where
-  with-rows : (rows : List Process) → AreKept rows t.next_process t.next_socket → IsKept (with_rows t rows)
-  with-rows rows kept = kept-rows t (with_rows t rows) h kept (omega arith) refl
-
-  pub own_step-kept : (call : Call) → (let z : Stepped = own_step c call t in IsKept z.table)
-  own_step-kept (OpenAt a) =
-      one_of (is_held a t.rows) _ _ (λ e. h)
-      (λ e. one_of (nat_lt (length c.holds) t.limits.descriptors) _ _
-      (λ f.
-      let hold : Hold = record { fd = lowest_free c.holds; socket = t.next_socket; address = a } in
-      kept-rows t (with_new_socket t c.number hold) h (kept-open t.rows t.next_process t.next_socket (kept-table t h) h.first c.number hold refl) (omega arith) refl)
-      (λ f. h))
-  own_step-kept (CloseAt a) =
-      with-rows _ (kept-change t.next_process t.next_socket t.rows (kept-table t h) (is_of c.number) (with_holds (lacks_address a)) (same-holds (lacks_address a)) (λ rows' up p e. closes_so t.rows rows' t.next_socket up a p))
-  own_step-kept (Fork g k) =
-      one_of (list_any (is_worker is_active c.number g k) t.rows) _ _ (λ e. h)
-      (λ free. one_of (has_process_room t) _ _
-      (λ e. kept-rows t (with_new_row t (λ n. Worker n c.number g k Starting c.holds)) h
-      (kept-fork t.rows t.next_process t.next_socket (kept-table t h) c.number g k c.holds free (live-caller image t.rows c found) (caller-sockets image t.next_socket t.rows c found h.sockets)) (omega arith) refl)
-      (λ e. h))
-  own_step-kept (AwaitReady g k) =
-      one_of (list_any (is_worker is_active c.number g k) t.rows) _ _
-      (λ e. with-rows _ (kept-change t.next_process t.next_socket t.rows (kept-table t h) (is_worker is_starting c.number g k) made_ready same-ready (λ rows' up p f. ready_so t.rows rows' t.next_socket up c.number g k p f)))
-      (λ e. with-rows _ (kept-dropped t.next_process t.next_socket t.rows (kept-table t h) (is_worker is_exited c.number g k) (worker-named is_exited c.number g k)))
-  own_step-kept (Quit g k) =
-      with-rows _ (kept-change t.next_process t.next_socket t.rows (kept-table t h) (is_worker is_active c.number g k) made_draining same-draining (λ rows' up p e. drains_so t.rows rows' t.next_socket up p))
-  own_step-kept (Kill g k) =
-      with-rows _ (kept-dropped t.next_process t.next_socket t.rows (kept-table t h) (is_worker is_any c.number g k) (worker-named is_any c.number g k))
-  own_step-kept (Census g) =
-      with-rows _ (kept-dropped t.next_process t.next_socket t.rows (kept-table t h) (is_exited_of c.number) (worker-of c.number))
-
-  faulted-kept : (a : Option Answer) (call : Call) → (let z : Stepped = fault_or_own a c call t in IsKept z.table)
-  faulted-kept None call = own_step-kept call
-  faulted-kept (Some a) call = h
-
-step_by-kept : (image : ℕ) (c : Option Caller) (call : Call) (f : Option Fate) (t : Table) → IsKept t → live_master image t.rows ≡ c → (let z : Stepped = step_by c call f t in IsKept z.table)
-step_by-kept image None call f t h e = h
-step_by-kept image (Some c) call f t h e = faulted-kept image c t h e (fault_at c call f t) call
-
--- A call keeps what every table keeps.
-pub IsKept-step : (image : ℕ) (call : Call) (f : Option Fate) (t : Table) → IsKept t → (let z : Stepped = step image call f t in IsKept z.table)
-IsKept-step image call f t h = step_by-kept image (live_master image t.rows) call f t h refl

@@ -6,7 +6,7 @@ use Rattle.definitions.specs.Table.{Table, with_rows}
 use Rattle.definitions.specs.Exits.{exited, after_exits}
 use Rattle.kernel_model.specs.declared.store.Store.{Store}
 use Rattle.kernel_model.specs.Room.{EditsRows, IsKept}
-use Rattle.kernel_model.proofs.CallSteps.{IsKept-exits}
+use Rattle.kernel_model.proofs.CallsKept.{IsKept-exits}
 
 module _ (names : List Name) (i : ℕ) (d : Name) (s t : Table) (e : t ≡ with_rows s (exited (get_or names i d) s.rows)) where
   pub table-turn : i < length names → after_exits (drop (i + 1) names) t ≡ after_exits (drop i names) s

@@ -8,6 +8,13 @@ use Rattle.std.proofs.lemmas.List.Sums.{fails_before_first}
 use Rattle.definitions.specs.Table.{Process}
 use Rattle.definitions.specs.Exits.{first_changed}
 
+pub past : (i n : ℕ) → cond (nat_lt i n) (Some i) None ≡ None → n ≤ i
+past i n e = let no : nat_lt i n ≡ false = passed (nat_lt i n) e in grind (arith, nat_tests)
+  where
+    passed : (b : Bool) → cond b (Some i) None ≡ None → b ≡ false
+    passed true e = cc
+    passed false e = refl
+
 module _ {X : Type 0} (v : X → Process) (test : Process → Bool) (f : Process → Process) where
   changed-at : (xs : List X) (i : ℕ) (d y : X) → i < length xs → ((k : ℕ) → k < i → test (v (get_or xs k d)) ≡ false) → test (v (get_or xs i d)) ≡ true → v y ≡ f (v (get_or xs i d)) → map v (set xs i y) ≡ first_changed test f (map v xs)
   changed-at [] i d y lt before here e = absurd (omega arith)
@@ -24,13 +31,6 @@ module _ {X : Type 0} (v : X → Process) (test : Process → Bool) (f : Process
 
   pub first_changed-Some : (xs : List X) (i : ℕ) (d y : X) → position (λ x. test (v x)) xs ≡ Some i → v y ≡ f (v (get_or xs i d)) → map v (set xs i y) ≡ first_changed test f (map v xs)
   first_changed-Some xs i d y at e = let found = position-Some (λ x. test (v x)) xs i d at in changed-at xs i d y found.0 found.2 found.1 e
-
-  past : (i n : ℕ) → cond (nat_lt i n) (Some i) None ≡ None → n ≤ i
-  past i n e = let no : nat_lt i n ≡ false = passed (nat_lt i n) e in grind (arith, nat_tests)
-    where
-      passed : (b : Bool) → cond b (Some i) None ≡ None → b ≡ false
-      passed true e = cc
-      passed false e = refl
 
   pub first_changed-None : (xs : List X) (d : X) → position (λ x. test (v x)) xs ≡ None → map v xs ≡ first_changed test f (map v xs)
   first_changed-None xs d none =

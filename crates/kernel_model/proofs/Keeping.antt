@@ -6,13 +6,14 @@ use Rattle.std.proofs.lemmas.Bool.{false≢true}
 use Rattle.std.proofs.lemmas.List.Sums.{sum_by-cons}
 use Rattle.definitions.specs.Table.{Generation, Process, number_of, is_active, is_worker}
 use Rattle.definitions.specs.Exits.{change, first_changed}
-use Rattle.definitions.specs.Calls.{dropped}
+use Rattle.definitions.specs.Calls.{dropped, is_image}
 use Rattle.definitions.specs.Formed.{IsQuiet, HasParent, IsAscending}
 use Rattle.kernel_model.specs.Room.{HasSockets}
 
 -- Rows of a table, with the next process and the next socket number.
 pub record AreKept (rows : List Process) (next socket : ℕ) : Type 0 where
   pub once : (q : ℕ) (g : Generation) (k : ℕ) → count_by (is_worker is_active q g k) rows ≤ 1
+  pub masters : (image : ℕ) → count_by (is_image image) rows ≤ 1
   pub quiet : AllByRecursion IsQuiet rows
   pub parents : AllByRecursion (HasParent rows) rows
   pub ascending : IsAscending 0 rows next
@@ -23,6 +24,7 @@ pub record Follows (rows rows' : List Process) (socket socket' : ℕ) (p p' : Pr
   pub number : number_of p' ≡ number_of p
   pub quiet : IsQuiet p → IsQuiet p'
   pub active : (q : ℕ) (g : Generation) (k : ℕ) → is_worker is_active q g k p' ≡ true → is_worker is_active q g k p ≡ true
+  pub image : (i : ℕ) → is_image i p' ≡ true → is_image i p ≡ true
   pub parent : HasParent rows p → HasParent rows' p'
   pub sockets : HasSockets socket p → HasSockets socket' p'
 
@@ -66,20 +68,20 @@ module _ (rows rows' : List Process) (socket socket' : ℕ) where
   count-stays false true m n h le = absurd (false≢true (h refl))
   count-stays false false m n h le = omega arith
 
-  count : {ps qs : List Process} → Becomes (Follows rows rows' socket socket') ps qs → (q : ℕ) (g : Generation) (k : ℕ) → count_by (is_worker is_active q g k) qs ≤ count_by (is_worker is_active q g k) ps
-  count over q g k = omega arith
-  count (leaves {p} {ps} {qs} r) q g k =
-      let rest = count r q g k in
-      let first = sum_by-cons (λ (x : Process). cond (is_worker is_active q g k x) 1 0) p ps in
+  count : (test : Process → Bool) → ((p p' : Process) → Follows rows rows' socket socket' p p' → test p' ≡ true → test p ≡ true) → {ps qs : List Process} → Becomes (Follows rows rows' socket socket') ps qs → count_by test qs ≤ count_by test ps
+  count test up over = omega arith
+  count test up (leaves {p} {ps} {qs} r) =
+      let rest = count test up r in
+      let first = sum_by-cons (λ (x : Process). cond (test x) 1 0) p ps in
       omega (arith, rest, first)
-  count (stays {p} {p'} {ps} {qs} f r) q g k =
-      let test = is_worker is_active q g k in
+  count test up (stays {p} {p'} {ps} {qs} f r) =
       rw (sum_by-cons (λ (x : Process). cond (test x) 1 0) p ps, sum_by-cons (λ (x : Process). cond (test x) 1 0) p' qs)
-      (count-stays (test p) (test p') _ _ (f.active q g k) (count r q g k))
+      (count-stays (test p) (test p') _ _ (up p p' f) (count test up r))
 
 pub AreKept-becomes : (rows rows' : List Process) (next socket socket' : ℕ) → Becomes (Follows rows rows' socket socket') rows rows' → AreKept rows next socket → AreKept rows' next socket'
 AreKept-becomes rows rows' next socket socket' r h = record {
-  once = λ q g k. (let most = h.once q g k in let less = count rows rows' socket socket' r q g k in omega arith);
+  once = λ q g k. (let most = h.once q g k in let less = count rows rows' socket socket' (is_worker is_active q g k) (λ p p' (f : Follows rows rows' socket socket' p p'). f.active q g k) r in omega arith);
+  masters = λ i. (let most = h.masters i in let less = count rows rows' socket socket' (is_image i) (λ p p' (f : Follows rows rows' socket socket' p p'). f.image i) r in omega arith);
   quiet = quiet rows rows' socket socket' r h.quiet;
   parents = parents rows rows' socket socket' r h.parents;
   ascending = ascending rows rows' socket socket' r 0 next h.ascending;

@@ -4,6 +4,12 @@ pub mod Masters
 pub mod Keeping
 pub mod Steps
 pub mod CallSteps
+pub mod MasterSteps
+pub mod CallsKept
+pub mod Ended
+pub mod Adopted
+pub mod Foreigners
+pub mod WrittenFiles
 pub mod Census
 pub mod First
 pub mod Opening

@@ -1,5 +1,5 @@
 -- Lists of what others stand for.
-use Rattle.std.proofs.Common.{◌≡◌, Bool, true, false, cond, ◌||◌, List, [], ◌∷◌, Option, map, refl, ap, subst, ◌∙◌}
+use Rattle.std.proofs.Common.{◌≡◌, Bool, true, false, cond, ◌||◌, List, [], ◌∷◌, ◌++◌, Option, map, refl, ap, subst, ◌∙◌}
 use Rattle.std.specs.List.{list_any, filter_map, cons_option}
 use Rattle.std.specs.List.Retain.{RetainsInTurn}
 use Rattle.definitions.specs.Exits.{kept_if}
@@ -7,6 +7,10 @@ use Rattle.definitions.specs.Exits.{kept_if}
 pub list_any-map : {X Y : Type 0} (test : Y → Bool) (f : X → Y) (xs : List X) → list_any test (map f xs) ≡ list_any (λ x. test (f x)) xs
 list_any-map test f [] = refl
 list_any-map test f (x ∷ xs) = ap (λ b. test (f x) || b) (list_any-map test f xs)
+
+pub map-push : {X Y : Type 0} (f : X → Y) (xs : List X) (x : X) → map f (xs ++ x ∷ []) ≡ map f xs ++ f x ∷ []
+map-push f [] x = refl
+map-push f (y ∷ xs) x = ap (λ ys. f y ∷ ys) (map-push f xs x)
 
 module _ {S X Y : Type 0} (R : S → X → Bool → S → X → Type 0) (v : X → Y) (h : Y → Option Y) (s : S) (says : (x : X) (b : Bool) (t : S) (y : X) → R s x b t y → (kept_if b (v y) ≡ h (v x)) × (t ≡ s)) where
   kept : (b : Bool) (y : X) (zs : List X) (rest : List Y) → map v zs ≡ rest → map v (cond b (y ∷ zs) zs) ≡ cons_option (kept_if b (v y)) rest

@@ -4,11 +4,11 @@ use Rattle.definitions.specs.declared.names.Name.{Name}
 use Rattle.definitions.specs.declared.calls.Call.{Call}
 use Rattle.definitions.specs.declared.calls.Fate.{Fate}
 use Rattle.definitions.specs.Exits.{after_exits}
-use Rattle.definitions.specs.Calls.{Stepped, step}
+use Rattle.definitions.specs.Calls.{Stepped, step_with}
 use Rattle.kernel_model.specs.declared.store.Store.{Store}
 use Rattle.kernel_model.specs.Seen.{seen}
 use Rattle.kernel_model.specs.Room.{EditsRows, GrowsByOne, HasRoomFor, IsKept}
-use Rattle.kernel_model.proofs.CallSteps.{IsKept-exits, IsKept-step}
+use Rattle.kernel_model.proofs.CallsKept.{IsKept-exits, IsKept-step}
 
 module _ (a b : Store) (e : EditsRows a b) where
   addresses-same : b.addresses ≡ a.addresses
@@ -17,12 +17,15 @@ module _ (a b : Store) (e : EditsRows a b) where
   next-same : b.next_process ≡ a.next_process
   next-same = ap (λ (s : Store). s.next_process) e.others
 
+  files-same : b.files ≡ a.files
+  files-same = ap (λ (s : Store). s.files) e.others
+
   -- exits need no room
   pub HasRoomFor-exits : (room : ℕ) → HasRoomFor room a → HasRoomFor room b
   HasRoomFor-exits room h =
       let same = addresses-same in
       record {
-        memory = record { holders = omega (arith, h.memory.holders, e.len, e.capacity); addresses = rw same h.memory.addresses };
+        memory = record { holders = omega (arith, h.memory.holders, e.len, e.capacity); addresses = rw same h.memory.addresses; files = rw files-same h.memory.files };
         process_numbers = rw next-same h.process_numbers;
         socket_numbers = rw same h.socket_numbers;
       }
@@ -30,7 +33,7 @@ module _ (a b : Store) (e : EditsRows a b) where
 -- a call needs room for one
 pub HasRoomFor-call : (room : ℕ) (b c : Store) → 1 ≤ room → HasRoomFor room b → GrowsByOne b c → HasRoomFor (room - 1) c
 HasRoomFor-call room b c least h g = record {
-  memory = record { holders = omega (arith, h.memory.holders, g.holders, g.holder_room); addresses = omega (arith, h.memory.addresses, g.addresses, g.address_room) };
+  memory = record { holders = omega (arith, h.memory.holders, g.holders, g.holder_room); addresses = omega (arith, h.memory.addresses, g.addresses, g.address_room); files = omega (arith, h.memory.files, g.files, g.file_room) };
   process_numbers = omega (arith, h.process_numbers, g.process_numbers);
   socket_numbers = omega (arith, h.socket_numbers, g.socket_numbers);
 }
@@ -39,5 +42,5 @@ module _ (a b : Store) (es : List Name) (exits : seen b ≡ after_exits es (seen
   pub kept-middle : IsKept (seen b)
   kept-middle = subst IsKept (sym exits) (IsKept-exits es (seen a) kept)
 
-  pub kept-after : (image : ℕ) (call : Call) (f : Option Fate) (z : Stepped) → z ≡ step image call f (seen b) → IsKept z.table
-  kept-after image call f z e = subst (λ (x : Stepped). IsKept x.table) (sym e) (IsKept-step image call f (seen b) kept-middle)
+  pub kept-after : (text : List ℕ) (image : ℕ) (call : Call) (f : Option Fate) (z : Stepped) → z ≡ step_with text image call f (seen b) → IsKept z.table
+  kept-after text image call f z e = subst (λ (x : Stepped). IsKept x.table) (sym e) (IsKept-step text image call f (seen b) kept-middle)

@@ -25,20 +25,20 @@ HasParent-up rows rows' up (Foreign n hs) h = tt
 
 module _ (rows rows' : List Process) (socket : ℕ) (up : KeepsMasters rows rows') where
   stays_so : (p : Process) → Follows rows rows' socket socket p p
-  stays_so p = record { number = refl; quiet = λ h. h; active = λ q g k e. e; parent = HasParent-up rows rows' up p; sockets = λ h. h }
+  stays_so p = record { number = refl; quiet = λ h. h; active = λ q g k e. e; image = λ i e. e; parent = HasParent-up rows rows' up p; sockets = λ h. h }
 
   exits_so : (p : Process) → Follows rows rows' socket socket p (made_exited p)
-  exits_so (Worker n q g k s hs) = record { number = refl; quiet = λ h. refl; active = λ q' g' k' e. absurd (false≢true e); parent = λ h. up q h; sockets = λ h. tt }
+  exits_so (Worker n q g k s hs) = record { number = refl; quiet = λ h. refl; active = λ q' g' k' e. absurd (false≢true e); image = λ i e. e; parent = λ h. up q h; sockets = λ h. tt }
   exits_so (Master n q i live hs) = stays_so (Master n q i live hs)
   exits_so (Foreign n hs) = stays_so (Foreign n hs)
 
   pub drains_so : (p : Process) → Follows rows rows' socket socket p (made_draining p)
-  drains_so (Worker n q g k s hs) = record { number = refl; quiet = λ h. refl; active = λ q' g' k' e. absurd (false≢true e); parent = λ h. up q h; sockets = λ h. tt }
+  drains_so (Worker n q g k s hs) = record { number = refl; quiet = λ h. refl; active = λ q' g' k' e. absurd (false≢true e); image = λ i e. e; parent = λ h. up q h; sockets = λ h. tt }
   drains_so (Master n q i live hs) = stays_so (Master n q i live hs)
   drains_so (Foreign n hs) = stays_so (Foreign n hs)
 
   pub ready_so : (q : ℕ) (g : Generation) (k : ℕ) (p : Process) → is_worker is_starting q g k p ≡ true → Follows rows rows' socket socket p (made_ready p)
-  ready_so q g k (Worker n q' g' k' Starting hs) e = record { number = refl; quiet = λ h. tt; active = λ a b c f. f; parent = λ h. up q' h; sockets = λ h. h }
+  ready_so q g k (Worker n q' g' k' Starting hs) e = record { number = refl; quiet = λ h. tt; active = λ a b c f. f; image = λ i e. e; parent = λ h. up q' h; sockets = λ h. h }
   ready_so q g k (Worker n q' g' k' Ready hs) e = absurd (false≢true e)
   ready_so q g k (Worker n q' g' k' Draining hs) e = absurd (false≢true e)
   ready_so q g k (Worker n q' g' k' Exited hs) e = absurd (false≢true e)
@@ -55,12 +55,12 @@ lacks_address-within a socket (h ∷ hs) w = at (not (is_at a h)) w.0 (lacks_add
 
 module _ (rows rows' : List Process) (socket : ℕ) (up : KeepsMasters rows rows') where
   pub closes_so : (a : Address) (p : Process) → Follows rows rows' socket socket p (with_holds (lacks_address a) p)
-  closes_so a (Worker n q g k Starting hs) = record { number = refl; quiet = λ h. tt; active = λ q' g' k' e. e; parent = λ h. up q h; sockets = lacks_address-within a socket hs }
-  closes_so a (Worker n q g k Ready hs) = record { number = refl; quiet = λ h. tt; active = λ q' g' k' e. e; parent = λ h. up q h; sockets = lacks_address-within a socket hs }
-  closes_so a (Worker n q g k Draining hs) = record { number = refl; quiet = λ h. ap (lacks_address a) h; active = λ q' g' k' e. e; parent = λ h. up q h; sockets = lacks_address-within a socket hs }
-  closes_so a (Worker n q g k Exited hs) = record { number = refl; quiet = λ h. ap (lacks_address a) h; active = λ q' g' k' e. e; parent = λ h. up q h; sockets = lacks_address-within a socket hs }
-  closes_so a (Master n q i live hs) = record { number = refl; quiet = λ h. tt; active = λ q' g' k' e. absurd (false≢true e); parent = λ h. tt; sockets = lacks_address-within a socket hs }
-  closes_so a (Foreign n hs) = record { number = refl; quiet = λ h. tt; active = λ q' g' k' e. absurd (false≢true e); parent = λ h. tt; sockets = lacks_address-within a socket hs }
+  closes_so a (Worker n q g k Starting hs) = record { number = refl; quiet = λ h. tt; active = λ q' g' k' e. e; image = λ i e. e; parent = λ h. up q h; sockets = lacks_address-within a socket hs }
+  closes_so a (Worker n q g k Ready hs) = record { number = refl; quiet = λ h. tt; active = λ q' g' k' e. e; image = λ i e. e; parent = λ h. up q h; sockets = lacks_address-within a socket hs }
+  closes_so a (Worker n q g k Draining hs) = record { number = refl; quiet = λ h. ap (lacks_address a) h; active = λ q' g' k' e. e; image = λ i e. e; parent = λ h. up q h; sockets = lacks_address-within a socket hs }
+  closes_so a (Worker n q g k Exited hs) = record { number = refl; quiet = λ h. ap (lacks_address a) h; active = λ q' g' k' e. e; image = λ i e. e; parent = λ h. up q h; sockets = lacks_address-within a socket hs }
+  closes_so a (Master n q i live hs) = record { number = refl; quiet = λ h. tt; active = λ q' g' k' e. absurd (false≢true e); image = λ i e. e; parent = λ h. tt; sockets = lacks_address-within a socket hs }
+  closes_so a (Foreign n hs) = record { number = refl; quiet = λ h. tt; active = λ q' g' k' e. absurd (false≢true e); image = λ i e. e; parent = λ h. tt; sockets = lacks_address-within a socket hs }
 
 -- ---- live masters stay
 same-exited : (q : ℕ) (p : Process) → is_live_master q (made_exited p) ≡ is_live_master q p
@@ -129,11 +129,14 @@ module _ (next socket : ℕ) (rows : List Process) (h : AreKept rows next socket
       let up : KeepsMasters rows rows' = λ q e. live-change test f same rows q ∙ e in
       AreKept-becomes rows rows' next socket socket (Becomes-filter_map (Follows rows rows' socket socket) (change test f) (says-change (Follows rows rows' socket socket) (stays_so rows rows' socket up) test f (says rows' up)) rows) h
 
-  pub kept-dropped : (test : Process → Bool) → ((q : ℕ) (p : Process) → test p ≡ true → is_live_master q p ≡ false) → AreKept (filter_map (dropped test) rows) next socket
-  kept-dropped test worker =
+  -- rows leave, and no live master
+  pub kept-without : (test : Process → Bool) → KeepsMasters rows (filter_map (dropped test) rows) → AreKept (filter_map (dropped test) rows) next socket
+  kept-without test up =
       let rows' = filter_map (dropped test) rows in
-      let up : KeepsMasters rows rows' = λ q e. live-dropped test worker rows q ∙ e in
       AreKept-becomes rows rows' next socket socket (Becomes-filter_map (Follows rows rows' socket socket) (dropped test) (says-dropped (Follows rows rows' socket socket) (stays_so rows rows' socket up) test) rows) h
+
+  pub kept-dropped : (test : Process → Bool) → ((q : ℕ) (p : Process) → test p ≡ true → is_live_master q p ≡ false) → AreKept (filter_map (dropped test) rows) next socket
+  kept-dropped test worker = kept-without test (λ q e. live-dropped test worker rows q ∙ e)
 
   kept-worker_exits : (g : Generation) (k : ℕ) → AreKept (worker_exits g k rows) next socket
   kept-worker_exits g k = kept-change (is_named is_active g k) made_exited same-exited (λ rows' up p t. exits_so rows rows' socket up p)
@@ -173,19 +176,19 @@ module _ (gone : ℕ) (lives : ℕ → Bool) where
       at false apart true is e ih = ap (λ b. b || list_any (is_live_master q) (filter_map (without_exited gone lives) rows)) is
       at false apart false is e ih = ap (λ b. b || list_any (is_live_master q) (filter_map (without_exited gone lives) rows)) is ∙ ih e
 
-  exit_says : (rows : List Process) (socket : ℕ) (p : Process) → IfSome (without_exited gone lives p) (Follows rows (filter_map (without_exited gone lives) rows) socket socket p)
+  pub exit_says : (rows : List Process) (socket : ℕ) (p : Process) → IfSome (without_exited gone lives p) (Follows rows (filter_map (without_exited gone lives) rows) socket socket p)
   exit_says rows socket (Worker n q g k s hs) = at (nat_eq q gone) refl
     where
       at : (b : Bool) → nat_eq q gone ≡ b → IfSome (kept_if (not b) (Worker n q g k s hs)) (Follows rows (filter_map (without_exited gone lives) rows) socket socket (Worker n q g k s hs))
       at true e = tt
-      at false e = record { number = refl; quiet = λ h. h; active = λ q' g' k' t. t; parent = λ h. live-exit q e rows h; sockets = λ h. h }
-  exit_says rows socket (Foreign n hs) = record { number = refl; quiet = λ h. h; active = λ q' g' k' t. t; parent = λ h. h; sockets = λ h. h }
+      at false e = record { number = refl; quiet = λ h. h; active = λ q' g' k' t. t; image = λ i e. e; parent = λ h. live-exit q e rows h; sockets = λ h. h }
+  exit_says rows socket (Foreign n hs) = record { number = refl; quiet = λ h. h; active = λ q' g' k' t. t; image = λ i e. e; parent = λ h. h; sockets = λ h. h }
   exit_says rows socket (Master n q i live hs) = at (nat_eq n gone) (lives q)
     where
       at : (b c : Bool) → IfSome (cond b (kept_if c (Master n q i false [])) (Some (Master n (cond (nat_eq q gone) 1 q) i live hs))) (Follows rows (filter_map (without_exited gone lives) rows) socket socket (Master n q i live hs))
-      at true true = record { number = refl; quiet = λ h. tt; active = λ q' g' k' t. t; parent = λ h. tt; sockets = λ h. tt }
+      at true true = record { number = refl; quiet = λ h. tt; active = λ q' g' k' t. t; image = λ i e. e; parent = λ h. tt; sockets = λ h. tt }
       at true false = tt
-      at false c = record { number = refl; quiet = λ h. tt; active = λ q' g' k' t. t; parent = λ h. tt; sockets = λ h. h }
+      at false c = record { number = refl; quiet = λ h. tt; active = λ q' g' k' t. t; image = λ i e. e; parent = λ h. tt; sockets = λ h. h }
 
 kept-caller_exits : (next socket : ℕ) (c : Option Caller) (rows : List Process) → AreKept rows next socket → AreKept (caller_exits c rows) next socket
 kept-caller_exits next socket None rows h = h

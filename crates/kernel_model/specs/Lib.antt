@@ -3,6 +3,8 @@ pub mod Seen
 pub mod Edits
 pub mod Room
 pub mod Rows
+pub mod Files
+pub mod Foreign
 pub mod State
 pub mod Boot
 pub mod Readers
@@ -11,3 +13,4 @@ pub mod Pattern
 pub mod Events
 pub mod Services
 pub mod Served
+pub mod TableText

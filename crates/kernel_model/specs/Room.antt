@@ -1,7 +1,8 @@
 -- Room for calls: memory and numbers.
-use Rattle.std.specs.Prelude.{ℕ, ◌≡◌, ◌+◌, ◌≤◌, ◌<◌, ◌^◌, ◌⊎◌, length, vec_len, vec_capacity}
+use Rattle.std.specs.Prelude.{ℕ, ◌≡◌, ◌+◌, ◌≤◌, ◌<◌, ◌^◌, ◌⊎◌, count_by, length, vec_len, vec_capacity}
 use Rattle.std.specs.List.{AllByRecursion}
 use Rattle.definitions.specs.Table.{Hold, Process, Table, holds_of}
+use Rattle.definitions.specs.Calls.{is_image}
 use Rattle.definitions.specs.Formed.{IsFormed}
 use Rattle.kernel_model.specs.declared.store.Store.{Store}
 use Rattle.kernel_model.specs.Seen.{seen}
@@ -12,7 +13,7 @@ pub record EditsRows (old new : Store) : Type 0 where
   pub len : vec_len new.holders ≤ vec_len old.holders
   pub capacity : vec_capacity new.holders ≡ vec_capacity old.holders
 
--- at most one row, one socket and one number more, and no less memory
+-- at most one row, one socket, one file and one number more, and no less memory
 pub record GrowsByOne (old new : Store) : Type 0 where
   pub holders : vec_len new.holders ≤ vec_len old.holders + 1
   pub holder_room : vec_capacity old.holders ≤ vec_capacity new.holders
@@ -20,11 +21,14 @@ pub record GrowsByOne (old new : Store) : Type 0 where
   pub address_room : vec_capacity old.addresses ≤ vec_capacity new.addresses
   pub process_numbers : new.next_process ≤ old.next_process + 1
   pub socket_numbers : length new.addresses.items ≤ length old.addresses.items + 1
+  pub files : vec_len new.files ≤ vec_len old.files + 1
+  pub file_room : vec_capacity old.files ≤ vec_capacity new.files
 
--- Memory for that many rows and sockets more.
+-- Memory for that many rows, sockets and files more.
 pub record HasMemoryFor (calls : ℕ) (s : Store) : Type 0 where
   pub holders : vec_len s.holders + calls ≤ vec_capacity s.holders
   pub addresses : vec_len s.addresses + calls ≤ vec_capacity s.addresses
+  pub files : vec_len s.files + calls ≤ vec_capacity s.files
 
 -- Fewer process or socket numbers are left than that many.
 abbrev pub LacksNumbers : Table → ℕ → Type 0
@@ -40,9 +44,11 @@ pub record HasRoomFor (calls : ℕ) (s : Store) : Type 0 where
 abbrev pub HasSockets : ℕ → Process → Type 0
 HasSockets next p = AllByRecursion (λ (h : Hold). (1 ≤ h.socket) × (h.socket < next)) (holds_of p)
 
--- What every table of a kernel keeps: it is formed, its sockets have addresses, and no process may have more than 64 descriptors.
+-- What every table of a kernel keeps: it is formed, an image has one master at most, its sockets have addresses, and no process may
+-- have more than 64 descriptors.
 pub record IsKept (t : Table) : Type 0 where
   pub formed : IsFormed t
+  pub masters : (image : ℕ) → count_by (is_image image) t.rows ≤ 1
   pub sockets : AllByRecursion (HasSockets t.next_socket) t.rows
   pub first : 1 ≤ t.next_socket
   pub descriptors : t.limits.descriptors ≤ 64

@@ -1,17 +1,18 @@
 //! Calls: what each is answered, and what it changes.
-ghost use Rattle.std.specs.Prelude.{◌≡◌};
+ghost use Rattle.std.specs.Prelude.{◌≡◌, ℕ, List};
 ghost use Rattle.std.specs.List.{list_any};
-ghost use Rattle.definitions.specs.Table.{is_starting, is_worker};
-ghost use Rattle.definitions.specs.Calls.{opened, closed, forked, awaited, quitted, killed, counted, own_step, fault_if, fault_of, step};
-ghost use Rattle.kernel_model.specs.Seen.{seen, seen_caller};
+ghost use Rattle.definitions.specs.Table.{Table, Caller as LiveMaster, is_worker};
+ghost use Rattle.definitions.specs.Calls.{opened, closed, forked, awaited, quitted, killed, counted, ended, written, moved, unlinked, own_step, fault_if, fault_of, step_with};
+ghost use Rattle.kernel_model.specs.Seen.{seen, seen_caller, has_stance};
 ghost use Rattle.kernel_model.specs.Room.{GrowsByOne, HasRoomFor, IsKept};
 ghost use Rattle.kernel_model.specs.Rows.{IsOwn};
 
 use crate::edits::Edit;
 use crate::process::{Caller, Stances, WorkerName};
 use crate::store::Store;
+use crate::{files, master_calls};
 use definitions::{Answer, Call, Fate};
-use listener_set::{Address, Generation};
+use listener_set::{Address, FilePath, Generation};
 
 /// A new socket at the caller's lowest free descriptor, unless somebody holds the address or the caller has as many
 /// descriptors as it may.
@@ -119,12 +120,62 @@ fn census(store: &mut Store, caller: &Caller, generation: Generation) -> Answer
     Answer::Counted(numbers)
 }
 
-/// The call's own answer, to a caller that lives.
-fn own_answer(store: &mut Store, caller: &Caller, call: &Call) -> Answer
+/// Late while a worker of the name is Starting or Ready; else all of the name leave.
+fn await_gone(store: &mut Store, caller: &Caller, generation: Generation, nr: u32) -> Answer
+    ensures outcome { record { answer = result; table = seen store.new } ≡ ended (seen_caller store.old.addresses.items caller.now) generation nr (seen store.old) }
+    ensures grows { GrowsByOne store.old store.new }
+{
+    let name = WorkerName {
+        parent: caller.number,
+        generation,
+        nr,
+    };
+    if store.has_worker(Stances::Active, name) {
+        return Answer::Late;
+    }
+    store.edit(&Edit::Kill(name));
+    Answer::Gone
+}
+
+/// The file has the caller's process number.
+fn write_pid(store: &mut Store, caller: &Caller, path: &FilePath) -> Answer
+    requires { HasRoomFor 1 store.old }
+    ensures outcome { record { answer = result; table = seen store.new } ≡ written (seen_caller store.old.addresses.items caller.now) path.now (seen store.old) }
+    ensures grows { GrowsByOne store.old store.new }
+{
+    files::write(&mut store.files, path, caller.number);
+    Answer::Fine
+}
+
+/// The second path has the number of the first, which is gone; a fault where the first isn't there.
+fn move_pid(store: &mut Store, from: &FilePath, to: &FilePath) -> Answer
+    requires { HasRoomFor 1 store.old }
+    ensures outcome { record { answer = result; table = seen store.new } ≡ moved from.now to.now (seen store.old) }
+    ensures grows { GrowsByOne store.old store.new }
+{
+    let Some(owner) = files::owner_at(&store.files, from) else {
+        return Answer::IoFault;
+    };
+    files::remove(&mut store.files, from);
+    files::write(&mut store.files, to, owner);
+    Answer::Fine
+}
+
+/// The file is gone, also where it wasn't there.
+fn remove_pid(store: &mut Store, path: &FilePath) -> Answer
+    ensures outcome { record { answer = result; table = seen store.new } ≡ unlinked path.now (seen store.old) }
+    ensures grows { GrowsByOne store.old store.new }
+{
+    files::remove(&mut store.files, path);
+    Answer::Fine
+}
+
+/// The call's own answer, to a caller that lives, of that image, which is handed that text.
+fn own_answer(store: &mut Store, image: u32, caller: &Caller, call: &Call, text: &[u8]) -> Answer
     requires room { HasRoomFor 1 store.old }
     requires kept { IsKept (seen store.old) }
     requires own { IsOwn store.old caller.now }
-    ensures outcome { record { answer = result; table = seen store.new } ≡ own_step (seen_caller store.old.addresses.items caller.now) call.now (seen store.old) }
+    ensures outcome { record { answer = result; table = seen store.new } ≡ own_step text.now image (seen_caller store.old.addresses.items caller.now) call.now (seen store.old) }
     ensures grows { GrowsByOne store.old store.new }
 {
     match call {
@@ -135,6 +186,41 @@ fn own_answer(store: &mut Store, caller: &Caller, call: &Call) -> Answer
         Call::Quit(generation, nr) => quit(store, caller, *generation, *nr),
         Call::Kill(generation, nr) => kill(store, caller, *generation, *nr),
         Call::Census(generation) => census(store, caller, *generation),
+        Call::AwaitGone(generation, nr) => await_gone(store, caller, *generation, *nr),
+        Call::SpawnMaster(started) => master_calls::spawn(store, caller, *started),
+        Call::Adopt => master_calls::adopt(store, image, caller, text),
+        Call::WritePid(path) => write_pid(store, caller, path),
+        Call::MovePid(from, to) => move_pid(store, from, to),
+        Call::RemovePid(path) => remove_pid(store, path),
+        Call::Alive(asked) => master_calls::ask_alive(store, *asked),
+        Call::Leave => master_calls::leave(store, caller),
+        Call::Usr1(_, _) => Answer::Fine,
+        Call::TermMaster(ended) => master_calls::terminate(store, *ended),
+    }
+}
+
+/// What a fate makes of an opening.
+fn open_fault(fate: Fate) -> Option<Answer>
+    ensures { (c : LiveMaster) (a : List ℕ) (t : Table) → result ≡ fault_of c (Call.OpenAt a) fate t }
+{
+    match fate {
+        Fate::InUse => Some(Answer::InUse),
+        Fate::TooMany => Some(Answer::TooMany),
+        Fate::Denied => Some(Answer::Denied),
+        Fate::NoMemory => Some(Answer::NoMemory),
+        _ => None,
+    }
+}
+
+/// What a fate makes of the start of a master.
+fn spawn_fault(fate: Fate) -> Option<Answer>
+    ensures { (c : LiveMaster) (image : ℕ) (t : Table) → result ≡ fault_of c (Call.SpawnMaster image) fate t }
+{
+    match fate {
+        Fate::Again => Some(Answer::Again),
+        Fate::NoMemory => Some(Answer::NoMemory),
+        Fate::NoImage => Some(Answer::NoImage),
+        _ => None,
     }
 }
 
@@ -143,36 +229,56 @@ fn fault_of(store: &Store, caller: &Caller, call: &Call, fate: Fate) -> Option<A
     ensures { result ≡ fault_of (seen_caller store.now.addresses.items caller.now) call.now fate (seen store.now) }
 {
     match call {
-        Call::OpenAt(_) => match fate {
-            Fate::InUse => Some(Answer::InUse),
-            Fate::TooMany => Some(Answer::TooMany),
-            Fate::Denied => Some(Answer::Denied),
-            Fate::NoMemory => Some(Answer::NoMemory),
-            _ => None,
-        },
+        Call::OpenAt(_) => open_fault(fate),
         Call::Fork(_, _) => match fate {
             Fate::Again => Some(Answer::Again),
             Fate::NoMemory => Some(Answer::NoMemory),
             _ => None,
         },
         Call::AwaitReady(generation, nr) => match fate {
-            Fate::Late => late(store, caller, *generation, *nr),
+            Fate::Late => late(store, caller, Stances::Starting, *generation, *nr),
             _ => None,
         },
-        Call::CloseAt(_) | Call::Quit(_, _) | Call::Kill(_, _) | Call::Census(_) => None,
+        Call::AwaitGone(generation, nr) => match fate {
+            Fate::Late => late(store, caller, Stances::Draining, *generation, *nr),
+            _ => None,
+        },
+        Call::SpawnMaster(_) => spawn_fault(fate),
+        Call::Adopt => match fate {
+            Fate::Refused => Some(Answer::Refused),
+            _ => None,
+        },
+        Call::WritePid(_) | Call::MovePid(_, _) | Call::RemovePid(_) => match fate {
+            Fate::IoFault => Some(Answer::IoFault),
+            _ => None,
+        },
+        Call::CloseAt(_)
+        | Call::Quit(_, _)
+        | Call::Kill(_, _)
+        | Call::Census(_)
+        | Call::Alive(_)
+        | Call::Leave
+        | Call::Usr1(_, _)
+        | Call::TermMaster(_) => None,
     }
 }
 
-/// Late, where a worker of the name is Starting.
-fn late(store: &Store, caller: &Caller, generation: Generation, nr: u32) -> Option<Answer>
-    ensures { result ≡ fault_if (list_any (is_worker is_starting caller.now.number generation nr) (seen store.now).rows) Answer.Late }
+/// Late, where a worker of the name is in one of the stances.
+fn late(
+    store: &Store,
+    caller: &Caller,
+    stances: Stances,
+    generation: Generation,
+    nr: u32,
+) -> Option<Answer>
+    ensures { result ≡ fault_if (list_any (is_worker (has_stance stances) caller.now.number generation nr) (seen store.now).rows) Answer.Late }
 {
     let name = WorkerName {
         parent: caller.number,
         generation,
         nr,
     };
-    if store.has_worker(Stances::Starting, name) {
+    if store.has_worker(stances, name) {
         Some(Answer::Late)
     } else {
         None
@@ -181,10 +287,16 @@ fn late(store: &Store, caller: &Caller, generation: Generation, nr: u32) -> Opti
 
 /// A call by the master of an image, after the exits of its moment: that the master is gone, then the fault of a fate, then
 /// the call's own answer.
-pub fn answered(store: &mut Store, image: u32, call: &Call, fate: Option<Fate>) -> Answer
+pub fn answered(
+    store: &mut Store,
+    image: u32,
+    call: &Call,
+    text: &[u8],
+    fate: Option<Fate>,
+) -> Answer
     requires room { HasRoomFor 1 store.old }
     requires kept { IsKept (seen store.old) }
-    ensures outcome { record { answer = result; table = seen store.new } ≡ step image call.now fate (seen store.old) }
+    ensures outcome { record { answer = result; table = seen store.new } ≡ step_with text.now image call.now fate (seen store.old) }
     ensures grows { GrowsByOne store.old store.new }
 {
     let Some(caller) = store.live_master(image) else {
@@ -195,5 +307,5 @@ pub fn answered(store: &mut Store, image: u32, call: &Call, fate: Option<Fate>) 
             return fault;
         }
     }
-    own_answer(store, &caller, call)
+    own_answer(store, image, &caller, call, text)
 }

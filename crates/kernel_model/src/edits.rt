@@ -29,6 +29,10 @@ pub enum Edit {
     Hold(u32, DescriptorTable),
     /// The master with the number and its workers lose their holds of the address.
     Close(u32, Address),
+    /// The masters of the image leave.
+    ReapMaster(u32),
+    /// The masters of the image leave, and the workers of the master with the number.
+    Terminate(u32, Option<u32>),
 }
 
 impl Holder {
@@ -181,6 +185,8 @@ impl Holder {
                 }
                 true
             }
+            Edit::ReapMaster(image) => !self.row.is_image(*image),
+            Edit::Terminate(image, master) => !self.row.is_of_either(*image, *master),
         }
     }
 }

@@ -7,7 +7,7 @@ ghost use Rattle.kernel_model.specs.Holds.{address_of, seen_holds};
 use listener_set::{Address, DescriptorTable};
 
 /// The text of a socket's address. Each socket that is held has one.
-fn text_of(addresses: &[Address], socket: u32) -> &[u8]
+pub fn text_of(addresses: &[Address], socket: u32) -> &[u8]
     ensures { result.now ≡ address_of addresses.now socket }
 {
     match addresses.get((socket as usize).saturating_sub(1)) {

@@ -1,19 +1,20 @@
 //! The modelled kernel.
-ghost use Rattle.std.specs.Prelude.{◌≡◌, ◌≤◌, ◌+◌, ◌↔◌, max, length, OnOk, OnErr, IfOk, IsErrOf};
+ghost use Rattle.std.specs.Prelude.{true, false, ◌≡◌, ◌≤◌, ◌+◌, ◌↔◌, max, length, OnOk, OnErr, IfOk, IsErrOf};
 ghost use Rattle.std.specs.Option.{option_map};
-ghost use Rattle.definitions.specs.Table.{live_master};
+ghost use Rattle.definitions.specs.Table.{is_held, live_master};
 ghost use Rattle.definitions.specs.Exits.{after_exits};
-ghost use Rattle.definitions.specs.Calls.{step};
+ghost use Rattle.definitions.specs.Calls.{step_with};
 ghost use Rattle.definitions.specs.Formed.{IsFormed};
 ghost use Rattle.kernel_model.specs.Boot.{booted, AreBadLimits};
 ghost use Rattle.kernel_model.specs.Room.{LacksNumbers};
+ghost use Rattle.kernel_model.specs.Foreign.{with_foreign};
 
 use crate::boot::{self, BootRefusal};
 use crate::moments::Moment;
 use crate::store::Store;
 use crate::{calls, exits};
 use definitions::{Actor, Answer, Call, Limits};
-use listener_set::{FilePath, ListenerSet};
+use listener_set::{Address, FilePath, ListenerSet};
 use std::alloc::{AllocError, Global};
 use std::marker::Model;
 use thiserror::Error;
@@ -22,6 +23,17 @@ use thiserror::Error;
 #[derive(Clone, Copy, Debug, PartialEq, Eq, Error)]
 pub enum ReserveRefusal {
     #[error("B3 too few process or socket numbers are left")]
+    NoNumbers,
+    #[error("out of memory")]
+    Memory,
+}
+
+/// Why no process of somebody else is added.
+#[derive(Clone, Copy, Debug, PartialEq, Eq, Error)]
+pub enum ForeignRefusal {
+    #[error("B2 somebody holds the address")]
+    Held,
+    #[error("B3 no process or socket number is left")]
     NoNumbers,
     #[error("out of memory")]
     Memory,
@@ -95,26 +107,52 @@ impl Kernel {
         Ok(())
     }
 
+    /// Adds a process of somebody else, which holds the address at descriptor 3 by a new socket. The room stays. B2 where
+    /// a process holds the address already; else B3 where no process or socket number is left beyond the room.
+    pub fn foreign(&mut self, address: &Address) -> Result<(), ForeignRefusal>
+        ensures ok { OnOk result (self.new ≡ record { table = with_foreign address.now self.old.table; room = self.old.room }) }
+        ensures held { IsErrOf result ForeignRefusal.Held ↔ (is_held address.now self.old.table.rows ≡ true) }
+        ensures no_numbers { IsErrOf result ForeignRefusal.NoNumbers ↔ (is_held address.now self.old.table.rows ≡ false) × LacksNumbers self.old.table (self.old.room + 1) }
+        ensures err { OnErr result (self.new ≡ self.old) }
+        ensures formed { OnOk result (IsFormed self.new.table) }
+    {
+        let _ = &self.room;
+        if self.store.is_held(address) {
+            return Err(ForeignRefusal::Held);
+        }
+        let Some(needed) = self.room.checked_add(1) else {
+            return Err(ForeignRefusal::NoNumbers);
+        };
+        if self.store.lacks_numbers(needed) {
+            return Err(ForeignRefusal::NoNumbers);
+        }
+        self.store.grow(needed).map_err(|_| ForeignRefusal::Memory)?;
+        self.store.add_foreign(address);
+        Ok(())
+    }
+
     /// The same table, with room for no call.
     pub fn copy(&self) -> Result<Self, AllocError>
         ensures same { IfOk result (λ k. k ≡ record { table = self.now.table; room = 0 }) }
         ensures formed { IsFormed self.now.table }
+        ensures descriptors { self.now.table.limits.descriptors ≤ 64 }
     {
         let store = self.store.copy()?;
         Ok(Kernel { store, room: 0 })
     }
 
     /// One moment: the exits, one after another, and then the call by the master of the image. A master that is gone is
-    /// answered so; then comes the fault that a fate gives; then the call's own answer. It takes no memory.
-    pub fn call(&mut self, by: Actor, call: &Call, moment: &Moment<'_>) -> Answer
+    /// answered so; then comes the fault that a fate gives; then the call's own answer. The text is what the master is
+    /// handed as it starts, which Adopt reads. It takes no memory.
+    pub fn call(&mut self, by: Actor, call: &Call, text: &[u8], moment: &Moment<'_>) -> Answer
         requires { 1 ≤ self.old.room }
-        ensures step { record { answer = result; table = self.new.table } ≡ step by call.now moment.now.fate (after_exits moment.now.exits.now self.old.table) }
+        ensures step { record { answer = result; table = self.new.table } ≡ step_with text.now by call.now moment.now.fate (after_exits moment.now.exits.now self.old.table) }
         ensures room { self.new.room + 1 ≡ self.old.room }
         ensures formed { IsFormed self.new.table }
     {
         self.room -= 1;
         exits::exit_all(&mut self.store, moment.exits);
-        calls::answered(&mut self.store, by.0, call, moment.fate)
+        calls::answered(&mut self.store, by.0, call, text, moment.fate)
     }
 
     /// The process number of the live master of an image.

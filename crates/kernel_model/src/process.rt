@@ -2,7 +2,7 @@
 ghost use Rattle.std.specs.Prelude.{◌≡◌, ℕ, List, [], ◌∷◌, IfSome};
 ghost use Rattle.std.specs.Option.{option_map};
 ghost use Rattle.definitions.specs.Table.{Hold, number_of, is_own, is_master, is_named, is_worker, is_live_master, live_master, is_starting, is_ready, is_active, is_draining, is_exited};
-ghost use Rattle.definitions.specs.Calls.{is_of, is_row, is_exited_of};
+ghost use Rattle.definitions.specs.Calls.{is_of, is_row, is_exited_of, is_image};
 
 use definitions::Stance;
 use listener_set::{DescriptorTable, Generation};
@@ -130,6 +130,8 @@ impl Stances {
 
 impl Row {
     ghost use Rattle.kernel_model.specs.Seen.{process_of, has_stance, is_number};
+    ghost use Rattle.kernel_model.specs.Edits.{is_of_either};
+    ghost use Rattle.kernel_model.specs.Rows.{master_number};
 
     /// The process number.
     pub fn number(&self) -> u32
@@ -238,6 +240,40 @@ impl Row {
         match *self {
             Row::Master { number, .. } => number == caller,
             Row::Worker { parent, .. } => parent == caller,
+            Row::Foreign { .. } => false,
+        }
+    }
+
+    /// Whether it is a master of the image, live or exited.
+    pub fn is_image(&self, with: u32) -> bool
+        ensures { (hs : List Hold) → result ≡ is_image with (process_of self.now hs) }
+    {
+        match *self {
+            Row::Master { image, .. } => image == with,
+            Row::Worker { .. } | Row::Foreign { .. } => false,
+        }
+    }
+
+    /// The process number, where it is a master of the image.
+    pub fn master_number(&self, with: u32) -> Option<u32>
+        ensures { (hs : List Hold) → result ≡ master_number with (process_of self.now hs ∷ []) }
+    {
+        match *self {
+            Row::Master { number, image, .. } if image == with => Some(number),
+            _ => None,
+        }
+    }
+
+    /// Whether it is a master of the image, or a worker of the master with the number.
+    pub fn is_of_either(&self, with: u32, master: Option<u32>) -> bool
+        ensures { (hs : List Hold) → result ≡ is_of_either with master (process_of self.now hs) }
+    {
+        match *self {
+            Row::Master { image, .. } => image == with,
+            Row::Worker { parent, .. } => match master {
+                Some(number) => number == parent,
+                None => false,
+            },
             Row::Foreign { .. } => false,
         }
     }

@@ -3,13 +3,14 @@ ghost use Rattle.std.specs.Prelude.{ℕ, List, ◌≡◌, ◌↔◌, IsTrue, byt
 ghost use Rattle.std.specs.Bool.{OnTrue};
 ghost use Rattle.listener_set.specs.Numbers.{is_in};
 ghost use Rattle.definitions.specs.Settings.{HasSuffixRoom};
-ghost use Rattle.definitions.specs.Table.{is_master, owner_at};
+ghost use Rattle.definitions.specs.Table.{is_master};
 ghost use Rattle.definitions.specs.Record.{Agrees, FilesAre, IsRunning, listener_of};
 ghost use Rattle.kernel_model.specs.Holds.{address_of, seen_holds};
 ghost use Rattle.kernel_model.specs.Seen.{seen, seen_caller, seen_file, seen_holder, seen_rows};
 ghost use Rattle.kernel_model.specs.Running.{running, AreRunning, AreReady, MasterAgrees, WorkersAgree};
 
 use crate::Kernel;
+use crate::files::owner_at;
 use crate::process::{Caller, Holder, Row};
 use crate::readers::FileRow;
 use crate::store::Store;
@@ -55,7 +56,7 @@ fn is_socket_at(addresses: &[Address], socket: u32, address: &Address) -> bool
 }
 
 /// Whether the holds, in ascending descriptors, are the listeners.
-fn are_listeners(addresses: &[Address], holds: &DescriptorTable, listeners: &[Listener]) -> bool
+pub fn are_listeners(addresses: &[Address], holds: &DescriptorTable, listeners: &[Listener]) -> bool
     ensures { IsTrue result ↔ (map listener_of (seen_holds addresses.now holds.now) ≡ listeners.now) }
 {
     let mut pairs = holds.iter();
@@ -141,18 +142,6 @@ fn are_ready(holders: &[Holder], pid: u32, generation: Generation, ready: &Numbe
         }
     }
     missing.is_empty()
-}
-
-/// The process number that the file at a path holds.
-fn owner_at(files: &[FileRow], path: &FilePath) -> Option<u32>
-    ensures { result ≡ owner_at path.now (map seen_file files.now) }
-{
-    for file in files {
-        if file.path == *path {
-            return Some(file.owner);
-        }
-    }
-    None
 }
 
 /// Whether the files are as the note says.
@@ -365,10 +354,10 @@ mod tests {
             ready: Numbers::below(3),
             ..so
         };
-        kernel.call(Actor(1), &Call::Fork(FIRST, 2), &quiet);
+        kernel.call(Actor(1), &Call::Fork(FIRST, 2), &[], &quiet);
         assert!(rt; !agrees(&kernel, &so));
         assert!(rt; !agrees(&kernel, &more));
-        kernel.call(Actor(1), &Call::AwaitReady(FIRST, 2), &quiet);
+        kernel.call(Actor(1), &Call::AwaitReady(FIRST, 2), &[], &quiet);
         assert!(rt; !agrees(&kernel, &so));
         assert!(rt; agrees(&kernel, &more));
         Ok(())

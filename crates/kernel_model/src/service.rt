@@ -19,22 +19,22 @@ use std::marker::Model;
 
 /// How many workers of a generation serve.
 #[derive(Clone, Copy)]
-struct Count {
-    generation: Generation,
-    workers: u32,
+pub(crate) struct Count {
+    pub(crate) generation: Generation,
+    pub(crate) workers: u32,
 }
 
 /// An address, and who serves it in ascending generations.
 #[derive(Drop)]
-struct Served {
-    address: Address,
-    counts: Vec<Count>,
+pub(crate) struct Served {
+    pub(crate) address: Address,
+    pub(crate) counts: Vec<Count>,
 }
 
 /// Who serves which addresses: for each address that is a key, how many workers of each generation. No count is 0.
 #[derive(Drop)]
 pub struct Service {
-    entries: Vec<Served>,
+    pub(crate) entries: Vec<Served>,
 }
 
 impl Model for Service {

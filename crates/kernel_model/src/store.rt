@@ -1,9 +1,9 @@
 //! The rows of the table, and the few ways to read and change them.
-ghost use Rattle.std.specs.Prelude.{◌≡◌, ◌<◌, ◌≤◌, ◌+◌, ◌^◌, ◌↔◌, ℕ, List, length, count_by, Contains, IsTrue, IfOk, IfSome, OnOk, vec_len, vec_capacity};
+ghost use Rattle.std.specs.Prelude.{true, ◌≡◌, ◌<◌, ◌≤◌, ◌+◌, ◌^◌, ◌↔◌, ℕ, List, length, count_by, Contains, IsTrue, IfOk, IfSome, OnOk, vec_len, vec_capacity};
 ghost use Rattle.std.specs.List.{list_any, filter_map};
 ghost use Rattle.std.specs.Option.{option_map};
-ghost use Rattle.definitions.specs.Table.{Worker, is_worker, is_own, is_live_master, is_held, live_master, with_rows};
-ghost use Rattle.definitions.specs.Calls.{has_process_room, lowest_free, with_new_row, with_new_socket, each_row, census_of};
+ghost use Rattle.definitions.specs.Table.{Master, Worker, is_worker, is_own, is_live_master, is_held, live_master, with_rows};
+ghost use Rattle.definitions.specs.Calls.{is_image, has_process_room, lowest_free, with_new_row, with_new_socket, each_row, census_of};
 ghost use Rattle.definitions.specs.Exits.{kept_if, draining_exits};
 ghost use Rattle.kernel_model.specs.Seen.{seen_rows, seen_holder};
 ghost use Rattle.kernel_model.specs.Edits.{edited};
@@ -79,7 +79,8 @@ impl Store {
     ghost use Rattle.kernel_model.specs.Holds.{seen_holds};
     ghost use Rattle.kernel_model.specs.Seen.{has_stance, seen_caller, caller_row, seen};
     ghost use Rattle.kernel_model.specs.Room.{EditsRows, GrowsByOne, HasMemoryFor, LacksNumbers, IsKept};
-    ghost use Rattle.kernel_model.specs.Rows.{IsOwn};
+    ghost use Rattle.kernel_model.specs.Rows.{IsOwn, master_number};
+    ghost use Rattle.kernel_model.specs.Foreign.{with_foreign};
 
     /// The live master of an image.
     pub fn live_master(&self, image: u32) -> Option<Caller>
@@ -101,6 +102,25 @@ impl Store {
         self.holders
             .iter()
             .any(|holder| holder.row.is_live_master(number))
+    }
+
+    /// Whether there is a master of the image, live or exited.
+    pub fn has_master(&self, image: u32) -> bool
+        ensures { result ≡ list_any (is_image image) (seen self.now).rows }
+    {
+        self.holders.iter().any(|holder| holder.row.is_image(image))
+    }
+
+    /// The process number of the first master of the image, live or exited.
+    pub fn master_number(&self, image: u32) -> Option<u32>
+        ensures { result ≡ master_number image (seen self.now).rows }
+    {
+        for holder in &self.holders {
+            if let Some(number) = holder.row.master_number(image) {
+                return Some(number);
+            }
+        }
+        None
     }
 
     /// Whether a worker of the name is in one of the stances.
@@ -167,6 +187,23 @@ impl Store {
         self.next_process += 1;
     }
 
+    /// Adds a live master of the image with these holds.
+    pub fn add_master(&mut self, parent: u32, image: u32, holds: DescriptorTable)
+        requires room { vec_len self.old.holders < vec_capacity self.old.holders }
+        requires number { self.old.next_process < 2 ^ 32 }
+        ensures table { seen self.new ≡ with_new_row (seen self.old) (λ n. Master n parent image true (seen_holds self.old.addresses.items holds)) }
+        ensures grows { GrowsByOne self.old self.new }
+    {
+        let row = Row::Master {
+            number: self.next_process as u32,
+            parent,
+            image,
+            live: true,
+        };
+        self.holders.push(Holder { row, holds }).unwrap();
+        self.next_process += 1;
+    }
+
     /// Adds a socket of the address, which the master holds from then on at its lowest free descriptor. That is given.
     pub fn add_socket(&mut self, caller: &Caller, address: &Address) -> u32
         requires room { vec_len self.old.addresses < vec_capacity self.old.addresses }
@@ -186,6 +223,27 @@ impl Store {
         descriptor
     }
 
+    /// Adds a process of somebody else, which holds the address at descriptor 3 by a new socket.
+    pub fn add_foreign(&mut self, address: &Address)
+        requires holder_room { vec_len self.old.holders < vec_capacity self.old.holders }
+        requires address_room { vec_len self.old.addresses < vec_capacity self.old.addresses }
+        requires process_number { self.old.next_process < 2 ^ 32 }
+        requires socket_number { length self.old.addresses.items + 1 < 2 ^ 32 }
+        requires kept { IsKept (seen self.old) }
+        ensures table { seen self.new ≡ with_foreign address.now (seen self.old) }
+        ensures grows { GrowsByOne self.old self.new }
+    {
+        let socket = self.addresses.len() as u32 + 1;
+        let mut holds = DescriptorTable::new();
+        let _ = holds.put(socket).unwrap();
+        let row = Row::Foreign {
+            number: self.next_process as u32,
+        };
+        self.addresses.push(*address).unwrap();
+        self.holders.push(Holder { row, holds }).unwrap();
+        self.next_process += 1;
+    }
+
     /// Whether fewer process or socket numbers are left than that many.
     pub fn lacks_numbers(&self, calls: u32) -> bool
         ensures { IsTrue result ↔ LacksNumbers (seen self.now) calls }
@@ -196,7 +254,7 @@ impl Store {
         most < calls || most - calls < self.next_process || most - calls < next_socket
     }
 
-    /// Takes memory for that many rows and sockets more.
+    /// Takes memory for that many rows, sockets and files more.
     pub fn grow(&mut self, calls: u32) -> Result<(), AllocError>
         ensures same { seen self.new ≡ seen self.old }
         ensures more { OnOk result (HasMemoryFor calls self.new) }
@@ -204,6 +262,7 @@ impl Store {
     {
         self.holders.reserve(calls as usize)?;
         self.addresses.reserve(calls as usize)?;
+        self.files.reserve(calls as usize)?;
         Ok(())
     }
 

@@ -88,7 +88,7 @@ module _ (p : ℕ → Bool) (b : Bool) (digits : (c : ℕ) → is_ascii_digit c 
       let tests = both (is_ascii_digit c) (all_ascii_digits cs) all in
       All-cons (λ c. p c ≡ b) c cs (digits c tests.0) (digits_all cs tests.1)
 
-  decimal_all : (n : ℕ) → n < 2 ^ 64 → All (λ c. p c ≡ b) (decimal n)
+  pub decimal_all : (n : ℕ) → n < 2 ^ 64 → All (λ c. p c ≡ b) (decimal n)
   decimal_all n lt = digits_all (decimal n) (digits-decimal n lt)
 
   host_all : p 46 ≡ b → (ns : List ℕ) → All (λ n. n ≤ 255) ns → All (λ c. p c ≡ b) (join_with_byte 46 (map decimal ns))
@@ -101,7 +101,7 @@ module _ (p : ℕ → Bool) (b : Bool) (digits : (c : ℕ) → is_ascii_digit c 
       All-append (λ c. p c ≡ b) (decimal n) _ (decimal_all n (omega arith))
       (All-cons (λ c. p c ≡ b) 46 _ dot (host_all dot (m ∷ ns) (All-tail (λ n. n ≤ 255) n (m ∷ ns) fit)))
 
-digit_apart : (d : ℕ) → is_ascii_digit d ≡ false → (c : ℕ) → is_ascii_digit c ≡ true → eqb c d ≡ false
+pub digit_apart : (d : ℕ) → is_ascii_digit d ≡ false → (c : ℕ) → is_ascii_digit c ≡ true → eqb c d ≡ false
 digit_apart d off c on = at (eqb c d) refl
   where
     at : (b : Bool) → eqb c d ≡ b → b ≡ false
@@ -140,10 +140,10 @@ first_place : (p : ℕ → Bool) (xs : List ℕ) (y : ℕ) (ys : List ℕ) → A
 first_place p [] y ys none on = rw on refl
 first_place p (x ∷ xs) y ys none on = rw (All-head (λ x. p x ≡ false) x xs none) (omega (arith, first_place p xs y ys (All-tail (λ x. p x ≡ false) x xs none) on))
 
-before_first-at : (p : ℕ → Bool) (xs : List ℕ) (y : ℕ) (ys : List ℕ) → All (λ x. p x ≡ false) xs → p y ≡ true → before_first p (xs ++ y ∷ ys) ≡ xs
+pub before_first-at : (p : ℕ → Bool) (xs : List ℕ) (y : ℕ) (ys : List ℕ) → All (λ x. p x ≡ false) xs → p y ≡ true → before_first p (xs ++ y ∷ ys) ≡ xs
 before_first-at p xs y ys none on = ap (λ n. take n (xs ++ y ∷ ys)) (first_place p xs y ys none on) ∙ take_at xs (y ∷ ys) (length xs) refl
 
-after_first-at : (p : ℕ → Bool) (xs : List ℕ) (y : ℕ) (ys : List ℕ) → All (λ x. p x ≡ false) xs → p y ≡ true → after_first p (xs ++ y ∷ ys) ≡ ys
+pub after_first-at : (p : ℕ → Bool) (xs : List ℕ) (y : ℕ) (ys : List ℕ) → All (λ x. p x ≡ false) xs → p y ≡ true → after_first p (xs ++ y ∷ ys) ≡ ys
 after_first-at p xs y ys none on = ap (λ n. drop (n + 1) (xs ++ y ∷ ys)) (first_place p xs y ys none on) ∙ drop-append-add xs (y ∷ ys) 1
 
 dotted_accepted : (text : List ℕ) → IsDotted text → dotted_check text ≡ Ok tt

@@ -22,10 +22,21 @@ fn answer(rt: &(impl AllocGlobal + Abort), text: &str) -> Result<String, Fail> {
     }
 }
 
+/// Whether a text, cut at each byte, gives a value or a refusal of its own.
+fn is_answered_when_cut(rt: &impl AllocGlobal, text: &str) -> bool {
+    let whole = text.as_bytes();
+    (0..whole.len()).all(|end| match read(rt.alloc(), &whole[..end]) {
+        Ok(_) => true,
+        Err(refusal) => refusal != ConfigRefusal::Memory,
+    })
+}
+
+/// Each text has the answer beside it, and one wherever it is cut.
 fn answers(rt: &(impl AllocGlobal + Abort), rows: &[(&str, &str)]) -> Result<(), Fail> {
     for (text, wanted) in rows {
         let found = answer(rt, text)?;
         assert_eq!(rt; found.as_str(), *wanted, "at {text}");
+        assert!(rt; is_answered_when_cut(rt, text), "cut {text}");
     }
     Ok(())
 }
@@ -231,14 +242,55 @@ fn arguments_have_bytes(rt: HostRuntime) -> Result<(), Fail> {
 }
 
 #[test]
-fn a_cut_text_has_an_answer(rt: HostRuntime) {
-    let whole = WHOLE.as_bytes();
-    for end in 0..whole.len() {
-        match read(rt.alloc(), &whole[..end]) {
-            Ok(_) => (),
-            Err(refusal) => assert!(rt; refusal != ConfigRefusal::Memory, "cut at {end}"),
-        }
+fn addresses_are_refused_by_their_codes(rt: HostRuntime) -> Result<(), Fail> {
+    answers(
+        &rt,
+        &[
+            ("listeners = [\"\"]", "C5 0 A1"),
+            ("listeners = [\":8080\"]", "C5 0 A2"),
+            ("listeners = [\"01.2.3.4:80\"]", "C5 0 A2"),
+            ("listeners = [\"256.0.0.1:80\"]", "C5 0 A2"),
+            ("listeners = [\"255.0.0.1:80\"]", "ok"),
+            ("listeners = [\"1.2.3.4\"]", "C5 0 A3"),
+            ("listeners = [\"1.2.3.4:0\"]", "C5 0 A3"),
+            ("listeners = [\"1.2.3.4:1\"]", "ok"),
+            ("listeners = [\"1.2.3.4:65535\"]", "ok"),
+            ("listeners = [\"1.2.3.4:65536\"]", "C5 0 A3"),
+            ("listeners = [\"/a\", \"/a b\"]", "C5 1 A5"),
+            ("listeners = [\"/a\", \"/a-b\"]", "ok"),
+        ],
+    )
+}
+
+/// A path of `count` bytes, between two texts.
+fn path_text(rt: &impl AllocGlobal, before: &str, count: u32, after: &str) -> Result<String, Fail> {
+    let mut text = String::from_str(rt.alloc(), before)?;
+    text.push_str("/")?;
+    for _ in 1..count {
+        text.push_str("p")?;
     }
+    text.push_str(after)?;
+    Ok(text)
+}
+
+#[test]
+fn paths_have_bytes(rt: HostRuntime) -> Result<(), Fail> {
+    for (before, count, after, wanted) in [
+        ("listeners = [\"", 107, "\"]", "ok"),
+        ("listeners = [\"", 108, "\"]", "C5 0 A4"),
+        ("pid = \"", 1, "\"", "ok"),
+        ("pid = \"", 100, "\"", "ok"),
+        ("pid = \"", 101, "\"", "C8"),
+    ] {
+        let text = path_text(&rt, before, count, after)?;
+        answers(&rt, &[(text.as_str(), wanted)])?;
+    }
+    answers(&rt, &[("pid = \"\"", "C8"), ("pid = \"/a b\"", "C8")])
+}
+
+#[test]
+fn a_cut_text_has_an_answer(rt: HostRuntime) {
+    assert!(rt; is_answered_when_cut(&rt, WHOLE));
     assert!(rt; matches!(read(rt.alloc(), b"#\xff"), Err(ConfigRefusal::NotToml)));
 }
 

@@ -6,7 +6,7 @@ use Rattle.std.specs.List.{list_all}
 use Rattle.listener_set.specs.Numbers.{lacks}
 use Rattle.definitions.specs.contracts.calls.Reply.{the_type}
 use Rattle.definitions.specs.declared.calls.Call.{Call}
-use Rattle.definitions.specs.declared.calls.Call.TheVariants.{OpenAt, CloseAt, Fork, AwaitReady, Quit, Kill, Census}
+use Rattle.definitions.specs.declared.calls.Call.TheVariants.{OpenAt, CloseAt, Fork, AwaitReady, Quit, Kill, Census, AwaitGone, SpawnMaster, Adopt, WritePid, MovePid, RemovePid, Alive, Leave, Usr1, TermMaster}
 use Rattle.definitions.specs.declared.calls.Answer.{Answer}
 use Rattle.definitions.specs.declared.calls.Answer.TheVariants as answer
 use Rattle.definitions.specs.declared.calls.Reply.{Reply}
@@ -90,6 +90,16 @@ counted_listed (Fork g n) ks h = absurd (true≢false (sym h))
 counted_listed (AwaitReady g n) ks h = absurd (true≢false (sym h))
 counted_listed (Quit g n) ks h = absurd (true≢false (sym h))
 counted_listed (Kill g n) ks h = absurd (true≢false (sym h))
+counted_listed (AwaitGone g k) ks h = absurd (true≢false (sym h))
+counted_listed (SpawnMaster i) ks h = absurd (true≢false (sym h))
+counted_listed Adopt ks h = absurd (true≢false (sym h))
+counted_listed (WritePid path) ks h = absurd (true≢false (sym h))
+counted_listed (MovePid from to) ks h = absurd (true≢false (sym h))
+counted_listed (RemovePid path) ks h = absurd (true≢false (sym h))
+counted_listed (Alive i) ks h = absurd (true≢false (sym h))
+counted_listed Leave ks h = absurd (true≢false (sym h))
+counted_listed (Usr1 g k) ks h = absurd (true≢false (sym h))
+counted_listed (TermMaster i) ks h = absurd (true≢false (sym h))
 
 -- a listed answer is that the master is gone, or is a reply of the call
 listed_reply : (call : Call) (set : List ℕ) (a : Answer) → is_listed call a ≡ true → (a ≡ answer.MasterGone) ⊎ (among (replies_to call) (reply_of set a) ≡ true)
@@ -106,6 +116,12 @@ listed_reply call set answer.Again h = inr h
 listed_reply call set answer.IsReady h = inr h
 listed_reply call set answer.Gone h = inr h
 listed_reply call set answer.Late h = inr h
+listed_reply call set answer.Spawned h = inr h
+listed_reply call set answer.NoImage h = inr h
+listed_reply call set answer.Adopted h = inr h
+listed_reply call set answer.Refused h = inr h
+listed_reply call set answer.IoFault h = inr h
+listed_reply call set answer.IsAlive h = inr h
 
 replies_of_order : (lacking : List ℕ) (order : Order) → replies_to (call_of order lacking) ≡ order_replies order
 replies_of_order lacking (Make call) = refl
@@ -134,6 +150,12 @@ short_then set lacking answer.Again = refl
 short_then set lacking answer.IsReady = refl
 short_then set lacking answer.Gone = refl
 short_then set lacking answer.Late = refl
+short_then set lacking answer.Spawned = refl
+short_then set lacking answer.NoImage = refl
+short_then set lacking answer.Adopted = refl
+short_then set lacking answer.Refused = refl
+short_then set lacking answer.IoFault = refl
+short_then set lacking answer.IsAlive = refl
 
 -- after an answer that an edge takes, the rest is fit, and lower
 pub fit_after : (t : Tree) (lacking set : List ℕ) (a : Answer) (found : Option PidNote × Tree) → SetIs t set → is_fit (is_short lacking) t ≡ true → follow (Some t) a ≡ Some found → is_fit (is_short (lacking_after set a lacking)) found.1 ≡ true

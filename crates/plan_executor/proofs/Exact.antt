@@ -1,5 +1,5 @@
 -- At most one refusal fits, and none where a target is carried out.
-use Rattle.std.proofs.Common.{◌≡◌, ℕ, ◌⊎◌, inl, inr, Some, Result, Ok, Err, refl, sym, ◌∙◌, ap, subst}
+use Rattle.std.proofs.Common.{◌≡◌, ℕ, ◌⊎◌, inl, inr, Option, Some, None, Result, Ok, Err, refl, sym, ◌∙◌, ap, subst}
 use Rattle.std.specs.Prelude.{◌↔◌}
 use Rattle.std.specs.Result.{IsErrOf}
 use Rattle.std.proofs.lemmas.Option.{none-some, same_Some}
@@ -7,7 +7,13 @@ use Rattle.definitions.specs.Table.{Table}
 use Rattle.definitions.specs.Record.{Record, Agrees}
 use Rattle.definitions.specs.declared.targets.Target.{Target}
 use Rattle.definitions.specs.Tree.{Tree, height}
-use Rattle.definitions.specs.Plans.{planned}
+use Rattle.definitions.specs.Plans.{planned, plan_tree}
+use Rattle.definitions.specs.After.{next_config}
+use Rattle.definitions.specs.Table.{Generation}
+use Rattle.std.proofs.lemmas.Bool.{false≢true}
+use Rattle.std.specs.Prelude.{is_none, option_map, true}
+use Rattle.reload_planner.specs.Planning.{is_upgrade, lacks_generation}
+use Rattle.definitions.specs.declared.targets.Target.TheVariants.{Workers, Mend, Reopen, Reload, Upgrade, Stop}
 use Rattle.definitions.specs.Run.{Pattern, start_at}
 use Rattle.definitions.specs.Claims.{refused_moment}
 use Rattle.kernel_model.specs.Room.{LacksNumbers}
@@ -26,18 +32,53 @@ IsExact t r target pattern result = (why : EnactRefusal) → IsErrOf result Memo
 
 ---- One refusal alone
 
+no_upgrade : (r : Record) (target : Target) (tree : Tree) → is_upgrade target ≡ true → planned r target ≡ Some tree → ⊥
+no_upgrade r (Workers n) tree none is = false≢true none
+no_upgrade r (Mend overdue) tree none is = false≢true none
+no_upgrade r Reopen tree none is = false≢true none
+no_upgrade r (Reload s) tree none is = false≢true none
+no_upgrade r (Upgrade s) tree none is = none-some tree is
+no_upgrade r (Stop quick) tree none is = false≢true none
+
+no_reload : (g : Option Generation) (tree other : Tree) → is_none g ≡ true → option_map (λ _. other) g ≡ Some tree → ⊥
+no_reload None tree other none is = none-some tree is
+no_reload (Some g) tree other none is = false≢true none
+
+no_number : (r : Record) (target : Target) (tree : Tree) → lacks_generation r target ≡ true → planned r target ≡ Some tree → ⊥
+no_number r (Workers n) tree none is = false≢true none
+no_number r (Mend overdue) tree none is = false≢true none
+no_number r Reopen tree none is = false≢true none
+no_number r (Reload s) tree none is = no_reload (next_config r.generation) tree (plan_tree r (Reload s)) none is
+no_number r (Upgrade s) tree none is = false≢true none
+no_number r (Stop quick) tree none is = false≢true none
+
+-- no upgrade lacks a number here
+not_both : (r : Record) (target : Target) → is_upgrade target ≡ true → lacks_generation r target ≡ true → ⊥
+not_both r (Workers n) upgrade lacks = false≢true upgrade
+not_both r (Mend overdue) upgrade lacks = false≢true upgrade
+not_both r Reopen upgrade lacks = false≢true upgrade
+not_both r (Reload s) upgrade lacks = false≢true upgrade
+not_both r (Upgrade s) upgrade lacks = false≢true lacks
+not_both r (Stop quick) upgrade lacks = false≢true upgrade
+
 -- a planner that refuses a target makes no plan of it
 no_tree : (r : Record) (target : Target) (p : PlanRefusal) (tree : Tree) → HasNoPlan r target p → planned r target ≡ Some tree → ⊥
-no_tree r target planner.Unplanned tree none is = none-some tree (sym none ∙ is)
+no_tree r target planner.Unplanned tree none is = no_upgrade r target tree none is
 no_tree r target planner.TooLarge tree none is = none
-no_tree r target planner.NoGeneration tree none is = none
+no_tree r target planner.NoGeneration tree none is = no_number r target tree none is
 no_tree r target planner.Memory tree none is = none
 
-is_unplanned : (r : Record) (target : Target) (p : PlanRefusal) → HasNoPlan r target p → p ≡ planner.Unplanned
-is_unplanned r target planner.Unplanned none = refl
-is_unplanned r target planner.TooLarge none = absurd none
-is_unplanned r target planner.NoGeneration none = absurd none
-is_unplanned r target planner.Memory none = absurd none
+one_planless : (r : Record) (target : Target) (p q : PlanRefusal) → HasNoPlan r target p → HasNoPlan r target q → p ≡ q
+one_planless r target planner.Unplanned planner.Unplanned none also = refl
+one_planless r target planner.Unplanned planner.TooLarge none also = absurd also
+one_planless r target planner.Unplanned planner.NoGeneration none also = absurd (not_both r target none also)
+one_planless r target planner.Unplanned planner.Memory none also = absurd also
+one_planless r target planner.TooLarge q none also = absurd none
+one_planless r target planner.NoGeneration planner.Unplanned none also = absurd (not_both r target also none)
+one_planless r target planner.NoGeneration planner.TooLarge none also = absurd also
+one_planless r target planner.NoGeneration planner.NoGeneration none also = refl
+one_planless r target planner.NoGeneration planner.Memory none also = absurd also
+one_planless r target planner.Memory q none also = absurd none
 
 same_tree : (r : Record) (target : Target) (tree other : Tree) → planned r target ≡ Some tree → planned r target ≡ Some other → tree ≡ other
 same_tree r target tree other is also = same_Some tree other (sym is ∙ also)
@@ -60,7 +101,7 @@ one t r target pattern RecordDisagrees NoNumbers h h' = absurd (h h'.agrees)
 one t r target pattern RecordDisagrees (MasterNamed k) h h' = absurd (h h'.agrees)
 one t r target pattern (Plan p) Memory h h' = absurd h'
 one t r target pattern (Plan p) RecordDisagrees h h' = absurd (h' h.agrees)
-one t r target pattern (Plan p) (Plan q) h h' = ap Plan (is_unplanned r target p h.no_plan ∙ sym (is_unplanned r target q h'.no_plan))
+one t r target pattern (Plan p) (Plan q) h h' = ap Plan (one_planless r target p q h.no_plan h'.no_plan)
 one t r target pattern (Plan p) NoNumbers h h' = absurd (no_tree r target p h'.tree h.no_plan h'.is_planned)
 one t r target pattern (Plan p) (MasterNamed k) h h' = absurd (no_tree r target p h'.tree h.no_plan h'.is_planned)
 one t r target pattern NoNumbers Memory h h' = absurd h'

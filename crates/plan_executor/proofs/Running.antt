@@ -51,18 +51,18 @@ runs-behind (Some (Some n, rest)) entries pattern q last all follows over replay
 abbrev pub first_entry : ℕ → Order → Pattern → Progress → Entry
 first_entry by order pattern p =
     let moment = pattern (p.calls + 1) in
-    record { by = by; call = call_of order p.lacking; answer = (answered by order moment.fate (after_moment moment.exits p)).answer }
+    record { by = by; call = call_of order p.lacking; answer = (answered [] by order moment.fate (after_moment moment.exits p)).answer }
 
 runs-step : (entries : List Entry) (by : ℕ) (order : Order) (set : List ℕ) (branches : Branches) (pattern : Pattern) (p : Progress) (last : Table) → RunsAll entries →
     let moment = pattern (p.calls + 1) in
     let e = first_entry by order pattern p in
     let t = advance (trail_at (Some (Does by order set branches)) p) e in
-    Follows t entries → IsOver (after t entries).rest → Replays pattern (p.calls + 1) (answered by order moment.fate (after_moment moment.exits p)).table entries last →
+    Follows t entries → IsOver (after t entries).rest → Replays pattern (p.calls + 1) (answered [] by order moment.fate (after_moment moment.exits p)).table entries last →
     IsRun (e ∷ entries) last (after t entries) (run (Does by order set branches) pattern p)
 runs-step entries by order set branches pattern p last all follows over replays =
     let moment = pattern (p.calls + 1) in
     let middle = after_moment moment.exits p in
-    let s = answered by order moment.fate middle in
+    let s = answered [] by order moment.fate middle in
     let q = after_call order set s middle in
     let e = first_entry by order pattern p in
     let found = branch branches (reply_of set s.answer) in
@@ -76,7 +76,7 @@ runs-as (e ∷ entries) (Ends end) pattern p last follows over replays = absurd 
 runs-as (e ∷ entries) (Does by order set branches) pattern p last follows over replays =
     let moment = pattern (p.calls + 1) in
     let t = trail_at (Some (Does by order set branches)) p in
-    let mine : step e.by e.call moment.fate (after_exits moment.exits p.table) ≡ answered by order moment.fate (after_moment moment.exits p) = λ i. step (follows.0.0 i) (follows.0.1 i) moment.fate (after_exits moment.exits p.table) in
+    let mine : step e.by e.call moment.fate (after_exits moment.exits p.table) ≡ answered [] by order moment.fate (after_moment moment.exits p) = λ i. step (follows.0.0 i) (follows.0.1 i) moment.fate (after_exits moment.exits p.table) in
     let same : e ≡ first_entry by order pattern p = λ i. record { by = follows.0.0 i; call = follows.0.1 i; answer = (sym replays.0 ∙ ap (λ (s : Stepped). s.answer) mine) i } in
     subst (λ (x : Entry). IsRun (x ∷ entries) last (after (advance t x) entries) (run (Does by order set branches) pattern p)) (sym same)
     (runs-step entries by order set branches pattern p last (runs-as entries)

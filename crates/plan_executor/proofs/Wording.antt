@@ -5,11 +5,17 @@ use Rattle.definitions.specs.Settings.{Settings}
 use Rattle.definitions.specs.Table.{Table}
 use Rattle.definitions.specs.Record.{Record, Agrees}
 use Rattle.definitions.specs.declared.targets.Target.{Target}
-use Rattle.definitions.specs.Run.{Pattern}
+use Rattle.definitions.specs.Run.{Pattern, Ran as TheRun, run, start_at, report_of}
 use Rattle.definitions.specs.After.{record_after}
+use Rattle.definitions.specs.declared.targets.Target.TheVariants.{Workers, Mend, Reopen, Reload, Upgrade, Stop}
+use Rattle.definitions.specs.declared.reports.Report.{Report}
+use Rattle.definitions.specs.Claims.{AgreesAfter, IsLeft}
+use Rattle.worker_table.specs.Calls.{beating}
+use Rattle.worker_table.specs.declared.refusal.TableRefusal.{TableRefusal}
+use Rattle.plan_executor.specs.declared.words.HeardBeat.{HeardBeat}
 use Rattle.kernel_model.specs.Pattern.{moment_at}
 use Rattle.control_words.specs.declared.words.Word.{Word}
-use Rattle.control_words.specs.declared.words.WordRefusal.{WordRefusal}
+use Rattle.control_words.specs.declared.refusal.WordRefusal.{WordRefusal}
 use Rattle.control_words.specs.Words.{target_of}
 use Rattle.plan_executor.specs.declared.block.Block.{Block}
 use Rattle.plan_executor.specs.declared.block.Body.{Body}
@@ -21,7 +27,7 @@ use Rattle.plan_executor.specs.declared.enactment.EnactRefusal.TheVariants.{Memo
 use Rattle.plan_executor.specs.Codes.{enact_code}
 use Rattle.plan_executor.specs.Refusals.{IsRefused}
 use Rattle.plan_executor.proofs.Exact.{IsExact}
-use Rattle.plan_executor.specs.Words.{Standing, IsTrueOf, IsActed, IsAnswered, IsHeard, ComesTo, Moments, pattern_at, rest_of, AreDone}
+use Rattle.plan_executor.specs.Words.{Standing, IsTrueOf, IsActed, IsAnswered, IsNoted, IsAsked, beat_in, IsHeard, ComesTo, overdue_at, Moments, pattern_at, rest_of, AreDone}
 
 ---- A target
 
@@ -72,23 +78,43 @@ done-more settings words patterns first blocks middle last n d moments body lt c
 
 ---- The record stays true
 
+-- the record that agrees after a run is the one that is left
+agreed : (target : Target) (r : Record) (state : Option Record) (report : Report) (t : Table) → state ≡ record_after r target report r.pid → AgreesAfter r target report r.pid t → IsTrueOf t state
+agreed target r state report t is after = subst (IsTrueOf t) (sym (is ∙ after.is)) after.agrees
+
+left-true : (target : Target) (r : Record) (state : Option Record) (ran : TheRun) → state ≡ record_after r target (report_of ran) r.pid → IsLeft r target r.pid ran → IsTrueOf ran.last.table state
+left-true (Workers n) r state ran is left = agreed (Workers n) r state (report_of ran) ran.last.table is left
+left-true (Mend overdue) r state ran is left = agreed (Mend overdue) r state (report_of ran) ran.last.table is left
+left-true Reopen r state ran is left = agreed Reopen r state (report_of ran) ran.last.table is left
+left-true (Reload s) r state ran is left = agreed (Reload s) r state (report_of ran) ran.last.table is left
+left-true (Upgrade s) r state ran is left = agreed (Upgrade s) r state (report_of ran) ran.last.table is left
+left-true (Stop quick) r state ran is left = subst (IsTrueOf ran.last.table) (sym (is ∙ left.0)) tt
+
 acted-true : (target : Target) (r : Record) (pattern : Pattern) (old : Standing) (body : Body) (new : Standing) → IsActed old r target pattern body new → IsTrueOf old.kernel.table old.state → IsTrueOf new.kernel.table new.state
 acted-true target r pattern old Nothing new h true_of = absurd h
 acted-true target r pattern old (Refused code) new h true_of = subst (λ (s : Standing). IsTrueOf s.kernel.table s.state) (sym h.still) true_of
 acted-true target r pattern old (Ran transcript report) new h true_of =
     let is = h.enacted in
-    let after = is.keeps.after in
-    let left : new.state ≡ Some after.record_then = is.after ∙ (ap (λ x. record_after r target x r.pid) is.is_run.report_is ∙ after.is) in
-    subst (IsTrueOf new.kernel.table) (sym left) (subst (λ (t : Table). Agrees t after.record_then) is.is_run.table after.agrees)
+    let ran = run is.tree pattern (start_at old.kernel.table r.note) in
+    let left : new.state ≡ record_after r target (report_of ran) r.pid = is.after ∙ ap (λ x. record_after r target x r.pid) is.is_run.report_is in
+    subst (λ (t : Table). IsTrueOf t new.state) is.is_run.table (left-true target r new.state ran left is.keeps.after)
 
 answered-true : (asked : Result (Option Target) WordRefusal) (r : Record) (pattern : Pattern) (old : Standing) (body : Body) (new : Standing) → IsAnswered asked r pattern old body new → IsTrueOf old.kernel.table old.state → IsTrueOf new.kernel.table new.state
 answered-true (Err refusal) r pattern old body new h true_of = subst (λ (s : Standing). IsTrueOf s.kernel.table s.state) (sym h.1) true_of
 answered-true (Ok None) r pattern old body new h true_of = subst (λ (s : Standing). IsTrueOf s.kernel.table s.state) (sym h.1) true_of
 answered-true (Ok (Some target)) r pattern old body new h true_of = acted-true target r pattern old body new h true_of
 
+noted-true : (answer : Result (Unit {0}) TableRefusal) (nr now : ℕ) (old : Standing) (body : Body) (new : Standing) → IsNoted answer nr now old body new → IsTrueOf old.kernel.table old.state → IsTrueOf new.kernel.table new.state
+noted-true (Ok u) nr now old body new h true_of = subst (λ (s : Standing). IsTrueOf s.kernel.table s.state) (sym h.1) true_of
+noted-true (Err refusal) nr now old body new h true_of = subst (λ (s : Standing). IsTrueOf s.kernel.table s.state) (sym h.1) true_of
+
+asked-true : (heard : Option HeardBeat) (settings : Option Settings) (word : Word) (r : Record) (pattern : Pattern) (old : Standing) (body : Body) (new : Standing) → IsAsked heard settings word r pattern old body new → IsTrueOf old.kernel.table old.state → IsTrueOf new.kernel.table new.state
+asked-true (Some beat) settings word r pattern old body new h true_of = noted-true (beating old.workers beat.nr beat.now) beat.nr beat.now old body new h true_of
+asked-true None settings word r pattern old body new h true_of = answered-true (target_of word r (overdue_at word r old.workers) settings) r pattern old body new h true_of
+
 heard-true : (state : Option Record) (settings : Option Settings) (word : Word) (pattern : Pattern) (old : Standing) (body : Body) (new : Standing) → IsHeard state settings word pattern old body new → IsTrueOf old.kernel.table old.state → IsTrueOf new.kernel.table new.state
 heard-true None settings word pattern old body new h true_of = subst (λ (s : Standing). IsTrueOf s.kernel.table s.state) (sym h.1) true_of
-heard-true (Some r) settings word pattern old body new h true_of = answered-true (target_of word r [] settings) r pattern old body new h true_of
+heard-true (Some r) settings word pattern old body new h true_of = asked-true (beat_in word) settings word r pattern old body new h true_of
 
 pub done-true : (settings : Option Settings) (words : List Word) (patterns : List Moments) (first : Standing) (blocks : List Block) (last : Standing) → AreDone settings words patterns first blocks last → IsTrueOf first.kernel.table first.state → IsTrueOf last.kernel.table last.state
 done-true settings words patterns first [] last done true_of = subst (λ (s : Standing). IsTrueOf s.kernel.table s.state) (sym done) true_of

@@ -1,10 +1,13 @@
 -- What comes of a target that is carried out.
-use Rattle.std.specs.Prelude.{◌≡◌, ◌+◌, length, Some, None}
+use Rattle.std.specs.Prelude.{◌≡◌, ◌+◌, length, Some, None, ⊤}
 use Rattle.definitions.specs.declared.targets.Target.{Target}
+use Rattle.definitions.specs.declared.targets.Target.TheVariants.{Workers, Mend, Reopen, Reload, Upgrade, Stop}
+use Rattle.definitions.specs.Table.{Table}
 use Rattle.definitions.specs.Record.{Record, Agrees}
 use Rattle.definitions.specs.Tree.{Tree, height}
 use Rattle.definitions.specs.Plans.{planned}
-use Rattle.definitions.specs.Run.{Pattern, run, start_at}
+use Rattle.definitions.specs.Run.{Pattern, Ran, run, start_at, report_of}
+use Rattle.definitions.specs.Manner.{Manner}
 use Rattle.definitions.specs.After.{record_after}
 use Rattle.definitions.specs.Claims.{refused_moment, Keeps, KeepsFloor}
 use Rattle.kernel_model.specs.Room.{LacksNumbers}
@@ -12,10 +15,20 @@ use Rattle.kernel_model.specs.State.{State}
 use Rattle.plan_executor.specs.Lawful.{IsWholeRun}
 use Rattle.plan_executor.specs.declared.enactment.Enacted.{Enacted}
 
+-- Where a target starts workers before it quits others, its run keeps the floor. A mend kills first, a reopening changes no worker,
+-- and a stop leaves none.
+abbrev pub HasFloor : Table → Record → Target → Ran → Type 0
+HasFloor t r (Workers n) ran = KeepsFloor t r (Workers n) ran
+HasFloor t r (Reload s) ran = KeepsFloor t r (Reload s) ran
+HasFloor t r (Upgrade s) ran = KeepsFloor t r (Upgrade s) ran
+HasFloor t r (Mend overdue) ran = ⊤
+HasFloor t r Reopen ran = ⊤
+HasFloor t r (Stop quick) ran = ⊤
+
 -- The record agreed, and the target's plan was run, from the first table to the last, under the pattern: entries and report are
 -- those of its run, the record afterwards is the one that the report leaves, and no moment of the run kills the executing
 -- master. There were numbers for the longest path, and room is left for what was not called. The run ends as its report says,
--- and keeps what it has to.
+-- keeps what it has to, and has the target's manner.
 pub record IsEnacted (first last : State) (r : Record) (target : Target) (pattern : Pattern) (e : Enacted) : Type 0 where
   pub agrees : Agrees first.table r
   pub tree : Tree
@@ -26,4 +39,5 @@ pub record IsEnacted (first last : State) (r : Record) (target : Target) (patter
   pub room : last.room + length e.transcript.entries ≡ height tree
   pub after : e.after ≡ record_after r target e.report r.pid
   pub keeps : Keeps first.table r target r.pid (run tree pattern (start_at first.table r.note))
-  pub floor : KeepsFloor first.table r target (run tree pattern (start_at first.table r.note))
+  pub floor : HasFloor first.table r target (run tree pattern (start_at first.table r.note))
+  pub manner : Manner r target (report_of (run tree pattern (start_at first.table r.note))).outcome first.table (run tree pattern (start_at first.table r.note))

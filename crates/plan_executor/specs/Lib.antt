@@ -9,3 +9,4 @@ pub mod Patterned
 pub mod Enacted
 pub mod Started
 pub mod Words
+pub mod Range

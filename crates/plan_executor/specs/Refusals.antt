@@ -1,5 +1,5 @@
 -- Why a target is not carried out.
-use Rattle.std.specs.Prelude.{ℕ, ◌≡◌, Some, None}
+use Rattle.std.specs.Prelude.{ℕ, ◌≡◌, true, Some, None}
 use Rattle.definitions.specs.Table.{Table}
 use Rattle.definitions.specs.Record.{Record, Agrees}
 use Rattle.definitions.specs.declared.targets.Target.{Target}
@@ -8,16 +8,17 @@ use Rattle.definitions.specs.Plans.{planned}
 use Rattle.definitions.specs.Run.{Pattern, start_at}
 use Rattle.definitions.specs.Claims.{refused_moment}
 use Rattle.kernel_model.specs.Room.{LacksNumbers}
+use Rattle.reload_planner.specs.Planning.{is_upgrade, lacks_generation}
 use Rattle.reload_planner.specs.declared.refusal.PlanRefusal.{PlanRefusal}
 use Rattle.reload_planner.specs.declared.refusal.PlanRefusal.TheVariants as planner
 use Rattle.plan_executor.specs.declared.enactment.EnactRefusal.{EnactRefusal}
 use Rattle.plan_executor.specs.declared.enactment.EnactRefusal.TheVariants.{Memory, RecordDisagrees, Plan, MasterNamed, NoNumbers}
 
--- When a planner refuses a target so, want of memory aside.
+-- When the planner of one master refuses a target so, want of memory aside: an upgrade, or a reload whose number would pass its limit.
 abbrev pub HasNoPlan : Record → Target → PlanRefusal → Type 0
-HasNoPlan r target planner.Unplanned = planned r target ≡ None
+HasNoPlan r target planner.Unplanned = is_upgrade target ≡ true
 HasNoPlan r target planner.TooLarge = ⊥
-HasNoPlan r target planner.NoGeneration = ⊥
+HasNoPlan r target planner.NoGeneration = lacks_generation r target ≡ true
 HasNoPlan r target planner.Memory = ⊥
 
 -- The record agrees, and a planner refuses the target.

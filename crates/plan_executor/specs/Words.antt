@@ -8,9 +8,13 @@ use Rattle.definitions.specs.declared.reports.Report.{Report}
 use Rattle.definitions.specs.Run.{Moment, Pattern}
 use Rattle.kernel_model.specs.State.{State}
 use Rattle.kernel_model.specs.Pattern.{moment_at}
-use Rattle.worker_table.specs.Beats.{Workers, followed}
+use Rattle.worker_table.specs.Beats.{Workers, followed, overdue_numbers, with_worker}
+use Rattle.worker_table.specs.Calls.{beating}
+use Rattle.worker_table.specs.Codes.{table_code}
+use Rattle.worker_table.specs.declared.refusal.TableRefusal.{TableRefusal}
 use Rattle.control_words.specs.declared.words.Word.{Word}
-use Rattle.control_words.specs.declared.words.WordRefusal.{WordRefusal}
+use Rattle.control_words.specs.declared.words.Word.TheVariants.{Beat, Tick}
+use Rattle.control_words.specs.declared.refusal.WordRefusal.{WordRefusal}
 use Rattle.control_words.specs.Words.{target_of, refusal_code}
 use Rattle.plan_executor.specs.declared.block.Block.{Block}
 use Rattle.plan_executor.specs.declared.block.Body.{Body}
@@ -21,6 +25,7 @@ use Rattle.plan_executor.specs.Codes.{enact_code, stopped_code}
 use Rattle.plan_executor.specs.Refusals.{IsRefused}
 use Rattle.plan_executor.specs.Enacted.{IsEnacted}
 use Rattle.plan_executor.specs.Started.{started}
+use Rattle.plan_executor.specs.declared.words.HeardBeat.{HeardBeat}
 
 -- Where things stand between two words: the kernel, the record of the running master, if there is one, and its workers' beats.
 pub record Standing : Type 0 where
@@ -67,9 +72,31 @@ IsAnswered (Err refusal) r pattern old body new = IsStill (refusal_code refusal)
 IsAnswered (Ok None) r pattern old body new = (body ≡ Nothing) × (new ≡ old)
 IsAnswered (Ok (Some target)) r pattern old body new = IsActed old r target pattern body new
 
+-- the workers that are overdue at a tick
+abbrev pub overdue_at : Word → Record → Workers → List ℕ
+overdue_at (Tick now) r workers = overdue_numbers workers now r.timeout
+overdue_at _ r workers = []
+
+-- A beat is noted, or it is refused by the table of workers.
+abbrev pub IsNoted : Result (Unit {0}) TableRefusal → ℕ → ℕ → Standing → Body → Standing → Type 0
+IsNoted (Ok u) nr now old body new = (body ≡ Nothing) × (new ≡ standing old.kernel old.state (with_worker old.workers nr (Some now)))
+IsNoted (Err refusal) nr now old body new = IsStill (table_code refusal) old body new
+
+abbrev pub beat_in : Word → Option HeardBeat
+beat_in (Beat nr now) = Some (record { nr = nr; now = now })
+beat_in _ = None
+
+-- What a running master makes of a word, which may be a beat.
+abbrev pub IsAsked : Option HeardBeat → Option Settings → Word → Record → Pattern → Standing → Body → Standing → Type 0
+IsAsked (Some beat) settings word r pattern old body new = IsNoted (beating old.workers beat.nr beat.now) beat.nr beat.now old body new
+IsAsked None settings word r pattern old body new = IsAnswered (target_of word r (overdue_at word r old.workers) settings) r pattern old body new
+
+abbrev pub IsObeyed : Option Settings → Word → Record → Pattern → Standing → Body → Standing → Type 0
+IsObeyed settings word r pattern old body new = IsAsked (beat_in word) settings word r pattern old body new
+
 abbrev pub IsHeard : Option Record → Option Settings → Word → Pattern → Standing → Body → Standing → Type 0
 IsHeard None settings word pattern old body new = IsStill stopped_code old body new
-IsHeard (Some r) settings word pattern old body new = IsAnswered (target_of word r [] settings) r pattern old body new
+IsHeard (Some r) settings word pattern old body new = IsObeyed settings word r pattern old body new
 
 -- What a word comes to, from one standing to another.
 abbrev pub ComesTo : Option Settings → Word → Pattern → Standing → Body → Standing → Type 0

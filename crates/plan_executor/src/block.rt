@@ -9,6 +9,7 @@ use definitions::Report;
 use itoa::Buffer;
 use reload_planner::PlanRefusal;
 use std::marker::Model;
+use worker_table::TableRefusal;
 
 /// A refusal's code as it is printed: a capital letter with a number, and then, separated by
 /// single spaces, what it is about: `W3`, `E4 1`, `E3 P2`.
@@ -62,6 +63,18 @@ impl From<WordRefusal> for CodeText {
     ghost from_gives = { λ refusal code. code ≡ refusal_code refusal };
 
     fn from(refusal: WordRefusal) -> CodeText {
+        CodeText::of(refusal.code(), "")
+    }
+}
+
+/// The code of a beat's refusal.
+impl From<TableRefusal> for CodeText {
+    ghost use Rattle.std.specs.Prelude.{◌≡◌};
+    ghost use Rattle.worker_table.specs.Codes.{table_code};
+
+    ghost from_gives = { λ refusal code. code ≡ table_code refusal };
+
+    fn from(refusal: TableRefusal) -> CodeText {
         CodeText::of(refusal.code(), "")
     }
 }

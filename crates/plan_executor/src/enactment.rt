@@ -1,21 +1,23 @@
 //! A target, planned and carried out on the modelled kernel.
-ghost use Rattle.std.specs.Prelude.{◌≡◌, ◌↔◌, ◌⊎◌, Some, OnErr, IfOk, IfErr, IsErrOf};
+ghost use Rattle.std.specs.Prelude.{◌≡◌, ◌≤◌, ◌↔◌, ◌⊎◌, Some, OnErr, IfOk, IfErr, IsErrOf};
 ghost use Rattle.definitions.specs.Formed.{IsFormed};
 ghost use Rattle.definitions.specs.Record.{Agrees};
 ghost use Rattle.definitions.specs.Plans.{planned};
+ghost use Rattle.definitions.specs.Settings.{IsInRange};
 ghost use Rattle.definitions.specs.Target.{IsTarget};
 ghost use Rattle.kernel_model.specs.Pattern.{moment_at};
 ghost use Rattle.kernel_model.specs.Room.{LacksNumbers};
 ghost use Rattle.rollback_plan.specs.Plans.{tree_of, note_of};
 ghost use Rattle.reload_planner.specs.declared.refusal.PlanRefusal.{PlanRefusal as Unplannable};
 ghost use Rattle.plan_executor.specs.Enacted.{IsEnacted};
+ghost use Rattle.plan_executor.specs.Range.{HasRange};
 ghost use Rattle.plan_executor.specs.Refusals.{HasNoPlan, IsRefused};
 ghost use Rattle.plan_executor.specs.declared.enactment.EnactRefusal.{EnactRefusal as Refusal};
 
 use crate::naming::first_naming;
 use crate::patterned::Patterned;
 use crate::{Transcript, execute};
-use definitions::{Report, Target};
+use definitions::{Report, Settings, Target};
 use kernel_model::{Kernel, Pattern, ReserveRefusal};
 use reload_planner::PlanRefusal;
 use rollback_plan::Plan;
@@ -96,10 +98,15 @@ pub fn enact(
     let mut transcript = Transcript::with_room(alloc, longest)?;
     let mut calls = Patterned::new(copy, pattern, made);
     let report = execute(&plan, &mut calls, &mut transcript);
-    if let Some(moment) = first_naming(pattern, state.generation.image, transcript.len() as u32) {
+    if let Some(moment) = first_naming(pattern, state.generation.image, transcript.entries()) {
         return Err(EnactRefusal::MasterNamed(moment));
     }
+    read_settings(target);
     theorems::workers_end_as_reported();
+    theorems::mends_end_as_reported();
+    theorems::reopenings_end_as_reported();
+    theorems::reloads_end_as_reported();
+    theorems::stops_end_as_reported();
     *kernel = calls.into_kernel();
     let after = state.after(target, &report, state.pid);
     Ok(Enacted {
@@ -107,6 +114,27 @@ pub fn enact(
         report,
         after,
     })
+}
+
+/// A target's settings are in range, which only a reading of them tells.
+fn read_settings(target: &Target)
+    ensures { HasRange target.now }
+{
+    match target {
+        Target::Reload(settings) => {
+            let _workers = workers_of(settings);
+        }
+        Target::Upgrade(settings) => {
+            let _workers = workers_of(settings);
+        }
+        _ => (),
+    }
+}
+
+fn workers_of(settings: &Settings) -> u32
+    ensures { IsInRange settings.now }
+{
+    settings.workers
 }
 
 /// The plan of a target.
@@ -128,6 +156,7 @@ fn plan_of(alloc: Global, state: &Record, target: &Target) -> Result<Plan, Enact
 fn reserved_copy(kernel: &Kernel, calls: u32) -> Result<Kernel, EnactRefusal>
     ensures same { IfOk result (λ k. k ≡ record { table = kernel.now.table; room = calls }) }
     ensures formed { IsFormed kernel.now.table }
+    ensures descriptors { kernel.now.table.limits.descriptors ≤ 64 }
     ensures numbers { IfOk result (λ _. LacksNumbers kernel.now.table calls → ⊥) }
     ensures refused { IfErr result (λ why.
         (why ≡ EnactRefusal.Memory) ⊎ ((why ≡ EnactRefusal.NoNumbers) × LacksNumbers kernel.now.table calls)) }

@@ -1,22 +1,36 @@
 //! Which moment of a run kills the executing master.
-ghost use Rattle.std.specs.Prelude.{◌≡◌};
+ghost use Rattle.std.specs.Prelude.{◌≡◌, ◌<◌, ◌∷◌, [], length};
 ghost use Rattle.std.specs.List.{list_any};
+
+ghost use Rattle.definitions.specs.Manner.{is_leave_call};
 ghost use Rattle.kernel_model.specs.Pattern.{moment_at};
 ghost use Rattle.plan_executor.specs.Naming.{first_naming, is_master};
 
-use definitions::Name;
+use definitions::{Call, Entry, Name};
 use kernel_model::Pattern;
 
-/// The first of so many moments in which the master of the image exits.
-pub(crate) fn first_naming(pattern: &Pattern, image: u32, calls: u32) -> Option<u32>
-    ensures { result ≡ first_naming image (moment_at pattern.now) 0 calls }
+/// The first moment of these calls in which the master of the image exits, up to its Leave. After
+/// that nobody executes.
+pub(crate) fn first_naming(pattern: &Pattern, image: u32, entries: &[Entry]) -> Option<u32>
+    requires { length entries.now < 4294967296 }
+    ensures { result ≡ first_naming (image ∷ []) [] (moment_at pattern.now) 0 entries.now }
 {
-    for passed in 0..calls {
-        if names_master(pattern.moment(passed + 1).exits, image) {
-            return Some(passed + 1);
+    for (place, entry) in entries.iter().enumerate() {
+        let number = place as u32 + 1;
+        if names_master(pattern.moment(number).exits, image) {
+            return Some(number);
+        }
+        if is_leave(&entry.call) {
+            return None;
         }
     }
     None
+}
+
+fn is_leave(call: &Call) -> bool
+    ensures { result ≡ is_leave_call call.now }
+{
+    matches!(call, Call::Leave)
 }
 
 fn names_master(exits: &[Name], image: u32) -> bool
@@ -29,7 +43,7 @@ fn is_master(name: &Name, image: u32) -> bool
     ensures { result ≡ is_master image name.now }
 {
     match name {
-        Name::Master(gone) => *gone == image,
+        Name::Master(gone) => image == *gone,
         Name::Worker(..) | Name::Draining(..) => false,
     }
 }

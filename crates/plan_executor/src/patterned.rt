@@ -5,6 +5,9 @@ use crate::{Calls, Transcript};
 use definitions::{Actor, Answer, Call, Entry};
 use kernel_model::{Kernel, Pattern};
 
+/// A plan of one master hands nothing over.
+const NO_TEXT: &[u8] = &[];
+
 /// A kernel whose calls come with the moments of a pattern, the first with moment 1.
 #[derive(Drop)]
 pub(crate) struct Patterned<'a> {
@@ -66,7 +69,7 @@ impl Calls for Patterned<'_> {
         self.number += 1;
         let pattern = self.pattern;
         let moment = pattern.moment(self.number);
-        let answer = self.kernel.call(by, call, &moment);
+        let answer = self.kernel.call(by, call, NO_TEXT, &moment);
         let entry = Entry {
             by,
             call: *call,

@@ -1,12 +1,15 @@
 //! Control words, carried out one after another.
-ghost use Rattle.std.specs.Prelude.{◌≡◌, ◌+◌, ◌<◌, ◌++◌, ℕ, List, [], length, IfOk, OnOk, OnErr};
+ghost use Rattle.std.specs.Prelude.{◌≡◌, ◌+◌, ◌<◌, ◌++◌, ℕ, List, [], Option, length, IfOk, OnOk, OnErr};
+ghost use Rattle.definitions.specs.Record.{Record as Known};
+ghost use Rattle.kernel_model.specs.State.{State};
+ghost use Rattle.worker_table.specs.Calls.{beating};
 ghost use Rattle.std.specs.Option.{option_copied};
 ghost use Rattle.definitions.specs.Target.{IsTarget};
 ghost use Rattle.kernel_model.specs.Pattern.{moment_at};
 ghost use Rattle.listener_set.specs.Numbers.{is_in};
 ghost use Rattle.plan_executor.specs.Codes.{enact_code};
 ghost use Rattle.plan_executor.specs.Started.{start_of, started_in, started};
-ghost use Rattle.plan_executor.specs.Words.{standing, pattern_at, IsActed, ComesTo, AreDone, IsTrueOf};
+ghost use Rattle.plan_executor.specs.Words.{standing, beat_in, overdue_at, pattern_at, IsActed, IsNoted, ComesTo, AreDone, IsTrueOf};
 ghost use Rattle.plan_executor.specs.declared.block.Block.{Block as Done};
 
 use crate::{Block, Body, CodeText, EnactRefusal, enact};
@@ -76,13 +79,53 @@ fn run_word(
     let Some(running) = *state else {
         return Ok(Body::Refused(CodeText::stopped()));
     };
-    let overdue = Numbers::none();
+    if let Some(heard) = beat_in(word) {
+        return Ok(beat(workers, heard));
+    }
+    let overdue = overdue_at(word, &running, workers);
     let target = match target_of(word, &running, &overdue, settings) {
         Ok(Some(target)) => target,
         Ok(None) => return Ok(Body::Nothing),
         Err(refusal) => return Ok(Body::Refused(CodeText::from(refusal))),
     };
     act(alloc, kernel, state, workers, &running, &target, pattern)
+}
+
+/// A worker's beat.
+#[derive(Clone, Copy)]
+struct HeardBeat {
+    nr: u32,
+    now: u64,
+}
+
+/// The beat that a word tells of.
+fn beat_in(word: Word) -> Option<HeardBeat>
+    ensures { result ≡ beat_in word }
+{
+    match word {
+        Word::Beat { nr, now } => Some(HeardBeat { nr, now }),
+        _ => None,
+    }
+}
+
+/// Notes a beat; the table of workers may refuse it.
+fn beat(workers: &mut WorkerTable, heard: HeardBeat) -> Body
+    ensures { (kernel : State) (state : Option Known) → IsNoted (beating workers.old heard.nr heard.now) heard.nr heard.now (standing kernel state workers.old) result (standing kernel state workers.new) }
+{
+    match workers.beat(heard.nr, heard.now) {
+        Ok(()) => Body::Nothing,
+        Err(refusal) => Body::Refused(CodeText::from(refusal)),
+    }
+}
+
+/// The workers that are overdue at a tick; at another word none is.
+fn overdue_at(word: Word, running: &Record, workers: &WorkerTable) -> Numbers
+    ensures { result ≡ overdue_at word running.now workers.now }
+{
+    match word {
+        Word::Tick { now } => workers.overdue(now, running.timeout),
+        _ => Numbers::none(),
+    }
 }
 
 /// Carries a target out for a running master. Want of memory leaves everything as it was.

@@ -1,5 +1,7 @@
 //! Faults of the program: a line on standard error and a status.
 use control_words::WordRefusal;
+use listener_set::AddressRefusal;
+use master_config::ConfigRefusal;
 use std::alloc::AllocError;
 use std::io::{ErrorKind, Write};
 use std::{fmt, io};
@@ -12,8 +14,16 @@ pub enum Fault {
     Usage,
     /// The word with this number, from 1, is refused.
     Word(usize, WordRefusal),
+    /// A configuration file is refused.
+    Config(ConfigRefusal),
     /// The kernel can't be started like this.
     Boot,
+    /// The address that somebody else is to hold is none.
+    Address(AddressRefusal),
+    /// The master holds the address itself.
+    Held,
+    /// There is no process or socket number for somebody else.
+    Crowded,
     /// The patterns on standard input are refused.
     Pattern(TextRefusal),
     /// A read or a write failed.
@@ -29,7 +39,7 @@ impl Fault {
         let _ = writeln!(errors, "prefork: {self}");
         match self {
             Fault::Usage | Fault::Word(..) => 2,
-            Fault::Boot | Fault::Pattern(_) | Fault::File | Fault::Memory => 1,
+            _ => 1,
         }
     }
 }
@@ -39,7 +49,11 @@ impl fmt::Display for Fault {
         match self {
             Fault::Usage => write!(f, "usage"),
             Fault::Word(number, refusal) => write!(f, "word {number} {}", refusal.code()),
+            Fault::Config(refusal) => write!(f, "config {refusal}"),
             Fault::Boot => write!(f, "boot B1"),
+            Fault::Address(refusal) => write!(f, "held {}", refusal.code()),
+            Fault::Held => write!(f, "held B2"),
+            Fault::Crowded => write!(f, "held B3"),
             Fault::Pattern(refusal) => write!(f, "pattern {refusal}"),
             Fault::File => write!(f, "file"),
             Fault::Memory => write!(f, "memory"),

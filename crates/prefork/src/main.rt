@@ -2,8 +2,10 @@
 #![tactic(auto)]
 
 mod fault;
+mod planning;
 mod program;
 mod rehearsal;
+mod start;
 
 use fault::Fault;
 pub use program::run;

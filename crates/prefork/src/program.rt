@@ -3,40 +3,44 @@ ghost use Rattle.std.specs.Prelude.{◌≡◌};
 ghost use Rattle.prefork.specs.Status.{graver, status_of};
 
 use crate::fault::Fault;
+use crate::planning;
 use crate::rehearsal::Rehearsal;
-use command_line::{EnactOptions, Refusal, Request};
+use crate::start::Start;
+use command_line::{EnactOptions, PlanOptions, Refusal, Request};
 use control_words::Word;
 use definitions::Outcome;
 use kernel_model::Pattern;
 use plan_executor::Body;
 use std::alloc::{AllocError, Global};
 use std::io::{Read, Write};
+use std::rt::Files;
 use transcript::TextRefusal;
 
 /// Runs the program, and gives its exit status.
 ///
 /// Faults are one line on standard error; blocks of words that were done are written first.
-pub fn run<R: AllocGlobal, I: Read, O: Write, E: Write>(
+pub fn run<R: AllocGlobal + Files, I: Read, O: Write, E: Write>(
     rt: &R,
     args: &[String],
     input: &mut I,
     output: &mut O,
     errors: &mut E,
 ) -> u8 {
-    match answer(rt.alloc(), args, input, output) {
+    match answer(rt, args, input, output) {
         Ok(status) => status,
         Err(fault) => fault.tell(errors),
     }
 }
 
-fn answer<I: Read, O: Write>(
-    alloc: Global,
+fn answer<R: AllocGlobal + Files, I: Read, O: Write>(
+    rt: &R,
     args: &[String],
     input: &mut I,
     output: &mut O,
 ) -> Result<u8, Fault> {
-    match command_line::read(alloc, args) {
-        Ok(Request::Enact(options)) => enact(alloc, &options, input, output),
+    match command_line::read(rt.alloc(), args) {
+        Ok(Request::Enact(options)) => enact(rt, &options, input, output),
+        Ok(Request::Plan(options)) => plan(rt, &options, output),
         Ok(Request::Show(text)) => {
             write(output, text.as_bytes())?;
             Ok(0)
@@ -54,20 +58,44 @@ fn write<O: Write>(output: &mut O, text: &[u8]) -> Result<(), Fault> {
 }
 
 /// `enact`: carries the words out on a modelled kernel under the patterns of standard input, the
-/// i-th pattern with the i-th word, and writes a block for each.
-fn enact<I: Read, O: Write>(
-    alloc: Global,
+/// i-th pattern with the i-th word, and writes a block for each, and the state last where it is
+/// asked for.
+fn enact<R: AllocGlobal + Files, I: Read, O: Write>(
+    rt: &R,
     options: &EnactOptions<'_>,
     input: &mut I,
     output: &mut O,
 ) -> Result<u8, Fault> {
+    let alloc = rt.alloc();
     let words = read_words(alloc, &options.words)?;
-    let mut rehearsal = Rehearsal::start(alloc, options.workers)?;
+    let start = Start::read(rt, &options.start)?;
+    let mut rehearsal = Rehearsal::start(alloc, &start)?;
+    if let Some(address) = options.held {
+        rehearsal.hold(address)?;
+    }
     let patterns = read_patterns(alloc, input)?;
     let mut text = Vec::new(alloc);
     let done = rehearse(alloc, &mut rehearsal, &words, &patterns, &mut text);
+    if options.state && done.is_ok() {
+        text.extend_from_slice(rehearsal.state()?.as_slice())?;
+    }
     write(output, text.as_slice())?;
     done
+}
+
+/// `plan`: writes what a word would do.
+fn plan<R: AllocGlobal + Files, O: Write>(
+    rt: &R,
+    options: &PlanOptions<'_>,
+    output: &mut O,
+) -> Result<u8, Fault> {
+    let alloc = rt.alloc();
+    let word = control_words::read(options.word.as_bytes())
+        .map_err(|refusal| Fault::Word(1, refusal))?;
+    let start = Start::read(rt, &options.start)?;
+    let outlook = planning::look_ahead(alloc, &start, word)?;
+    write(output, outlook.text.as_slice())?;
+    Ok(outlook.status)
 }
 
 /// The control words of the command line; the first that is none is the fault.

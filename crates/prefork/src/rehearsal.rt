@@ -1,9 +1,10 @@
 //! A master on the modelled kernel, word by word.
 use crate::fault::Fault;
+use crate::start::Start;
 use control_words::Word;
 use definitions::{Limits, Settings};
-use kernel_model::{BootRefusal, Kernel, Pattern};
-use listener_set::Numbers;
+use kernel_model::{BootRefusal, ForeignRefusal, Kernel, Pattern};
+use listener_set::{Address, Numbers};
 use plan_executor::{Block, run_words};
 use service_state::Record;
 use std::alloc::Global;
@@ -22,28 +23,45 @@ pub struct Rehearsal {
     kernel: Kernel,
     record: Option<Record>,
     workers: WorkerTable,
+    next: Settings,
 }
 
 impl Rehearsal {
-    /// Boots a master with so many ready workers; without a count with as many as its settings
-    /// say.
-    pub fn start(alloc: Global, workers: Option<u32>) -> Result<Rehearsal, Fault> {
-        let settings = Settings::plain();
-        let workers = workers.unwrap_or(settings.workers);
-        let booted = Kernel::boot(alloc, &settings.listeners, workers, settings.pid, LIMITS);
+    /// Boots a master with its ready workers.
+    pub fn start(alloc: Global, start: &Start) -> Result<Rehearsal, Fault> {
+        let record = start.record()?;
+        let settings = &start.settings;
+        let booted = Kernel::boot(
+            alloc,
+            &settings.listeners,
+            start.running,
+            settings.pid,
+            LIMITS,
+        );
         let kernel = match booted {
             Ok(kernel) => kernel,
             Err(BootRefusal::BadLimits) => return Err(Fault::Boot),
             Err(BootRefusal::Memory) => return Err(Fault::Memory),
         };
-        let record = Record::start(&settings, workers, &Numbers::below(workers), 100);
-        let mut table = WorkerTable::new(alloc)?;
-        table.follow(&record.ready, &Numbers::none());
+        let mut workers = WorkerTable::new(alloc)?;
+        workers.follow(&record.ready, &Numbers::none());
         Ok(Rehearsal {
             kernel,
             record: Some(record),
-            workers: table,
+            workers,
+            next: start.next,
         })
+    }
+
+    /// Lets a process of somebody else hold an address.
+    pub fn hold(&mut self, address: &str) -> Result<(), Fault> {
+        let address = Address::read(address.as_bytes()).map_err(Fault::Address)?;
+        match self.kernel.foreign(&address) {
+            Ok(()) => Ok(()),
+            Err(ForeignRefusal::Held) => Err(Fault::Held),
+            Err(ForeignRefusal::NoNumbers) => Err(Fault::Crowded),
+            Err(ForeignRefusal::Memory) => Err(Fault::Memory),
+        }
     }
 
     /// Carries words out one after another, the i-th under the i-th pattern, and puts the block of
@@ -55,6 +73,7 @@ impl Rehearsal {
         patterns: &[Pattern],
         blocks: &mut Vec<Block>,
     ) -> Result<(), Fault> {
+        let next = self.next;
         run_words(
             alloc,
             &mut self.kernel,
@@ -62,9 +81,14 @@ impl Rehearsal {
             &mut self.workers,
             words,
             patterns,
-            None,
+            Some(&next),
             blocks,
         )?;
         Ok(())
+    }
+
+    /// The table of processes, files and the service.
+    pub fn state(&self) -> Result<Vec<u8>, Fault> {
+        Ok(self.kernel.table_text()?)
     }
 }

@@ -1,34 +1,58 @@
 -- Plans of one master can be run: each step has an edge for each reply, and a worker is named only after a short census.
-use Rattle.std.proofs.Common.{◌≡◌, ℕ, zero, suc, Bool, true, false, List, [], ◌∷◌, not, nat_lt, filter, refl, reverse}
+use Rattle.std.proofs.Common.{◌≡◌, ℕ, Bool, true, false, List, [], ◌∷◌, Option, Some, None, reverse, refl}
 use Rattle.listener_set.specs.declared.generation.Generation.{Generation}
-use Rattle.listener_set.specs.Numbers.{numbers_below, is_in}
-use Rattle.definitions.specs.declared.plans.Side.{Side}
+use Rattle.definitions.specs.Table.{Address, FilePath}
 use Rattle.definitions.specs.declared.plans.Side.TheVariants.{Old, Target}
+use Rattle.definitions.specs.declared.plans.PidNote.{PidNote}
+use Rattle.definitions.specs.declared.plans.PidNote.TheVariants.{InPlace, AtOldbin, OldbinLeft, Left, NoFile}
+use Rattle.definitions.specs.Record.{oldbin}
 use Rattle.definitions.specs.Tree.{Tree, is_fit}
-use Rattle.definitions.specs.Plans.{settle, quits, awaits, forks, workers_tree}
+use Rattle.definitions.specs.Plans.{settle, starts, census, census_edges, usr1s, removes, stopped, stop_tree, remove_oldbin_too, has_oldbin}
+use Rattle.reload_planner.specs.Changes.{change_tree, repair_tree, ends_tree, on_tree, trial_tree, back_tree, renewal_tree}
+use Rattle.plan_pieces.proofs.Fitness.{settle_fit, quits_fit, kills_fit, usr1s_fit, closes_fit, awaits_gone_fit, remove_fit, awaits_fit, forks_fit, starts_any_fit, opens_fit}
 
-settle_fit : (by : ℕ) (g : Generation) (set : List ℕ) (side : Side) (rounds : ℕ) (short : Bool) → is_fit short (settle by g set side rounds) ≡ true
-settle_fit by g set side zero true = refl
-settle_fit by g set side zero false = refl
-settle_fit by g set side (suc rounds) true = let h = settle_fit by g set side rounds true in rw h refl
-settle_fit by g set side (suc rounds) false = let h = settle_fit by g set side rounds true in rw h refl
+starts_fit : (by : ℕ) (g : Generation) (ks : List ℕ) (ok : Tree) (bad : List ℕ → Tree) (short : Bool) → is_fit short ok ≡ true → ((forked : List ℕ) → is_fit short (bad forked) ≡ true) → is_fit short (starts by g ks ok bad) ≡ true
+starts_fit by g ks ok bad short h e = forks_fit by g ks [] _ _ short (λ forked. awaits_fit by g ks ok (bad forked) short h (e forked)) e
 
-quits_fit : (by : ℕ) (g : Generation) (ks : List ℕ) (rest : Tree) → is_fit false rest ≡ true → is_fit false (quits by g ks rest) ≡ true
-quits_fit by g [] rest h = h
-quits_fit by g (k ∷ ks) rest h = let tail = quits_fit by g ks rest h in rw tail refl
+pub change_fit : (by : ℕ) (g : Generation) (ready : List ℕ) (rounds : ℕ) (wanted fresh surplus : List ℕ) → is_fit false (change_tree by g ready rounds wanted fresh surplus) ≡ true
+change_fit by g ready rounds wanted fresh surplus =
+    starts_fit by g fresh _ _ false (quits_fit by g surplus _ false (settle_fit by g wanted Target rounds false)) (λ forked. quits_fit by g forked _ false (settle_fit by g ready Old rounds false))
 
-awaits_fit : (by : ℕ) (g : Generation) (ks : List ℕ) (ok bad : Tree) → is_fit false ok ≡ true → is_fit false bad ≡ true → is_fit false (awaits by g ks ok bad) ≡ true
-awaits_fit by g [] ok bad h e = h
-awaits_fit by g (k ∷ ks) ok bad h e = let tail = awaits_fit by g ks ok bad h e in rw (tail, e) refl
+pub repair_fit : (by : ℕ) (g : Generation) (rounds : ℕ) (wanted late fresh : List ℕ) → is_fit false (repair_tree by g rounds wanted late fresh) ≡ true
+repair_fit by g rounds wanted late fresh = kills_fit by g late _ false (starts_any_fit by g fresh _ false (settle_fit by g wanted Target rounds false))
 
-forks_fit : (by : ℕ) (g : Generation) (ks done : List ℕ) (ok bad : List ℕ → Tree) → ((forked : List ℕ) → is_fit false (ok forked) ≡ true) → ((forked : List ℕ) → is_fit false (bad forked) ≡ true) → is_fit false (forks by g ks done ok bad) ≡ true
-forks_fit by g [] done ok bad h e = h done
-forks_fit by g (k ∷ ks) done ok bad h e = let tail = forks_fit by g ks (k ∷ done) ok bad h e in let failed = e done in rw (tail, failed) refl
+pub reopening_fit : (by : ℕ) (g : Generation) (told ready : List ℕ) (rounds : ℕ) → is_fit false (usr1s by g told (settle by g ready Target rounds)) ≡ true
+reopening_fit by g told ready rounds = usr1s_fit by g told _ false (settle_fit by g ready Target rounds false)
 
-pub workers_fit : (by : ℕ) (g : Generation) (ready : List ℕ) (rounds n : ℕ) → is_fit false (workers_tree by g ready rounds n) ≡ true
-workers_fit by g ready rounds n =
-    forks_fit by g (filter (λ k. not (is_in ready k)) (numbers_below n)) [] _ _
-    (λ forked. awaits_fit by g (filter (λ k. not (is_in ready k)) (numbers_below n)) _ _
-    (quits_fit by g (reverse (filter (λ k. not (nat_lt k n)) ready)) _ (settle_fit by g (numbers_below n) Target rounds false))
-    (quits_fit by g forked _ (settle_fit by g ready Old rounds false)))
-    (λ forked. quits_fit by g forked _ (settle_fit by g ready Old rounds false))
+---- A stop
+
+oldbin_fit : (by : ℕ) (path : FilePath) (there : Bool) (rest : Tree) → is_fit false rest ≡ true → is_fit false (remove_oldbin_too by path there rest) ≡ true
+oldbin_fit by path true rest h = remove_fit by (oldbin path) None (Some Left) rest false h
+oldbin_fit by path false rest h = h
+
+removes_fit : (by : ℕ) (path : Option FilePath) (note : PidNote) (rest : Tree) → is_fit false rest ≡ true → is_fit false (removes by path note rest) ≡ true
+removes_fit by None note rest h = h
+removes_fit by (Some path) note rest h = remove_fit by path (Some NoFile) (Some Left) (remove_oldbin_too by path (has_oldbin note) rest) false (oldbin_fit by path (has_oldbin note) rest h)
+
+pub stop_fit : (by : ℕ) (g : Generation) (ready : List ℕ) (path : Option FilePath) (note : PidNote) (quick : Bool) → is_fit false (stop_tree by g ready path note quick) ≡ true
+stop_fit by g ready path note true = kills_fit by g ready _ false (removes_fit by path note (stopped by) refl)
+stop_fit by g ready path note false = quits_fit by g (reverse ready) _ false (awaits_gone_fit by g (reverse ready) _ false (removes_fit by path note (stopped by) refl))
+
+---- A reload
+
+census_fit : (by : ℕ) (g : Generation) (set : List ℕ) (full short : Tree) → is_fit false full ≡ true → is_fit true short ≡ true → is_fit false (census by g set (census_edges full short)) ≡ true
+census_fit by g set full short h e = rw (h, e) refl
+
+back_fit : (by : ℕ) (g new : Generation) (ready : List ℕ) (rounds : ℕ) (opened : List Address) (forked : List ℕ) (short : Bool) → is_fit short (back_tree by g new ready rounds opened forked) ≡ true
+back_fit by g new ready rounds opened forked short = quits_fit by new forked _ short (closes_fit by opened _ short (settle_fit by g ready Old rounds short))
+
+on_fit : (by : ℕ) (g new : Generation) (leaving : List ℕ) (rounds : ℕ) (dropped : List Address) (wanted : List ℕ) → is_fit false (on_tree by g new leaving rounds dropped wanted) ≡ true
+on_fit by g new leaving rounds dropped wanted = quits_fit by g (reverse leaving) _ false (closes_fit by dropped _ false (settle_fit by new wanted Target rounds false))
+
+pub renewal_fit : (by : ℕ) (g new : Generation) (ready leaving : List ℕ) (rounds : ℕ) (added dropped : List Address) (wanted fresh : List ℕ) → is_fit false (renewal_tree by g new ready leaving rounds added dropped wanted fresh) ≡ true
+renewal_fit by g new ready leaving rounds added dropped wanted fresh =
+    opens_fit by added [] _ _ false
+    (λ opened. starts_fit by new fresh _ (back_tree by g new ready rounds opened) false
+    (census_fit by new wanted (on_tree by g new leaving rounds dropped wanted) (back_tree by g new ready rounds opened (reverse fresh)) (on_fit by g new leaving rounds dropped wanted) (back_fit by g new ready rounds opened (reverse fresh) true))
+    (λ forked. back_fit by g new ready rounds opened forked false))
+    (λ opened. closes_fit by opened _ false (settle_fit by g ready Old rounds false))

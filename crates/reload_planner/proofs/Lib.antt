@@ -1,2 +1,3 @@
-pub mod StartTrees
+pub mod Sets
 pub mod Fitness
+pub mod Reloads

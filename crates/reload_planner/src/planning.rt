@@ -1,10 +1,11 @@
 //! The plan of a target.
-ghost use Rattle.std.specs.Prelude.{◌≡◌, ◌≢◌, ◌↔◌, [], Some, None, IfOk, IsErrOf};
+ghost use Rattle.std.specs.Prelude.{◌≡◌, ◌≤◌, ◌↔◌, [], Some, length, IfOk, IsErrOf, IsTrue};
 ghost use Rattle.definitions.specs.Target.{IsTarget};
 ghost use Rattle.definitions.specs.Plans.{planned};
-ghost use Rattle.rollback_plan.specs.Plans.{tree_of, note_of, text_of};
+ghost use Rattle.rollback_plan.specs.Plans.{tree_of, note_of, text_of, trees_in};
+ghost use Rattle.reload_planner.specs.Planning.{most_steps, is_upgrade, lacks_generation};
 
-use crate::{PlanRefusal, Scene, plan_workers};
+use crate::{PlanRefusal, Scene, plan_mend, plan_reload, plan_reopen, plan_stop, plan_workers};
 use definitions::{Actor, Target};
 use rollback_plan::Plan;
 use service_state::Record;
@@ -12,17 +13,21 @@ use std::alloc::Global;
 
 /// Plans a target for a running master: what it does, and what it does instead where a call fails.
 ///
-/// `Unplanned` (P2) where no plan is made for such a target; a number of workers has one. No plan
-/// is too large, and no number of a generation can pass its limit.
+/// `Unplanned` (P2) exactly for an upgrade, which is planned apart. `NoGeneration` (P3) exactly for
+/// a reload from configuration 4,294,967,295. No plan is too large: with `n` workers that are ready
+/// or wanted before and after, and `a` addresses before and after, it has at most
+/// `6 n + 3 a + 12 retries + 40` steps.
 pub fn plan(alloc: Global, state: &Record, target: &Target) -> Result<Plan, PlanRefusal>
     requires { IsTarget target.now }
     ensures tree { IfOk result (λ plan. planned state.now target.now ≡ Some (tree_of plan)) }
     ensures note { IfOk result (λ plan. note_of plan ≡ state.now.note) }
     ensures text { IfOk result (λ plan. text_of plan ≡ []) }
-    ensures unplanned { IsErrOf result PlanRefusal.Unplanned ↔ (planned state.now target.now ≡ None) }
+    ensures few { IfOk result (λ plan. length (trees_in plan) ≤ most_steps state.now target.now) }
+    ensures unplanned { IsErrOf result PlanRefusal.Unplanned ↔ IsTrue (is_upgrade target.now) }
+    ensures numbered { IsErrOf result PlanRefusal.NoGeneration ↔ IsTrue (lacks_generation state.now target.now) }
     ensures not_large { IsErrOf result PlanRefusal.TooLarge → ⊥ }
-    ensures numbered { IsErrOf result PlanRefusal.NoGeneration → ⊥ }
 {
+    let (note, wanted) = (state.note, state.wanted);
     let scene = Scene {
         by: Actor(state.generation.image),
         generation: state.generation,
@@ -30,11 +35,13 @@ pub fn plan(alloc: Global, state: &Record, target: &Target) -> Result<Plan, Plan
         rounds: state.retries,
     };
     match target {
-        Target::Workers(wanted) => plan_workers(alloc, &scene, *wanted, state.note),
-        Target::Mend(_)
-        | Target::Reopen
-        | Target::Reload(_)
-        | Target::Upgrade(_)
-        | Target::Stop { .. } => Err(PlanRefusal::Unplanned),
+        Target::Workers(wanted) => plan_workers(alloc, &scene, *wanted, note),
+        Target::Mend(overdue) => plan_mend(alloc, &scene, overdue, wanted, note),
+        Target::Reopen => plan_reopen(alloc, &scene, note),
+        Target::Reload(settings) => {
+            plan_reload(alloc, &scene, &state.listeners.addresses(), settings, note)
+        }
+        Target::Upgrade(_) => Err(PlanRefusal::Unplanned),
+        Target::Stop { quick } => plan_stop(alloc, &scene, state.pid_path, note, *quick),
     }
 }

@@ -1,30 +1,19 @@
 //! The plan that changes the number of workers.
-ghost use Rattle.std.specs.Prelude.{◌≡◌, ◌≤◌, ◌<◌, ◌+◌, ◌*◌, [], length, reverse, IfOk, IsErrOf, IsOkUnless};
+ghost use Rattle.std.specs.Prelude.{◌≡◌, ◌≤◌, ◌<◌, ◌+◌, ◌*◌, [], length, reverse, IfOk, IsErrOf, IsOkUnless, OnOk};
 ghost use Rattle.definitions.specs.Plans.{workers_tree};
 ghost use Rattle.rollback_plan.specs.declared.draft.DraftRefusal.TheVariants.{TooLarge};
 ghost use Rattle.rollback_plan.specs.declared.draft.TheConstants.{MOST_STEPS};
 ghost use Rattle.rollback_plan.specs.Drafts.{trees_of, IsMade};
-ghost use Rattle.rollback_plan.specs.Plans.{tree_of, note_of, text_of};
+ghost use Rattle.rollback_plan.specs.Plans.{tree_of, note_of, text_of, trees_in};
 ghost use Rattle.reload_planner.specs.Changes.{change_tree};
 
-use crate::starting::add_starts;
+use crate::scene::listed;
 use crate::{PlanRefusal, Scene};
 use definitions::{PidNote, Side};
 use listener_set::{Numbers, WORKER_LIMIT};
+use plan_pieces::{add_quits, add_starts};
 use rollback_plan::{Draft, DraftRefusal, Place, Plan, Undone};
-use std::alloc::{AllocError, Global};
-
-/// The numbers of a set, upwards.
-fn listed(alloc: Global, numbers: &Numbers) -> Result<Vec<u32>, AllocError>
-    ensures items { IfOk result (λ list. list.items ≡ numbers.now) }
-    ensures most { length numbers.now ≤ WORKER_LIMIT }
-{
-    let mut list = Vec::with_capacity(alloc, numbers.len())?;
-    for number in numbers.iter() {
-        list.push(number)?;
-    }
-    Ok(list)
-}
+use std::alloc::Global;
 
 /// Adds the starts of some numbers, then the quits of others, the last first, and the settle.
 fn add_workers(
@@ -35,12 +24,12 @@ fn add_workers(
     quits: &[u32],
 ) -> Result<Place, DraftRefusal>
     ensures made { IfOk result (λ place. IsMade draft.new place (change_tree scene.now.by scene.now.generation scene.now.ready scene.now.rounds wanted.now starts.now (reverse quits.now))) }
+    ensures count { OnOk result (length (trees_of draft.new) ≡ length (trees_of draft.old) + (2 * (1 + 4 * scene.now.rounds) + 4 * length starts.now + length quits.now)) }
     ensures too_large { IsErrOf result TooLarge → MOST_STEPS < length (trees_of draft.old) + (2 * (1 + 4 * scene.now.rounds) + 4 * length starts.now + length quits.now) }
 {
     let (by, generation) = (scene.by, scene.generation);
     let settled = draft.settle(by, generation, wanted, Side::Target, scene.rounds)?;
-    let ways_on = draft.quits(by, generation, quits, settled)?;
-    let quitting = ways_on[quits.len()];
+    let quitting = add_quits(draft, by, generation, quits, settled)?;
     let undone = Undone {
         generation,
         forked: starts,
@@ -64,6 +53,7 @@ pub fn plan_workers(
     ensures tree { IfOk result (λ plan. tree_of plan ≡ workers_tree scene.now.by scene.now.generation scene.now.ready scene.now.rounds wanted) }
     ensures note { IfOk result (λ plan. note_of plan ≡ note) }
     ensures text { IfOk result (λ plan. text_of plan ≡ []) }
+    ensures few { IfOk result (λ plan. length (trees_in plan) ≤ length scene.now.ready + 4 * wanted + 2 * (1 + 4 * scene.now.rounds)) }
     ensures memory { IsOkUnless result PlanRefusal.Memory }
 {
     let all = Numbers::below(wanted);

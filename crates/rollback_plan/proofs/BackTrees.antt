@@ -7,11 +7,11 @@ use Rattle.listener_set.specs.declared.generation.Generation.{Generation}
 use Rattle.definitions.specs.Table.{Address}
 use Rattle.definitions.specs.declared.calls.Call.TheVariants.{Quit, CloseAt}
 use Rattle.definitions.specs.Tree.{Tree}
-use Rattle.definitions.specs.Plans.{does, then_edge, quits}
+use Rattle.definitions.specs.Plans.{does, then_edge, quits, closes}
 use Rattle.rollback_plan.specs.declared.draft.Draft.{Draft}
 use Rattle.rollback_plan.specs.declared.step.Place.{Place}
 use Rattle.rollback_plan.specs.Drafts.{IsMade, Keeps}
-use Rattle.rollback_plan.specs.Back.{closes, quits_back, closes_back, AreMade}
+use Rattle.rollback_plan.specs.Back.{quits_back, closes_back, AreMade}
 use Rattle.rollback_plan.proofs.DraftTrees.{made_kept, slice_get-append, slice_get-seam}
 
 -- one number more

@@ -158,6 +158,7 @@ ordered steps first depths depths_lent met met_lent order d m back low laid walk
 -- a plan of the steps that stand for a tree at a place
 pub record IsFinished (steps : List Step) (first : ℕ) (plan : List Step) : Type 0 where
   pub begins : 0 < length plan
+  pub few : length plan ≤ length steps
   pub on : all_lead_on 1 plan ≡ true
   pub tree : first_tree plan ≡ unwrap_or (slice_get (trees_after [] steps) (first - 0)) (Ends Done)
 
@@ -168,6 +169,7 @@ finished steps draft first depths met order order_lent order_again numbers numbe
     let own_steps = subst (λ (ms : List ℕ). AllNumbered ms draft order plan) read (subst (λ (ks : List ℕ). AllNumbered numbers_lent draft ks plan) again all) in
     record {
       begins = plan_begins draft first depths met order numbers plan o own_steps;
+      few = omega (arith, length-numbered numbers draft order plan own_steps, order_few draft first depths met order o, ap length same);
       on = plan_on draft first depths met order numbers plan o own_numbers own_steps;
       tree =
           plan_tree draft first depths met order numbers plan o own_numbers own_steps

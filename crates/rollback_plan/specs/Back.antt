@@ -1,18 +1,12 @@
 -- The ways back to a settle.
-use Rattle.std.specs.Prelude.{◌≡◌, ℕ, ◌+◌, List, [], ◌∷◌, Some, length, slice_get, reverse, take}
+use Rattle.std.specs.Prelude.{◌≡◌, ℕ, ◌+◌, List, Some, length, slice_get, reverse, take}
 use Rattle.listener_set.specs.declared.generation.Generation.{Generation}
 use Rattle.definitions.specs.Table.{Address}
-use Rattle.definitions.specs.declared.calls.Call.TheVariants.{CloseAt}
 use Rattle.definitions.specs.Tree.{Tree}
-use Rattle.definitions.specs.Plans.{does, then_edge, quits}
+use Rattle.definitions.specs.Plans.{quits, closes}
 use Rattle.rollback_plan.specs.declared.step.Place.{Place}
 use Rattle.rollback_plan.specs.declared.draft.Draft.{Draft}
 use Rattle.rollback_plan.specs.Drafts.{IsMade}
-
--- Close these addresses in their order.
-abbrev pub closes : ℕ → List Address → Tree → Tree
-closes by [] rest = rest
-closes by (a ∷ more) rest = does by (CloseAt a) (then_edge (closes by more rest))
 
 -- Quit the first i of these numbers, the last of them first.
 abbrev pub quits_back : ℕ → Generation → List ℕ → Tree → ℕ → Tree

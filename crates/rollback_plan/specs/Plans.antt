@@ -3,7 +3,12 @@ use Rattle.std.specs.Prelude.{ℕ, List}
 use Rattle.definitions.specs.Tree.{Tree}
 use Rattle.definitions.specs.declared.plans.PidNote.{PidNote}
 use Rattle.rollback_plan.specs.declared.plan.Plan.{Plan}
+use Rattle.rollback_plan.specs.declared.step.Step.{Step}
 use Rattle.rollback_plan.specs.Steps.{first_tree, trees_from}
+
+-- its steps in order
+abbrev pub steps_of : Plan → List Step
+steps_of p = p.steps.items
 
 -- the tree that a plan stands for
 abbrev pub tree_of : Plan → Tree

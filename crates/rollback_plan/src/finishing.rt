@@ -14,15 +14,17 @@ use std::alloc::{AllocError, Global};
 
 impl Draft {
     ghost use Rattle.rollback_plan.specs.Drafts.{trees_of, tree_at};
-    ghost use Rattle.rollback_plan.specs.Plans.{tree_of, note_of, text_of};
+    ghost use Rattle.rollback_plan.specs.Plans.{tree_of, note_of, text_of, trees_in};
 
-    /// The plan that begins at a place. Steps that the first one doesn't lead to are not in it.
+    /// The plan that begins at a place. Steps that the first one doesn't lead to are not
+    /// in it.
     pub fn finish(self, first: Place, note: PidNote, text: Vec<u8>) -> Result<Plan, AllocError>
         requires made { first.0 < length (trees_of self) }
         requires fit { IsTrue (is_fit false (tree_at self first)) }
         ensures tree { IfOk result (λ plan. tree_of plan ≡ tree_at self first) }
         ensures note { IfOk result (λ plan. note_of plan ≡ note) }
         ensures text { IfOk result (λ plan. text_of plan ≡ text.items) }
+        ensures few { IfOk result (λ plan. length (trees_in plan) ≤ length (trees_of self)) }
     {
         let alloc = *self.steps.allocator();
         let draft: &[Step] = &self.steps;

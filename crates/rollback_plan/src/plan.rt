@@ -24,7 +24,7 @@ pub struct Plan {
 }
 
 impl Plan {
-    ghost use Rattle.rollback_plan.specs.Plans.{tree_of, trees_in, note_of, text_of};
+    ghost use Rattle.rollback_plan.specs.Plans.{tree_of, trees_in, steps_of, note_of, text_of};
 
     /// The step with a number, from 1.
     pub fn get(&self, number: u32) -> Option<&Step>
@@ -32,6 +32,13 @@ impl Plan {
         ensures { option_copied result ≡ slice_get self.now.steps.items (number - 1) }
     {
         self.steps.get(number as usize - 1)
+    }
+
+    /// The steps in order, of which the first has number 1.
+    pub fn steps(&self) -> &[Step]
+        ensures { result.now ≡ steps_of self.now }
+    {
+        &self.steps
     }
 
     /// How many steps there are.

@@ -22,6 +22,12 @@ pub fn reply_to(answer: &Answer, set: &Numbers) -> Reply
         Answer::Gone => Reply::Gone,
         Answer::Late => Reply::Late,
         Answer::Counted(counted) => full_or_short(&set.minus(counted)),
+        Answer::Spawned => Reply::Spawned,
+        Answer::NoImage => Reply::NoImage,
+        Answer::Adopted => Reply::Adopted,
+        Answer::Refused => Reply::Refused,
+        Answer::IoFault => Reply::IoFault,
+        Answer::IsAlive => Reply::IsAlive,
         Answer::MasterGone => Reply::MasterGone,
     }
 }
@@ -42,9 +48,21 @@ pub fn plain_reply(call: &Call) -> Reply
 {
     match call {
         Call::OpenAt(_) => Reply::Opened,
-        Call::CloseAt(_) | Call::Quit(..) | Call::Kill(..) => Reply::Fine,
+        Call::CloseAt(_)
+        | Call::Quit(..)
+        | Call::Kill(..)
+        | Call::WritePid(_)
+        | Call::MovePid(..)
+        | Call::RemovePid(_)
+        | Call::Leave
+        | Call::Usr1(..)
+        | Call::TermMaster(_) => Reply::Fine,
         Call::Fork(..) => Reply::Forked,
         Call::AwaitReady(..) => Reply::IsReady,
         Call::Census(_) => Reply::Full,
+        Call::AwaitGone(..) => Reply::Gone,
+        Call::SpawnMaster(_) => Reply::Spawned,
+        Call::Adopt => Reply::Adopted,
+        Call::Alive(_) => Reply::IsAlive,
     }
 }

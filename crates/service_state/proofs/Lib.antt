@@ -1,3 +1,1 @@
-pub mod Insertion
-pub mod Listed
 pub mod Rules

@@ -1,3 +1,1 @@
-pub mod Listeners
-pub mod ListenersLemmas
 pub mod Setups

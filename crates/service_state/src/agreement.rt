@@ -1,6 +1,6 @@
 //! Whether a record is true of a kernel.
-ghost use Rattle.std.specs.Prelude.{◌↔◌, IsTrue};
-ghost use Rattle.listener_set.specs.Numbers.{IsRising};
+ghost use Rattle.std.specs.Prelude.{◌↔◌, IsTrue, map};
+ghost use Rattle.listener_set.specs.Numbers.{IsRising, RisesFrom};
 ghost use Rattle.definitions.specs.Record.{Agrees, IsRecord};
 
 use crate::Record;
@@ -14,6 +14,7 @@ impl Record {
         ensures agrees { IsTrue result ↔ Agrees kernel.now.table self.now }
         ensures in_range { IsRecord self.now }
         ensures rising { IsRising self.now.ready }
+        ensures descriptors { RisesFrom 3 (map (λ l. l.descriptor) self.now.listeners) }
     {
         // Only a reading of the set tells that its numbers rise.
         let _ = self.ready.lowest();

@@ -2,12 +2,11 @@
 #![tactic(auto)]
 
 mod agreement;
-mod listeners;
 mod record;
 mod setup;
 
 pub use definitions::{Outcome, PidNote, Report, Settings, Side, Target};
-pub use listeners::Listeners;
+pub use handover_text::Listeners;
 pub use record::Record;
 
 #[cfg(test)]

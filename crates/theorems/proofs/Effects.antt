@@ -1,14 +1,14 @@
 -- What each call of the master does to a view of the table.
-use Rattle.std.proofs.Common.{inr, inl, ⊎_elim, ◌≡◌, ℕ, ◌+◌, ◌≤◌, Bool, true, false, not, List, [], ◌∷◌, ◌++◌, Some, None, refl, sym, ap, ◌∙◌, subst, arith}
+use Rattle.std.proofs.Common.{◌≢◌, inr, inl, ⊎_elim, ◌≡◌, ℕ, ◌+◌, ◌≤◌, Bool, true, false, not, List, [], ◌∷◌, ◌++◌, Some, None, refl, sym, ap, ◌∙◌, subst, arith}
 use Rattle.std.specs.List.{filter_map, AllByRecursion, list_any}
 use Rattle.std.specs.Prelude.{◌&&◌, ◌||◌, ◌==◌, ⊤, if◌then◌else◌}
-use Rattle.definitions.specs.Table.{same_generation, Hold, Process, Master, Worker, Foreign, bears, is_worker, is_active, is_starting, is_exited, is_any}
+use Rattle.definitions.specs.Table.{same_generation, Hold, Process, Master, Worker, Foreign, bears, is_worker, is_active, is_starting, is_exited, is_any, Address, is_ready, is_at, holds_of}
 use Rattle.definitions.specs.declared.table.Stance.{Stance}
 use Rattle.definitions.specs.declared.table.Stance.TheVariants.{Starting, Ready, Draining, Exited}
 use Rattle.listener_set.specs.declared.generation.Generation.{Generation}
-use Rattle.definitions.specs.Calls.{is_exited_of, dropped, made_ready, made_draining}
+use Rattle.definitions.specs.Calls.{is_exited_of, dropped, made_ready, made_draining, is_of, is_row, put_hold, with_holds, lacks_address}
 use Rattle.definitions.specs.Exits.{change}
-use Rattle.theorems.proofs.Rows.{one, weigh, worth, FitsIn, change-le, change-same, weigh-append, weigh-same, weigh-filter_map, every-filter_map, every-any, every-append, every-more, every-both, any-none, any-some, weigh-add, pick, and-left, and-right, both-true}
+use Rattle.theorems.proofs.Rows.{one, weigh, worth, FitsIn, change-le, change-same, weigh-append, weigh-same, weigh-filter_map, every-filter_map, every-any, every-append, every-more, every-both, any-none, any-some, weigh-add, pick, and-left, and-right, both-true, or-left, or-right}
 use Rattle.theorems.proofs.Views.{eqb-off, Row, Other, master_of, Names, View, Fine, Looks, live_named, ready_in, eqb-refl, eqb-is}
 
 -- views with no Starting worker, and with one name that may be Starting
@@ -79,14 +79,6 @@ looks-allows v w a rows looks = record {
   once = λ g k. subst (λ n. weigh (live_named n g k) rows ≤ 1) a.number (looks.once g k);
 }
 
-or-left : (a b : Bool) → a ≡ true → (a || b) ≡ true
-or-left true b e = refl
-or-left false b e = cc
-
-or-right : (a b : Bool) → b ≡ true → (a || b) ≡ true
-or-right true b e = refl
-or-right false b e = e
-
 not-off : (a b : Bool) → a ≡ true → (a && b) ≡ false → not b ≡ true
 not-off true true e f = cc
 not-off true false e f = refl
@@ -132,6 +124,16 @@ mine-worker stance m g x v (Master n q i live hs) num o = refl
 mine-worker stance m g x v (Worker n q g' k s hs) num o = and-off (stance s) (q == m) (bears g x g' k) (eqb-off q m (λ e. o.0 (e ∙ sym num)))
 mine-worker stance m g x v (Foreign n hs) num o = refl
 
+pub mine-row : (m : ℕ) → Mine m (is_row m)
+mine-row m v (Master n q i live hs) num o = eqb-off n m (λ e. o.0 (e ∙ sym num))
+mine-row m v (Worker n q g' k s hs) num o = refl
+mine-row m v (Foreign n hs) num o = refl
+
+pub mine-of : (m : ℕ) → Mine m (is_of m)
+mine-of m v (Master n q i live hs) num o = eqb-off n m (λ e. o.0 (e ∙ sym num))
+mine-of m v (Worker n q g' k s hs) num o = eqb-off q m (λ e. o.0 (e ∙ sym num))
+mine-of m v (Foreign n hs) num o = refl
+
 pub mine-exited : (m : ℕ) → Mine m (is_exited_of m)
 mine-exited m v (Master n q i live hs) num o = refl
 mine-exited m v (Worker n q g' k s hs) num o = off (is_exited s) (q == m) (eqb-off q m (λ e. o.0 (e ∙ sym num)))
@@ -154,6 +156,11 @@ pub draining-stays : StaysOther made_draining
 draining-stays v (Master n q i live hs) o = o
 draining-stays v (Worker n q g k s hs) o = o
 draining-stays v (Foreign n hs) o = o
+
+pub holds-stay : (f : List Hold → List Hold) → StaysOther (with_holds f)
+holds-stay f v (Master n q i live hs) o = o
+holds-stay f v (Worker n q g k s hs) o = o
+holds-stay f v (Foreign n hs) o = absurd o
 
 fits-if : (Q : Process → Type 0) (b : Bool) (x p : Process) → b ≡ false → Q p → Q (if b then x else p)
 fits-if Q true x p e h = absurd (cc)
@@ -396,3 +403,101 @@ quit-others m g x test off (Foreign n hs) = refl
 
 pub quit-weigh : (m : ℕ) (g : Generation) (x : ℕ) (test : Names) (rows : List Process) → test g x ≡ false → weigh (ready_in m test) (filter_map (change (is_worker is_active m g x) made_draining) rows) ≡ weigh (ready_in m test) rows
 quit-weigh m g x test rows off = change-same (λ p. ⊤) (ready_in m test) (change (is_worker is_active m g x) made_draining) (λ p t. quit-others m g x test off p) rows (every-any rows)
+
+---- OpenAt and CloseAt
+
+abbrev pub after_open : Hold → View → View
+after_open h v = record { number = v.number; others = v.others; image = v.image; holds = put_hold h v.holds; starting = v.starting; ready = v.ready; held = v.held }
+
+abbrev pub after_close : Address → View → View
+after_close a v = record { number = v.number; others = v.others; image = v.image; holds = lacks_address a v.holds; starting = v.starting; ready = v.ready; held = λ g. lacks_address a (v.held g) }
+
+open-fine : (v : View) (h : Hold) (p : Process) → Fine v p → FitsIn (Fine (after_open h v)) (change (is_row v.number) (with_holds (put_hold h)) p)
+open-fine v h (Master n q i live hs) f = pick (Fine (after_open h v)) (n == v.number) (Master n q i live (put_hold h hs)) (Master n q i live hs) (λ e. (f.0, f.1, f.2, ap (put_hold h) f.3)) (λ e. absurd (off-true _ e (eqb-refl n v.number f.0)))
+open-fine v h (Worker n q g k s hs) f = f
+open-fine v h (Foreign n hs) f = f
+
+-- a change that keeps every row's kind
+abbrev IsKept : (Process → Process) → Type 0
+IsKept f = (p : Process) → ((m : ℕ) → master_of m (f p) ≡ master_of m p) × ((m : ℕ) (g : Generation) (k : ℕ) → live_named m g k (f p) ≡ live_named m g k p) × ((m : ℕ) (t : Names) → ready_in m t (f p) ≡ ready_in m t p)
+
+holds-kept : (f : List Hold → List Hold) → IsKept (with_holds f)
+holds-kept f (Master n q i live hs) = (λ m. refl, λ m g k. refl, λ m t. refl)
+holds-kept f (Worker n q g' k' s hs) = (λ m. refl, λ m g k. refl, λ m t. refl)
+holds-kept f (Foreign n hs) = (λ m. refl, λ m g k. refl, λ m t. refl)
+
+kept-looks : (v w : View) (test : Process → Bool) (f : Process → Process) (rows : List Process) → v.number ≡ w.number → v.image ≡ w.image → ((n : ℕ) → v.others n ≡ true → w.others n ≡ true) → Mine v.number test → IsKept f → ((p : Process) → Fine v p → FitsIn (Fine w) (change test f p)) → Looks v rows → Looks w (filter_map (change test f) rows)
+kept-looks v w test f rows same img oth mine kept fine looks = record {
+  fine = every-filter_map (Row v) (Row w) (change test f) (lift-change v w test f same img oth mine fine) rows looks.fine;
+  alone = subst (λ m. weigh (master_of m) (filter_map (change test f) rows) ≡ 1) same (change-same (λ p. ⊤) (master_of v.number) (change test f) (λ p x. pick (λ p'. master_of v.number p' ≡ master_of v.number p) (test p) (f p) p (λ e. (kept p).0 v.number) (λ e. refl)) rows (every-any rows) ∙ looks.alone);
+  once = λ g k. subst (λ m. weigh (live_named m g k) (filter_map (change test f) rows) ≤ 1) same (omega (arith, looks.once g k, change-same (λ p. ⊤) (live_named v.number g k) (change test f) (λ p x. pick (λ p'. live_named v.number g k p' ≡ live_named v.number g k p) (test p) (f p) p (λ e. (kept p).1 v.number g k) (λ e. refl)) rows (every-any rows)));
+}
+
+kept-weigh : (m : ℕ) (t : Names) (test : Process → Bool) (f : Process → Process) (rows : List Process) → IsKept f → weigh (ready_in m t) (filter_map (change test f) rows) ≡ weigh (ready_in m t) rows
+kept-weigh m t test f rows kept = change-same (λ p. ⊤) (ready_in m t) (change test f) (λ p x. pick (λ p'. ready_in m t p' ≡ ready_in m t p) (test p) (f p) p (λ e. (kept p).2 m t) (λ e. refl)) rows (every-any rows)
+
+pub open-looks : (v : View) (h : Hold) (rows : List Process) → Looks v rows → Looks (after_open h v) (filter_map (change (is_row v.number) (with_holds (put_hold h))) rows)
+open-looks v h rows looks = kept-looks v (after_open h v) (is_row v.number) (with_holds (put_hold h)) rows refl refl (λ n e. e) (mine-row v.number) (holds-kept (put_hold h)) (open-fine v h) looks
+
+pub open-weigh : (m : ℕ) (t : Names) (h : Hold) (rows : List Process) → weigh (ready_in m t) (filter_map (change (is_row m) (with_holds (put_hold h))) rows) ≡ weigh (ready_in m t) rows
+open-weigh m t h rows = kept-weigh m t (is_row m) (with_holds (put_hold h)) rows (holds-kept (put_hold h))
+
+close-fine : (v : View) (a : Address) (p : Process) → Fine v p → FitsIn (Fine (after_close a v)) (change (is_of v.number) (with_holds (lacks_address a)) p)
+close-fine v a (Master n q i live hs) f = pick (Fine (after_close a v)) (n == v.number) (Master n q i live (lacks_address a hs)) (Master n q i live hs) (λ e. (f.0, f.1, f.2, ap (lacks_address a) f.3)) (λ e. absurd (off-true _ e (eqb-refl n v.number f.0)))
+close-fine v a (Worker n q g k Starting hs) f = pick (Fine (after_close a v)) (q == v.number) (Worker n q g k Starting (lacks_address a hs)) (Worker n q g k Starting hs) (λ e. (f.0, (f.1.0, ap (lacks_address a) f.1.1))) (λ e. absurd (off-true _ e (eqb-refl q v.number f.0)))
+close-fine v a (Worker n q g k Ready hs) f = pick (Fine (after_close a v)) (q == v.number) (Worker n q g k Ready (lacks_address a hs)) (Worker n q g k Ready hs) (λ e. (f.0, (f.1.0, ap (lacks_address a) f.1.1))) (λ e. absurd (off-true _ e (eqb-refl q v.number f.0)))
+close-fine v a (Worker n q g k Draining hs) f = pick (Fine (after_close a v)) (q == v.number) (Worker n q g k Draining (lacks_address a hs)) (Worker n q g k Draining hs) (λ e. (f.0, ap (lacks_address a) f.1)) (λ e. f)
+close-fine v a (Worker n q g k Exited hs) f = pick (Fine (after_close a v)) (q == v.number) (Worker n q g k Exited (lacks_address a hs)) (Worker n q g k Exited hs) (λ e. (f.0, ap (lacks_address a) f.1)) (λ e. f)
+close-fine v a (Foreign n hs) f = f
+
+pub close-looks : (v : View) (a : Address) (rows : List Process) → Looks v rows → Looks (after_close a v) (filter_map (change (is_of v.number) (with_holds (lacks_address a))) rows)
+close-looks v a rows looks = kept-looks v (after_close a v) (is_of v.number) (with_holds (lacks_address a)) rows refl refl (λ n e. e) (mine-of v.number) (holds-kept (lacks_address a)) (close-fine v a) looks
+
+pub close-weigh : (m : ℕ) (t : Names) (a : Address) (rows : List Process) → weigh (ready_in m t) (filter_map (change (is_of m) (with_holds (lacks_address a))) rows) ≡ weigh (ready_in m t) rows
+close-weigh m t a rows = kept-weigh m t (is_of m) (with_holds (lacks_address a)) rows (holds-kept (lacks_address a))
+
+-- an address that nobody holds is not held by the master
+pub unheld : (v : View) (a : Address) (rows : List Process) → list_any (λ p. list_any (is_at a) (holds_of p)) rows ≡ false → AllByRecursion (Row v) rows → 1 ≤ weigh (master_of v.number) rows → list_any (is_at a) v.holds ≡ false
+unheld v a [] e fine some = absurd (omega arith)
+unheld v a (Master n q i live hs ∷ rows) e fine some = go (list_any (is_at a) hs) refl e (λ f o. unheld v a rows f fine.1 (omega (arith, ap one (eqb-off n v.number o))))
+  where
+    go : (b : Bool) → list_any (is_at a) hs ≡ b → (b || list_any (λ p. list_any (is_at a) (holds_of p)) rows) ≡ false → (list_any (λ p. list_any (is_at a) (holds_of p)) rows ≡ false → n ≢ v.number → list_any (is_at a) v.holds ≡ false) → list_any (is_at a) v.holds ≡ false
+    go true is e ih = absurd (cc)
+    go false is e ih = ⊎_elim (λ f. subst (λ l. list_any (is_at a) l ≡ false) f.3 is) (λ o. ih e o.0) fine.0
+unheld v a (Worker n q g k s hs ∷ rows) e fine some = go (list_any (is_at a) hs) e (λ f. unheld v a rows f fine.1 (omega arith))
+  where
+    go : (b : Bool) → (b || list_any (λ p. list_any (is_at a) (holds_of p)) rows) ≡ false → (list_any (λ p. list_any (is_at a) (holds_of p)) rows ≡ false → list_any (is_at a) v.holds ≡ false) → list_any (is_at a) v.holds ≡ false
+    go true e ih = absurd (cc)
+    go false e ih = ih e
+unheld v a (Foreign n hs ∷ rows) e fine some = go (list_any (is_at a) hs) e (λ f. unheld v a rows f fine.1 (omega arith))
+  where
+    go : (b : Bool) → (b || list_any (λ p. list_any (is_at a) (holds_of p)) rows) ≡ false → (list_any (λ p. list_any (is_at a) (holds_of p)) rows ≡ false → list_any (is_at a) v.holds ≡ false) → list_any (is_at a) v.holds ≡ false
+    go true e ih = absurd (cc)
+    go false e ih = ih e
+
+---- Kill of a name that may be Ready
+
+cut-fine : (v : View) (g : Generation) (x : ℕ) (p : Process) → Fine v p → is_worker is_any v.number g x p ≡ false → Fine (after_removal g x v) p
+cut-fine v g x (Master n q i live hs) h e = h
+cut-fine v g x (Worker n q g' k Starting hs) h e = (h.0, (both-true (v.starting g' k) _ h.1.0 (not-off (q == v.number) _ (eqb-refl q v.number h.0) e), h.1.1))
+cut-fine v g x (Worker n q g' k Ready hs) h e = (h.0, (both-true (v.ready g' k) _ h.1.0 (not-off (q == v.number) _ (eqb-refl q v.number h.0) e), h.1.1))
+cut-fine v g x (Worker n q g' k Draining hs) h e = h
+cut-fine v g x (Worker n q g' k Exited hs) h e = h
+cut-fine v g x (Foreign n hs) h e = tt
+
+pub cut-looks : (v : View) (g : Generation) (x : ℕ) (rows : List Process) → Looks v rows → Looks (after_removal g x v) (filter_map (dropped (is_worker is_any v.number g x)) rows)
+cut-looks v g x rows looks =
+    dropped-looks (Row v) (after_removal g x v) (is_worker is_any v.number g x) rows looks.fine (λ p h e. ⊎_elim (λ f. inl (cut-fine v g x p f e)) (λ o. inr (other-allows v (after_removal g x v) refl refl (λ n e. e) p o)) h) (worker-masters is_any v.number g x) looks.alone looks.once
+
+off-two : (s d t : Bool) → t ≡ false → one (s && (d && t)) ≡ 0
+off-two true true t e = ap one e
+off-two true false t e = refl
+off-two false d t e = refl
+
+cut-unready : (m : ℕ) (g : Generation) (x : ℕ) (test : Names) → test g x ≡ false → (p : Process) → is_worker is_any m g x p ≡ true → ready_in m test p ≡ 0
+cut-unready m g x test off (Master n q i live hs) e = refl
+cut-unready m g x test off (Worker n q g' k s hs) e = off-two (is_ready s) (q == m) (test g' k) (off-name g x g' k test off (and-right (q == m) _ e))
+cut-unready m g x test off (Foreign n hs) e = refl
+
+pub cut-weigh : (m : ℕ) (g : Generation) (x : ℕ) (test : Names) (rows : List Process) → test g x ≡ false → weigh (ready_in m test) (filter_map (dropped (is_worker is_any m g x)) rows) ≡ weigh (ready_in m test) rows
+cut-weigh m g x test rows off = change-same (λ p. ⊤) (ready_in m test) (dropped (is_worker is_any m g x)) (λ p t. worth-dropped-same (ready_in m test) (is_worker is_any m g x p) p (cut-unready m g x test off p)) rows (every-any rows)

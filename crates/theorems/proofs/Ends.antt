@@ -1,10 +1,11 @@
 -- What the last census says of the service, and of the record that is left.
-use Rattle.std.proofs.Common.{◌≡◌, ℕ, ◌+◌, ◌<◌, ◌≤◌, Bool, true, false, List, [], ◌∷◌, length, Some, None, ⊎_elim, refl, sym, ap, ◌∙◌, subst, arith}
+use Rattle.std.proofs.Common.{◌≡◌, ℕ, ◌+◌, ◌<◌, ◌≤◌, Bool, true, false, List, [], ◌∷◌, length, Some, None, ⊎_elim, refl, sym, ap, ◌∙◌, subst, arith, nat_lt}
 use Rattle.std.specs.Prelude.{nat_le, is_some, map, ◌&&◌, ◌||◌, ◌==◌, if◌then◌else◌, bytes_eq, count_by, Option}
 use Rattle.std.specs.List.{AllByRecursion, list_any}
 use Rattle.std.proofs.lemmas.Bool.Decides.{nat_tests}
 use Rattle.listener_set.specs.Numbers.{is_in, first_from}
 use Rattle.listener_set.specs.declared.generation.Generation.{Generation}
+use Rattle.definitions.specs.declared.table.Limits.{Limits}
 use Rattle.definitions.specs.Table.{Address, same_generation, Hold, Process, Master, Worker, Foreign, Table, File, FilePath, is_worker, is_ready, has_address}
 use Rattle.definitions.specs.Service.{is_live_with, is_serving, service, uniform, IsSame}
 use Rattle.definitions.specs.declared.table.Stance.TheVariants.{Starting, Ready, Draining, Exited}
@@ -13,7 +14,8 @@ use Rattle.definitions.specs.declared.table.Listener.{Listener}
 use Rattle.definitions.specs.Record.{Record, IsRecord, Agrees, FilesAre, addresses_of}
 use Rattle.definitions.specs.declared.targets.Target.{Target}
 use Rattle.listener_set.specs.AddressList.{has}
-use Rattle.definitions.specs.After.{Setup, setup_after, recorded, record_from, record_if, keeps_rules}
+use Rattle.definitions.specs.Target.{reload_generation, upgrade_generation}
+use Rattle.definitions.specs.After.{next_config, next_image, numbered, Setup, setup_after, recorded, record_from, record_if, keeps_rules}
 use Rattle.definitions.specs.Run.{Ending, Progress, outcome_of}
 use Rattle.definitions.specs.declared.reports.Report.{Report}
 use Rattle.definitions.specs.Claims.{IsStart, IsFewer, AgreesAfter, is_ready_with, ready_with}
@@ -104,8 +106,8 @@ ready-any v g k (p ∷ rows) fine e = ⊎_elim (λ a. ready-row v g k p fine.0 a
 pub census-within : (v : View) (sole : Sole v) (g : Generation) (S : List ℕ) (r : Names) (rows : List Process) (ready : List ℕ) → Only g S r → Looks (view v none r) rows → ((k : ℕ) → list_any (is_worker is_ready v.number g k) rows ≡ is_in ready k) → (k : ℕ) → is_in ready k ≡ true → is_in S k ≡ true
 census-within v sole g S r rows ready only looks exact k e = (only g k (ready-any (view v none r) g k rows (sole-fine (view v none r) sole rows looks.fine) (exact k ∙ e))).1
 
-pub files-still : (note note_now : PidNote) (path : Option FilePath) (pid : ℕ) (files files_now : List File) → FilesAre note path pid files → Still files note files_now note_now → FilesAre note_now path pid files_now
-files-still note note_now path pid files files_now are still = subst (λ x. FilesAre x path pid files_now) (sym still.note_stays) (subst (λ x. FilesAre note path pid x) (sym still.files_stay) are)
+pub files-still : (note note_now : PidNote) (path : Option FilePath) (pid : ℕ) (files files_now : List File) (limits limits_now : Limits) → FilesAre note path pid files → Still files note limits files_now note_now limits_now → FilesAre note_now path pid files_now
+files-still note note_now path pid files files_now limits limits_now are still = subst (λ x. FilesAre x path pid files_now) (sym still.note_stays) (subst (λ x. FilesAre note path pid x) (sym still.files_stay) are)
 
 all-below : (wanted : ℕ) (ks : List ℕ) → ((k : ℕ) → is_in ks k ≡ true → k < wanted) → (first_from wanted ks ≡ None) × AllByRecursion (λ k. k < wanted) ks
 all-below wanted [] h = (refl, tt)
@@ -137,6 +139,36 @@ kept-after r target report t wanted is range most below agrees =
       agrees = agrees;
       record_in_range = record { listens = range.listens; wanted = most; ready = all.1; retries = range.retries; timeout_least = range.timeout_least; timeout_most = range.timeout_most; pid_path = range.pid_path; pid = range.pid };
     }
+
+-- A record that moves to another setup, run by the master of a process number.
+pub moved-after : (r : Record) (target : Target) (report : Report) (t : Table) (setup : Setup) (pid : ℕ) → setup_after report.outcome r target ≡ Some setup → 1 ≤ length setup.listeners → setup.wanted ≤ 1024 → setup.retries ≤ 8 → 1 ≤ setup.timeout → setup.timeout ≤ 86400 → IsRecord r → 1 ≤ pid → ((k : ℕ) → is_in report.ready k ≡ true → k < setup.wanted) → Agrees t (recorded setup r.pid_path report pid) → AgreesAfter r target report pid t
+moved-after r target report t setup pid is listens most retries least longest range some below agrees =
+    let all = all-below setup.wanted report.ready below in
+    let next = recorded setup r.pid_path report pid in
+    record {
+      record_then = next;
+      is = ap (λ o. record_from o r.pid_path report pid) is ∙ ap (λ b. record_if b next) (keeps next listens most all.0 some);
+      agrees = agrees;
+      record_in_range = record { listens = listens; wanted = most; ready = all.1; retries = retries; timeout_least = least; timeout_most = longest; pid_path = range.pid_path; pid = some };
+    }
+
+-- The next configuration, where there is one.
+pub next-is : (g : Generation) → is_some (next_config g) ≡ true → next_config g ≡ Some (reload_generation g)
+next-is g e = go (nat_lt g.config 4294967295) e
+  where
+    go : (b : Bool) → is_some (numbered (Some g.image) (if b then Some (g.config + 1) else None)) ≡ true → numbered (Some g.image) (if b then Some (g.config + 1) else None) ≡ Some (reload_generation g)
+    go true e = refl
+    go false e = absurd (cc)
+
+-- The next image, where there is one.
+pub next-image-is : (g : Generation) → is_some (next_image g) ≡ true → next_image g ≡ Some (upgrade_generation g)
+next-image-is g e = go (nat_lt g.image 4294967295) (nat_lt g.config 4294967295) e
+  where
+    go : (a b : Bool) → is_some (numbered (if a then Some (g.image + 1) else None) (if b then Some (g.config + 1) else None)) ≡ true → numbered (if a then Some (g.image + 1) else None) (if b then Some (g.config + 1) else None) ≡ Some (upgrade_generation g)
+    go true true e = refl
+    go true false e = absurd (cc)
+    go false true e = absurd (cc)
+    go false false e = absurd (cc)
 
 -- What is reported where a run ends so.
 abbrev pub report_at : Ending → Progress → Report

@@ -1,16 +1,12 @@
--- Worked examples, by computation; and a table that meets the premises.
+-- A table that meets the premises.
 use Rattle.std.proofs.Common.{◌≡◌, ℕ, ◌+◌, ◌≤◌, Bool, true, false, refl, sym, subst, arith}
 use Rattle.std.specs.Prelude.{◌&&◌, ◌==◌, count_by}
 use Rattle.std.proofs.lemmas.Bool.Decides.{nat_tests}
 use Rattle.listener_set.specs.declared.generation.Generation.{Generation}
 use Rattle.definitions.specs.Table.{same_generation, is_worker, is_active}
-use Rattle.definitions.specs.Calls.{census_of}
-use Rattle.theorems.specs.Examples.{two_workers, first_generation, holds, WorkersExamples, HasStart}
+use Rattle.definitions.specs.Claims.{IsStart}
+use Rattle.theorems.specs.Examples.{two_ready, two_workers, first, holds, HasStart}
 use Rattle.theorems.proofs.Rows.{one, count-weigh}
-
-pub workers_examples : WorkersExamples
-unfolding census_of
-workers_examples = record { one_more = (refl, refl); one_more_refused = (refl, refl); one_more_short = (refl, refl); one_more_repaired = (refl, refl); one_less = (refl, refl); none_left = (refl, refl) }
 
 at-most : (x s a b : Bool) → (a ≡ true → b ≡ false) → one (x && (s && a)) + (one (x && (s && b)) + 0) ≤ 1
 at-most true true true true h = absurd (cc (h refl))
@@ -24,10 +20,10 @@ apart : (k : ℕ) → (0 == k) ≡ true → (1 == k) ≡ false
 apart k e = grind (arith, nat_tests)
 
 once : (q : ℕ) (h : Generation) (k : ℕ) → count_by (is_worker is_active q h k) two_workers.rows ≤ 1
-once q h k = subst (λ n. n ≤ 1) (sym (count-weigh (is_worker is_active q h k) two_workers.rows)) (omega (arith, at-most (100 == q) (same_generation first_generation h) (0 == k) (1 == k) (apart k)))
+once q h k = subst (λ n. n ≤ 1) (sym (count-weigh (is_worker is_active q h k) two_workers.rows)) (omega (arith, at-most (100 == q) (same_generation first h) (0 == k) (1 == k) (apart k)))
 
-pub has_start : HasStart
-has_start = record {
+start : IsStart two_workers (two_ready 3)
+start = record {
   formed = record {
     once = once;
     quiet = (tt, (tt, (tt, tt)));
@@ -55,3 +51,6 @@ has_start = record {
   };
   rising = (omega arith, (omega arith, tt));
 }
+
+pub has_start : HasStart
+has_start = (start, record { descriptors = (omega arith, tt); limit = omega arith })

@@ -1,6 +1,7 @@
 -- Exits keep a view, and take no more Ready workers than they count as losses.
-use Rattle.std.proofs.Common.{not, false, ◌≡◌, ◌≢◌, ℕ, ◌+◌, ◌≤◌, Bool, List, [], ◌∷◌, Option, Some, None, refl, sym, ap, ◌∙◌, arith, inl, inr, ⊎_elim, true}
-use Rattle.definitions.specs.Claims.{names_master}
+use Rattle.std.proofs.Common.{not, false, ◌≡◌, ◌≢◌, ℕ, ◌+◌, ◌≤◌, Bool, List, [], ◌∷◌, Option, Some, None, refl, sym, ap, ◌∙◌, arith, inl, inr, ⊎_elim, true, subst}
+use Rattle.listener_set.specs.Numbers.{is_in}
+use Rattle.definitions.specs.Claims.{names_any}
 use Rattle.std.specs.Prelude.{◌&&◌, ◌||◌, ◌==◌, ⊤, if◌then◌else◌}
 use Rattle.std.specs.List.{AllByRecursion, list_any}
 use Rattle.definitions.specs.declared.table.Stance.TheVariants.{Starting, Ready, Draining, Exited}
@@ -9,7 +10,7 @@ use Rattle.listener_set.specs.declared.generation.Generation.{Generation}
 use Rattle.definitions.specs.Exits.{change, made_exited, first_changed, worker_exits, draining_exits, without_exited, kept_if, exited, all_exited, caller_exits}
 use Rattle.definitions.specs.declared.names.Name.{Name}
 use Rattle.theorems.proofs.Rows.{one, FitsIn, worth, one-le, weigh, change-le, change-same, change-falls, every-filter_map, every-any, pick}
-use Rattle.theorems.proofs.Views.{Names, View, Other, Row, Looks, live_named, ready_in, live_any, master_of, finds-other, eqb-off, eqb-is, eqb-refl}
+use Rattle.theorems.proofs.Views.{Names, View, Other, Row, Looks, live_named, ready_in, live_any, master_of, finds-other, eqb-off, eqb-is}
 use Rattle.definitions.specs.declared.names.Name.TheVariants as name
 
 -- one row that exits
@@ -58,7 +59,7 @@ first-falls : (u : Process → ℕ) (test : Process → Bool) → ((p : Process)
 first-falls u test h [] = omega arith
 first-falls u test h (p ∷ ps) = pick (λ l. weigh u (p ∷ ps) + weigh live_any l ≤ weigh u l + weigh live_any (p ∷ ps)) (test p) (made_exited p ∷ ps) (p ∷ first_changed test made_exited ps) (λ e. omega (arith, h p)) (λ e. omega (arith, first-falls u test h ps))
 
-abbrev IsNot : ℕ → Name → Type 0
+abbrev pub IsNot : ℕ → Name → Type 0
 IsNot image (name.Master i) = i ≢ image
 IsNot image (name.Worker g k) = ⊤
 IsNot image (name.Draining g k) = ⊤
@@ -104,7 +105,7 @@ pub master-exit-falls : (m : ℕ) (t : Names) (o : Option Caller) (rows : List P
 master-exit-falls m t None rows = omega arith
 master-exit-falls m t (Some c) rows = change-falls (λ p. ⊤) (ready_in m t) live_any (without_exited c.number (λ q. list_any (is_live_master q) rows)) (λ p x. master-falls m t c.number (λ q. list_any (is_live_master q) rows) p) rows (every-any rows)
 
-kept-master : (m gone : ℕ) (lives : ℕ → Bool) → m ≢ gone → (p : Process) → worth (master_of m) (without_exited gone lives p) ≡ master_of m p
+pub kept-master : (m gone : ℕ) (lives : ℕ → Bool) → m ≢ gone → (p : Process) → worth (master_of m) (without_exited gone lives p) ≡ master_of m p
 kept-master m gone lives ne (Master n q i live hs) =
     pick (λ o. worth (master_of m) o ≡ one (n == m)) (n == gone) _ _ (λ e. both (lives q) (eqb-off n m (λ x. ne (sym x ∙ eqb-is n gone e)))) (λ e. refl)
   where
@@ -175,10 +176,15 @@ looks-exit v (name.Worker g k) rows is looks = looks-worker v g k rows looks
 looks-exit v (name.Draining g k) rows is looks = looks-draining v g k rows looks
 looks-exit v (name.Master i) rows is looks = looks-master v (live_master i rows) rows (finds-other v i rows is looks.fine) looks
 
-falls-exit : (v : View) (test : Names) (e : Name) (rows : List Process) → IsNot v.image e → Looks v rows → weigh (ready_in v.number test) rows + weigh live_any (exited e rows) ≤ weigh (ready_in v.number test) (exited e rows) + weigh live_any rows
-falls-exit v test (name.Worker h k) rows is looks = change-falls (λ p. ⊤) (ready_in v.number test) live_any (change (is_named is_active h k) made_exited) (λ p x. pick (λ p'. Falls (ready_in v.number test) p p') (is_named is_active h k p) (made_exited p) p (λ e. exited-falls v.number test p) (λ e. omega arith)) rows (every-any rows)
-falls-exit v test (name.Draining h k) rows is looks = first-falls (ready_in v.number test) (is_named is_draining h k) (exited-falls v.number test) rows
-falls-exit v test (name.Master i) rows is looks = master-exit-falls v.number test (live_master i rows) rows
+falls-exit : (m : ℕ) (test : Names) (e : Name) (rows : List Process) → weigh (ready_in m test) rows + weigh live_any (exited e rows) ≤ weigh (ready_in m test) (exited e rows) + weigh live_any rows
+falls-exit m test (name.Worker h k) rows = change-falls (λ p. ⊤) (ready_in m test) live_any (change (is_named is_active h k) made_exited) (λ p x. pick (λ p'. Falls (ready_in m test) p p') (is_named is_active h k p) (made_exited p) p (λ e. exited-falls m test p) (λ e. omega arith)) rows (every-any rows)
+falls-exit m test (name.Draining h k) rows = first-falls (ready_in m test) (is_named is_draining h k) (exited-falls m test) rows
+falls-exit m test (name.Master i) rows = master-exit-falls m test (live_master i rows) rows
+
+-- The Ready workers of any master fall by no more than live workers do, whoever exits.
+pub falls-all : (m : ℕ) (test : Names) (es : List Name) (rows : List Process) → weigh (ready_in m test) rows + weigh live_any (all_exited es rows) ≤ weigh (ready_in m test) (all_exited es rows) + weigh live_any rows
+falls-all m test [] rows = omega arith
+falls-all m test (e ∷ es) rows = omega (arith, falls-exit m test e rows, falls-all m test es (exited e rows))
 
 live-exit : (v : View) (e : Name) (rows : List Process) → IsNot v.image e → Looks v rows → weigh live_any (exited e rows) ≤ weigh live_any rows
 live-exit v (name.Worker h k) rows is looks = change-le (λ p. ⊤) live_any (change (is_named is_active h k) made_exited) (λ p x. pick (λ p'. live_any p' ≤ live_any p) (is_named is_active h k p) (made_exited p) p (λ e. exited-live p) (λ e. omega arith)) rows (every-any rows)
@@ -191,22 +197,29 @@ pub record Shrinks (v : View) (before after : List Process) : Type 0 where
   pub falls : (test : Names) → weigh (ready_in v.number test) before + weigh live_any after ≤ weigh (ready_in v.number test) after + weigh live_any before
   pub fewer : weigh live_any after ≤ weigh live_any before
 
-spared : (v : View) (e : Name) (es : List Name) → names_master v.image (e ∷ es) ≡ false → IsNot v.image e × (names_master v.image es ≡ false)
-spared v (name.Worker g k) es s = (tt, s)
-spared v (name.Draining g k) es s = (tt, s)
-spared v (name.Master i) es s = go (i == v.image) refl s
-  where
-    go : (b : Bool) → (i == v.image) ≡ b → (b || names_master v.image es) ≡ false → (i ≢ v.image) × (names_master v.image es ≡ false)
-    go true is e = absurd (cc)
-    go false is e = (λ same. let on = eqb-refl i v.image same in absurd (cc), e)
+-- none of those who exit is the master of the image
+abbrev pub Spares : ℕ → List Name → Type 0
+Spares image [] = ⊤
+Spares image (e ∷ es) = IsNot image e × Spares image es
 
-pub shrinks : (v : View) (es : List Name) (rows : List Process) → names_master v.image es ≡ false → Looks v rows → Shrinks v rows (all_exited es rows)
+-- Who spares all of some images spares each.
+pub spares-each : (images : List ℕ) (image : ℕ) (es : List Name) → is_in images image ≡ true → names_any images es ≡ false → Spares image es
+spares-each images image [] on e = tt
+spares-each images image (name.Worker g k ∷ es) on e = (tt, spares-each images image es on e)
+spares-each images image (name.Draining g k ∷ es) on e = (tt, spares-each images image es on e)
+spares-each images image (name.Master i ∷ es) on e = go (is_in images i) refl e (spares-each images image es on)
+  where
+    go : (b : Bool) → is_in images i ≡ b → (b || names_any images es) ≡ false → (names_any images es ≡ false → Spares image es) → (i ≢ image) × Spares image es
+    go true is e rest = absurd (cc)
+    go false is e rest = (λ same. let off : is_in images image ≡ false = subst (λ j. is_in images j ≡ false) same is in absurd (cc), rest e)
+
+pub shrinks : (v : View) (es : List Name) (rows : List Process) → Spares v.image es → Looks v rows → Shrinks v rows (all_exited es rows)
 shrinks v [] rows s looks = record { looks = looks; falls = λ test. omega arith; fewer = omega arith }
 shrinks v (e ∷ es) rows s looks =
-    let (is, rest) = spared v e es s in
+    let (is, rest) = s in
     let next = shrinks v es (exited e rows) rest (looks-exit v e rows is looks) in
     record {
       looks = next.looks;
-      falls = λ test. omega (arith, falls-exit v test e rows is looks, next.falls test);
+      falls = λ test. falls-all v.number test (e ∷ es) rows;
       fewer = omega (arith, live-exit v e rows is looks, next.fewer);
     }

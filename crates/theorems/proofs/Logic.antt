@@ -1,155 +1,199 @@
 -- A logic for plans of one master: what holds along a run, and a rule for each kind of step.
-use Rattle.std.proofs.Common.{◌≡◌, List, ℕ, ◌+◌, Bool, true, false, Option, Some, None, refl}
+use Rattle.std.proofs.Common.{[], ◌∷◌, ◌≡◌, List, ℕ, ◌+◌, Bool, true, false, Option, Some, None, refl, nat_lt, length}
 use Rattle.std.specs.Prelude.{⊤, if◌then◌else◌}
 use Rattle.std.specs.List.{AllByRecursion, list_any}
-use Rattle.definitions.specs.Table.{Process, Worker, Table, Caller, is_worker, is_active, is_starting, is_exited}
+use Rattle.definitions.specs.Table.{is_any, is_draining, FilePath, owner_at, Process, Master, Worker, Table, Caller, is_worker, is_active, is_starting, is_exited, Address, is_held}
 use Rattle.definitions.specs.declared.table.Stance.TheVariants.{Starting}
 use Rattle.listener_set.specs.declared.generation.Generation.{Generation}
-use Rattle.definitions.specs.Calls.{Stepped, gives, step_by, fault_if, fault_or_own, own_step, with_new_row, each_row, has_process_room, dropped, made_ready}
+use Rattle.definitions.specs.Calls.{suits, is_image, with_file, moved_if, with_files, without_file, Stepped, gives, step_by, fault_if, fault_or_own, own_step, with_new_row, each_row, has_process_room, dropped, made_ready, lowest_free, with_new_socket}
 use Rattle.definitions.specs.declared.calls.Fate.{Fate}
+use Rattle.definitions.specs.Handover.{reading}
 use Rattle.definitions.specs.Exits.{change}
-use Rattle.definitions.specs.declared.calls.Call.TheVariants.{CloseAt, Fork, AwaitReady, Quit, Kill, Census}
-use Rattle.definitions.specs.declared.calls.Answer.TheVariants.{Forked, IsReady, Again, NoMemory, Gone, Late}
+use Rattle.definitions.specs.declared.calls.Call.TheVariants.{SpawnMaster, Adopt, WritePid, MovePid, Alive, TermMaster, AwaitGone, RemovePid, Usr1, Leave, CloseAt, Fork, AwaitReady, Quit, Kill, Census, OpenAt}
+use Rattle.definitions.specs.declared.calls.Answer.TheVariants.{Spawned, NoImage, Adopted, Refused, Fine, IoFault, Forked, IsReady, Again, NoMemory, Gone, Late, InUse, TooMany, Denied, Opened}
 use Rattle.definitions.specs.declared.calls.Call.{Call}
-use Rattle.definitions.specs.Tree.{Tree, Branches, Ends, Does, Nothing, Branch, among, reply_of}
+use Rattle.definitions.specs.Tree.{call_of, Tree, Branches, Ends, Does, Nothing, Branch, among, reply_of}
+use Rattle.definitions.specs.declared.plans.Order.{Order}
+use Rattle.definitions.specs.declared.reports.Entry.{Entry}
 use Rattle.definitions.specs.declared.calls.Reply.{Reply}
-use Rattle.definitions.specs.Claims.{names_master, refused_moment, refused_behind}
+use Rattle.definitions.specs.Claims.{names_any, executing_at, executing_after, refused_from, refused_behind}
 use Rattle.definitions.specs.declared.names.Name.{Name}
-use Rattle.definitions.specs.Run.{Pattern, Progress, Ran, after_moment, after_call, noted, answered, Ending, At, Lost, run, goes}
+use Rattle.definitions.specs.Run.{Pattern, Progress, Ran, after_moment, after_call, noted, answered, Ending, At, Lost, run_with, goes_with}
 use Rattle.theorems.proofs.Rows.{pick}
 use Rattle.definitions.specs.declared.calls.Fate.TheVariants as fate
 
 ---- What holds along a run
 
--- what is known of the exits of each moment, with the rows that they meet
+-- what is known of the exits of each moment, with the rows that they meet, beside that they spare the executing masters
 abbrev pub Exiting : Type 1
 Exiting = List Name → List Process → Type 0
 
--- `inv` at each table, and `post` at the end, as long as the exits of each moment are mild; and behind some edges
-abbrev mutual
-  pub Along : (Progress → Type 0) → (Ending → Progress → Type 0) → Pattern → Exiting → Tree → Progress → Type 0
-  Along inv post pattern mild (Ends end) p = inv p × post (At end) p
-  Along inv post pattern mild (Does by order set branches) p =
-      let moment = pattern (p.calls + 1) in
-      let middle = after_moment moment.exits p in
-      let s = answered by order moment.fate middle in
-      mild moment.exits p.table.rows → inv p × inv middle × Behind inv post pattern mild branches (reply_of set s.answer) (after_call order set s middle)
+-- What a run goes by: the text that is handed, the pattern, who is executing, and who takes over at a Leave.
+pub record Course : Type 0 where
+  pub text : List ℕ
+  pub pattern : Pattern
+  pub executing : List ℕ
+  pub heirs : List ℕ
 
-  pub Behind : (Progress → Type 0) → (Ending → Progress → Type 0) → Pattern → Exiting → Branches → Reply → Progress → Type 0
-  Behind inv post pattern mild Nothing r p = inv p × post Lost p
-  Behind inv post pattern mild (Branch replies said rest more) r p =
+abbrev pub course_after : Order → Course → Course
+course_after order co = record { text = co.text; pattern = co.pattern; executing = executing_after order co.executing co.heirs; heirs = co.heirs }
+
+-- what is asked of each call with the table that it meets
+abbrev pub Asked : Type 1
+Asked = Call → Table → Type 0
+
+-- `inv` at each table, `due` at each call and `post` at the end, as long as the exits of each moment are mild and spare the
+-- executing masters; and behind some edges
+abbrev mutual
+  pub Along : (Progress → Type 0) → (Ending → Progress → Type 0) → Exiting → Asked → Course → Tree → Progress → Type 0
+  Along inv post mild due co (Ends end) p = inv p × post (At end) p
+  Along inv post mild due co (Does by order set branches) p =
+      let moment = co.pattern (p.calls + 1) in
+      let middle = after_moment moment.exits p in
+      let s = answered co.text by order moment.fate middle in
+      names_any (executing_at order co.executing co.heirs) moment.exits ≡ false → mild moment.exits p.table.rows →
+      inv p × inv middle × due (call_of order middle.lacking) middle.table × Behind inv post mild due (course_after order co) branches (reply_of set s.answer) (after_call order set s middle)
+
+  pub Behind : (Progress → Type 0) → (Ending → Progress → Type 0) → Exiting → Asked → Course → Branches → Reply → Progress → Type 0
+  Behind inv post mild due co Nothing r p = inv p × post Lost p
+  Behind inv post mild due co (Branch replies said rest more) r p =
       elim (among replies r) as (λ b. Type 0) [
-        | true ↦ Along inv post pattern mild rest (noted said p)
-        | false ↦ Behind inv post pattern mild more r p
+        | true ↦ Along inv post mild due co rest (noted said p)
+        | false ↦ Behind inv post mild due co more r p
       ]
 
 -- the exits of each moment of a run are mild
 abbrev mutual
-  pub Spared : Exiting → Tree → Pattern → Progress → Type 0
-  Spared mild (Ends end) pattern p = ⊤
-  Spared mild (Does by order set branches) pattern p =
-      let moment = pattern (p.calls + 1) in
+  pub AreMild : Exiting → Course → Tree → Progress → Type 0
+  AreMild mild co (Ends end) p = ⊤
+  AreMild mild co (Does by order set branches) p =
+      let moment = co.pattern (p.calls + 1) in
       let middle = after_moment moment.exits p in
-      let s = answered by order moment.fate middle in
-      mild moment.exits p.table.rows × SparedBehind mild branches (reply_of set s.answer) pattern (after_call order set s middle)
+      let s = answered co.text by order moment.fate middle in
+      mild moment.exits p.table.rows × AreMildBehind mild (course_after order co) branches (reply_of set s.answer) (after_call order set s middle)
 
-  pub SparedBehind : Exiting → Branches → Reply → Pattern → Progress → Type 0
-  SparedBehind mild Nothing r pattern p = ⊤
-  SparedBehind mild (Branch replies said rest more) r pattern p =
+  pub AreMildBehind : Exiting → Course → Branches → Reply → Progress → Type 0
+  AreMildBehind mild co Nothing r p = ⊤
+  AreMildBehind mild co (Branch replies said rest more) r p =
       elim (among replies r) as (λ b. Type 0) [
-        | true ↦ Spared mild rest pattern (noted said p)
-        | false ↦ SparedBehind mild more r pattern p
+        | true ↦ AreMild mild co rest (noted said p)
+        | false ↦ AreMildBehind mild co more r p
       ]
 
+abbrev pub refused_in : Course → Tree → Progress → Option ℕ
+refused_in co tree p = refused_from co.text co.executing co.heirs tree co.pattern p
+
+abbrev pub run_in : Course → Tree → Progress → Ran
+run_in co tree p = run_with co.text tree co.pattern p
+
+-- what is asked of each call, with its middle table
+abbrev pub AllDue : Asked → List Entry → List Progress → Type 0
+AllDue due (e ∷ entries) (p ∷ middle ∷ rest) = due e.call middle.table × AllDue due entries rest
+AllDue due [] passed = ⊤
+AllDue due (e ∷ entries) [] = ⊥
+AllDue due (e ∷ entries) (p ∷ []) = ⊥
+
+-- what holds along a run, at its end and at each call
+pub record Holding (inv : Progress → Type 0) (post : Ending → Progress → Type 0) (due : Asked) (ran : Ran) : Type 0 where
+  pub always : AllByRecursion inv ran.passed
+  pub last : post ran.ending ran.last
+  pub dues : AllDue due ran.entries ran.passed
+
+-- What holds along a tree holds of its run.
 mutual
-  pub from-along : (inv : Progress → Type 0) (post : Ending → Progress → Type 0) (pattern : Pattern) (mild : Exiting) (t : Tree) (p : Progress) → Along inv post pattern mild t p → Spared mild t pattern p → AllByRecursion inv (run t pattern p).passed × post (run t pattern p).ending (run t pattern p).last
-  from-along inv post pattern mild (Ends end) p a s = ((a.0, tt), a.1)
-  from-along inv post pattern mild (Does by order set branches) p a s =
-      let moment = pattern (p.calls + 1) in
+  pub from-along : (inv : Progress → Type 0) (post : Ending → Progress → Type 0) (mild : Exiting) (due : Asked) (co : Course) (t : Tree) (p : Progress) → Along inv post mild due co t p → refused_in co t p ≡ None → AreMild mild co t p → Holding inv post due (run_in co t p)
+  from-along inv post mild due co (Ends end) p a e m = record { always = (a.0, tt); last = a.1; dues = tt }
+  from-along inv post mild due co (Does by order set branches) p a e m =
+      let moment = co.pattern (p.calls + 1) in
       let middle = after_moment moment.exits p in
-      let st = answered by order moment.fate middle in
-      let now = a s.0 in
-      let rest = from-behind inv post pattern mild branches (reply_of set st.answer) (after_call order set st middle) now.2 s.1 in
-      ((now.0, (now.1, rest.0)), rest.1)
+      let st = answered co.text by order moment.fate middle in
+      let next = after_call order set st middle in
+      let r = reply_of set st.answer in
+      elim (names_any (executing_at order co.executing co.heirs) moment.exits) as (λ b.
+      (b ≡ false → mild moment.exits p.table.rows → inv p × inv middle × due (call_of order middle.lacking) middle.table × Behind inv post mild due (course_after order co) branches r next) →
+      elim b as (λ c. Option ℕ) [ true ↦ Some (p.calls + 1) | false ↦ refused_behind co.text (executing_after order co.executing co.heirs) co.heirs branches r co.pattern next ] ≡ None →
+      Holding inv post due (run_in co (Does by order set branches) p)) [
+        | true ↦ λ a e. absurd (cc)
+        | false ↦ λ a e.
+            let now = a refl m.0 in
+            let rest = from-behind inv post mild due (course_after order co) branches r next now.3 e m.1 in
+            record { always = (now.0, (now.1, rest.always)); last = rest.last; dues = (now.2, rest.dues) }
+      ] a e
 
-  pub from-behind : (inv : Progress → Type 0) (post : Ending → Progress → Type 0) (pattern : Pattern) (mild : Exiting) (bs : Branches) (r : Reply) (p : Progress) → Behind inv post pattern mild bs r p → SparedBehind mild bs r pattern p → AllByRecursion inv (goes bs r pattern p).passed × post (goes bs r pattern p).ending (goes bs r pattern p).last
-  from-behind inv post pattern mild Nothing r p a s = ((a.0, tt), a.1)
-  from-behind inv post pattern mild (Branch replies said rest more) r p a s =
+  from-behind : (inv : Progress → Type 0) (post : Ending → Progress → Type 0) (mild : Exiting) (due : Asked) (co : Course) (bs : Branches) (r : Reply) (p : Progress) → Behind inv post mild due co bs r p → refused_behind co.text co.executing co.heirs bs r co.pattern p ≡ None → AreMildBehind mild co bs r p → Holding inv post due (goes_with co.text bs r co.pattern p)
+  from-behind inv post mild due co Nothing r p a e m = record { always = (a.0, tt); last = a.1; dues = tt }
+  from-behind inv post mild due co (Branch replies said rest more) r p a e m =
       elim (among replies r) as (λ b.
-      elim b as (λ c. Type 0) [ true ↦ Along inv post pattern mild rest (noted said p) | false ↦ Behind inv post pattern mild more r p ] →
-      elim b as (λ c. Type 0) [ true ↦ Spared mild rest pattern (noted said p) | false ↦ SparedBehind mild more r pattern p ] →
-      let ran : Ran = elim b as (λ c. Ran) [ true ↦ run rest pattern (noted said p) | false ↦ goes more r pattern p ] in
-      AllByRecursion inv ran.passed × post ran.ending ran.last) [
-        | true ↦ λ a s. from-along inv post pattern mild rest (noted said p) a s
-        | false ↦ λ a s. from-behind inv post pattern mild more r p a s
-      ] a s
+      elim b as (λ c. Type 0) [ true ↦ Along inv post mild due co rest (noted said p) | false ↦ Behind inv post mild due co more r p ] →
+      elim b as (λ c. Option ℕ) [ true ↦ refused_in co rest (noted said p) | false ↦ refused_behind co.text co.executing co.heirs more r co.pattern p ] ≡ None →
+      elim b as (λ c. Type 0) [ true ↦ AreMild mild co rest (noted said p) | false ↦ AreMildBehind mild co more r p ] →
+      Holding inv post due (elim b as (λ c. Ran) [ true ↦ run_in co rest (noted said p) | false ↦ goes_with co.text more r co.pattern p ])) [
+        | true ↦ λ a e m. from-along inv post mild due co rest (noted said p) a e m
+        | false ↦ λ a e m. from-behind inv post mild due co more r p a e m
+      ] a e m
 
--- No moment names the master.
-abbrev pub Sparing : ℕ → Exiting
-Sparing image es rows = names_master image es ≡ false
+-- Nothing is asked of a call.
+abbrev pub Unasked : Asked
+Unasked call t = ⊤
 
--- In a run of which no moment is refused, none names the master.
+-- Nothing is asked of the exits but that they spare the executing masters.
+abbrev pub Anyhow : Exiting
+Anyhow es rows = ⊤
+
 mutual
-  pub from-refused : (image : ℕ) (t : Tree) (pattern : Pattern) (p : Progress) → refused_moment image t pattern p ≡ None → Spared (Sparing image) t pattern p
-  from-refused image (Ends end) pattern p e = tt
-  from-refused image (Does by order set branches) pattern p e =
-      let moment = pattern (p.calls + 1) in
+  pub are-mild-anyhow : (co : Course) (t : Tree) (p : Progress) → AreMild Anyhow co t p
+  are-mild-anyhow co (Ends end) p = tt
+  are-mild-anyhow co (Does by order set branches) p =
+      let moment = co.pattern (p.calls + 1) in
       let middle = after_moment moment.exits p in
-      let s = answered by order moment.fate middle in
-      elim (names_master image moment.exits) as (λ b.
-      elim b as (λ c. Option ℕ) [ true ↦ Some (p.calls + 1) | false ↦ refused_behind image branches (reply_of set s.answer) pattern (after_call order set s middle) ] ≡ None →
-      (b ≡ false) × SparedBehind (Sparing image) branches (reply_of set s.answer) pattern (after_call order set s middle)) [
-        | true ↦ λ e. absurd (cc)
-        | false ↦ λ e. (refl, refused-behind image branches (reply_of set s.answer) pattern (after_call order set s middle) e)
-      ] e
+      let s = answered co.text by order moment.fate middle in
+      (tt, are-mild-behind (course_after order co) branches (reply_of set s.answer) (after_call order set s middle))
 
-  refused-behind : (image : ℕ) (bs : Branches) (r : Reply) (pattern : Pattern) (p : Progress) → refused_behind image bs r pattern p ≡ None → SparedBehind (Sparing image) bs r pattern p
-  refused-behind image Nothing r pattern p e = tt
-  refused-behind image (Branch replies said rest more) r pattern p e =
-      elim (among replies r) as (λ b.
-      elim b as (λ c. Option ℕ) [ true ↦ refused_moment image rest pattern (noted said p) | false ↦ refused_behind image more r pattern p ] ≡ None →
-      elim b as (λ c. Type 0) [ true ↦ Spared (Sparing image) rest pattern (noted said p) | false ↦ SparedBehind (Sparing image) more r pattern p ]) [
-        | true ↦ λ e. from-refused image rest pattern (noted said p) e
-        | false ↦ λ e. refused-behind image more r pattern p e
-      ] e
+  are-mild-behind : (co : Course) (bs : Branches) (r : Reply) (p : Progress) → AreMildBehind Anyhow co bs r p
+  are-mild-behind co Nothing r p = tt
+  are-mild-behind co (Branch replies said rest more) r p =
+      elim (among replies r) as (λ b. elim b as (λ c. Type 0) [ true ↦ AreMild Anyhow co rest (noted said p) | false ↦ AreMildBehind Anyhow co more r p ]) [
+        | true ↦ are-mild-anyhow co rest (noted said p)
+        | false ↦ are-mild-behind co more r p
+      ]
 
 ---- The answers of each call
 
-fork-own : (c : Caller) (g : Generation) (x : ℕ) (t : Table) (P : Stepped → Type 0) → P (gives Again t) → (list_any (is_worker is_active c.number g x) t.rows ≡ false → P (gives Forked (with_new_row t (λ n. Worker n c.number g x Starting c.holds)))) → P (own_step c (Fork g x) t)
-fork-own c g x t P again ok =
+fork-own : (text : List ℕ) (image : ℕ) (c : Caller) (g : Generation) (x : ℕ) (t : Table) (P : Stepped → Type 0) → P (gives Again t) → (list_any (is_worker is_active c.number g x) t.rows ≡ false → P (gives Forked (with_new_row t (λ n. Worker n c.number g x Starting c.holds)))) → P (own_step text image c (Fork g x) t)
+fork-own text image c g x t P again ok =
     let forked = gives Forked (with_new_row t (λ n. Worker n c.number g x Starting c.holds)) in
     pick P (list_any (is_worker is_active c.number g x) t.rows) (gives Again t) (if has_process_room t then forked else gives Again t) (λ e. again) (λ off. pick P (has_process_room t) forked (gives Again t) (λ e. ok off) (λ e. again))
 
-pub fork-cases : (c : Caller) (g : Generation) (x : ℕ) (fate : Option Fate) (t : Table) (P : Stepped → Type 0) → P (gives Again t) → P (gives NoMemory t) → (list_any (is_worker is_active c.number g x) t.rows ≡ false → P (gives Forked (with_new_row t (λ n. Worker n c.number g x Starting c.holds)))) → P (step_by (Some c) (Fork g x) fate t)
-fork-cases c g x None t P again memory ok = fork-own c g x t P again ok
-fork-cases c g x (Some fate.NoImage) t P again memory ok = fork-own c g x t P again ok
-fork-cases c g x (Some fate.Refused) t P again memory ok = fork-own c g x t P again ok
-fork-cases c g x (Some fate.IoFault) t P again memory ok = fork-own c g x t P again ok
-fork-cases c g x (Some fate.InUse) t P again memory ok = fork-own c g x t P again ok
-fork-cases c g x (Some fate.TooMany) t P again memory ok = fork-own c g x t P again ok
-fork-cases c g x (Some fate.Denied) t P again memory ok = fork-own c g x t P again ok
-fork-cases c g x (Some fate.NoMemory) t P again memory ok = memory
-fork-cases c g x (Some fate.Again) t P again memory ok = again
-fork-cases c g x (Some fate.Late) t P again memory ok = fork-own c g x t P again ok
+pub fork-cases : (text : List ℕ) (image : ℕ) (c : Caller) (g : Generation) (x : ℕ) (fate : Option Fate) (t : Table) (P : Stepped → Type 0) → P (gives Again t) → P (gives NoMemory t) → (list_any (is_worker is_active c.number g x) t.rows ≡ false → P (gives Forked (with_new_row t (λ n. Worker n c.number g x Starting c.holds)))) → P (step_by text image (Some c) (Fork g x) fate t)
+fork-cases text image c g x None t P again memory ok = fork-own text image c g x t P again ok
+fork-cases text image c g x (Some fate.NoImage) t P again memory ok = fork-own text image c g x t P again ok
+fork-cases text image c g x (Some fate.Refused) t P again memory ok = fork-own text image c g x t P again ok
+fork-cases text image c g x (Some fate.IoFault) t P again memory ok = fork-own text image c g x t P again ok
+fork-cases text image c g x (Some fate.InUse) t P again memory ok = fork-own text image c g x t P again ok
+fork-cases text image c g x (Some fate.TooMany) t P again memory ok = fork-own text image c g x t P again ok
+fork-cases text image c g x (Some fate.Denied) t P again memory ok = fork-own text image c g x t P again ok
+fork-cases text image c g x (Some fate.NoMemory) t P again memory ok = memory
+fork-cases text image c g x (Some fate.Again) t P again memory ok = again
+fork-cases text image c g x (Some fate.Late) t P again memory ok = fork-own text image c g x t P again ok
 
-await-own : (c : Caller) (g : Generation) (x : ℕ) (t : Table) (P : Stepped → Type 0) → (list_any (is_worker is_active c.number g x) t.rows ≡ true → P (gives IsReady (each_row (change (is_worker is_starting c.number g x) made_ready) t))) → (list_any (is_worker is_active c.number g x) t.rows ≡ false → P (gives Gone (each_row (dropped (is_worker is_exited c.number g x)) t))) → P (own_step c (AwaitReady g x) t)
-await-own c g x t P ok gone = pick P (list_any (is_worker is_active c.number g x) t.rows) _ _ ok gone
+await-own : (text : List ℕ) (image : ℕ) (c : Caller) (g : Generation) (x : ℕ) (t : Table) (P : Stepped → Type 0) → (list_any (is_worker is_active c.number g x) t.rows ≡ true → P (gives IsReady (each_row (change (is_worker is_starting c.number g x) made_ready) t))) → (list_any (is_worker is_active c.number g x) t.rows ≡ false → P (gives Gone (each_row (dropped (is_worker is_exited c.number g x)) t))) → P (own_step text image c (AwaitReady g x) t)
+await-own text image c g x t P ok gone = pick P (list_any (is_worker is_active c.number g x) t.rows) _ _ ok gone
 
-late-or : (b : Bool) (c : Caller) (call : Call) (t : Table) (P : Stepped → Type 0) → P (gives Late t) → P (own_step c call t) → P (fault_or_own (fault_if b Late) c call t)
-late-or true c call t P late h = late
-late-or false c call t P late h = h
+late-or : (b : Bool) (text : List ℕ) (image : ℕ) (c : Caller) (call : Call) (t : Table) (P : Stepped → Type 0) → P (gives Late t) → P (own_step text image c call t) → P (fault_or_own (fault_if b Late) text image c call t)
+late-or true text image c call t P late h = late
+late-or false text image c call t P late h = h
 
-pub await-cases : (c : Caller) (g : Generation) (x : ℕ) (fate : Option Fate) (t : Table) (P : Stepped → Type 0) → P (gives Late t) → (list_any (is_worker is_active c.number g x) t.rows ≡ true → P (gives IsReady (each_row (change (is_worker is_starting c.number g x) made_ready) t))) → (list_any (is_worker is_active c.number g x) t.rows ≡ false → P (gives Gone (each_row (dropped (is_worker is_exited c.number g x)) t))) → P (step_by (Some c) (AwaitReady g x) fate t)
-await-cases c g x None t P late ok gone = await-own c g x t P ok gone
-await-cases c g x (Some fate.NoImage) t P late ok gone = await-own c g x t P ok gone
-await-cases c g x (Some fate.Refused) t P late ok gone = await-own c g x t P ok gone
-await-cases c g x (Some fate.IoFault) t P late ok gone = await-own c g x t P ok gone
-await-cases c g x (Some fate.InUse) t P late ok gone = await-own c g x t P ok gone
-await-cases c g x (Some fate.TooMany) t P late ok gone = await-own c g x t P ok gone
-await-cases c g x (Some fate.Denied) t P late ok gone = await-own c g x t P ok gone
-await-cases c g x (Some fate.NoMemory) t P late ok gone = await-own c g x t P ok gone
-await-cases c g x (Some fate.Again) t P late ok gone = await-own c g x t P ok gone
-await-cases c g x (Some fate.Late) t P late ok gone = late-or (list_any (is_worker is_starting c.number g x) t.rows) c (AwaitReady g x) t P late (await-own c g x t P ok gone)
+pub await-cases : (text : List ℕ) (image : ℕ) (c : Caller) (g : Generation) (x : ℕ) (fate : Option Fate) (t : Table) (P : Stepped → Type 0) → P (gives Late t) → (list_any (is_worker is_active c.number g x) t.rows ≡ true → P (gives IsReady (each_row (change (is_worker is_starting c.number g x) made_ready) t))) → (list_any (is_worker is_active c.number g x) t.rows ≡ false → P (gives Gone (each_row (dropped (is_worker is_exited c.number g x)) t))) → P (step_by text image (Some c) (AwaitReady g x) fate t)
+await-cases text image c g x None t P late ok gone = await-own text image c g x t P ok gone
+await-cases text image c g x (Some fate.NoImage) t P late ok gone = await-own text image c g x t P ok gone
+await-cases text image c g x (Some fate.Refused) t P late ok gone = await-own text image c g x t P ok gone
+await-cases text image c g x (Some fate.IoFault) t P late ok gone = await-own text image c g x t P ok gone
+await-cases text image c g x (Some fate.InUse) t P late ok gone = await-own text image c g x t P ok gone
+await-cases text image c g x (Some fate.TooMany) t P late ok gone = await-own text image c g x t P ok gone
+await-cases text image c g x (Some fate.Denied) t P late ok gone = await-own text image c g x t P ok gone
+await-cases text image c g x (Some fate.NoMemory) t P late ok gone = await-own text image c g x t P ok gone
+await-cases text image c g x (Some fate.Again) t P late ok gone = await-own text image c g x t P ok gone
+await-cases text image c g x (Some fate.Late) t P late ok gone = late-or (list_any (is_worker is_starting c.number g x) t.rows) text image c (AwaitReady g x) t P late (await-own text image c g x t P ok gone)
 
 -- calls that no fate fails
 abbrev pub Unfailing : Call → Type 0
@@ -157,15 +201,131 @@ Unfailing (Quit g x) = ⊤
 Unfailing (Kill g x) = ⊤
 Unfailing (Census g) = ⊤
 Unfailing (CloseAt a) = ⊤
+Unfailing (Usr1 g x) = ⊤
+Unfailing Leave = ⊤
+Unfailing (Alive i) = ⊤
+Unfailing (TermMaster i) = ⊤
 Unfailing _ = ⊥
 
-pub unfailing : (c : Caller) (call : Call) (fate : Option Fate) (t : Table) → Unfailing call → step_by (Some c) call fate t ≡ own_step c call t
-unfailing c (Quit g x) None t u = refl
-unfailing c (Kill g x) None t u = refl
-unfailing c (Census g) None t u = refl
-unfailing c (CloseAt a) None t u = refl
-unfailing c (CloseAt a) (Some f) t u = refl
-unfailing c (Quit g x) (Some f) t u = refl
-unfailing c (Kill g x) (Some f) t u = refl
-unfailing c (Census g) (Some f) t u = refl
-unfailing c _ _ t u = absurd u
+pub unfailing : (text : List ℕ) (image : ℕ) (c : Caller) (call : Call) (fate : Option Fate) (t : Table) → Unfailing call → step_by text image (Some c) call fate t ≡ own_step text image c call t
+unfailing text image c (Quit g x) None t u = refl
+unfailing text image c (Kill g x) None t u = refl
+unfailing text image c (Census g) None t u = refl
+unfailing text image c (CloseAt a) None t u = refl
+unfailing text image c (Usr1 g x) None t u = refl
+unfailing text image c (Usr1 g x) (Some f) t u = refl
+unfailing text image c (Alive i) None t u = refl
+unfailing text image c (Alive i) (Some f) t u = refl
+unfailing text image c (TermMaster i) None t u = refl
+unfailing text image c (TermMaster i) (Some f) t u = refl
+unfailing text image c Leave None t u = refl
+unfailing text image c Leave (Some f) t u = refl
+unfailing text image c (CloseAt a) (Some f) t u = refl
+unfailing text image c (Quit g x) (Some f) t u = refl
+unfailing text image c (Kill g x) (Some f) t u = refl
+unfailing text image c (Census g) (Some f) t u = refl
+unfailing text image c _ _ t u = absurd u
+
+open-own : (text : List ℕ) (image : ℕ) (c : Caller) (a : Address) (t : Table) (P : Stepped → Type 0) → P (gives InUse t) → P (gives TooMany t) → (is_held a t.rows ≡ false → nat_lt (length c.holds) t.limits.descriptors ≡ true → P (gives (Opened (lowest_free c.holds)) (with_new_socket t c.number (record { fd = lowest_free c.holds; socket = t.next_socket; address = a })))) → P (own_step text image c (OpenAt a) t)
+open-own text image c a t P used many ok =
+    let done = gives (Opened (lowest_free c.holds)) (with_new_socket t c.number (record { fd = lowest_free c.holds; socket = t.next_socket; address = a })) in
+    pick P (is_held a t.rows) (gives InUse t) (if nat_lt (length c.holds) t.limits.descriptors then done else gives TooMany t) (λ e. used) (λ off. pick P (nat_lt (length c.holds) t.limits.descriptors) done (gives TooMany t) (λ e. ok off e) (λ e. many))
+
+pub open-cases : (text : List ℕ) (image : ℕ) (c : Caller) (a : Address) (fate : Option Fate) (t : Table) (P : Stepped → Type 0) → P (gives InUse t) → P (gives TooMany t) → P (gives Denied t) → P (gives NoMemory t) → (is_held a t.rows ≡ false → nat_lt (length c.holds) t.limits.descriptors ≡ true → P (gives (Opened (lowest_free c.holds)) (with_new_socket t c.number (record { fd = lowest_free c.holds; socket = t.next_socket; address = a })))) → P (step_by text image (Some c) (OpenAt a) fate t)
+open-cases text image c a None t P used many denied memory ok = open-own text image c a t P used many ok
+open-cases text image c a (Some fate.NoImage) t P used many denied memory ok = open-own text image c a t P used many ok
+open-cases text image c a (Some fate.Refused) t P used many denied memory ok = open-own text image c a t P used many ok
+open-cases text image c a (Some fate.IoFault) t P used many denied memory ok = open-own text image c a t P used many ok
+open-cases text image c a (Some fate.InUse) t P used many denied memory ok = used
+open-cases text image c a (Some fate.TooMany) t P used many denied memory ok = many
+open-cases text image c a (Some fate.Denied) t P used many denied memory ok = denied
+open-cases text image c a (Some fate.NoMemory) t P used many denied memory ok = memory
+open-cases text image c a (Some fate.Again) t P used many denied memory ok = open-own text image c a t P used many ok
+open-cases text image c a (Some fate.Late) t P used many denied memory ok = open-own text image c a t P used many ok
+
+gone-own : (text : List ℕ) (image : ℕ) (c : Caller) (g : Generation) (x : ℕ) (t : Table) (P : Stepped → Type 0) → P (gives Late t) → P (gives Gone (each_row (dropped (is_worker is_any c.number g x)) t)) → P (own_step text image c (AwaitGone g x) t)
+gone-own text image c g x t P late gone = pick P (list_any (is_worker is_active c.number g x) t.rows) _ _ (λ e. late) (λ e. gone)
+
+pub gone-cases : (text : List ℕ) (image : ℕ) (c : Caller) (g : Generation) (x : ℕ) (fate : Option Fate) (t : Table) (P : Stepped → Type 0) → P (gives Late t) → P (gives Gone (each_row (dropped (is_worker is_any c.number g x)) t)) → P (step_by text image (Some c) (AwaitGone g x) fate t)
+gone-cases text image c g x None t P late gone = gone-own text image c g x t P late gone
+gone-cases text image c g x (Some fate.NoImage) t P late gone = gone-own text image c g x t P late gone
+gone-cases text image c g x (Some fate.Refused) t P late gone = gone-own text image c g x t P late gone
+gone-cases text image c g x (Some fate.IoFault) t P late gone = gone-own text image c g x t P late gone
+gone-cases text image c g x (Some fate.InUse) t P late gone = gone-own text image c g x t P late gone
+gone-cases text image c g x (Some fate.TooMany) t P late gone = gone-own text image c g x t P late gone
+gone-cases text image c g x (Some fate.Denied) t P late gone = gone-own text image c g x t P late gone
+gone-cases text image c g x (Some fate.NoMemory) t P late gone = gone-own text image c g x t P late gone
+gone-cases text image c g x (Some fate.Again) t P late gone = gone-own text image c g x t P late gone
+gone-cases text image c g x (Some fate.Late) t P late gone = late-or (list_any (is_worker is_draining c.number g x) t.rows) text image c (AwaitGone g x) t P late (gone-own text image c g x t P late gone)
+
+pub remove-cases : (text : List ℕ) (image : ℕ) (c : Caller) (path : FilePath) (fate : Option Fate) (t : Table) (P : Stepped → Type 0) → P (gives IoFault t) → P (gives Fine (with_files (without_file path t.files) t)) → P (step_by text image (Some c) (RemovePid path) fate t)
+remove-cases text image c path None t P fault fine = fine
+remove-cases text image c path (Some fate.NoImage) t P fault fine = fine
+remove-cases text image c path (Some fate.Refused) t P fault fine = fine
+remove-cases text image c path (Some fate.IoFault) t P fault fine = fault
+remove-cases text image c path (Some fate.InUse) t P fault fine = fine
+remove-cases text image c path (Some fate.TooMany) t P fault fine = fine
+remove-cases text image c path (Some fate.Denied) t P fault fine = fine
+remove-cases text image c path (Some fate.NoMemory) t P fault fine = fine
+remove-cases text image c path (Some fate.Again) t P fault fine = fine
+remove-cases text image c path (Some fate.Late) t P fault fine = fine
+
+pub write-cases : (text : List ℕ) (image : ℕ) (c : Caller) (path : FilePath) (fate : Option Fate) (t : Table) (P : Stepped → Type 0) → P (gives IoFault t) → P (gives Fine (with_files (with_file path c.number t.files) t)) → P (step_by text image (Some c) (WritePid path) fate t)
+write-cases text image c path None t P fault fine = fine
+write-cases text image c path (Some fate.NoImage) t P fault fine = fine
+write-cases text image c path (Some fate.Refused) t P fault fine = fine
+write-cases text image c path (Some fate.IoFault) t P fault fine = fault
+write-cases text image c path (Some fate.InUse) t P fault fine = fine
+write-cases text image c path (Some fate.TooMany) t P fault fine = fine
+write-cases text image c path (Some fate.Denied) t P fault fine = fine
+write-cases text image c path (Some fate.NoMemory) t P fault fine = fine
+write-cases text image c path (Some fate.Again) t P fault fine = fine
+write-cases text image c path (Some fate.Late) t P fault fine = fine
+
+move-own : (o : Option ℕ) (from to : FilePath) (t : Table) (P : Stepped → Type 0) → P (gives IoFault t) → ((owner : ℕ) → o ≡ Some owner → P (gives Fine (with_files (with_file to owner (without_file from t.files)) t))) → P (moved_if o from to t)
+move-own None from to t P fault fine = fault
+move-own (Some owner) from to t P fault fine = fine owner refl
+
+pub move-cases : (text : List ℕ) (image : ℕ) (c : Caller) (from to : FilePath) (fate : Option Fate) (t : Table) (P : Stepped → Type 0) → P (gives IoFault t) → ((owner : ℕ) → owner_at from t.files ≡ Some owner → P (gives Fine (with_files (with_file to owner (without_file from t.files)) t))) → P (step_by text image (Some c) (MovePid from to) fate t)
+move-cases text image c from to None t P fault fine = move-own (owner_at from t.files) from to t P fault fine
+move-cases text image c from to (Some fate.NoImage) t P fault fine = move-own (owner_at from t.files) from to t P fault fine
+move-cases text image c from to (Some fate.Refused) t P fault fine = move-own (owner_at from t.files) from to t P fault fine
+move-cases text image c from to (Some fate.IoFault) t P fault fine = fault
+move-cases text image c from to (Some fate.InUse) t P fault fine = move-own (owner_at from t.files) from to t P fault fine
+move-cases text image c from to (Some fate.TooMany) t P fault fine = move-own (owner_at from t.files) from to t P fault fine
+move-cases text image c from to (Some fate.Denied) t P fault fine = move-own (owner_at from t.files) from to t P fault fine
+move-cases text image c from to (Some fate.NoMemory) t P fault fine = move-own (owner_at from t.files) from to t P fault fine
+move-cases text image c from to (Some fate.Again) t P fault fine = move-own (owner_at from t.files) from to t P fault fine
+move-cases text image c from to (Some fate.Late) t P fault fine = move-own (owner_at from t.files) from to t P fault fine
+
+adopt-own : (text : List ℕ) (image : ℕ) (c : Caller) (t : Table) (P : Stepped → Type 0) → P (gives Refused t) → P (gives Adopted t) → P (own_step text image c Adopt t)
+adopt-own text image c t P refused ok = pick P (suits (reading text) image c.holds) (gives Adopted t) (gives Refused t) (λ e. ok) (λ e. refused)
+
+pub adopt-cases : (text : List ℕ) (image : ℕ) (c : Caller) (fate : Option Fate) (t : Table) (P : Stepped → Type 0) → P (gives Refused t) → P (gives Adopted t) → P (step_by text image (Some c) Adopt fate t)
+adopt-cases text image c None t P refused ok = adopt-own text image c t P refused ok
+adopt-cases text image c (Some fate.NoImage) t P refused ok = adopt-own text image c t P refused ok
+adopt-cases text image c (Some fate.Refused) t P refused ok = refused
+adopt-cases text image c (Some fate.IoFault) t P refused ok = adopt-own text image c t P refused ok
+adopt-cases text image c (Some fate.InUse) t P refused ok = adopt-own text image c t P refused ok
+adopt-cases text image c (Some fate.TooMany) t P refused ok = adopt-own text image c t P refused ok
+adopt-cases text image c (Some fate.Denied) t P refused ok = adopt-own text image c t P refused ok
+adopt-cases text image c (Some fate.NoMemory) t P refused ok = adopt-own text image c t P refused ok
+adopt-cases text image c (Some fate.Again) t P refused ok = adopt-own text image c t P refused ok
+adopt-cases text image c (Some fate.Late) t P refused ok = adopt-own text image c t P refused ok
+
+spawn-own : (text : List ℕ) (image : ℕ) (c : Caller) (i : ℕ) (t : Table) (P : Stepped → Type 0) → P (gives Again t) → P (gives Spawned (with_new_row t (λ n. Master n c.number i true c.holds))) → P (own_step text image c (SpawnMaster i) t)
+spawn-own text image c i t P again ok =
+    let done = gives Spawned (with_new_row t (λ n. Master n c.number i true c.holds)) in
+    pick P (list_any (is_image i) t.rows) (gives Again t) (if has_process_room t then done else gives Again t) (λ e. again) (λ off. pick P (has_process_room t) done (gives Again t) (λ e. ok) (λ e. again))
+
+pub spawn-cases : (text : List ℕ) (image : ℕ) (c : Caller) (i : ℕ) (fate : Option Fate) (t : Table) (P : Stepped → Type 0) → P (gives Again t) → P (gives NoMemory t) → P (gives NoImage t) → P (gives Spawned (with_new_row t (λ n. Master n c.number i true c.holds))) → P (step_by text image (Some c) (SpawnMaster i) fate t)
+spawn-cases text image c i None t P again memory image_gone ok = spawn-own text image c i t P again ok
+spawn-cases text image c i (Some fate.NoImage) t P again memory image_gone ok = image_gone
+spawn-cases text image c i (Some fate.Refused) t P again memory image_gone ok = spawn-own text image c i t P again ok
+spawn-cases text image c i (Some fate.IoFault) t P again memory image_gone ok = spawn-own text image c i t P again ok
+spawn-cases text image c i (Some fate.InUse) t P again memory image_gone ok = spawn-own text image c i t P again ok
+spawn-cases text image c i (Some fate.TooMany) t P again memory image_gone ok = spawn-own text image c i t P again ok
+spawn-cases text image c i (Some fate.Denied) t P again memory image_gone ok = spawn-own text image c i t P again ok
+spawn-cases text image c i (Some fate.NoMemory) t P again memory image_gone ok = memory
+spawn-cases text image c i (Some fate.Again) t P again memory image_gone ok = again
+spawn-cases text image c i (Some fate.Late) t P again memory image_gone ok = spawn-own text image c i t P again ok

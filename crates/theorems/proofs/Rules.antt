@@ -1,36 +1,38 @@
 -- A rule for each piece of a plan of one master.
-use Rattle.std.proofs.Common.{◌≡◌, ℕ, zero, suc, ◌+◌, ◌<◌, ◌≤◌, Bool, true, false, cond, not, List, [], ◌∷◌, ◌++◌, length, Option, Some, None, refl, sym, ap, ◌∙◌, subst, arith, ◌⊎◌, inl, inr, ⊎_elim}
-use Rattle.std.specs.List.{filter_map, AllByRecursion, list_any}
-use Rattle.std.specs.Prelude.{filter, ◌&&◌, ◌||◌, ◌==◌, ⊤, is_some}
-use Rattle.definitions.specs.Table.{same_generation, Hold, Process, Master, Worker, Foreign, File, Table, bears, Caller, with_rows, is_worker, is_active, is_ready, is_starting, is_exited, is_any}
+use Rattle.std.proofs.Common.{◌≡◌, ℕ, zero, suc, ◌+◌, ◌<◌, ◌≤◌, Bool, true, false, cond, not, List, [], ◌∷◌, ◌++◌, length, Option, Some, None, refl, sym, ap, ◌∙◌, subst, arith, ◌⊎◌, inl, inr, ⊎_elim, nat_lt}
+use Rattle.std.specs.List.{filter_map, list_any}
+use Rattle.std.specs.Prelude.{if◌then◌else◌, filter, ◌&&◌, ◌||◌, ◌==◌, ⊤, is_some}
+use Rattle.definitions.specs.declared.table.Limits.{Limits}
+use Rattle.definitions.specs.Table.{same_generation, Hold, Process, Master, Worker, Foreign, File, Table, bears, Caller, with_rows, is_worker, is_active, is_ready, is_starting, is_exited, is_any, Address, is_at}
 use Rattle.definitions.specs.declared.table.Stance.TheVariants.{Starting}
 use Rattle.listener_set.specs.declared.generation.Generation.{Generation}
-use Rattle.definitions.specs.Calls.{Stepped, gives, step_by, own_step, with_new_row, each_row, is_exited_of, dropped, made_ready, made_draining, census_of}
+use Rattle.definitions.specs.Calls.{Stepped, gives, step_by, own_step, with_new_row, each_row, is_exited_of, dropped, made_ready, made_draining, census_of, is_of, with_holds, lacks_address, lowest_free, with_new_socket, is_row, put_hold}
 use Rattle.definitions.specs.declared.calls.Fate.{Fate}
 use Rattle.definitions.specs.declared.names.Name.{Name}
-use Rattle.definitions.specs.Exits.{is_active_worker, change, losses_of, all_exited}
-use Rattle.definitions.specs.declared.calls.Call.TheVariants.{Fork, AwaitReady, Quit, Kill, Census}
-use Rattle.definitions.specs.declared.calls.Answer.TheVariants.{Forked, IsReady, Again, NoMemory, Gone, Late}
+use Rattle.definitions.specs.Exits.{is_active_worker, change, losses_of, all_exited, after_exits}
+use Rattle.definitions.specs.declared.calls.Call.TheVariants.{AwaitGone, Fork, AwaitReady, Quit, Kill, Census, CloseAt, OpenAt, Usr1}
+use Rattle.definitions.specs.declared.calls.Answer.TheVariants.{Forked, IsReady, Again, NoMemory, Gone, Late, InUse, TooMany, Denied, Opened}
 use Rattle.definitions.specs.Tree.{Tree, Branches, Ends, Does, full_or_short, lowest, call_of, reply_of}
 use Rattle.listener_set.specs.Numbers.{is_in, lacks}
-use Rattle.definitions.specs.Plans.{fork_edges, await_edges, then_edge, census_edges, does, census, forks, awaits, starts, quits, settle, round, full_end, short_end, await_any_edges}
+use Rattle.definitions.specs.Plans.{awaits_gone, gone_edges, usr1s, open_edges, fork_any_edges, kills, forks_any, awaits_any, fork_edges, await_edges, then_edge, census_edges, does, census, forks, awaits, starts, quits, settle, round, full_end, short_end, await_any_edges}
 use Rattle.definitions.specs.declared.plans.Side.{Side}
 use Rattle.definitions.specs.declared.plans.Order.{Order}
 use Rattle.definitions.specs.declared.plans.Order.TheVariants.{Make, ForkLacking, AwaitLacking, KillLacking}
 use Rattle.definitions.specs.declared.calls.Reply.{Reply}
 use Rattle.definitions.specs.declared.plans.PidNote.{PidNote}
-use Rattle.definitions.specs.Claims.{names_master}
+use Rattle.definitions.specs.Claims.{names_any, is_leave}
 use Rattle.definitions.specs.declared.calls.Reply.TheVariants as reply
-use Rattle.definitions.specs.Run.{Pattern, Progress, after_moment, after_call, Ending, At}
+use Rattle.definitions.specs.declared.calls.Answer.TheVariants as answer
+use Rattle.definitions.specs.Run.{Progress, after_moment, after_call, Ending, At, answered}
 use Rattle.definitions.specs.Path.{went_wrong, first_cause}
-use Rattle.theorems.proofs.Rows.{one, weigh, weigh-le-all, count-weigh, and-left, and-right, both-true}
+use Rattle.theorems.proofs.Rows.{one, weigh, weigh-le-all, count-weigh, and-left, and-right, both-true, or-left, or-right}
 use Rattle.theorems.proofs.Views.{Names, named, View, Looks, live_any, ready_in, finds, eqb-is}
-use Rattle.theorems.proofs.Exits.{shrinks}
-use Rattle.theorems.proofs.Effects.{Mine, mine-worker, mine-exited, StaysOther, ready-stays, draining-stays, none, looks-allows, fork-looks, fork-weigh, await-looks, await-gains, gone-looks, gone-weigh, kill-looks, kill-weigh, quit-looks, quit-weigh, bears-is, bears-refl, same-refl}
+use Rattle.theorems.proofs.Exits.{Spares, spares-each, shrinks}
+use Rattle.theorems.proofs.Effects.{Mine, mine-worker, mine-exited, StaysOther, ready-stays, draining-stays, none, looks-allows, fork-looks, fork-weigh, await-looks, await-gains, gone-looks, gone-weigh, kill-looks, kill-weigh, quit-looks, quit-weigh, bears-is, bears-refl, same-refl, cut-weigh, after_close, cut-looks, after_open, close-weigh, close-looks, mine-of, holds-stay, open-weigh, unheld, open-looks, mine-row}
 use Rattle.theorems.proofs.Counts.{census-looks, census-weigh, census-in, count-set, Distinct}
-use Rattle.theorems.proofs.Sets.{in-here, in-there, in-cases}
+use Rattle.theorems.proofs.Sets.{in-here, in-there, in-cases, every-in}
 use Rattle.theorems.proofs.After.{census-exact}
-use Rattle.theorems.proofs.Logic.{Exiting, Sparing, Along, Behind, fork-cases, await-cases, unfailing}
+use Rattle.theorems.proofs.Logic.{Unasked, Exiting, Anyhow, Course, course_after, Along, Behind, fork-cases, await-cases, unfailing, open-cases, gone-cases}
 
 -- the view with these names
 abbrev pub view : View → Names → Names → View
@@ -104,10 +106,10 @@ is_some-wrong (Some k) n = refl
 pub marks-exits : (w : Bool) (faults losses more : ℕ) (cause : Option ℕ) → Marks w faults losses cause → Marks w faults (losses + more) cause
 marks-exits w faults losses more cause m = record { clean = m.clean; blamed = λ e. omega (arith, m.blamed e); caused = m.caused }
 
-marks-plain : (w : Bool) (faults losses n : ℕ) (cause : Option ℕ) → Marks w faults losses cause → Marks w faults losses (first_cause cause false n)
+pub marks-plain : (w : Bool) (faults losses n : ℕ) (cause : Option ℕ) → Marks w faults losses cause → Marks w faults losses (first_cause cause false n)
 marks-plain w faults losses n cause m = record { clean = λ e. m.clean (sym (is_some-plain cause n) ∙ e); blamed = λ e. m.blamed (sym (is_some-plain cause n) ∙ e); caused = λ e. is_some-plain cause n ∙ m.caused e }
 
-marks-wrong : (w : Bool) (faults faults' losses n : ℕ) (cause : Option ℕ) → 1 ≤ faults' + losses → Marks w faults losses cause → Marks true faults' losses (first_cause cause true n)
+pub marks-wrong : (w : Bool) (faults faults' losses n : ℕ) (cause : Option ℕ) → 1 ≤ faults' + losses → Marks w faults losses cause → Marks true faults' losses (first_cause cause true n)
 marks-wrong w faults faults' losses n cause le m = record { clean = λ e. let on = is_some-wrong cause n in absurd (cc); blamed = λ e. le; caused = λ e. is_some-wrong cause n }
 
 ---- What is kept beside
@@ -118,35 +120,36 @@ pub record Scene (m image : ℕ) : Type 1 where
   pub floor : ℕ
   pub files : List File
   pub note : PidNote
+  pub limits : Limits
   pub Mild : Exiting
-  pub spares : (es : List Name) (rows : List Process) → Mild es rows → names_master image es ≡ false
   pub Holds : List Process → ℕ → ℕ → Type 0
-  pub exits : (es : List Name) (rows : List Process) (losses more faults : ℕ) → Mild es rows → more + weigh live_any (all_exited es rows) ≡ weigh live_any rows → Holds rows losses faults → Holds (all_exited es rows) (losses + more) faults
+  pub exits : (es : List Name) (rows : List Process) (losses more faults : ℕ) → Spares image es → Mild es rows → more + weigh live_any (all_exited es rows) ≡ weigh live_any rows → Holds rows losses faults → Holds (all_exited es rows) (losses + more) faults
   pub changes : (test : Process → Bool) (f : Process → Process) (rows : List Process) (losses faults : ℕ) → Mine m test × ((n : ℕ) (hs : List Hold) → test (Foreign n hs) ≡ false) → StaysOther f → Holds rows losses faults → Holds (filter_map (change test f) rows) losses faults
   pub drops : (test : Process → Bool) (rows : List Process) (losses faults : ℕ) → Mine m test × ((n : ℕ) (hs : List Hold) → test (Foreign n hs) ≡ false) → Holds rows losses faults → Holds (filter_map (dropped test) rows) losses faults
   pub grows : (n : ℕ) (g : Generation) (x : ℕ) (hs : List Hold) (rows : List Process) (losses faults : ℕ) → Holds rows losses faults → Holds (rows ++ Worker n m g x Starting hs ∷ []) losses faults
   pub fails : (rows : List Process) (losses faults : ℕ) → Holds rows losses faults → Holds rows losses (faults + 1)
 
 -- Nothing is kept beside.
-abbrev pub plain_scene : (m image floor : ℕ) → List File → PidNote → Scene m image
-plain_scene m image floor files note = record {
+abbrev pub plain_scene : (m image floor : ℕ) → List File → PidNote → Limits → Scene m image
+plain_scene m image floor files note limits = record {
   floor = floor;
   files = files;
   note = note;
-  Mild = Sparing image;
-  spares = λ es rows h. h;
+  limits = limits;
+  Mild = Anyhow;
   Holds = λ rows losses faults. ⊤;
-  exits = λ es rows losses more faults sp e h. tt;
+  exits = λ es rows losses more faults sp mild e h. tt;
   changes = λ test f rows losses faults mine stays h. tt;
   drops = λ test rows losses faults mine h. tt;
   grows = λ n g x hs rows losses faults h. tt;
   fails = λ rows losses faults h. tt;
 }
 
--- The files and the note are as they were.
-pub record Still (files : List File) (note : PidNote) (files_now : List File) (note_now : PidNote) : Type 0 where
+-- The files, the note and the limits are as they were.
+pub record Still (files : List File) (note : PidNote) (limits : Limits) (files_now : List File) (note_now : PidNote) (limits_now : Limits) : Type 0 where
   pub files_stay : files_now ≡ files
   pub note_stays : note_now ≡ note
+  pub limits_stay : limits_now ≡ limits
 
 -- What is known between two steps. Of `n` names in `t`, all that are not Ready were lost; and `c` more than those that are not Ready were lost or failed.
 pub record Band (u : View) (sc : Scene u.number u.image) (s r t : Names) (n c : ℕ) (w : Bool) (ls : List ℕ) (p : Progress) : Type 0 where
@@ -157,15 +160,15 @@ pub record Band (u : View) (sc : Scene u.number u.image) (s r t : Names) (n c : 
   pub budget : n + c ≤ ready_of u t p + p.losses + p.faults
   pub lacking : p.lacking ≡ ls
   pub marks : Marks w p.faults p.losses p.cause
-  pub still : Still sc.files sc.note p.table.files p.note
+  pub still : Still sc.files sc.note sc.limits p.table.files p.note p.table.limits
   pub beside : sc.Holds p.table.rows p.losses p.faults
 
 pub losses-are : (es : List Name) (t : Table) → weigh live_any (all_exited es t.rows) ≤ weigh live_any t.rows → losses_of es t + weigh live_any (all_exited es t.rows) ≡ weigh live_any t.rows
 losses-are es t le = omega (arith, count-weigh is_active_worker t.rows, count-weigh is_active_worker (all_exited es t.rows))
 
-pub band-exits : (u : View) (sc : Scene u.number u.image) (s r t : Names) (n c : ℕ) (w : Bool) (ls : List ℕ) (es : List Name) (p : Progress) → sc.Mild es p.table.rows → Band u sc s r t n c w ls p → Band u sc s r t n c w ls (after_moment es p)
-band-exits u sc s r t n c w ls es p sp b =
-    let sh = shrinks (view u s r) es p.table.rows (sc.spares es p.table.rows sp) b.looks in
+pub band-exits : (u : View) (sc : Scene u.number u.image) (s r t : Names) (n c : ℕ) (w : Bool) (ls : List ℕ) (es : List Name) (p : Progress) → Spares u.image es → sc.Mild es p.table.rows → Band u sc s r t n c w ls p → Band u sc s r t n c w ls (after_moment es p)
+band-exits u sc s r t n c w ls es p sp mild b =
+    let sh = shrinks (view u s r) es p.table.rows sp b.looks in
     let lost = losses-are es p.table sh.fewer in
     let falls = sh.falls t in
     record {
@@ -176,36 +179,56 @@ band-exits u sc s r t n c w ls es p sp b =
       lacking = b.lacking;
       still = b.still;
       marks = marks-exits w p.faults p.losses (losses_of es p.table) p.cause b.marks;
-      beside = sc.exits es p.table.rows p.losses (losses_of es p.table) p.faults sp lost b.beside;
+      beside = sc.exits es p.table.rows p.losses (losses_of es p.table) p.faults sp mild lost b.beside;
     }
 
-module _ (inv : Progress → Type 0) (post : Ending → Progress → Type 0) (pattern : Pattern) (u : View) (sc : Scene u.number u.image) (good : (t : Names) (n : ℕ) (w : Bool) (q : Progress) → sc.floor ≤ n → Looks (view u any any) q.table.rows → (1 ≤ sc.floor → n ≤ ready_of u t q + q.losses) → Marks w q.faults q.losses q.cause → inv q) where
+module _ (inv : Progress → Type 0) (post : Ending → Progress → Type 0) (co : Course) (u : View) (acts : is_in co.executing u.image ≡ true) (sc : Scene u.number u.image) (good : (t : Names) (n : ℕ) (w : Bool) (q : Progress) → sc.floor ≤ n → Looks (view u any any) q.table.rows → (1 ≤ sc.floor → n ≤ ready_of u t q + q.losses) → Marks w q.faults q.losses q.cause → sc.Holds q.table.rows q.losses q.faults → inv q) where
   pub band-inv : (s r t : Names) (n c : ℕ) (w : Bool) (ls : List ℕ) (p : Progress) → Band u sc s r t n c w ls p → inv p
-  band-inv s r t n c w ls p b = good t n w p b.enough (looks-allows (view u s r) (view u any any) (record { number = refl; others = λ n e. e; image = refl; holds = refl; starting = λ h k e. refl; ready = λ h k e. refl; held_starting = λ h k e. refl; held = λ h k e. refl }) p.table.rows b.looks) b.secured b.marks
+  band-inv s r t n c w ls p b = good t n w p b.enough (looks-allows (view u s r) (view u any any) (record { number = refl; others = λ n e. e; image = refl; holds = refl; starting = λ h k e. refl; ready = λ h k e. refl; held_starting = λ h k e. refl; held = λ h k e. refl }) p.table.rows b.looks) b.secured b.marks b.beside
 
   abbrev pub Runs : Tree → Progress → Type 0
-  Runs t p = Along inv post pattern sc.Mild t p
+  Runs t p = Along inv post sc.Mild Unasked co t p
 
   abbrev me : Caller
   me = record { number = u.number; holds = u.holds }
 
   abbrev pub Edge : Branches → Reply → Progress → Type 0
-  Edge bs r p = Behind inv post pattern sc.Mild bs r p
+  Edge bs r p = Behind inv post sc.Mild Unasked co bs r p
 
   -- what a step does with its answer
   abbrev pub Answers : Order → List ℕ → Branches → Progress → Stepped → Type 0
   Answers order set bs q st = Edge bs (reply_of set st.answer) (after_call order set st q)
 
   -- a step, from what it does after the exits
-  pub rule-step : (order : Order) (set : List ℕ) (bs : Branches) (s r t : Names) (n c : ℕ) (w : Bool) (ls : List ℕ) (p : Progress) → Band u sc s r t n c w ls p → ((q : Progress) → Band u sc s r t n c w ls q → (fate : Option Fate) → Answers order set bs q (step_by (Some me) (call_of order q.lacking) fate q.table)) → Runs (Does u.image order set bs) p
-  rule-step order set bs s r t n c w ls p b h sp =
-      let moment = pattern (p.calls + 1) in
+  pub rule-step-at : (order : Order) (set : List ℕ) (bs : Branches) (s r t : Names) (n c : ℕ) (w : Bool) (ls : List ℕ) (p : Progress) → is_leave order ≡ false → Band u sc s r t n c w ls p → ((es : List Name) → Band u sc s r t n c w ls (after_moment es p) → (fate : Option Fate) → Answers order set bs (after_moment es p) (step_by co.text u.image (Some me) (call_of order p.lacking) fate (after_exits es p.table))) → Runs (Does u.image order set bs) p
+  rule-step-at order set bs s r t n c w ls p stays b h =
+      let moment = co.pattern (p.calls + 1) in
       let middle = after_moment moment.exits p in
-      let b' = band-exits u sc s r t n c w ls moment.exits p sp b in (
+      let at : (if is_leave order then co.executing ++ co.heirs else co.executing) ≡ co.executing = rw stays in
+      let after : course_after order co ≡ co = go (is_leave order) stays in
+      λ spared mild.
+      let sp = spares-each co.executing u.image moment.exits acts (subst (λ images. names_any images moment.exits ≡ false) at spared) in
+      let b' = band-exits u sc s r t n c w ls moment.exits p sp mild b in (
         band-inv s r t n c w ls p b,
         band-inv s r t n c w ls middle b',
-        subst (λ (o : Option Caller). Answers order set bs middle (step_by o (call_of order middle.lacking) moment.fate middle.table)) (sym (finds (view u s r) middle.table.rows b'.looks)) (h middle b' moment.fate),
+        tt,
+        subst (λ (x : Course). Behind inv post sc.Mild Unasked x bs (reply_of set (answered co.text u.image order moment.fate middle).answer) (after_call order set (answered co.text u.image order moment.fate middle) middle)) (sym after)
+            (subst (λ (o : Option Caller). Answers order set bs middle (step_by co.text u.image o (call_of order middle.lacking) moment.fate middle.table)) (sym (finds (view u s r) middle.table.rows b'.looks)) (h moment.exits b' moment.fate)),
       )
+    where
+      go : (b : Bool) → b ≡ false → record { text = co.text; pattern = co.pattern; executing = if b then co.heirs else co.executing; heirs = co.heirs } ≡ co
+      go true e = absurd (cc)
+      go false e = refl
+
+  pub rule-step : (order : Order) (set : List ℕ) (bs : Branches) (s r t : Names) (n c : ℕ) (w : Bool) (ls : List ℕ) (p : Progress) → is_leave order ≡ false → Band u sc s r t n c w ls p → ((q : Progress) → Band u sc s r t n c w ls q → (fate : Option Fate) → Answers order set bs q (step_by co.text u.image (Some me) (call_of order q.lacking) fate q.table)) → Runs (Does u.image order set bs) p
+  rule-step order set bs s r t n c w ls p stays b h = rule-step-at order set bs s r t n c w ls p stays b (λ es b'. h (after_moment es p) b')
+
+  -- A call failed, and all is as it was.
+  abbrev pub failed_at : Progress → Progress
+  failed_at q = record { table = q.table; calls = q.calls + 1; ready = q.ready; lacking = q.lacking; faults = q.faults + 1; losses = q.losses; cause = first_cause q.cause true (q.calls + 1); note = q.note }
+
+  pub band-failed : (s r t : Names) (n c : ℕ) (w : Bool) (ls : List ℕ) (q : Progress) → Band u sc s r t n c w ls q → Band u sc s r t n (c + 1) true ls (failed_at q)
+  band-failed s r t n c w ls q b = record { looks = b.looks; enough = b.enough; secured = b.secured; budget = omega (arith, b.budget); lacking = b.lacking; still = b.still; marks = marks-wrong w q.faults (q.faults + 1) q.losses (q.calls + 1) q.cause (omega arith) b.marks; beside = sc.fails q.table.rows q.losses q.faults b.beside }
 
   -- more names may be Starting
   pub band-still : (s s' r t : Names) (n c : ℕ) (w : Bool) (ls : List ℕ) (p : Progress) → Sub s s' → Band u sc s r t n c w ls p → Band u sc s' r t n c w ls p
@@ -222,14 +245,13 @@ module _ (inv : Progress → Type 0) (post : Ending → Progress → Type 0) (pa
 
   ---- Fork, AwaitReady, Kill
 
-  pub rule-fork : (ok bad : Tree) (g : Generation) (x : ℕ) (s r t : Names) (n c : ℕ) (w : Bool) (ls : List ℕ) (p : Progress) → u.held g ≡ u.holds → ((q : Progress) → Band u sc (plus s g x) r t n c w ls q → Runs ok q) → ((q : Progress) → Band u sc s r t n (c + 1) true ls q → Runs bad q) → Band u sc s r t n c w ls p → Runs (does u.image (Fork g x) (fork_edges ok bad)) p
-  rule-fork ok bad g x s r t n c w ls p same on_ok on_bad b =
+  pub rule-fork-on : (bs : Branches) (g : Generation) (x : ℕ) (s r t : Names) (n c : ℕ) (w : Bool) (ls : List ℕ) (p : Progress) → u.held g ≡ u.holds → ((q : Progress) → Band u sc (plus s g x) r t n c w ls q → Edge bs reply.Forked q) → ((q : Progress) → Band u sc s r t n (c + 1) true ls q → Edge bs reply.Again q × Edge bs reply.NoMemory q) → Band u sc s r t n c w ls p → Runs (does u.image (Fork g x) bs) p
+  rule-fork-on bs g x s r t n c w ls p same on_ok on_bad b =
       let order = Make (Fork g x) in
-      let bs = fork_edges ok bad in
-      rule-step order [] bs s r t n c w ls p b (λ q b' fate.
-      fork-cases me g x fate q.table (λ st. Answers order [] bs q st)
-      (on_bad (after_call order [] (gives Again q.table) q) (record { looks = b'.looks; enough = b'.enough; secured = b'.secured; budget = omega (arith, b'.budget); lacking = b'.lacking; still = b'.still; marks = marks-wrong w q.faults (q.faults + 1) q.losses (q.calls + 1) q.cause (omega arith) b'.marks; beside = sc.fails q.table.rows q.losses q.faults b'.beside }))
-      (on_bad (after_call order [] (gives NoMemory q.table) q) (record { looks = b'.looks; enough = b'.enough; secured = b'.secured; budget = omega (arith, b'.budget); lacking = b'.lacking; still = b'.still; marks = marks-wrong w q.faults (q.faults + 1) q.losses (q.calls + 1) q.cause (omega arith) b'.marks; beside = sc.fails q.table.rows q.losses q.faults b'.beside }))
+      rule-step order [] bs s r t n c w ls p refl b (λ q b' fate.
+      fork-cases co.text u.image me g x fate q.table (λ st. Answers order [] bs q st)
+      ((on_bad (after_call order [] (gives Again q.table) q) (record { looks = b'.looks; enough = b'.enough; secured = b'.secured; budget = omega (arith, b'.budget); lacking = b'.lacking; still = b'.still; marks = marks-wrong w q.faults (q.faults + 1) q.losses (q.calls + 1) q.cause (omega arith) b'.marks; beside = sc.fails q.table.rows q.losses q.faults b'.beside }))).0
+      ((on_bad (after_call order [] (gives NoMemory q.table) q) (record { looks = b'.looks; enough = b'.enough; secured = b'.secured; budget = omega (arith, b'.budget); lacking = b'.lacking; still = b'.still; marks = marks-wrong w q.faults (q.faults + 1) q.losses (q.calls + 1) q.cause (omega arith) b'.marks; beside = sc.fails q.table.rows q.losses q.faults b'.beside }))).1
       (λ off.
       let k = q.table.next_process in
       let same_weight = fork-weigh u.number g t x k u.holds q.table.rows in
@@ -244,14 +266,18 @@ module _ (inv : Progress → Type 0) (post : Ending → Progress → Type 0) (pa
         beside = sc.grows k g x u.holds q.table.rows q.losses q.faults b'.beside;
       })))
 
+  pub rule-fork : (ok bad : Tree) (g : Generation) (x : ℕ) (s r t : Names) (n c : ℕ) (w : Bool) (ls : List ℕ) (p : Progress) → u.held g ≡ u.holds → ((q : Progress) → Band u sc (plus s g x) r t n c w ls q → Runs ok q) → ((q : Progress) → Band u sc s r t n (c + 1) true ls q → Runs bad q) → Band u sc s r t n c w ls p → Runs (does u.image (Fork g x) (fork_edges ok bad)) p
+  rule-fork ok bad g x s r t n c w ls p same on_ok on_bad b =
+      rule-fork-on (fork_edges ok bad) g x s r t n c w ls p same on_ok (λ q b'. let h = on_bad q b' in (h, h)) b
+
   pub rule-kill : (rest : Tree) (g : Generation) (x : ℕ) (s r t : Names) (n c : ℕ) (w : Bool) (ls : List ℕ) (p : Progress) → r g x ≡ false → ((q : Progress) → Band u sc (minus s g x) r t n c w ls q → Runs rest q) → Band u sc s r t n c w ls p → Runs (does u.image (Kill g x) (then_edge rest)) p
   rule-kill rest g x s r t n c w ls p off next b =
       let order = Make (Kill g x) in
       let bs = then_edge rest in
-      rule-step order [] bs s r t n c w ls p b (λ q b' fate.
+      rule-step order [] bs s r t n c w ls p refl b (λ q b' fate.
       let same = kill-weigh (view u s r) g x t q.table.rows off b'.looks in
-      subst (λ st. Answers order [] bs q st) (sym (unfailing me (Kill g x) fate q.table tt))
-      (next (after_call order [] (own_step me (Kill g x) q.table) q) (record {
+      subst (λ st. Answers order [] bs q st) (sym (unfailing co.text u.image me (Kill g x) fate q.table tt))
+      (next (after_call order [] (own_step co.text u.image me (Kill g x) q.table) q) (record {
         looks = kill-looks (view u s r) g x q.table.rows b'.looks;
         enough = b'.enough;
         secured = λ e. omega (arith, b'.secured e, same);
@@ -273,8 +299,8 @@ module _ (inv : Progress → Type 0) (post : Ending → Progress → Type 0) (pa
   pub rule-await : (bs : Branches) (g : Generation) (x : ℕ) (s r t t' : Names) (n n' c c' : ℕ) (w : Bool) (ls : List ℕ) (p : Progress) → r g x ≡ false → Joins g x t t' n n' c c' → ((q : Progress) → Band u sc (minus s g x) (plus r g x) t' n' c' w ls q → Edge bs reply.IsReady q) → ((q : Progress) → Band u sc s r t n (c + 1) true ls q → Edge bs reply.Late q) → ((q : Progress) → Band u sc (minus s g x) r t n (c + 1) true ls q → Edge bs reply.Gone q) → Band u sc s r t n c w ls p → Runs (does u.image (AwaitReady g x) bs) p
   rule-await bs g x s r t t' n n' c c' w ls p off j on_ok on_late on_bad b =
       let order = Make (AwaitReady g x) in
-      rule-step order [] bs s r t n c w ls p b (λ q b' fate.
-      await-cases me g x fate q.table (λ st. Answers order [] bs q st)
+      rule-step order [] bs s r t n c w ls p refl b (λ q b' fate.
+      await-cases co.text u.image me g x fate q.table (λ st. Answers order [] bs q st)
       (on_late (after_call order [] (gives Late q.table) q) (record { looks = b'.looks; enough = b'.enough; secured = b'.secured; budget = omega (arith, b'.budget); lacking = b'.lacking; still = b'.still; marks = marks-wrong w q.faults (q.faults + 1) q.losses (q.calls + 1) q.cause (omega arith) b'.marks; beside = sc.fails q.table.rows q.losses q.faults b'.beside }))
       (λ live.
       let gain = await-gains (view u s r) g t' x q.table.rows j.has off live b'.looks in
@@ -308,10 +334,10 @@ module _ (inv : Progress → Type 0) (post : Ending → Progress → Type 0) (pa
   rule-quit rest g x s r t n c w ls p off next b =
       let order = Make (Quit g x) in
       let bs = then_edge rest in
-      rule-step order [] bs s r t n c w ls p b (λ q b' fate.
+      rule-step order [] bs s r t n c w ls p refl b (λ q b' fate.
       let same = quit-weigh u.number g x t q.table.rows off in
-      subst (λ st. Answers order [] bs q st) (sym (unfailing me (Quit g x) fate q.table tt))
-      (next (after_call order [] (own_step me (Quit g x) q.table) q) (record {
+      subst (λ st. Answers order [] bs q st) (sym (unfailing co.text u.image me (Quit g x) fate q.table tt))
+      (next (after_call order [] (own_step co.text u.image me (Quit g x) q.table) q) (record {
         looks = quit-looks (view u s r) g x q.table.rows b'.looks;
         enough = b'.enough;
         secured = λ e. omega (arith, b'.secured e, same);
@@ -320,6 +346,48 @@ module _ (inv : Progress → Type 0) (post : Ending → Progress → Type 0) (pa
         still = b'.still;
         marks = marks-plain w q.faults q.losses (q.calls + 1) q.cause b'.marks;
         beside = sc.changes (is_worker is_active u.number g x) made_draining q.table.rows q.losses q.faults (mine-worker is_active u.number g x, λ z zs. refl) draining-stays b'.beside;
+      })))
+
+  ---- OpenAt, CloseAt
+
+  pub rule-open : (ok bad : Tree) (a : Address) (r t : Names) (n c : ℕ) (w : Bool) (ls : List ℕ) (p : Progress) → ((h : Hold) (q : Progress) → h.address ≡ a → h.fd ≡ lowest_free u.holds → nat_lt (length u.holds) sc.limits.descriptors ≡ true → list_any (is_at a) u.holds ≡ false → Band (after_open h u) sc none r t n c w ls q → Runs ok q) → ((q : Progress) → Band u sc none r t n (c + 1) true ls q → Runs bad q) → Band u sc none r t n c w ls p → Runs (does u.image (OpenAt a) (open_edges ok bad)) p
+  rule-open ok bad a r t n c w ls p on_ok on_bad b =
+      let order = Make (OpenAt a) in
+      rule-step order [] (open_edges ok bad) none r t n c w ls p refl b (λ q b' fate.
+      open-cases co.text u.image me a fate q.table (λ st. Answers order [] (open_edges ok bad) q st)
+      (on_bad (after_call order [] (gives InUse q.table) q) (record { looks = b'.looks; enough = b'.enough; secured = b'.secured; budget = omega (arith, b'.budget); lacking = b'.lacking; still = b'.still; marks = marks-wrong w q.faults (q.faults + 1) q.losses (q.calls + 1) q.cause (omega arith) b'.marks; beside = sc.fails q.table.rows q.losses q.faults b'.beside }))
+      (on_bad (after_call order [] (gives TooMany q.table) q) (record { looks = b'.looks; enough = b'.enough; secured = b'.secured; budget = omega (arith, b'.budget); lacking = b'.lacking; still = b'.still; marks = marks-wrong w q.faults (q.faults + 1) q.losses (q.calls + 1) q.cause (omega arith) b'.marks; beside = sc.fails q.table.rows q.losses q.faults b'.beside }))
+      (on_bad (after_call order [] (gives Denied q.table) q) (record { looks = b'.looks; enough = b'.enough; secured = b'.secured; budget = omega (arith, b'.budget); lacking = b'.lacking; still = b'.still; marks = marks-wrong w q.faults (q.faults + 1) q.losses (q.calls + 1) q.cause (omega arith) b'.marks; beside = sc.fails q.table.rows q.losses q.faults b'.beside }))
+      (on_bad (after_call order [] (gives NoMemory q.table) q) (record { looks = b'.looks; enough = b'.enough; secured = b'.secured; budget = omega (arith, b'.budget); lacking = b'.lacking; still = b'.still; marks = marks-wrong w q.faults (q.faults + 1) q.losses (q.calls + 1) q.cause (omega arith) b'.marks; beside = sc.fails q.table.rows q.losses q.faults b'.beside }))
+      (λ off room.
+      let h : Hold = record { fd = lowest_free u.holds; socket = q.table.next_socket; address = a } in
+      let same = open-weigh u.number t h q.table.rows in
+      on_ok h (after_call order [] (gives (Opened (lowest_free u.holds)) (with_new_socket q.table u.number h)) q) refl refl (ap (λ (l : Limits). nat_lt (length u.holds) l.descriptors) (sym b'.still.limits_stay) ∙ room) (unheld (view u none r) a q.table.rows off b'.looks.fine (omega (arith, b'.looks.alone))) (record {
+        looks = open-looks (view u none r) h q.table.rows b'.looks;
+        enough = b'.enough;
+        secured = λ e. omega (arith, b'.secured e, same);
+        budget = omega (arith, b'.budget, same);
+        lacking = b'.lacking;
+        still = b'.still;
+        marks = marks-plain w q.faults q.losses (q.calls + 1) q.cause b'.marks;
+        beside = sc.changes (is_row u.number) (with_holds (put_hold h)) q.table.rows q.losses q.faults (mine-row u.number, λ z zs. refl) (holds-stay (put_hold h)) b'.beside;
+      })))
+
+  pub rule-close : (rest : Tree) (a : Address) (r t : Names) (n c : ℕ) (w : Bool) (ls : List ℕ) (p : Progress) → ((q : Progress) → Band (after_close a u) sc none r t n c w ls q → Runs rest q) → Band u sc none r t n c w ls p → Runs (does u.image (CloseAt a) (then_edge rest)) p
+  rule-close rest a r t n c w ls p next b =
+      rule-step (Make (CloseAt a)) [] (then_edge rest) none r t n c w ls p refl b (λ q b' fate.
+      let order = Make (CloseAt a) in
+      let same = close-weigh u.number t a q.table.rows in
+      subst (λ st. Answers order [] (then_edge rest) q st) (sym (unfailing co.text u.image me (CloseAt a) fate q.table tt))
+      (next (after_call order [] (own_step co.text u.image me (CloseAt a) q.table) q) (record {
+        looks = close-looks (view u none r) a q.table.rows b'.looks;
+        enough = b'.enough;
+        secured = λ e. omega (arith, b'.secured e, same);
+        budget = omega (arith, b'.budget, same);
+        lacking = b'.lacking;
+        still = b'.still;
+        marks = marks-plain w q.faults q.losses (q.calls + 1) q.cause b'.marks;
+        beside = sc.changes (is_of u.number) (with_holds (lacks_address a)) q.table.rows q.losses q.faults (mine-of u.number, λ z zs. refl) (holds-stay (lacks_address a)) b'.beside;
       })))
 
   ---- Census
@@ -332,10 +400,6 @@ module _ (inv : Progress → Type 0) (post : Ending → Progress → Type 0) (pa
   abbrev pub Exact : Generation → Progress → Type 0
   Exact g q = (k : ℕ) → list_any (is_worker is_ready u.number g k) q.table.rows ≡ is_in q.ready k
 
-  every-in : (P : ℕ → Type 0) (T : List ℕ) → ((k : ℕ) → is_in T k ≡ true → P k) → AllByRecursion P T
-  every-in P [] h = tt
-  every-in P (x ∷ T) h = (h x (in-here x x T refl), every-in P T (λ k e. h k (in-there x k T e)))
-
   -- the names of t that are not Ready are no fewer than those of the set that are not
   abbrev pub Part : View → Names → ℕ → Generation → List ℕ → Type 0
   Part v t n g T = (rows : List Process) → Looks v rows → weigh (ready_in u.number t) rows + length T ≤ weigh (ready_in u.number (named g (is_in T))) rows + n
@@ -344,7 +408,7 @@ module _ (inv : Progress → Type 0) (post : Ending → Progress → Type 0) (pa
   rule-count ok short g T r t n c w ls p dT below_T below_r part on_full on_short b =
       let order = Make (Census g) in
       let bs = census_edges ok short in
-      rule-step order T bs none r t n c w ls p b (λ q b' fate.
+      rule-step order T bs none r t n c w ls p refl b (λ q b' fate.
       let cs = census_of u.number g q.table.rows in
       let rows' = filter_map (dropped (is_exited_of u.number)) q.table.rows in
       let same = census-weigh u.number u.number t q.table.rows in
@@ -356,7 +420,7 @@ module _ (inv : Progress → Type 0) (post : Ending → Progress → Type 0) (pa
       let lost = part q.table.rows b'.looks in
       let before : (l : List ℕ) → lacks T cs ≡ l → length l ≤ q.faults + q.losses = λ l e. omega (arith, lost, b'.budget, seen_now, ap length e) in
       let after : List ℕ → Progress = λ l. record { table = with_rows q.table rows'; calls = q.calls + 1; ready = cs; lacking = lacks T cs; faults = q.faults; losses = q.losses; cause = first_cause q.cause (went_wrong (Census g) (full_or_short l)) (q.calls + 1); note = q.note } in
-      subst (λ st. Answers order T bs q st) (sym (unfailing me (Census g) fate q.table tt))
+      subst (λ st. Answers order T bs q st) (sym (unfailing co.text u.image me (Census g) fate q.table tt))
       (elim (lacks T cs) as (λ l. lacks T cs ≡ l → Edge bs (full_or_short l) (after l)) [
         | [] ↦ λ e. on_full cs (after []) e (record { looks = looks'; enough = b'.enough; secured = λ e. omega (arith, b'.secured e, same); budget = omega (arith, b'.budget, same); lacking = e; still = b'.still; marks = marks-plain w q.faults q.losses (q.calls + 1) q.cause b'.marks; beside = sc.drops (is_exited_of u.number) q.table.rows q.losses q.faults (mine-exited u.number, λ z zs. refl) b'.beside }) saw exact
         | x ∷ xs ↦ λ e. on_short cs x xs (after (x ∷ xs)) e (record { looks = looks'; enough = b'.enough; secured = λ e. omega (arith, b'.secured e, same); budget = omega (arith, b'.budget, same); lacking = e; still = b'.still; marks = marks-wrong w q.faults q.faults q.losses (q.calls + 1) q.cause (omega (arith, before (x ∷ xs) e)) b'.marks; beside = sc.drops (is_exited_of u.number) q.table.rows q.losses q.faults (mine-exited u.number, λ z zs. refl) b'.beside }) saw exact
@@ -483,14 +547,6 @@ module _ (inv : Progress → Type 0) (post : Ending → Progress → Type 0) (pa
       rule-quit (quits u.image g ks rest) g x s r t n c w ls p (off x (in-here x x ks refl))
       (λ q b'. rule-quits rest g ks (minus s g x) (minus r g x) t n c w ls q (λ k e. off k (in-there x k ks e)) (λ s' r' q' less_s less b''. next s' r' q' (less-cons g s s' x ks less_s) (less-cons g r r' x ks less) b'') b') b
 
-  or-right : (a b : Bool) → b ≡ true → (a || b) ≡ true
-  or-right true b e = refl
-  or-right false b e = e
-
-  or-left : (a b : Bool) → a ≡ true → (a || b) ≡ true
-  or-left true b e = refl
-  or-left false b e = cc
-
   -- how far the forks have come: what is left and what was forked are the whole list, and no other number may be Starting
   pub record Forking (g : Generation) (all ks done : List ℕ) (s : Names) : Type 0 where
     pub left : (k : ℕ) → is_in ks k ≡ true → is_in all k ≡ true
@@ -551,3 +607,115 @@ module _ (inv : Progress → Type 0) (post : Ending → Progress → Type 0) (pa
       h b')
       (λ ks done s q fk b'. on_bad done all [] s r t n q fk.within fk.only h (inl (refl, refl)) b')
       all [] none p (forking-first g all) b
+
+  ---- Usr1
+
+  pub rule-usr1s : (rest : Tree) (g : Generation) (ks : List ℕ) (s r t : Names) (n c : ℕ) (w : Bool) (ls : List ℕ) (p : Progress) → ((q : Progress) → Band u sc s r t n c w ls q → Runs rest q) → Band u sc s r t n c w ls p → Runs (usr1s u.image g ks rest) p
+  rule-usr1s rest g [] s r t n c w ls p next b = next p b
+  rule-usr1s rest g (x ∷ ks) s r t n c w ls p next b =
+      let order = Make (Usr1 g x) in
+      let bs = then_edge (usr1s u.image g ks rest) in
+      rule-step order [] bs s r t n c w ls p refl b (λ q b' fate.
+      subst (λ st. Answers order [] bs q st) (sym (unfailing co.text u.image me (Usr1 g x) fate q.table tt))
+      (rule-usr1s rest g ks s r t n c w ls (after_call order [] (gives answer.Fine q.table) q) next (record {
+        looks = b'.looks;
+        enough = b'.enough;
+        secured = b'.secured;
+        budget = b'.budget;
+        lacking = b'.lacking;
+        still = b'.still;
+        marks = marks-plain w q.faults q.losses (q.calls + 1) q.cause b'.marks;
+        beside = b'.beside;
+      })))
+
+  ---- Start whatever is answered
+
+  pub rule-cut : (rest : Tree) (g : Generation) (x : ℕ) (s r t : Names) (n c : ℕ) (w : Bool) (ls : List ℕ) (p : Progress) → t g x ≡ false → ((q : Progress) → Band u sc (minus s g x) (minus r g x) t n c w ls q → Runs rest q) → Band u sc s r t n c w ls p → Runs (does u.image (Kill g x) (then_edge rest)) p
+  rule-cut rest g x s r t n c w ls p off next b =
+      let order = Make (Kill g x) in
+      let bs = then_edge rest in
+      rule-step order [] bs s r t n c w ls p refl b (λ q b' fate.
+      let same = cut-weigh u.number g x t q.table.rows off in
+      subst (λ st. Answers order [] bs q st) (sym (unfailing co.text u.image me (Kill g x) fate q.table tt))
+      (next (after_call order [] (own_step co.text u.image me (Kill g x) q.table) q) (record {
+        looks = cut-looks (view u s r) g x q.table.rows b'.looks;
+        enough = b'.enough;
+        secured = λ e. omega (arith, b'.secured e, same);
+        budget = omega (arith, b'.budget, same);
+        lacking = b'.lacking;
+        still = b'.still;
+        marks = marks-plain w q.faults q.losses (q.calls + 1) q.cause b'.marks;
+        beside = sc.drops (is_worker is_any u.number g x) q.table.rows q.losses q.faults (mine-worker is_any u.number g x, λ z zs. refl) b'.beside;
+      })))
+
+  pub rule-kills : (rest : Tree) (g : Generation) (ks : List ℕ) (s r t : Names) (n c : ℕ) (w : Bool) (ls : List ℕ) (p : Progress) → ((k : ℕ) → is_in ks k ≡ true → t g k ≡ false) → ((s' r' : Names) (q : Progress) → Less g s ks s' → Less g r ks r' → Band u sc s' r' t n c w ls q → Runs rest q) → Band u sc s r t n c w ls p → Runs (kills u.image g ks rest) p
+  rule-kills rest g [] s r t n c w ls p off next b = next s r p (λ h k e. (e, λ is. refl)) (λ h k e. (e, λ is. refl)) b
+  rule-kills rest g (x ∷ ks) s r t n c w ls p off next b =
+      rule-cut (kills u.image g ks rest) g x s r t n c w ls p (off x (in-here x x ks refl))
+      (λ q b'. rule-kills rest g ks (minus s g x) (minus r g x) t n c w ls q (λ k e. off k (in-there x k ks e)) (λ s' r' q' less_s less b''. next s' r' q' (less-cons g s s' x ks less_s) (less-cons g r r' x ks less) b'') b') b
+
+  -- Wait until these are gone; one that is late is killed.
+  pub rule-waits : (rest : Tree) (g : Generation) (ks : List ℕ) (s r t : Names) (n : ℕ) (w : Bool) (ls : List ℕ) (p : Progress) → ((k : ℕ) → is_in ks k ≡ true → t g k ≡ false) → ((s' r' : Names) (w' : Bool) (c' : ℕ) (q : Progress) → Sub s' s → Sub r' r → (w ≡ true → w' ≡ true) → Band u sc s' r' t n c' w' ls q → Runs rest q) → (c : ℕ) → Band u sc s r t n c w ls p → Runs (awaits_gone u.image g ks rest) p
+  rule-waits rest g [] s r t n w ls p off next c b = next s r w c p (λ h k e. e) (λ h k e. e) (λ e. e) b
+  rule-waits rest g (x ∷ ks) s r t n w ls p off next c b =
+      let order = Make (AwaitGone g x) in
+      let more = awaits_gone u.image g ks rest in
+      let bs = gone_edges more (does u.image (Kill g x) (then_edge more)) in
+      let off' : (k : ℕ) → is_in ks k ≡ true → t g k ≡ false = λ k e. off k (in-there x k ks e) in
+      rule-step order [] bs s r t n c w ls p refl b (λ q b' fate.
+      gone-cases co.text u.image me g x fate q.table (λ st. Answers order [] bs q st)
+      (rule-cut more g x s r t n (c + 1) true ls (failed_at q) (off x (in-here x x ks refl))
+      (λ q' b''. rule-waits rest g ks (minus s g x) (minus r g x) t n true ls q' off'
+      (λ s' r' w' c' q'' sub_s sub_r up b3. next s' r' w' c' q'' (λ h k e. and-left (s h k) _ (sub_s h k e)) (λ h k e. and-left (r h k) _ (sub_r h k e)) (λ e. up refl) b3) (c + 1) b'')
+      (band-failed s r t n c w ls q b'))
+      (let same = cut-weigh u.number g x t q.table.rows (off x (in-here x x ks refl)) in
+      rule-waits rest g ks (minus s g x) (minus r g x) t n w ls (after_call order [] (gives answer.Gone (each_row (dropped (is_worker is_any u.number g x)) q.table)) q) off'
+      (λ s' r' w' c' q'' sub_s sub_r up b3. next s' r' w' c' q'' (λ h k e. and-left (s h k) _ (sub_s h k e)) (λ h k e. and-left (r h k) _ (sub_r h k e)) up b3) c
+      (record {
+        looks = cut-looks (view u s r) g x q.table.rows b'.looks;
+        enough = b'.enough;
+        secured = λ e. omega (arith, b'.secured e, same);
+        budget = omega (arith, b'.budget, same);
+        lacking = b'.lacking;
+        still = b'.still;
+        marks = marks-plain w q.faults q.losses (q.calls + 1) q.cause b'.marks;
+        beside = sc.drops (is_worker is_any u.number g x) q.table.rows q.losses q.faults (mine-worker is_any u.number g x, λ z zs. refl) b'.beside;
+      })))
+
+  -- Only these may be Starting beside those of s.
+  abbrev pub Within_or : Generation → List ℕ → Names → Names → Type 0
+  Within_or g ks s s' = (h : Generation) (k : ℕ) → s' h k ≡ true → (s h k ≡ true) ⊎ ((h ≡ g) × (is_in ks k ≡ true))
+
+  pub rule-forks-any : (rest : Tree) (g : Generation) → u.held g ≡ u.holds → (ks : List ℕ) (s r t : Names) (n c : ℕ) (w : Bool) (ls : List ℕ) (p : Progress) → ((s' : Names) (c' : ℕ) (w' : Bool) (q : Progress) → Within_or g ks s s' → (w ≡ true → w' ≡ true) → Band u sc s' r t n c' w' ls q → Runs rest q) → Band u sc s r t n c w ls p → Runs (forks_any u.image g ks rest) p
+  rule-forks-any rest g same [] s r t n c w ls p next b = next s c w p (λ h k e. inl e) (λ e. e) b
+  rule-forks-any rest g same (x ∷ ks) s r t n c w ls p next b =
+      rule-fork-on (fork_any_edges (forks_any u.image g ks rest)) g x s r t n c w ls p same
+      (λ q b'. rule-forks-any rest g same ks (plus s g x) r t n c w ls q
+      (λ s' c' w' q' within up b''. next s' c' w' q' (λ h k e. ⊎_elim (λ a. ⊎_elim (λ z. inl z) (λ z. let is = bears-is g x h k z in inr (is.0, in-here x k ks (sym is.1))) (or-elim (s h k) (bears g x h k) a)) (λ a. inr (a.0, in-there x k ks a.1)) (within h k e)) up b'') b')
+      (λ q b'.
+      let h = rule-forks-any rest g same ks s r t n (c + 1) true ls q
+      (λ s' c' w' q' within up b''. next s' c' w' q' (λ h k e. ⊎_elim (λ a. inl a) (λ a. inr (a.0, in-there x k ks a.1)) (within h k e)) (λ e. up refl) b'') b' in
+      (h, h)) b
+
+  -- a name that failed joins the names too, since its fault pays for it. There is no floor
+  band-owed : (g : Generation) (x : ℕ) (s r t : Names) (n c : ℕ) (w : Bool) (ls : List ℕ) (p : Progress) → sc.floor ≡ 0 → Band u sc s r t n (c + 1) w ls p → Band u sc s r (also g x t) (n + 1) c w ls p
+  band-owed g x s r t n c w ls p zero_f b =
+      let sub = weigh-sub u.number t (also g x t) (λ h k e. or-left (t h k) (bears g x h k) e) p.table.rows in
+      record { looks = b.looks; enough = omega (arith, zero_f); secured = λ e. absurd (omega (arith, zero_f, e)); budget = omega (arith, b.budget, sub); lacking = b.lacking; still = b.still; marks = b.marks; beside = b.beside }
+
+  pub rule-awaits-any : (Q : Known) (rest : Tree) (g : Generation) → sc.floor ≡ 0 → ((x : ℕ) (ks done : List ℕ) (r t : Names) (n : ℕ) → Q (x ∷ ks) done r t n → (r g x ≡ false) × Q ks (x ∷ done) (plus r g x) (also g x t) (n + 1) × Q ks (x ∷ done) r (also g x t) (n + 1)) → (ls : List ℕ) (c : ℕ) (ks done : List ℕ) (s r t : Names) (n : ℕ) (w : Bool) (p : Progress) → ((done' : List ℕ) (s' r' t' : Names) (n' : ℕ) (w' : Bool) (q : Progress) → Q [] done' r' t' n' → Less g s ks s' → (w ≡ true → w' ≡ true) → Band u sc s' r' t' n' c w' ls q → Runs rest q) → Q ks done r t n → Band u sc s r t n c w ls p → Runs (awaits_any u.image g ks rest) p
+  rule-awaits-any Q rest g zero_f more ls c [] done s r t n w p next h b = next done s r t n w p h (λ j k e. (e, λ is. refl)) (λ e. e) b
+  rule-awaits-any Q rest g zero_f more ls c (x ∷ ks) done s r t n w p next h b =
+      let after = more x ks done r t n h in
+      let tree = awaits_any u.image g ks rest in
+      let joins : Joins g x t (also g x t) n (n + 1) c c = record { has = or-right (t g x) (bears g x g x) (bears-refl g x); sub = λ h k e. or-left (t h k) (bears g x h k) e; more = omega arith; count = omega arith; enough = omega (arith, b.enough) } in
+      let failed = λ (q : Progress) (b' : Band u sc (minus s g x) r t n (c + 1) true ls q).
+      rule-awaits-any Q rest g zero_f more ls c ks (x ∷ done) (minus s g x) r (also g x t) (n + 1) true q
+      (λ done' s' r' t' n' w' q' h' less up b''. next done' s' r' t' n' w' q' h' (less-cons g s s' x ks less) (λ e. up refl) b'')
+      after.2 (band-owed g x (minus s g x) r t n c true ls q zero_f b') in
+      rule-await (await_any_edges tree (does u.image (Kill g x) (then_edge tree))) g x s r t (also g x t) n (n + 1) c c w ls p after.0 joins
+      (λ q b'. rule-awaits-any Q rest g zero_f more ls c ks (x ∷ done) (minus s g x) (plus r g x) (also g x t) (n + 1) w q
+      (λ done' s' r' t' n' w' q' h' less up b''. next done' s' r' t' n' w' q' h' (less-cons g s s' x ks less) up b'')
+      after.1 b')
+      (λ q b'. rule-kill tree g x s r t n (c + 1) true ls q after.0 failed b')
+      failed b

@@ -1,5 +1,6 @@
 -- Sets of numbers as lists: what stands_in in a longer list, and how many.
 use Rattle.std.proofs.Common.{◌≡◌, ◌≢◌, ℕ, zero, suc, ◌+◌, ◌<◌, ◌≤◌, Bool, true, false, cond, not, List, [], ◌∷◌, ◌++◌, length, refl, sym, ap, ◌∙◌, subst, arith, length-append, ◌⊎◌, inl, inr, ⊎_elim}
+use Rattle.std.specs.List.{AllByRecursion}
 use Rattle.std.specs.Prelude.{filter, ◌&&◌, ◌||◌, ◌==◌, nat_lt}
 use Rattle.std.proofs.lemmas.Bool.Decides.{nat_tests}
 use Rattle.definitions.specs.declared.table.Stance.TheVariants.{Starting, Ready, Draining, Exited}
@@ -212,3 +213,8 @@ below-distinct (suc n) = distinct-append (numbers_below n) n (below-distinct n) 
 pub below-length : (n : ℕ) → length (numbers_below n) ≡ n
 below-length zero = refl
 below-length (suc n) = omega (arith, length-append (numbers_below n) (n ∷ []), below-length n)
+
+-- what holds of each number of a list
+pub every-in : (P : ℕ → Type 0) (S : List ℕ) → ((k : ℕ) → is_in S k ≡ true → P k) → AllByRecursion P S
+every-in P [] h = tt
+every-in P (x ∷ S) h = (h x (in-here x x S refl), every-in P S (λ k e. h k (in-there x k S e)))

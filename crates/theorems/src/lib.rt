@@ -2,12 +2,49 @@
 //! body: its contract is the theorem.
 #![tactic(auto)]
 
-ghost use Rattle.definitions.specs.Claims.{RunsWithin, WorkersHeadline};
-ghost use Rattle.theorems.specs.Examples.{HasStart, WorkersExamples};
+ghost use Rattle.std.specs.Prelude.{ℕ, List, Bool};
+ghost use Rattle.definitions.specs.Settings.{Settings};
+ghost use Rattle.definitions.specs.declared.targets.Target.TheVariants.{Workers, Mend, Reopen, Reload, Upgrade, Stop};
+ghost use Rattle.definitions.specs.Claims.{InManner, MendHeadline, ReloadHeadline, ReopenHeadline, RunsWithin, StopHeadline, UpgradeHeadline, WorkersHeadline};
+ghost use Rattle.theorems.specs.Examples.{HasStart};
+ghost use Rattle.theorems.specs.WorkedRuns.{WorkedRuns};
+ghost use Rattle.theorems.specs.WrongTables.{WrongTables};
 
 /// Whatever fails and whoever exits, a change of the number of workers ends as it reports.
 pub fn workers_end_as_reported()
-    ensures { WorkersHeadline }
+    ensures headline { WorkersHeadline }
+    ensures manner { (n : ℕ) → InManner (Workers n) }
+{}
+
+/// Whatever fails and whoever exits, a reload of the configuration ends as it reports.
+pub fn reloads_end_as_reported()
+    ensures headline { ReloadHeadline }
+    ensures manner { (s : Settings) → InManner (Reload s) }
+{}
+
+/// Whatever fails and whoever exits, a mend of overdue workers ends as it reports.
+pub fn mends_end_as_reported()
+    ensures headline { MendHeadline }
+    ensures manner { (overdue : List ℕ) → InManner (Mend overdue) }
+{}
+
+/// Whatever fails and whoever exits, a reopening of the logs ends as it reports.
+pub fn reopenings_end_as_reported()
+    ensures headline { ReopenHeadline }
+    ensures manner { InManner Reopen }
+{}
+
+/// Whatever fails and whoever exits, a stop ends as it reports.
+pub fn stops_end_as_reported()
+    ensures headline { StopHeadline }
+    ensures manner { (quick : Bool) → InManner (Stop quick) }
+{}
+
+/// Whatever fails and whoever exits but an executing master, the new one before it takes over too,
+/// an upgrade ends as it reports.
+pub fn upgrades_end_as_reported()
+    ensures headline { UpgradeHeadline }
+    ensures manner { (s : Settings) → InManner (Upgrade s) }
 {}
 
 /// A run makes no more calls than the longest path of its plan has steps.
@@ -15,9 +52,14 @@ pub fn runs_stay_within()
     ensures { RunsWithin }
 {}
 
-/// Changes of the number of workers, call by call.
-pub fn workers_examples_hold()
-    ensures { WorkersExamples }
+/// Plans that are run on a small table, call by call.
+pub fn worked_runs_hold()
+    ensures { WorkedRuns }
+{}
+
+/// Tables and runs that break a claim, one for each.
+pub fn wrong_tables_are_refuted()
+    ensures { WrongTables }
 {}
 
 /// A table that meets the premises of the theorems.

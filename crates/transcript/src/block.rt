@@ -1,35 +1,59 @@
 //! Blocks as texts.
-ghost use Rattle.std.specs.Prelude.{IfOk};
-ghost use Rattle.transcript.specs.Block.{IsBlockText};
+ghost use Rattle.std.specs.Prelude.{◌≡◌, ◌++◌, IfOk};
+ghost use Rattle.control_words.specs.Words.{word_text};
+ghost use Rattle.transcript.specs.Block.{body_text, block_text};
 
-use crate::block_text::{put_entries, put_report};
+use call_text::{write_entries, write_number, write_report};
+use control_words::Word;
 use plan_executor::{Block, Body};
 use std::alloc::{AllocError, Global};
+
+/// A word as it is written: its name, and the numbers of a beat or of a tick.
+fn write_word(out: &mut Vec<u8>, word: Word) -> Result<(), AllocError>
+    ensures { IfOk result (λ _. out.new.items ≡ out.old.items ++ word_text word) }
+{
+    match word {
+        Word::Beat { nr, now } => {
+            out.extend_from_slice(b"beat ")?;
+            write_number(out, u64::from(nr))?;
+            out.extend_from_slice(b" ")?;
+            write_number(out, now)
+        }
+        Word::Tick { now } => {
+            out.extend_from_slice(b"tick ")?;
+            write_number(out, now)
+        }
+        _ => out.extend_from_slice(word.name().as_bytes()),
+    }
+}
+
+fn write_body(out: &mut Vec<u8>, body: &Body) -> Result<(), AllocError>
+    ensures { IfOk result (λ _. out.new.items ≡ out.old.items ++ body_text body.now) }
+{
+    match body {
+        Body::Nothing => out.extend_from_slice(b"nothing\n"),
+        Body::Refused(code) => {
+            out.extend_from_slice(b"refused ")?;
+            out.extend_from_slice(code.as_str().as_bytes())?;
+            out.extend_from_slice(b"\n")
+        }
+        Body::Ran(transcript, report) => {
+            write_entries(out, transcript.entries())?;
+            write_report(out, report)?;
+            out.extend_from_slice(b"\n")
+        }
+    }
+}
 
 /// The text of a block: the line `word W`, and then `nothing`, or `refused CODE`, or a line for each call, numbered from 1,
 /// and the report's line. The only refusal is want of memory.
 pub fn write_transcript(alloc: Global, block: &Block) -> Result<Vec<u8>, AllocError>
-    ensures { IfOk result (λ out. IsBlockText block.now out.items) }
+    ensures { IfOk result (λ out. out.items ≡ block_text block.now) }
 {
     let mut out = Vec::new(alloc);
     out.extend_from_slice(b"word ")?;
-    out.extend_from_slice(block.word.name().as_bytes())?;
+    write_word(&mut out, block.word)?;
     out.extend_from_slice(b"\n")?;
-    match &block.body {
-        Body::Nothing => {
-            out.extend_from_slice(b"nothing\n")?;
-            Ok(out)
-        }
-        Body::Refused(code) => {
-            out.extend_from_slice(b"refused ")?;
-            out.extend_from_slice(code.as_str().as_bytes())?;
-            out.extend_from_slice(b"\n")?;
-            Ok(out)
-        }
-        Body::Ran(transcript, report) => {
-            put_entries(&mut out, transcript.entries())?;
-            put_report(&mut out, report)?;
-            Ok(out)
-        }
-    }
+    write_body(&mut out, &block.body)?;
+    Ok(out)
 }

@@ -2,8 +2,6 @@
 #![tactic(auto)]
 
 mod block;
-mod block_text;
-mod call_text;
 mod pattern_line;
 mod patterns;
 mod refusal;

@@ -26,3 +26,10 @@ returns-in-Err-clause-asks c =
     c.shown_by.ensures.asks (map string_bytes c.args.args.now)
     (subst (λ a. HasKind (fault_of a (map string_bytes c.args.args.now)) c.in-Err.error) same
     (c.in-Err.ensures.kinds (ap is_simple_and_free same ∙ has_exact_faults)))
+
+pub returns-in-Err-clause-refused : goal.returns-in-Err-clause-refused
+returns-in-Err-clause-refused c =
+    let same : app_of c.in_ok-program.field-0 ≡ prefork_app = c.in_ok-program.ensures in
+    c.shown_by.ensures.refused (map string_bytes c.args.args.now)
+    (subst (λ a. HasKind (fault_of a (map string_bytes c.args.args.now)) c.in-Err.error) same
+    (c.in-Err.ensures.kinds (ap is_simple_and_free same ∙ has_exact_faults)))

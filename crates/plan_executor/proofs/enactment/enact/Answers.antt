@@ -1,4 +1,4 @@
-use Rattle.std.proofs.Common.{rules, ◌≡◌, ◌+◌, length, None, Some, sym, ◌∙◌, ap, subst, ◌⊎◌, Result, Err}
+use Rattle.std.proofs.Common.{rules, [], ◌∷◌, ◌≡◌, ◌+◌, length, None, Some, sym, ◌∙◌, ap, subst, ◌⊎◌, Result, Err}
 use Rattle.std.proofs.lemmas.Result.{err_from_is_err_and}
 use mathlib.Core.Bool.{true≢false}
 use Rattle.definitions.specs.Table.{Table}
@@ -59,7 +59,7 @@ returns-in-Some-clause-exact c =
     (subst (λ n. Replays (moment_at calls.pattern.now) n c.args.kernel.now.table entries last) c.new-calls.ensures.number
     (subst (λ (s : State). Replays (moment_at calls.pattern.now) calls.number s.table entries last) first led.replays)) in
     let agrees : Agrees c.args.kernel.now.table c.args.state.now = c.agrees.ensures.agrees.0 (search rules) in
-    let naming : first_naming c.args.state.now.generation.image (moment_at c.args.pattern.now) 0 (length entries) ≡ Some c.in-Some.moment = search rules in
+    let naming : first_naming (c.args.state.now.generation.image ∷ []) [] (moment_at c.args.pattern.now) 0 entries ≡ Some c.in-Some.moment = search rules in
     exact-refused c.args.kernel.now.table c.args.state.now c.args.target.now (moment_at c.args.pattern.now) (MasterNamed c.in-Some.moment)
     (named c.args.kernel.now.table last c.args.state.now c.args.target.now (moment_at c.args.pattern.now) (tree_of c.in_ok-plan.plan) (note_of c.in_ok-plan.plan) entries c.execute-report.result c.in-Some.moment
     agrees c.in_ok-plan.ensures.tree c.in_ok-plan.ensures.note
@@ -83,13 +83,25 @@ returns-clause-ok c =
     (subst (λ (s : State). Replays (moment_at calls.pattern.now) calls.number calls.kernel.table entries s.table) last led.replays))) in
     let room : c.into_kernel.result.room + length entries ≡ height (tree_of c.in_ok-plan.plan) =
     subst (λ (s : State). s.room + length entries ≡ height (tree_of c.in_ok-plan.plan)) last (led.room ∙ (ap (λ (s : State). s.room) first ∙ c.longest-longest.ensures)) in
-    let spared : first_naming c.args.state.now.generation.image (moment_at c.args.pattern.now) 0 (length entries) ≡ None = search rules in
+    let spared : first_naming (c.args.state.now.generation.image ∷ []) [] (moment_at c.args.pattern.now) 0 entries ≡ None = search rules in
     let agrees : Agrees c.args.kernel.now.table c.args.state.now = c.agrees.ensures.agrees.0 (search rules) in
     let after : c.after-after.result ≡ record_after c.args.state.now c.args.target.now c.execute-report.result c.args.state.now.pid = search rules in
-    enacted c.workers_end_as_reported.ensures c.args.kernel.now c.into_kernel.result c.args.state.now c.args.target.now (moment_at c.args.pattern.now) (tree_of c.in_ok-plan.plan) (note_of c.in_ok-plan.plan)
+    enacted (record {
+      workers = c.workers_end_as_reported.ensures.headline;
+      workers_manner = c.workers_end_as_reported.ensures.manner;
+      mends = c.mends_end_as_reported.ensures.headline;
+      mends_manner = c.mends_end_as_reported.ensures.manner;
+      reopenings = c.reopenings_end_as_reported.ensures.headline;
+      reopenings_manner = c.reopenings_end_as_reported.ensures.manner;
+      reloads = c.reloads_end_as_reported.ensures.headline;
+      reloads_manner = c.reloads_end_as_reported.ensures.manner;
+      stops = c.stops_end_as_reported.ensures.headline;
+      stops_manner = c.stops_end_as_reported.ensures.manner;
+    }) c.args.kernel.now c.into_kernel.result c.args.state.now c.args.target.now (moment_at c.args.pattern.now) (tree_of c.in_ok-plan.plan) (note_of c.in_ok-plan.plan)
     (record { transcript = c.execute-report.new.transcript; report = c.execute-report.result; after = c.after-after.result })
     (record { formed = c.reserved_copy.ensures.formed; agrees = agrees; record_in_range = c.agrees.ensures.in_range; rising = c.agrees.ensures.rising })
-    c.requires c.in_ok-plan.ensures.tree c.in_ok-plan.ensures.note
+    (record { descriptors = c.agrees.ensures.descriptors; limit = c.reserved_copy.ensures.descriptors })
+    c.requires c.read_settings.ensures c.in_ok-plan.ensures.tree c.in_ok-plan.ensures.note
     (subst (λ n. LacksNumbers c.args.kernel.now.table n → ⊥) c.longest-longest.ensures c.in_ok-copy.ensures.numbers)
     c.execute-report.ensures.path_law replays room spared after
 

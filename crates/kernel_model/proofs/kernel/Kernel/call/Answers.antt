@@ -14,10 +14,10 @@ invariant_of-self c =
     let same = ap (λ (s : State). s.room) c.self.view_is in
     record {
       room = HasRoomFor-call c.self.inside.room middle c.answered.new.store (omega (arith, c.requires, same)) (HasRoomFor-exits old middle c.exit_all.ensures.room c.self.inside.room c.self.invariant.room) c.answered.ensures.grows;
-      kept = kept-after old middle c.args.moment.now.exits.now c.exit_all.ensures.table c.self.invariant.kept c.by.inside.0 c.args.call.now c.args.moment.now.fate _ c.answered.ensures.outcome;
+      kept = kept-after old middle c.args.moment.now.exits.now c.exit_all.ensures.table c.self.invariant.kept c.args.text.now c.by.inside.0 c.args.call.now c.args.moment.now.fate _ c.answered.ensures.outcome;
     }
 
 pub returns-clause-formed : goal.returns-clause-formed
 returns-clause-formed c =
-    let kept = kept-after c.self.inside.store c.exit_all.new.store c.args.moment.now.exits.now c.exit_all.ensures.table c.self.invariant.kept c.by.inside.0 c.args.call.now c.args.moment.now.fate _ c.answered.ensures.outcome in
+    let kept = kept-after c.self.inside.store c.exit_all.new.store c.args.moment.now.exits.now c.exit_all.ensures.table c.self.invariant.kept c.args.text.now c.by.inside.0 c.args.call.now c.args.moment.now.fate _ c.answered.ensures.outcome in
     kept.formed

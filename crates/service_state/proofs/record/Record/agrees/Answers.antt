@@ -1,6 +1,9 @@
-use Rattle.std.proofs.Common.{◌≡◌, ◌∙◌, subst, IsTrue}
+use Rattle.std.proofs.Common.{◌≡◌, ◌∙◌, subst, map, IsTrue}
 use Rattle.std.specs.Prelude.{◌↔◌}
 use Rattle.definitions.specs.Record.{Record, Agrees}
+use Rattle.listener_set.specs.Numbers.{RisesFrom}
+use Rattle.definitions.specs.declared.table.Listener.{Listener}
+use Rattle.service_state.proofs.Rules.{rises}
 use Rattle.service_state.proofs.record.Record.agrees.Goals as goal
 
 pub returns-clause-agrees : goal.returns-clause-agrees
@@ -9,3 +12,7 @@ returns-clause-agrees c =
     let same : record { listeners = c.as_slice.result.now; generation = r.generation; ready = r.ready; wanted = r.wanted; retries = r.retries; timeout = r.timeout; pid_path = r.pid_path; note = r.note; pid = r.pid } ≡ c.args.self.now =
     (λ i. record { listeners = c.as_slice.ensures.items i; generation = r.generation; ready = r.ready; wanted = r.wanted; retries = r.retries; timeout = r.timeout; pid_path = r.pid_path; note = r.note; pid = r.pid }) ∙ c.self.view_is in
     subst (λ (x : Record). IsTrue c.agrees_with.result ↔ Agrees c.args.kernel.now.table x) same (c.agrees_with.ensures r.wanted r.retries r.timeout)
+
+pub returns-clause-descriptors : goal.returns-clause-descriptors
+returns-clause-descriptors c =
+    subst (λ (r : Record). RisesFrom 3 (map (λ (l : Listener). l.descriptor) r.listeners)) c.self.view_is (rises 3 c.self.inside.listeners c.as_slice.ensures.listed)

@@ -1,5 +1,5 @@
 use Rattle.std.proofs.Common.{length, ap, ◌∙◌, arith}
-use Rattle.service_state.proofs.Listed.{length-listeners_from}
+use Rattle.handover_text.proofs.Listed.{length-listeners_from}
 use Rattle.service_state.proofs.record.Record.start.Goals as goal
 
 pub invariant_of-result : goal.invariant_of-result

@@ -1,0 +1,154 @@
+-- Readers that give back exactly what was written.
+use Rattle.std.proofs.Common.{◌≡◌, ℕ, ◌+◌, ◌≤◌, ◌<◌, ◌^◌, leb, ltb, subst, Bool, true, false, cond, ◌&&◌, List, [], ◌∷◌, ◌++◌, Option, Some, None, refl, sym, ap, ◌∙◌, arith, inl, inr}
+use Rattle.std.specs.Prelude.{⊤, IfSome, option_map, option_and_then, find, bytes_eq}
+use Rattle.std.specs.Cmp.Lexicographic.{bytes_decides}
+use Rattle.std.specs.Fmt.{decimal}
+use Rattle.std.proofs.lemmas.Bool.Decides.{nat_tests}
+use Rattle.listener_set.specs.NumberText.{number_of}
+use Rattle.listener_set.proofs.NumberTextLemmas.{both, decimal-number_of, number_of-decimal}
+use Rattle.call_text.specs.Reads.{Reads}
+use Rattle.call_text.specs.Reading.{some_if, cut, joined, behind, number_within, worker_number, count_of}
+use Rattle.call_text.specs.Ranges.{IsNumber, IsWorkerNumber, IsCount}
+use Rattle.call_text.proofs.CutTexts.{lacks, cut_found, cut_at}
+
+-- what a reader gives is a value with this text, and each value is read
+pub record IsReader {A : Type 0} (IsWithin : A → Type 0) (text_of : A → List ℕ) (reader : List ℕ → Option A) : Type 0 where
+  pub found : (text : List ℕ) (v : A) → reader text ≡ Some v → IsWithin v × (text ≡ text_of v)
+  pub only : (v : A) → IsWithin v → reader (text_of v) ≡ Some v
+
+pub reads : {A : Type 0} (P : A → Type 0) (f : A → List ℕ) (r : List ℕ → Option A) → IsReader P f r → (text : List ℕ) → Reads P f text (r text)
+reads {A = A} P f r h text = record { found = at (r text) refl; only = λ v w e. ap r e ∙ h.only v w }
+  where
+    at : (o : Option A) → r text ≡ o → IfSome o (λ v. P v × (text ≡ f v))
+    at None e = tt
+    at (Some v) e = h.found text v e
+
+-- ---- optional values
+pub mapped : {A B : Type 0} (g : A → B) (o : Option A) (w : B) → option_map g o ≡ Some w → (v : A) × (o ≡ Some v) × (g v ≡ w)
+mapped {B = B} g None w e = let none : Option B = None in let no : none ≡ Some w = e in absurd cc
+mapped g (Some v) w e = let same : Some (g v) ≡ Some w = e in (v, refl, cc)
+
+pub then : {A B : Type 0} (f : A → Option B) (o : Option A) (w : B) → option_and_then f o ≡ Some w → (v : A) × (o ≡ Some v) × (f v ≡ Some w)
+then {B = B} f None w e = let none : Option B = None in let no : none ≡ Some w = e in absurd cc
+then f (Some v) w e = (v, refl, e)
+
+pub chosen : {A : Type 0} (b : Bool) (v w : A) → some_if b v ≡ Some w → (b ≡ true) × (v ≡ w)
+chosen true v w e = let same : Some v ≡ Some w = e in (refl, cc)
+chosen {A = A} false v w e = let none : Option A = None in let no : none ≡ Some w = e in absurd cc
+
+pub same_bytes : (xs ys : List ℕ) → bytes_eq xs ys ≡ true → xs ≡ ys
+same_bytes xs ys e = (bytes_decides xs ys).0 e
+
+pub bytes_same : (xs : List ℕ) → bytes_eq xs xs ≡ true
+bytes_same xs = (bytes_decides xs xs).1 refl
+
+-- ---- two parts with a byte between them
+module _ {A B : Type 0} (P : A → Type 0) (Q : B → Type 0) (f : A → List ℕ) (g : B → List ℕ) (r : List ℕ → Option A) (s : List ℕ → Option B) where
+  pub joined_reads : (b : ℕ) → ((v : A) → P v → lacks b (f v) ≡ true) → IsReader P f r → IsReader Q g s → IsReader (λ (p : A × B). P p.0 × Q p.1) (λ (p : A × B). f p.0 ++ b ∷ g p.1) (joined b r s)
+  joined_reads b apart hr hs = record {
+    found = λ text p e.
+        let parts = then (λ (q : List ℕ × List ℕ). option_and_then (λ v. option_and_then (λ w. Some (v, w)) (s q.1)) (r q.0)) (cut b text) p e in
+        let left = then (λ v. option_and_then (λ w. Some (v, w)) (s parts.0.1)) (r parts.0.0) p parts.2 in
+        let right = then (λ w. Some (left.0, w)) (s parts.0.1) p left.2 in
+        let pair : (left.0, right.0) ≡ p = (let same : Some (left.0, right.0) ≡ Some p = right.2 in cc) in
+        let one = hr.found parts.0.0 left.0 left.1 in
+        let two = hs.found parts.0.1 right.0 right.1 in
+        let P' : A × B → Type 0 = λ p. (P p.0 × Q p.1) × (text ≡ f p.0 ++ b ∷ g p.1) in
+        subst P' pair ((one.0, two.0), cut_found b text parts.0 parts.1 ∙ ap (λ t. t ++ b ∷ parts.0.1) one.1 ∙ ap (λ t. f left.0 ++ b ∷ t) two.1);
+    only = λ p h.
+        ap (option_and_then (λ (q : List ℕ × List ℕ). option_and_then (λ v. option_and_then (λ w. Some (v, w)) (s q.1)) (r q.0))) (cut_at b (f p.0) (g p.1) (apart p.0 h.0))
+        ∙ ap (option_and_then (λ v. option_and_then (λ w. Some (v, w)) (s (g p.1)))) (hr.only p.0 h.0)
+        ∙ ap (option_and_then (λ w. Some (p.0, w))) (hs.only p.1 h.1);
+  }
+
+-- ---- a value made of what is read
+pub mapped_reads : {A B : Type 0} (P : A → Type 0) (Q : B → Type 0) (f : A → List ℕ) (g : B → List ℕ) (r : List ℕ → Option A) (to : A → B) (back : B → A) → ((v : A) → P v → Q (to v) × (f v ≡ g (to v))) → ((w : B) → Q w → P (back w) × (to (back w) ≡ w)) → IsReader P f r → IsReader Q g (λ text. option_map to (r text))
+mapped_reads {B = B} P Q f g r to back there again h = record {
+  found = λ text w e.
+      let from = mapped to (r text) w e in
+      let got = h.found text from.0 from.1 in
+      let made = there from.0 got.0 in
+      let W : B → Type 0 = λ w. Q w × (text ≡ g w) in
+      subst W from.2 (made.0, got.1 ∙ made.1);
+  only = λ w q.
+      let b = again w q in
+      ap (λ t. option_map to (r t)) (sym ((there (back w) b.0).1 ∙ ap g b.1)) ∙ ap (option_map to) (h.only (back w) b.0) ∙ ap Some b.1;
+}
+
+-- ---- what follows a word and a space
+pub behind_found : (word text rest : List ℕ) → behind word text ≡ Some rest → text ≡ word ++ 32 ∷ rest
+behind_found word text rest e =
+    let parts = then (λ (q : List ℕ × List ℕ). some_if (bytes_eq q.0 word) q.1) (cut 32 text) rest e in
+    let is = chosen (bytes_eq parts.0.0 word) parts.0.1 rest parts.2 in
+    cut_found 32 text parts.0 parts.1 ∙ ap (λ t. t ++ 32 ∷ parts.0.1) (same_bytes parts.0.0 word is.0) ∙ ap (λ t. word ++ 32 ∷ t) is.1
+
+pub behind_at : (word rest : List ℕ) → lacks 32 word ≡ true → behind word (word ++ 32 ∷ rest) ≡ Some rest
+behind_at word rest apart =
+    ap (option_and_then (λ (q : List ℕ × List ℕ). some_if (bytes_eq q.0 word) q.1)) (cut_at 32 word rest apart)
+    ∙ ap (λ b. some_if b rest) (bytes_same word)
+
+-- ---- a table of words
+module _ {A : Type 0} (f : A → List ℕ) where
+  pub find_found : (text : List ℕ) (all : List A) (v : A) → find (λ w. bytes_eq (f w) text) all ≡ Some v → text ≡ f v
+  find_found text [] v e = let none : Option A = None in let no : none ≡ Some v = e in absurd cc
+  find_found text (w ∷ ws) v e = at (bytes_eq (f w) text) refl e (λ k. find_found text ws v k)
+    where
+      at : (b : Bool) → bytes_eq (f w) text ≡ b → cond b (Some w) (find (λ w. bytes_eq (f w) text) ws) ≡ Some v → (find (λ w. bytes_eq (f w) text) ws ≡ Some v → text ≡ f v) → text ≡ f v
+      at true is e again = let one : Some w ≡ Some v = e in let same : w ≡ v = cc in sym (same_bytes (f w) text is) ∙ ap f same
+      at false is e again = again e
+
+-- ---- numbers
+pub number_reads : IsReader IsNumber decimal number_of
+number_reads = record {
+  found = λ text n e. let got = decimal-number_of text n e in (got.1, got.0);
+  only = λ n lt. number_of-decimal n lt;
+}
+
+worker_number_reads' : (limit : ℕ) → limit < 2 ^ 32 → IsReader (λ n. n < limit) decimal (λ text. option_and_then (λ n. some_if (ltb n limit) n) (number_of text))
+worker_number_reads' limit small = record {
+  found = λ text n e.
+      let from = then (λ n. some_if (ltb n limit) n) (number_of text) n e in
+      let is = chosen (ltb from.0 limit) from.0 n from.2 in
+      let below : ltb from.0 limit ≡ true = is.0 in
+      let lt : from.0 < limit = grind (arith, nat_tests) in
+      (omega (arith, lt, is.1), (number_reads.found text from.0 from.1).1 ∙ ap decimal is.1);
+  only = λ n lt.
+      let below : ltb n limit ≡ true = grind (arith, nat_tests) in
+      ap (option_and_then (λ n. some_if (ltb n limit) n)) (number_reads.only n (omega arith)) ∙ ap (λ b. some_if b n) below;
+}
+
+pub worker_number_reads : IsReader IsWorkerNumber decimal worker_number
+worker_number_reads = worker_number_reads' 1024 (omega arith)
+
+pub within_reads : (least most : ℕ) → most < 2 ^ 32 → IsReader (λ n. (least ≤ n) × (n ≤ most)) decimal (number_within least most)
+within_reads least most small = record {
+  found = λ text n e.
+      let from = then (λ n. some_if (leb least n && leb n most) n) (number_of text) n e in
+      let is = chosen (leb least from.0 && leb from.0 most) from.0 n from.2 in
+      let tests = both (leb least from.0) (leb from.0 most) is.0 in
+      let low : leb least from.0 ≡ true = tests.0 in
+      let high : leb from.0 most ≡ true = tests.1 in
+      let ge : least ≤ from.0 = grind (arith, nat_tests) in
+      let le : from.0 ≤ most = grind (arith, nat_tests) in
+      ((omega (arith, ge, is.1), omega (arith, le, is.1)), (number_reads.found text from.0 from.1).1 ∙ ap decimal is.1);
+  only = λ n h.
+      let low : leb least n ≡ true = (let ge : least ≤ n = h.0 in grind (arith, nat_tests)) in
+      let high : leb n most ≡ true = (let le : n ≤ most = h.1 in grind (arith, nat_tests)) in
+      let le : n ≤ most = h.1 in
+      ap (option_and_then (λ n. some_if (leb least n && leb n most) n)) (number_reads.only n (omega arith)) ∙ rw (low, high) refl;
+}
+
+pub count_reads : IsReader IsCount decimal count_of
+count_reads = record {
+  found = λ text n e.
+      let from = then (λ n. some_if (leb 1 n) n) (number_of text) n e in
+      let is = chosen (leb 1 from.0) from.0 n from.2 in
+      let test : leb 1 from.0 ≡ true = is.0 in
+      let ge : 1 ≤ from.0 = grind (arith, nat_tests) in
+      let got = number_reads.found text from.0 from.1 in
+      ((omega (arith, ge, is.1), omega (arith, got.0, is.1)), got.1 ∙ ap decimal is.1);
+  only = λ n h.
+      let ge : 1 ≤ n = h.0 in
+      let test : leb 1 n ≡ true = grind (arith, nat_tests) in
+      ap (option_and_then (λ n. some_if (leb 1 n) n)) (number_reads.only n h.1) ∙ ap (λ b. some_if b n) test;
+}

@@ -1,0 +1,43 @@
+-- What reading an answer gives, part by part.
+use Rattle.std.specs.Prelude.{ℕ, Bool, false, List, [], ◌∷◌, ◌++◌, Option, Some, None, option_map, find, bytes_eq, codes, if◌then◌else◌}
+use Rattle.definitions.specs.declared.calls.Call.{Call}
+use Rattle.definitions.specs.declared.calls.Answer.{Answer}
+use Rattle.definitions.specs.declared.calls.Answer.TheVariants as answer
+use Rattle.definitions.specs.declared.calls.Reply.TheVariants.{MasterGone}
+use Rattle.definitions.specs.Tree.{replies_to, reply_of, among}
+use Rattle.call_text.specs.CallText.{answer_word}
+use Rattle.call_text.specs.Reading.{◌>>=◌, some_if, cut, number_within}
+use Rattle.call_text.specs.SetReading.{set_of}
+
+-- whether an answer is among a call's
+abbrev pub listed : Call → Answer → Bool
+listed call a = among (replies_to call ++ MasterGone ∷ []) (reply_of [] a)
+
+abbrev pub is_answer : List ℕ → Answer → Bool
+is_answer text (answer.Opened fd) = false
+is_answer text (answer.Counted ns) = false
+is_answer text a = bytes_eq (answer_word a) text
+
+abbrev pub plain_answers : List Answer
+plain_answers =
+    answer.InUse ∷ answer.TooMany ∷ answer.Denied ∷ answer.NoMemory ∷ answer.Fine ∷ answer.Forked ∷ answer.Again ∷ answer.IsReady ∷ answer.Gone
+    ∷ answer.Late ∷ answer.Spawned ∷ answer.NoImage ∷ answer.Adopted ∷ answer.Refused ∷ answer.IoFault ∷ answer.IsAlive ∷ answer.MasterGone ∷ []
+
+abbrev pub plain_of : List ℕ → Option Answer
+plain_of text = find (is_answer text) plain_answers
+
+abbrev pub answer_about : List ℕ → List ℕ → Option Answer
+answer_about word rest =
+    if bytes_eq word (codes "opened") then option_map (λ fd. answer.Opened fd) (number_within 3 66 rest)
+    else if bytes_eq word (codes "counted") then option_map (λ ns. answer.Counted ns) (set_of rest)
+    else None
+
+abbrev pub answer_from : List ℕ → Option (List ℕ × List ℕ) → Option Answer
+answer_from text None = plain_of text
+answer_from text (Some parts) = answer_about parts.0 parts.1
+
+abbrev pub answer_of : List ℕ → Option Answer
+answer_of text = answer_from text (cut 32 text)
+
+abbrev pub answer_to : Call → List ℕ → Option Answer
+answer_to call text = answer_of text >>= (λ a. some_if (listed call a) a)

@@ -1,0 +1,89 @@
+-- Texts of calls and of their answers.
+use Rattle.std.specs.Prelude.{ℕ, List, [], ◌∷◌, ◌++◌, codes}
+use Rattle.std.specs.Fmt.{decimal}
+use Rattle.listener_set.specs.declared.generation.Generation.{Generation}
+use Rattle.definitions.specs.declared.calls.Call.{Call}
+use Rattle.definitions.specs.declared.calls.Call.TheVariants.{OpenAt, CloseAt, Fork, AwaitReady, Quit, Kill, Census, AwaitGone, SpawnMaster, Adopt, WritePid, MovePid, RemovePid, Alive, Leave, Usr1, TermMaster}
+use Rattle.definitions.specs.declared.calls.Answer.{Answer}
+use Rattle.definitions.specs.declared.calls.Answer.TheVariants as answer
+use Rattle.definitions.specs.declared.plans.Order.{Order}
+use Rattle.definitions.specs.declared.plans.Order.TheVariants.{Make, ForkLacking, AwaitLacking, KillLacking}
+use Rattle.call_text.specs.NumberText.{generation_text, set_text}
+
+---- Calls
+
+abbrev pub worker_text : Generation → ℕ → List ℕ
+worker_text g nr = generation_text g ++ 32 ∷ decimal nr
+
+abbrev pub call_text : Call → List ℕ
+call_text (OpenAt a) = codes "open " ++ a
+call_text (CloseAt a) = codes "close " ++ a
+call_text (Fork g nr) = codes "fork " ++ worker_text g nr
+call_text (AwaitReady g nr) = codes "await-ready " ++ worker_text g nr
+call_text (Quit g nr) = codes "quit " ++ worker_text g nr
+call_text (Kill g nr) = codes "kill " ++ worker_text g nr
+call_text (Census g) = codes "census " ++ generation_text g
+call_text (AwaitGone g nr) = codes "await-gone " ++ worker_text g nr
+call_text (SpawnMaster i) = codes "spawn-master " ++ decimal i
+call_text Adopt = codes "adopt"
+call_text (WritePid path) = codes "write-pid " ++ path
+call_text (MovePid from to) = codes "move-pid " ++ (from ++ 32 ∷ to)
+call_text (RemovePid path) = codes "remove-pid " ++ path
+call_text (Alive i) = codes "alive " ++ decimal i
+call_text Leave = codes "leave"
+call_text (Usr1 g nr) = codes "usr1 " ++ worker_text g nr
+call_text (TermMaster i) = codes "term-master " ++ decimal i
+
+abbrev pub master_text : ℕ → List ℕ
+master_text by = codes "m" ++ decimal by
+
+-- a call with the master that makes it
+abbrev pub call_line : ℕ → Call → List ℕ
+call_line by call = master_text by ++ 32 ∷ call_text call
+
+---- Steps of plans
+
+-- the worker of a settle gets its number when the plan runs
+abbrev pub missing_text : List ℕ → Generation → List ℕ
+missing_text verb g = verb ++ generation_text g ++ codes " missing"
+
+abbrev pub order_text : Order → List ℕ
+order_text (Make call) = call_text call
+order_text (ForkLacking g) = missing_text (codes "fork ") g
+order_text (AwaitLacking g) = missing_text (codes "await-ready ") g
+order_text (KillLacking g) = missing_text (codes "kill ") g
+
+abbrev pub order_line : ℕ → Order → List ℕ
+order_line by order = master_text by ++ 32 ∷ order_text order
+
+---- Answers
+
+abbrev pub answer_word : Answer → List ℕ
+answer_word (answer.Opened fd) = codes "opened"
+answer_word answer.InUse = codes "in-use"
+answer_word answer.TooMany = codes "too-many"
+answer_word answer.Denied = codes "denied"
+answer_word answer.NoMemory = codes "no-memory"
+answer_word answer.Fine = codes "ok"
+answer_word answer.Forked = codes "forked"
+answer_word answer.Again = codes "again"
+answer_word answer.IsReady = codes "ready"
+answer_word answer.Gone = codes "gone"
+answer_word answer.Late = codes "late"
+answer_word (answer.Counted ns) = codes "counted"
+answer_word answer.Spawned = codes "spawned"
+answer_word answer.NoImage = codes "no-image"
+answer_word answer.Adopted = codes "adopted"
+answer_word answer.Refused = codes "refused"
+answer_word answer.IoFault = codes "io-fault"
+answer_word answer.IsAlive = codes "alive"
+answer_word answer.MasterGone = codes "master-gone"
+
+-- what follows the word, if something does
+abbrev pub word_tail : Answer → List ℕ
+word_tail (answer.Opened fd) = 32 ∷ decimal fd
+word_tail (answer.Counted ns) = 32 ∷ set_text ns
+word_tail _ = []
+
+abbrev pub answer_text : Answer → List ℕ
+answer_text a = answer_word a ++ word_tail a

@@ -1,0 +1,13 @@
+pub mod NumberText
+pub mod CallText
+pub mod Words
+pub mod ReportText
+pub mod Reads
+pub mod Ranges
+pub mod Reading
+pub mod SetReading
+pub mod CallReading
+pub mod AnswerReading
+pub mod NameText
+pub mod NameReading
+pub mod ReportReading

@@ -1,0 +1,38 @@
+-- What reading the names of exits and fates gives, part by part.
+use Rattle.std.specs.Prelude.{ℕ, ◌==◌, Bool, List, [], ◌∷◌, Option, Some, None, option_map, find, bytes_eq, if◌then◌else◌}
+use Rattle.listener_set.specs.NumberText.{number_of}
+use Rattle.listener_set.specs.declared.generation.Generation.{Generation}
+use Rattle.definitions.specs.declared.names.Name.{Name}
+use Rattle.definitions.specs.declared.names.Name.TheVariants as name
+use Rattle.definitions.specs.declared.calls.Fate.{Fate}
+use Rattle.definitions.specs.declared.calls.Fate.TheVariants as fate
+use Rattle.call_text.specs.Words.{fate_text}
+use Rattle.call_text.specs.Reading.{joined, worker_number}
+
+abbrev pub three_of : List ℕ → Option (ℕ × (ℕ × ℕ))
+three_of text = joined 46 number_of (joined 46 number_of worker_number) text
+
+abbrev pub worker_from : ℕ × (ℕ × ℕ) → Generation × ℕ
+worker_from p = (record { image = p.0; config = p.1.0 }, p.1.1)
+
+abbrev pub worker_name_of : List ℕ → Option (Generation × ℕ)
+worker_name_of text = option_map worker_from (three_of text)
+
+-- `wI.C.N`, `dI.C.N` or `mI`
+abbrev pub name_of : List ℕ → Option Name
+name_of [] = None
+name_of (c ∷ cs) =
+    if c == 119 then option_map (λ w. name.Worker w.0 w.1) (worker_name_of cs)
+    else if c == 100 then option_map (λ w. name.Draining w.0 w.1) (worker_name_of cs)
+    else if c == 109 then option_map (λ i. name.Master i) (number_of cs)
+    else None
+
+abbrev pub is_fate : List ℕ → Fate → Bool
+is_fate text f = bytes_eq (fate_text f) text
+
+abbrev pub all_fates : List Fate
+all_fates = fate.InUse ∷ fate.TooMany ∷ fate.Denied ∷ fate.NoMemory ∷ fate.Again ∷ fate.Late ∷ fate.NoImage ∷ fate.Refused ∷ fate.IoFault ∷ []
+
+-- the fate with a word
+abbrev pub fate_of : List ℕ → Option Fate
+fate_of text = find (is_fate text) all_fates

@@ -1,0 +1,71 @@
+-- What reading a report gives, part by part.
+use Rattle.std.specs.Prelude.{ℕ, Bool, List, [], ◌∷◌, Option, Some, None, option_map, find, bytes_eq, codes, if◌then◌else◌}
+use Rattle.definitions.specs.declared.plans.PidNote.{PidNote}
+use Rattle.definitions.specs.declared.plans.PidNote.TheVariants.{InPlace, AtOldbin, OldbinLeft, Left, NoFile}
+use Rattle.definitions.specs.declared.plans.Side.{Side}
+use Rattle.definitions.specs.declared.plans.Side.TheVariants as side
+use Rattle.definitions.specs.declared.reports.Report.{Report}
+use Rattle.definitions.specs.declared.reports.Outcome.{Outcome}
+use Rattle.definitions.specs.declared.reports.Outcome.TheVariants as outcome
+use Rattle.call_text.specs.Words.{note_text, side_text}
+use Rattle.call_text.specs.Reading.{◌>>=◌, cut, joined, behind, count_of}
+
+abbrev pub is_note : List ℕ → PidNote → Bool
+is_note text n = bytes_eq (note_text n) text
+
+abbrev pub all_notes : List PidNote
+all_notes = InPlace ∷ AtOldbin ∷ OldbinLeft ∷ Left ∷ NoFile ∷ []
+
+abbrev pub note_of : List ℕ → Option PidNote
+note_of text = find (is_note text) all_notes
+
+abbrev pub is_side : List ℕ → Side → Bool
+is_side text s = bytes_eq (side_text s) text
+
+abbrev pub both_sides : List Side
+both_sides = side.Old ∷ side.Target ∷ []
+
+abbrev pub side_of : List ℕ → Option Side
+side_of text = find (is_side text) both_sides
+
+-- an outcome of one word
+abbrev pub plain_outcome : List ℕ → Option Outcome
+plain_outcome word =
+    if bytes_eq word (codes "done") then Some outcome.Done
+    else if bytes_eq word (codes "rolled-back") then Some outcome.RolledBack
+    else if bytes_eq word (codes "lost") then Some outcome.Lost
+    else None
+
+abbrev pub cause_of : List ℕ → Option (Option ℕ)
+cause_of text = if bytes_eq text (codes "none") then Some None else option_map (λ n. Some n) (count_of text)
+
+abbrev pub noted_of : List ℕ → Option PidNote
+noted_of text = behind (codes "pid") text >>= note_of
+
+-- the cause and the note
+abbrev pub Ending : Type 0
+Ending = Option ℕ × PidNote
+
+abbrev pub ending_of : List ℕ → Option Ending
+ending_of text = behind (codes "cause") text >>= (λ rest. joined 32 cause_of noted_of rest)
+
+abbrev pub degraded_from : Side × (ℕ × Ending) → Outcome × Ending
+degraded_from p = (outcome.Degraded p.0 p.1.0, p.1.1)
+
+abbrev pub degraded_of : List ℕ → Option (Outcome × Ending)
+degraded_of text = option_map degraded_from (joined 32 side_of (joined 32 count_of ending_of) text)
+
+abbrev pub plain_report : List ℕ → List ℕ → Option (Outcome × Ending)
+plain_report word rest = do
+  o ← plain_outcome word
+  e ← ending_of rest
+  Some (o, e)
+
+abbrev pub parts_of : List ℕ → Option (Outcome × Ending)
+parts_of text = cut 32 text >>= (λ p. if bytes_eq p.0 (codes "degraded") then degraded_of p.1 else plain_report p.0 p.1)
+
+abbrev pub report_from : List ℕ → Outcome × Ending → Report
+report_from ready p = record { outcome = p.0; cause = p.1.0; note = p.1.1; ready = ready }
+
+abbrev pub report_of : List ℕ → List ℕ → Option Report
+report_of ready text = option_map (report_from ready) (parts_of text)

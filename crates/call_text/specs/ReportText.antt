@@ -1,0 +1,40 @@
+-- Texts of reports and of the calls that were made.
+use Rattle.std.specs.Prelude.{ℕ, ◌+◌, List, [], ◌∷◌, ◌++◌, Option, Some, None, codes}
+use Rattle.std.specs.Fmt.{decimal}
+use Rattle.definitions.specs.declared.plans.PidNote.{PidNote}
+use Rattle.definitions.specs.declared.reports.Entry.{Entry}
+use Rattle.definitions.specs.declared.reports.Report.{Report}
+use Rattle.definitions.specs.declared.reports.Outcome.{Outcome}
+use Rattle.definitions.specs.declared.reports.Outcome.TheVariants as outcome
+use Rattle.call_text.specs.CallText.{call_line, answer_text}
+use Rattle.call_text.specs.Words.{note_text, side_text}
+
+---- Reports
+
+abbrev pub outcome_text : Outcome → List ℕ
+outcome_text outcome.Done = codes "done"
+outcome_text outcome.RolledBack = codes "rolled-back"
+outcome_text (outcome.Degraded s short) = codes "degraded " ++ (side_text s ++ 32 ∷ decimal short)
+outcome_text outcome.Lost = codes "lost"
+
+abbrev pub cause_text : Option ℕ → List ℕ
+cause_text None = codes "none"
+cause_text (Some n) = decimal n
+
+-- the cause and the note
+abbrev pub ending_text : Option ℕ → PidNote → List ℕ
+ending_text cause note = codes "cause " ++ (cause_text cause ++ 32 ∷ (codes "pid " ++ note_text note))
+
+abbrev pub report_text : Report → List ℕ
+report_text r = outcome_text r.outcome ++ 32 ∷ ending_text r.cause r.note
+
+---- Calls that were made
+
+-- the n-th call of a block
+abbrev pub entry_text : ℕ → Entry → List ℕ
+entry_text n e = decimal n ++ 32 ∷ (call_line e.by e.call ++ codes " : " ++ answer_text e.answer ++ codes "\n")
+
+-- calls in order, the first of them the n-th
+abbrev pub entries_text : ℕ → List Entry → List ℕ
+entries_text n [] = []
+entries_text n (e ∷ es) = entry_text n e ++ entries_text (n + 1) es

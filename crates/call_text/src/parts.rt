@@ -1,0 +1,97 @@
+//! Numbers, generations, workers, addresses and paths, read.
+ghost use Rattle.std.specs.Prelude.{◌≡◌, ◌≤◌, ◌<◌, IfSome};
+ghost use Rattle.call_text.specs.Reading.{count_of, generation_of, worker_of, worker_number, number_within, address_of, suffixed_of, path_of, paths_of};
+
+use crate::cuts::cut;
+use listener_set::{Address, FilePath, Generation, WORKER_LIMIT, read_number};
+
+/// A number from 1.
+pub(crate) fn read_count(text: &[u8]) -> Option<u32>
+    ensures { result ≡ count_of text.now }
+{
+    let number = read_number(text)?;
+    if number >= 1 { Some(number) } else { None }
+}
+
+/// A number from `least` to `most`.
+pub(crate) fn read_within(text: &[u8], least: u32, most: u32) -> Option<u32>
+    ensures { result ≡ number_within least most text.now }
+{
+    let number = read_number(text)?;
+    if least <= number && number <= most {
+        Some(number)
+    } else {
+        None
+    }
+}
+
+/// The number of a worker, below 1024.
+pub(crate) fn read_worker_number(text: &[u8]) -> Option<u32>
+    ensures exact { result ≡ worker_number text.now }
+    ensures within { IfSome result (λ nr. nr < WORKER_LIMIT) }
+{
+    let number = read_number(text)?;
+    if number < WORKER_LIMIT {
+        Some(number)
+    } else {
+        None
+    }
+}
+
+/// Image and config number, joined by a dot.
+pub(crate) fn read_generation(text: &[u8]) -> Option<Generation>
+    ensures { result ≡ generation_of text.now }
+{
+    let (image, config) = cut(text, b'.')?;
+    let image = read_number(image)?;
+    let config = read_number(config)?;
+    Some(Generation { image, config })
+}
+
+/// A generation and a worker's number.
+pub(crate) fn read_worker(text: &[u8]) -> Option<(Generation, u32)>
+    ensures { result ≡ worker_of text.now }
+{
+    let (generation, nr) = cut(text, b' ')?;
+    let generation = read_generation(generation)?;
+    let nr = read_worker_number(nr)?;
+    Some((generation, nr))
+}
+
+pub(crate) fn read_address(text: &[u8]) -> Option<Address>
+    ensures { result ≡ address_of text.now }
+{
+    Address::read(text).ok()
+}
+
+/// A path with the suffix `.oldbin`.
+fn read_suffixed(text: &[u8]) -> Option<FilePath>
+    ensures { result ≡ suffixed_of text.now }
+{
+    let place = text.len().checked_sub(7)?;
+    if &text[place..] != b".oldbin".as_slice() {
+        return None;
+    }
+    let stem = FilePath::read(&text[..place]).ok()?;
+    Some(stem.oldbin())
+}
+
+/// A path that a configuration can name, or such a one with the suffix `.oldbin`.
+pub(crate) fn read_path(text: &[u8]) -> Option<FilePath>
+    ensures { result ≡ path_of text.now }
+{
+    match FilePath::read(text) {
+        Ok(path) => Some(path),
+        Err(_) => read_suffixed(text),
+    }
+}
+
+/// Two paths.
+pub(crate) fn read_paths(text: &[u8]) -> Option<(FilePath, FilePath)>
+    ensures { result ≡ paths_of text.now }
+{
+    let (from, to) = cut(text, b' ')?;
+    let from = read_path(from)?;
+    let to = read_path(to)?;
+    Some((from, to))
+}

@@ -1,0 +1,70 @@
+//! Texts of reports and of the calls that were made.
+ghost use Rattle.std.specs.Prelude.{◌≡◌, ◌++◌, IfOk};
+ghost use Rattle.call_text.specs.ReportText.{outcome_text, cause_text, report_text, entry_text, entries_text};
+
+use crate::answers::write_answer;
+use crate::calls::write_call;
+use crate::numbers::write_number;
+use crate::words::{note_text, side_text};
+use definitions::{Entry, Outcome, Report};
+use std::alloc::AllocError;
+
+fn write_outcome(out: &mut Vec<u8>, outcome: &Outcome) -> Result<(), AllocError>
+    ensures { IfOk result (λ _. out.new.items ≡ out.old.items ++ outcome_text outcome.now) }
+{
+    match outcome {
+        Outcome::Done => out.extend_from_slice(b"done"),
+        Outcome::RolledBack => out.extend_from_slice(b"rolled-back"),
+        Outcome::Degraded { side, short } => {
+            out.extend_from_slice(b"degraded ")?;
+            out.extend_from_slice(side_text(*side).as_bytes())?;
+            out.extend_from_slice(b" ")?;
+            write_number(out, u64::from(*short))
+        }
+        Outcome::Lost => out.extend_from_slice(b"lost"),
+    }
+}
+
+fn write_cause(out: &mut Vec<u8>, cause: Option<u32>) -> Result<(), AllocError>
+    ensures { IfOk result (λ _. out.new.items ≡ out.old.items ++ cause_text cause) }
+{
+    match cause {
+        None => out.extend_from_slice(b"none"),
+        Some(number) => write_number(out, u64::from(number)),
+    }
+}
+
+/// Puts a report behind what was written, without a newline: how the run ended, its first call that
+/// went wrong, and where the pid file stands. The only refusal is want of memory.
+pub fn write_report(out: &mut Vec<u8>, report: &Report) -> Result<(), AllocError>
+    ensures { IfOk result (λ _. out.new.items ≡ out.old.items ++ report_text report.now) }
+{
+    write_outcome(out, &report.outcome)?;
+    out.extend_from_slice(b" cause ")?;
+    write_cause(out, report.cause)?;
+    out.extend_from_slice(b" pid ")?;
+    out.extend_from_slice(note_text(report.note).as_bytes())
+}
+
+/// The line of the n-th call of a block.
+fn write_entry(out: &mut Vec<u8>, number: u64, entry: &Entry) -> Result<(), AllocError>
+    ensures { IfOk result (λ _. out.new.items ≡ out.old.items ++ entry_text number entry.now) }
+{
+    write_number(out, number)?;
+    out.extend_from_slice(b" ")?;
+    write_call(out, entry.by, &entry.call)?;
+    out.extend_from_slice(b" : ")?;
+    write_answer(out, &entry.answer)?;
+    out.extend_from_slice(b"\n")
+}
+
+/// Puts a line for each call behind what was written, numbered from 1. The only refusal is want of
+/// memory.
+pub fn write_entries(out: &mut Vec<u8>, entries: &[Entry]) -> Result<(), AllocError>
+    ensures { IfOk result (λ _. out.new.items ≡ out.old.items ++ entries_text 1 entries.now) }
+{
+    for (place, entry) in entries.iter().enumerate() {
+        write_entry(out, place as u64 + 1, entry)?;
+    }
+    Ok(())
+}

@@ -1,0 +1,128 @@
+//! The options and words of the subcommands, as `clap` found them.
+ghost use Rattle.std.specs.Prelude.{◌≡◌, IfErr, IfOk, IsErrOf, Option, ℕ, codes, option_map};
+ghost use Rattle.clap.specs.Words.{first_of, found_of, rows_of};
+ghost use Rattle.command_line.specs.Arguments.{Enactment, FindsEnactment, FindsPlanning, FindsStart, IsWorkers, Planning, Start, enactment_of, is_given, planning_of, start_of};
+
+use crate::Refusal;
+use clap::ArgMatches;
+use listener_set::read_number;
+use std::alloc::Global;
+
+/// How a master starts, and which files it reads.
+#[derive(Clone, Copy)]
+pub struct StartOptions<'a> {
+    /// `--from`: the file of the start's configuration. Without it the defaults hold.
+    pub from: Option<&'a str>,
+    /// `--to`: the file of the configuration that HUP and USR2 read. Without it it is the start's.
+    pub to: Option<&'a str>,
+    /// `--workers`: how many workers are wanted and run at the start. Without it the
+    /// configuration's count holds.
+    pub workers: Option<u32>,
+    /// `--bare`: no worker runs at the start, however many are wanted.
+    pub bare: bool,
+}
+
+/// The options and words of `enact`.
+#[derive(Drop)]
+pub struct EnactOptions<'a> {
+    /// How the master starts.
+    pub start: StartOptions<'a>,
+    /// `--held`: an address that a process of somebody else holds.
+    pub held: Option<&'a str>,
+    /// `--state`: the table of processes is shown last.
+    pub state: bool,
+    /// The control words in their order, at least one.
+    pub words: Vec<&'a str>,
+}
+
+/// The options and the word of `plan`.
+#[derive(Clone, Copy)]
+pub struct PlanOptions<'a> {
+    /// How the master starts.
+    pub start: StartOptions<'a>,
+    /// The control word.
+    pub word: &'a str,
+}
+
+/// The options of `enact`; `Usage` where `--workers` has no number.
+pub(crate) fn enact_options<'a>(
+    alloc: Global,
+    found: &ArgMatches<'a>,
+) -> Result<EnactOptions<'a>, Refusal>
+    ensures found { IfOk result (λ options.
+        FindsEnactment (rows_of (found_of found.now)) (enactment_of options)) }
+    ensures usage { IsErrOf result Refusal.Usage → (values : Enactment)
+        → ¬ FindsEnactment (rows_of (found_of found.now)) values }
+{
+    let start = start_options(found)?;
+    let Some(words) = found.get_strs("words") else {
+        return Err(Refusal::Usage);
+    };
+    let words = words.iter().copied().collect(alloc)?;
+    Ok(EnactOptions {
+        start,
+        held: text_of(found, "held"),
+        state: has_flag(found, "state"),
+        words,
+    })
+}
+
+/// The options of `plan`; `Usage` where `--workers` has no number.
+pub(crate) fn plan_options<'a>(found: &ArgMatches<'a>) -> Result<PlanOptions<'a>, Refusal>
+    ensures found { IfOk result (λ options.
+        FindsPlanning (rows_of (found_of found.now)) (planning_of options)) }
+    ensures usage { IfErr result (λ _. (values : Planning)
+        → ¬ FindsPlanning (rows_of (found_of found.now)) values) }
+{
+    let start = start_options(found)?;
+    match text_of(found, "word") {
+        Some(word) => Ok(PlanOptions { start, word }),
+        None => Err(Refusal::Usage),
+    }
+}
+
+fn start_options<'a>(found: &ArgMatches<'a>) -> Result<StartOptions<'a>, Refusal>
+    ensures found { IfOk result (λ options.
+        FindsStart (rows_of (found_of found.now)) (start_of options)) }
+    ensures usage { IfErr result (λ _. (values : Start)
+        → ¬ FindsStart (rows_of (found_of found.now)) values) }
+{
+    let workers = workers_of(found)?;
+    Ok(StartOptions {
+        from: text_of(found, "from"),
+        to: text_of(found, "to"),
+        workers,
+        bare: has_flag(found, "bare"),
+    })
+}
+
+/// The value of an option or a word, if it is given.
+fn text_of<'a>(found: &ArgMatches<'a>, id: &str) -> Option<&'a str>
+    ensures { option_map (λ text. text.now) result ≡ first_of id.now (rows_of (found_of found.now)) }
+{
+    found.get_str(id)
+}
+
+/// Whether a flag is given, which `clap` keeps as the text of a `bool`.
+fn has_flag(found: &ArgMatches<'_>, id: &str) -> bool
+    ensures { result ≡ is_given (first_of id.now (rows_of (found_of found.now))) }
+{
+    match text_of(found, id) {
+        Some(text) => text == "true",
+        None => false,
+    }
+}
+
+fn workers_of(found: &ArgMatches<'_>) -> Result<Option<u32>, Refusal>
+    ensures found { IfOk result (IsWorkers (first_of (codes "workers") (rows_of (found_of found.now)))) }
+    ensures usage { IfErr result (λ _. (workers : Option ℕ)
+        → ¬ IsWorkers (first_of (codes "workers") (rows_of (found_of found.now))) workers) }
+{
+    match text_of(found, "workers") {
+        None => Ok(None),
+        Some(text) => match read_number(text.as_bytes()) {
+            None => Err(Refusal::Usage),
+            number => Ok(number),
+        },
+    }
+}

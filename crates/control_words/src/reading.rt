@@ -1,0 +1,79 @@
+//! Lines as control words.
+ghost use Rattle.std.specs.Prelude.{◌≡◌, ◌≤◌, Ok, IfOk, length};
+ghost use Rattle.std.specs.List.{before_first, after_first, position_or_len};
+ghost use Rattle.control_words.specs.Words.{word_text, reading, beat_in, tick_in, is_space, IsWord};
+ghost use Rattle.control_words.specs.declared.words.Word.{Word as TheWord};
+
+use crate::{Word, WordRefusal};
+use listener_set::{WORKER_LIMIT, read_number, read_number64};
+
+/// Where the first space stands, or the length.
+fn first_space(line: &[u8]) -> usize
+    ensures place { result ≡ position_or_len is_space line.now }
+    ensures within { result ≤ length line.now }
+{
+    line.iter()
+        .position(|byte| *byte == b' ')
+        .unwrap_or(line.len())
+}
+
+/// What stands before the first space, and what stands behind it.
+fn split_at_space(line: &[u8]) -> (&[u8], &[u8])
+    ensures first { result.0.now ≡ before_first is_space line.now }
+    ensures rest { result.1.now ≡ after_first is_space line.now }
+{
+    let space = first_space(line);
+    if space == line.len() {
+        (line, &[])
+    } else {
+        (&line[..space], &line[space + 1..])
+    }
+}
+
+/// The beat of a worker, by its numbers `NR NOW`.
+fn beat_in(numbers: &[u8]) -> Option<Word>
+    ensures { result ≡ beat_in numbers.now }
+{
+    let (nr, now) = split_at_space(numbers);
+    let nr = read_number(nr)?;
+    let now = read_number64(now)?;
+    if nr < WORKER_LIMIT {
+        Some(Word::Beat { nr, now })
+    } else {
+        None
+    }
+}
+
+/// The tick of the clock, by its number `NOW`.
+fn tick_in(number: &[u8]) -> Option<Word>
+    ensures { result ≡ tick_in number.now }
+{
+    let now = read_number64(number)?;
+    Some(Word::Tick { now })
+}
+
+fn word_of(line: &[u8]) -> Result<Word, WordRefusal>
+    ensures { result ≡ reading line.now }
+{
+    let (name, numbers) = split_at_space(line);
+    if name == b"beat".as_slice() {
+        beat_in(numbers).ok_or(WordRefusal::BadNumber)
+    } else if name == b"tick".as_slice() {
+        tick_in(numbers).ok_or(WordRefusal::BadNumber)
+    } else {
+        Word::signal_of(line).ok_or(WordRefusal::Unknown)
+    }
+}
+
+/// Reads a line, without its newline: exactly a word as it is written. A word's name ends at the first space. Where it is
+/// `beat` or `tick`, and what follows is not exactly its numbers, decimal without leading zeros and after single spaces,
+/// the line is refused as W2; any other line that is no word as W1.
+pub fn read(line: &[u8]) -> Result<Word, WordRefusal>
+    ensures exact { result ≡ reading line.now }
+
+    // What is read is the word as it is written, and each word is read as it is written.
+    ensures found { IfOk result (λ word. (line.now ≡ word_text word) × IsWord word) }
+    ensures only { (word : TheWord) → IsWord word → line.now ≡ word_text word → result ≡ Ok word }
+{
+    word_of(line)
+}

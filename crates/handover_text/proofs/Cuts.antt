@@ -1,0 +1,115 @@
+-- The beginning of a handover's text is a cut.
+use Rattle.std.proofs.Common.{◌≡◌, ℕ, ◌+◌, Bool, true, false, cond, Result, Ok, Err, List, [], ◌∷◌, ◌++◌, length, refl, sym, ap, subst, ◌∙◌, arith}
+use Rattle.std.specs.Prelude.{⊤}
+use Rattle.std.specs.List.{slice_split, onto_first, count_by}
+use Rattle.std.proofs.lemmas.Result.{IfOk-at_ok}
+use Rattle.std.proofs.lemmas.List.Splits.{length-slice_split}
+use Rattle.definitions.specs.declared.handover.HandoverRefusal.{HandoverRefusal}
+use Rattle.definitions.specs.declared.handover.HandoverRefusal.TheVariants as refusal
+use Rattle.definitions.specs.Handover.{Handover, Place, AtVersion, AtOldPid, AtGeneration, AtFirstListener, AtListeners, AtWants, AtPidFile, AtEnd, Over, Read, nothing_read, read_line, then_read, read_rest, read_pieces, reading, spelling}
+use Rattle.handover_text.specs.Ranges.{IsHandover}
+use Rattle.handover_text.proofs.SoFar.{is_newline, reading_in_range}
+use Rattle.handover_text.proofs.Spelled.{spelling-reading}
+use Rattle.handover_text.proofs.Taken.{reading-spelling, spellings_apart}
+
+---- The pieces of a text and of what it begins
+
+-- the last piece goes on
+abbrev joined : List (List ℕ) → List (List ℕ) → List (List ℕ)
+joined [] zs = zs
+joined (x ∷ []) [] = x ∷ []
+joined (x ∷ []) (z ∷ zs) = (x ++ z) ∷ zs
+joined (x ∷ y ∷ more) zs = x ∷ joined (y ∷ more) zs
+
+split_cases : (P : List (List ℕ) → Type 0) (text : List ℕ) → ((piece : List ℕ) (pieces : List (List ℕ)) → slice_split is_newline text ≡ piece ∷ pieces → P (piece ∷ pieces)) → P (slice_split is_newline text)
+split_cases P text some = at (slice_split is_newline text) refl (length-slice_split is_newline text)
+  where
+    at : (pieces : List (List ℕ)) → slice_split is_newline text ≡ pieces → length pieces ≡ count_by is_newline text + 1 → P pieces
+    at [] e n = absurd (omega (arith, n))
+    at (piece ∷ pieces) e n = some piece pieces e
+
+onto_joined : (c : ℕ) (x : List ℕ) (xs zs : List (List ℕ)) → onto_first c (joined (x ∷ xs) zs) ≡ joined (onto_first c (x ∷ xs)) zs
+onto_joined c x [] [] = refl
+onto_joined c x [] (z ∷ zs) = refl
+onto_joined c x (y ∷ ys) zs = refl
+
+pieces_joined : (a b : List ℕ) → slice_split is_newline (a ++ b) ≡ joined (slice_split is_newline a) (slice_split is_newline b)
+pieces_joined [] b = split_cases (λ zs. zs ≡ joined ([] ∷ []) zs) b (λ piece pieces e. refl)
+pieces_joined (c ∷ cs) b =
+    let rest = pieces_joined cs b in
+    split_cases (λ xs. slice_split is_newline (cs ++ b) ≡ joined xs (slice_split is_newline b) → cond (is_newline c) ([] ∷ slice_split is_newline (cs ++ b)) (onto_first c (slice_split is_newline (cs ++ b))) ≡ joined (cond (is_newline c) ([] ∷ xs) (onto_first c xs)) (slice_split is_newline b)) cs
+    (λ x xs e same. at (is_newline c) x xs same)
+    rest
+  where
+    at : (newline : Bool) (x : List ℕ) (xs : List (List ℕ)) → slice_split is_newline (cs ++ b) ≡ joined (x ∷ xs) (slice_split is_newline b) → cond newline ([] ∷ slice_split is_newline (cs ++ b)) (onto_first c (slice_split is_newline (cs ++ b))) ≡ joined (cond newline ([] ∷ x ∷ xs) (onto_first c (x ∷ xs))) (slice_split is_newline b)
+    at true x xs same = ap (λ ys. [] ∷ ys) same
+    at false x xs same = ap (onto_first c) same ∙ onto_joined c x xs (slice_split is_newline b)
+
+---- Refusals that stay
+
+-- where a text is refused for another cause than a cut, so is one that it begins
+abbrev IsKept : Result Handover HandoverRefusal → Result Handover HandoverRefusal → Type 0
+IsKept (Ok told) r = ⊤
+IsKept (Err refusal.Version) r = r ≡ Err refusal.Version
+IsKept (Err (refusal.Line n)) r = r ≡ Err (refusal.Line n)
+IsKept (Err (refusal.OutOfOrder n)) r = r ≡ Err (refusal.OutOfOrder n)
+IsKept (Err refusal.Cut) r = ⊤
+IsKept (Err refusal.Trailing) r = r ≡ Err refusal.Trailing
+
+kept_itself : (e : HandoverRefusal) → IsKept (Err e) (Err e)
+kept_itself refusal.Version = refl
+kept_itself (refusal.Line n) = refl
+kept_itself (refusal.OutOfOrder n) = refl
+kept_itself refusal.Cut = tt
+kept_itself refusal.Trailing = refl
+
+rest_kept : (n : ℕ) (place : Place) (h : Handover) (rest : List ℕ) (zs : List (List ℕ)) → IsKept (read_rest place h rest) (read_pieces n place h (joined (rest ∷ []) zs))
+rest_kept n AtVersion h rest zs = tt
+rest_kept n AtOldPid h rest zs = tt
+rest_kept n AtGeneration h rest zs = tt
+rest_kept n AtFirstListener h rest zs = tt
+rest_kept n AtListeners h rest zs = tt
+rest_kept n AtWants h rest zs = tt
+rest_kept n AtPidFile h rest zs = tt
+rest_kept n AtEnd h rest zs = tt
+rest_kept n Over h [] zs = tt
+rest_kept n Over h (c ∷ cs) [] = refl
+rest_kept n Over h (c ∷ cs) (z ∷ []) = refl
+rest_kept n Over h (c ∷ cs) (z ∷ y ∷ zs) = refl
+
+line_joined : (n : ℕ) (place : Place) (h : Handover) (line next : List ℕ) (more zs : List (List ℕ)) → read_pieces n place h (line ∷ joined (next ∷ more) zs) ≡ then_read (read_line n place h line) (λ place' h'. read_pieces (n + 1) place' h' (joined (next ∷ more) zs))
+line_joined n place h line next [] [] = refl
+line_joined n place h line next [] (z ∷ zs) = refl
+line_joined n place h line next (y ∷ more) zs = refl
+
+pieces_kept : (n : ℕ) (place : Place) (h : Handover) (rest : List ℕ) (pieces zs : List (List ℕ)) → IsKept (read_pieces n place h (rest ∷ pieces)) (read_pieces n place h (joined (rest ∷ pieces) zs))
+pieces_kept n place h rest [] zs = rest_kept n place h rest zs
+pieces_kept n place h line (next ∷ more) zs =
+    subst (IsKept (read_pieces n place h (line ∷ next ∷ more))) (sym (line_joined n place h line next more zs))
+    (at (read_line n place h line) (λ place' h'. pieces_kept (n + 1) place' h' next more zs))
+  where
+    at : (r : Read) → ((place' : Place) (h' : Handover) → IsKept (read_pieces (n + 1) place' h' (next ∷ more)) (read_pieces (n + 1) place' h' (joined (next ∷ more) zs))) → IsKept (then_read r (λ place' h'. read_pieces (n + 1) place' h' (next ∷ more))) (then_read r (λ place' h'. read_pieces (n + 1) place' h' (joined (next ∷ more) zs)))
+    at (Err e) later = kept_itself e
+    at (Ok state) later = later state.0 state.1
+
+reading_kept : (a b : List ℕ) → IsKept (reading a) (reading (a ++ b))
+reading_kept a b =
+    subst (λ pieces. IsKept (reading a) (read_pieces 1 AtVersion nothing_read pieces)) (sym (pieces_joined a b))
+    (split_cases (λ xs. IsKept (read_pieces 1 AtVersion nothing_read xs) (read_pieces 1 AtVersion nothing_read (joined xs (slice_split is_newline b)))) a
+    (λ x xs e. pieces_kept 1 AtVersion nothing_read x xs (slice_split is_newline b)))
+
+-- A text that ends before its end is a cut.
+pub cut_short : (told : Handover) (start : List ℕ) (byte : ℕ) (more : List ℕ) → IsHandover told → start ++ byte ∷ more ≡ spelling told → reading start ≡ Err refusal.Cut
+cut_short told start byte more h e =
+    at (reading start) refl (subst (IsKept (reading start)) (ap reading e ∙ reading-spelling told h) (reading_kept start (byte ∷ more)))
+  where
+    at : (r : Result Handover HandoverRefusal) → reading start ≡ r → IsKept r (Ok told) → r ≡ Err refusal.Cut
+    at (Ok other) is kept =
+        let in_range = IfOk-at_ok IsHandover is (reading_in_range start) in
+        let none = (spellings_apart other told (byte ∷ more) in_range h (ap (λ t. t ++ byte ∷ more) (spelling-reading start other is) ∙ e)).0 in
+        absurd (omega (arith, ap length none))
+    at (Err refusal.Version) is kept = cc
+    at (Err (refusal.Line n)) is kept = cc
+    at (Err (refusal.OutOfOrder n)) is kept = cc
+    at (Err refusal.Cut) is kept = refl
+    at (Err refusal.Trailing) is kept = cc

@@ -1,0 +1,23 @@
+use Rattle.handover_text.proofs.Cuts.{cut_short}
+use Rattle.handover_text.proofs.SoFar.{reading_in_range}
+use Rattle.handover_text.proofs.Spelled.{spelling-reading}
+use Rattle.handover_text.proofs.Taken.{reading-spelling, trailing, spellings_apart}
+use Rattle.handover_text.proofs.laws.handovers_have_one_text.Goals as goal
+
+pub returns-clause-in_range : goal.returns-clause-in_range
+returns-clause-in_range c = reading_in_range
+
+pub returns-clause-spelled : goal.returns-clause-spelled
+returns-clause-spelled c = spelling-reading
+
+pub returns-clause-read_back : goal.returns-clause-read_back
+returns-clause-read_back c = reading-spelling
+
+pub returns-clause-trailing : goal.returns-clause-trailing
+returns-clause-trailing c = λ told byte more h. trailing told h byte more
+
+pub returns-clause-apart : goal.returns-clause-apart
+returns-clause-apart c = spellings_apart
+
+pub returns-clause-cut : goal.returns-clause-cut
+returns-clause-cut c = cut_short

@@ -1,0 +1,4 @@
+pub mod Listeners
+pub mod ListenersLemmas
+pub mod Ranges
+pub mod Reader

@@ -1,0 +1,30 @@
+use Rattle.std.proofs.Common.{◌≡◌, ◌+◌, sym, ap, subst, ◌∙◌, arith, rules}
+use Rattle.std.proofs.lemmas.Bool.{false≢true}
+use Rattle.definitions.specs.Table.{Table}
+use Rattle.kernel_model.specs.Room.{HasMemoryFor, IsKept}
+use Rattle.kernel_model.proofs.Foreigners.{IsKept-foreign, sound-foreign}
+use Rattle.kernel_model.specs.Seen.{seen}
+use Rattle.kernel_model.proofs.kernel.Kernel.foreign.Goals as goal
+
+pub invariant_of-self : goal.invariant_of-self
+invariant_of-self c =
+    let before = c.self.invariant in
+    let processes = ap (λ (t : Table). t.next_process) c.grow.ensures.same in
+    let sockets = ap (λ (t : Table). t.next_socket) c.grow.ensures.same in
+    record {
+      room = record { memory = c.grow.ensures.kept c.self.inside.room before.room.memory; process_numbers = omega (arith, before.room.process_numbers); socket_numbers = omega (arith, before.room.socket_numbers) };
+      kept = subst IsKept (sym c.grow.ensures.same) before.kept;
+    }
+
+pub invariant_of-self-2 : goal.invariant_of-self-2
+invariant_of-self-2 c =
+    let needed : c.in-Some.needed ≡ c.self.inside.room + 1 = search rules in
+    let memory : HasMemoryFor c.in-Some.needed c.grow.new.self = search rules in
+    sound-foreign c.self.inside.store c.grow.new.self c.add_foreign.new.self c.self.inside.room c.in-Some.needed c.args.address.now needed c.grow.ensures.same memory
+    (λ lacks. false≢true (sym c.if-lacks_numbers.false ∙ c.lacks_numbers.ensures.1 lacks))
+    c.self.invariant.kept c.add_foreign.ensures.table c.add_foreign.ensures.grows
+
+pub returns-clause-formed : goal.returns-clause-formed
+returns-clause-formed c =
+    let kept = subst IsKept (sym c.add_foreign.ensures.table) (IsKept-foreign (seen c.grow.new.self) c.args.address.now (subst IsKept (sym c.grow.ensures.same) c.self.invariant.kept)) in
+    kept.formed

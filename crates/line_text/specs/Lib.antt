@@ -1,0 +1,2 @@
+pub mod PatternText
+pub mod PatternReading

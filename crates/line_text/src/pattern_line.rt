@@ -1,0 +1,93 @@
+//! Lines of a patterns text.
+ghost use Rattle.std.specs.Prelude.{◌≡◌, ◌++◌, ◌∷◌, [], IfOk};
+ghost use Rattle.call_text.specs.Reads.{Reads};
+ghost use Rattle.line_text.specs.PatternReading.{moment_of, event_of, numbered_of, any_of};
+
+use call_text::{cut, fate_text, read_fate, read_name, write_name, write_number};
+use definitions::{Fate, Name};
+use listener_set::read_number;
+use std::alloc::AllocError;
+
+/// A line of a patterns text. Calls are numbered from 1.
+#[derive(Clone, Copy, Debug, PartialEq, Eq)]
+pub enum PatternLine {
+    /// `N exit NAME`: somebody exits before the call with this number.
+    Exit(u32, Name),
+    /// `N fail FATE`: how the call with this number fails.
+    Fail(u32, Fate),
+    /// `next`: the pattern of the next word begins.
+    Next,
+}
+
+impl PatternLine {
+    ghost use Rattle.line_text.specs.PatternText.{line_text, IsLine};
+
+    /// Reads a line without its newline, with single spaces, and no other text. N is from 1 to
+    /// 4,294,967,295. Any bytes may come.
+    pub fn read(line: &[u8]) -> Option<Self>
+        ensures exact { result ≡ any_of line.now }
+        ensures reads { Reads IsLine line_text line.now result }
+    {
+        read_any(line)
+    }
+
+    /// Puts the line with its newline behind what was written. The only refusal is want of memory.
+    pub fn write(&self, out: &mut Vec<u8>) -> Result<(), AllocError>
+        ensures { IfOk result (λ _. out.new.items ≡ out.old.items ++ line_text self.now ++ 10 ∷ []) }
+    {
+        match self {
+            PatternLine::Exit(number, name) => {
+                write_number(out, u64::from(*number))?;
+                out.extend_from_slice(b" exit ")?;
+                write_name(out, name)?;
+            }
+            PatternLine::Fail(number, fate) => {
+                write_number(out, u64::from(*number))?;
+                out.extend_from_slice(b" fail ")?;
+                out.extend_from_slice(fate_text(*fate).as_bytes())?;
+            }
+            PatternLine::Next => out.extend_from_slice(b"next")?,
+        }
+        out.extend_from_slice(b"\n")
+    }
+}
+
+/// The number of a call, from 1.
+fn read_moment(text: &[u8]) -> Option<u32>
+    ensures { result ≡ moment_of text.now }
+{
+    let number = read_number(text)?;
+    if number >= 1 { Some(number) } else { None }
+}
+
+fn read_event(number: u32, verb: &[u8], what: &[u8]) -> Option<PatternLine>
+    ensures { result ≡ event_of number verb.now what.now }
+{
+    if verb == b"exit".as_slice() {
+        let name = read_name(what)?;
+        return Some(PatternLine::Exit(number, name));
+    }
+    if verb == b"fail".as_slice() {
+        let fate = read_fate(what)?;
+        return Some(PatternLine::Fail(number, fate));
+    }
+    None
+}
+
+fn read_numbered(line: &[u8]) -> Option<PatternLine>
+    ensures { result ≡ numbered_of line.now }
+{
+    let (number, rest) = cut(line, b' ')?;
+    let number = read_moment(number)?;
+    let (verb, what) = cut(rest, b' ')?;
+    read_event(number, verb, what)
+}
+
+fn read_any(line: &[u8]) -> Option<PatternLine>
+    ensures { result ≡ any_of line.now }
+{
+    if line == b"next".as_slice() {
+        return Some(PatternLine::Next);
+    }
+    read_numbered(line)
+}

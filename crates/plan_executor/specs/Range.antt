@@ -1,0 +1,14 @@
+-- What settings keep by themselves.
+use Rattle.std.specs.Prelude.{⊤}
+use Rattle.definitions.specs.Settings.{IsInRange}
+use Rattle.definitions.specs.declared.targets.Target.{Target}
+use Rattle.definitions.specs.declared.targets.Target.TheVariants.{Workers, Mend, Reopen, Reload, Upgrade, Stop}
+
+-- what a target's settings say is in range
+abbrev pub HasRange : Target → Type 0
+HasRange (Workers n) = ⊤
+HasRange (Mend overdue) = ⊤
+HasRange Reopen = ⊤
+HasRange (Reload s) = IsInRange s
+HasRange (Upgrade s) = IsInRange s
+HasRange (Stop quick) = ⊤

@@ -1,0 +1,24 @@
+use Rattle.std.proofs.Common.{◌≡◌, ◌+◌, ℕ, length, get_or, take, reverse, ◌∙◌, ap, subst, arith}
+use Rattle.std.proofs.lemmas.List.{take_all}
+use Rattle.definitions.specs.declared.calls.Call.TheVariants.{AwaitGone, Kill}
+use Rattle.definitions.specs.Plans.{does, then_edge, gone_edges, awaits_gone}
+use Rattle.rollback_plan.specs.Drafts.{IsMade, tree_at}
+use Rattle.rollback_plan.proofs.DraftTrees.{keeps_on}
+use Rattle.plan_pieces.proofs.SignalTrees.{awaits_gone_more}
+use Rattle.plan_pieces.proofs.ending.add_awaits_gone.Goals as goal
+
+pub loop-number-preserved : goal.loop-number-preserved
+loop-number-preserved c =
+    let by = c.args.by in
+    let g = c.args.generation in
+    let ks = c.args.numbers.now in
+    let i = c.loop-number.number-index in
+    let k : ℕ = get_or ks i 0 in
+    let rest = tree_at c.args.draft.now c.args.rest in
+    let before = c.loop-number.invariant in
+    let is = ap (λ t. does by (AwaitGone g k) (gone_edges t (does by (Kill g k) (then_edge t)))) before.made.is ∙ awaits_gone_more by g ks rest i (omega arith) in
+    record {
+      made = subst (IsMade c.add_await_gone.new.draft c.in_ok-next.next) is c.in_ok-next.ensures.made;
+      count = omega (arith, before.count, c.in_ok-next.ensures.count);
+      keeps = keeps_on c.args.draft.now c.loop-number.draft c.add_await_gone.new.draft before.keeps c.in_ok-next.ensures.keeps;
+    }

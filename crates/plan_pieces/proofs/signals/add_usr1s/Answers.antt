@@ -1,0 +1,25 @@
+use Rattle.std.proofs.Common.{◌≡◌, ◌-◌, ◌+◌, ℕ, get_or, drop, sym, ◌∙◌, ap, subst, arith}
+use Rattle.definitions.specs.declared.calls.Call.TheVariants.{Usr1}
+use Rattle.definitions.specs.Plans.{does, then_edge, usr1s}
+use Rattle.rollback_plan.specs.Drafts.{IsMade, tree_at}
+use Rattle.rollback_plan.proofs.DraftTrees.{keeps_on}
+use Rattle.plan_pieces.proofs.SignalTrees.{usr1s_more}
+use Rattle.plan_pieces.proofs.signals.add_usr1s.Goals as goal
+
+pub loop-i-preserved : goal.loop-i-preserved
+loop-i-preserved c =
+    let by = c.args.by in
+    let g = c.args.generation in
+    let ks = c.args.numbers.now in
+    let i : ℕ = c.loop-i.i - 1 in
+    let k : ℕ = get_or ks i 0 in
+    let rest = tree_at c.args.draft.now c.args.rest in
+    let before = c.loop-i.invariant in
+    let on : i + 1 ≡ c.loop-i.i = omega arith in
+    let next = before.made.is ∙ ap (λ j. usr1s by g (drop j ks) rest) (sym on) in
+    let is = ap (λ t. does by (Usr1 g k) (then_edge t)) next ∙ usr1s_more by g ks rest i (omega arith) in
+    record {
+      made = subst (IsMade c.call.new.self c.in_ok-next.next) is c.in_ok-next.ensures.made;
+      count = omega (arith, before.count, c.in_ok-next.ensures.count);
+      keeps = keeps_on c.args.draft.now c.loop-i.draft c.call.new.self before.keeps c.in_ok-next.ensures.keeps;
+    }

@@ -1,0 +1,110 @@
+-- The text of a plan.
+use Rattle.std.specs.Prelude.{ℕ, ◌+◌, ◌==◌, Bool, true, false, ◌&&◌, List, [], ◌∷◌, ◌++◌, length, Option, Some, None, codes, if◌then◌else◌}
+use Rattle.std.specs.List.{list_any}
+use Rattle.std.specs.Fmt.{decimal}
+use Rattle.definitions.specs.declared.calls.Call.{Call}
+use Rattle.definitions.specs.declared.calls.Call.TheVariants.{Census}
+use Rattle.definitions.specs.declared.calls.Reply.{Reply}
+use Rattle.definitions.specs.declared.calls.Reply.TheVariants.{MasterGone}
+use Rattle.definitions.specs.declared.plans.End.{End}
+use Rattle.definitions.specs.declared.plans.PidNote.{PidNote}
+use Rattle.definitions.specs.declared.plans.Order.{Order}
+use Rattle.definitions.specs.declared.plans.Order.TheVariants.{Make}
+use Rattle.definitions.specs.Tree.{order_replies}
+use Rattle.rollback_plan.specs.declared.step.Next.{Next}
+use Rattle.rollback_plan.specs.declared.step.Next.TheVariants.{To, Over}
+use Rattle.rollback_plan.specs.declared.step.Edge.{Edge}
+use Rattle.rollback_plan.specs.declared.step.Step.{Step}
+use Rattle.rollback_plan.specs.Steps.{edge_for}
+use Rattle.call_text.specs.NumberText.{set_text}
+use Rattle.call_text.specs.CallText.{order_line}
+use Rattle.call_text.specs.Words.{reply_text, end_text, note_text}
+use denote.Enum.Bare.{sameb}
+use Rattle.definitions.specs.contracts.plans.End.{the_type as end_type}
+use Rattle.definitions.specs.contracts.plans.PidNote.{the_type as note_type}
+
+-- the replies that a step can have, the plain one first and that the master is gone last
+abbrev pub replies_of : Order → List Reply
+replies_of order = order_replies order ++ MasterGone ∷ []
+
+---- Which replies go the same way
+
+abbrev pub same_next : Next → Next → Bool
+same_next (To one) (To other) = one.0 == other.0
+same_next (Over one) (Over other) = sameb end_type one other
+same_next (To one) (Over other) = false
+same_next (Over one) (To other) = false
+
+abbrev pub same_note : Option PidNote → Option PidNote → Bool
+same_note (Some one) (Some other) = sameb note_type one other
+same_note None None = true
+same_note (Some one) None = false
+same_note None (Some other) = false
+
+-- two edges that set the same note and have the same rest of the plan
+abbrev pub same_way : Edge → Edge → Bool
+same_way one other = same_next one.next other.next && same_note one.note other.note
+
+abbrev pub goes_by : Edge → Option Edge → Bool
+goes_by e None = false
+goes_by e (Some other) = same_way e other
+
+-- whether a reply to a step goes the way of an edge
+abbrev pub goes : Step → Edge → Reply → Bool
+goes s e r = goes_by e (edge_for s.edges.items r)
+
+---- Edges
+
+-- the replies that go the way of an edge, each with a space behind it
+abbrev pub reply_words : Step → Edge → List Reply → List ℕ
+reply_words s e [] = []
+reply_words s e (r ∷ rs) = (if goes s e r then reply_text r ++ codes " " else []) ++ reply_words s e rs
+
+abbrev pub place_text : Next → List ℕ
+place_text (To place) = decimal place.0
+place_text (Over end) = end_text end
+
+abbrev pub note_part : Option PidNote → List ℕ
+note_part None = []
+note_part (Some note) = codes " pid " ++ note_text note
+
+abbrev pub edge_text : Step → Edge → List Reply → List ℕ
+edge_text s e replies = codes " | " ++ reply_words s e replies ++ place_text e.next ++ note_part e.note
+
+-- the edge of a reply, unless an earlier reply goes the same way
+abbrev pub part_of : Step → List Reply → List Reply → Option Edge → List ℕ
+part_of s replies earlier None = []
+part_of s replies earlier (Some e) = if list_any (goes s e) earlier then [] else edge_text s e replies
+
+abbrev pub reply_part : Step → List Reply → List Reply → Reply → List ℕ
+reply_part s replies earlier r = part_of s replies earlier (edge_for s.edges.items r)
+
+-- the edges of the replies behind the earlier ones
+abbrev pub edges_text : Step → List Reply → List Reply → List Reply → List ℕ
+edges_text s replies earlier [] = []
+edges_text s replies earlier (r ∷ rs) = reply_part s replies earlier r ++ edges_text s replies (earlier ++ r ∷ []) rs
+
+---- Steps
+
+abbrev pub set_behind : Call → List ℕ → List ℕ
+set_behind (Census g) set = codes " set " ++ set_text set
+set_behind _ set = []
+
+-- a census has its set
+abbrev pub set_part : Order → List ℕ → List ℕ
+set_part (Make call) set = set_behind call set
+set_part _ set = []
+
+abbrev pub step_text : ℕ → Step → List ℕ
+step_text n s =
+    decimal n ++ codes " " ++ order_line s.by s.order ++ set_part s.order s.set ++ edges_text s (replies_of s.order) [] (replies_of s.order)
+    ++ codes "\n"
+
+-- steps in order, the first of them the n-th
+abbrev pub steps_text : ℕ → List Step → List ℕ
+steps_text n [] = []
+steps_text n (s ∷ steps) = step_text n s ++ steps_text (n + 1) steps
+
+-- a plan by the number of steps on its longest path and its numbered steps
+abbrev pub plan_text : ℕ → List Step → List ℕ
+plan_text longest steps = codes "plan steps " ++ decimal (length steps) ++ codes " longest " ++ decimal longest ++ codes "\n" ++ steps_text 1 steps

@@ -1,0 +1,137 @@
+//! Texts of a step's edges.
+ghost use Rattle.std.specs.Prelude.{◌≡◌, ◌++◌, [], IfOk};
+ghost use Rattle.std.specs.List.{list_any};
+ghost use Rattle.plan_text.specs.PlanText.{same_next, same_note, same_way, goes, reply_words, place_text, note_part, edge_text, reply_part, edges_text};
+
+use call_text::{end_text, note_text, reply_text, write_number};
+use definitions::{PidNote, Reply};
+use rollback_plan::{Edge, Next, Step};
+use std::alloc::AllocError;
+
+fn same_next(one: Next, other: Next) -> bool
+    ensures { result ≡ same_next one other }
+{
+    match (one, other) {
+        (Next::To(one), Next::To(other)) => one.0 == other.0,
+        (Next::Over(one), Next::Over(other)) => one == other,
+        (Next::To(_), Next::Over(_)) | (Next::Over(_), Next::To(_)) => false,
+    }
+}
+
+fn same_note(one: Option<PidNote>, other: Option<PidNote>) -> bool
+    ensures { result ≡ same_note one other }
+{
+    match (one, other) {
+        (Some(one), Some(other)) => one == other,
+        (None, None) => true,
+        (Some(_), None) | (None, Some(_)) => false,
+    }
+}
+
+/// Whether two edges set the same note and lead to the same place.
+fn same_way(one: &Edge, other: &Edge) -> bool
+    ensures { result ≡ same_way one.now other.now }
+{
+    same_next(one.next, other.next) && same_note(one.note, other.note)
+}
+
+/// Whether a reply to a step has the same note and the same rest as an edge.
+fn goes(step: &Step, edge: &Edge, reply: Reply) -> bool
+    ensures { result ≡ goes step.now edge.now reply }
+{
+    match step.edge(reply) {
+        Some(other) => same_way(edge, &other),
+        None => false,
+    }
+}
+
+fn any_goes(step: &Step, edge: &Edge, replies: &[Reply]) -> bool
+    ensures { result ≡ list_any (goes step.now edge.now) replies.now }
+{
+    replies.iter().any(|reply| goes(step, edge, *reply))
+}
+
+/// The replies that go the way of an edge, each with a space behind it.
+fn write_replies(
+    out: &mut Vec<u8>,
+    step: &Step,
+    edge: &Edge,
+    replies: &[Reply],
+) -> Result<(), AllocError>
+    ensures { IfOk result (λ _. out.new.items ≡ out.old.items ++ reply_words step.now edge.now replies.now) }
+{
+    for reply in replies {
+        if goes(step, edge, *reply) {
+            out.extend_from_slice(reply_text(*reply).as_bytes())?;
+            out.extend_from_slice(b" ")?;
+        }
+    }
+    Ok(())
+}
+
+fn write_place(out: &mut Vec<u8>, next: Next) -> Result<(), AllocError>
+    ensures { IfOk result (λ _. out.new.items ≡ out.old.items ++ place_text next) }
+{
+    match next {
+        Next::To(place) => write_number(out, u64::from(place.0)),
+        Next::Over(end) => out.extend_from_slice(end_text(end).as_bytes()),
+    }
+}
+
+fn write_note(out: &mut Vec<u8>, note: Option<PidNote>) -> Result<(), AllocError>
+    ensures { IfOk result (λ _. out.new.items ≡ out.old.items ++ note_part note) }
+{
+    let Some(note) = note else {
+        return Ok(());
+    };
+    out.extend_from_slice(b" pid ")?;
+    out.extend_from_slice(note_text(note).as_bytes())
+}
+
+/// The replies that go the way of an edge, and where they lead.
+fn write_edge(
+    out: &mut Vec<u8>,
+    step: &Step,
+    edge: &Edge,
+    replies: &[Reply],
+) -> Result<(), AllocError>
+    ensures { IfOk result (λ _. out.new.items ≡ out.old.items ++ edge_text step.now edge.now replies.now) }
+{
+    out.extend_from_slice(b" | ")?;
+    write_replies(out, step, edge, replies)?;
+    write_place(out, edge.next)?;
+    write_note(out, edge.note)
+}
+
+/// The edge of the reply at a place, unless an earlier reply goes the same way.
+fn write_reply(
+    out: &mut Vec<u8>,
+    step: &Step,
+    replies: &[Reply],
+    earlier: &[Reply],
+    reply: Reply,
+) -> Result<(), AllocError>
+    ensures { IfOk result (λ _. out.new.items ≡ out.old.items ++ reply_part step.now replies.now earlier.now reply) }
+{
+    let Some(edge) = step.edge(reply) else {
+        return Ok(());
+    };
+    if any_goes(step, &edge, earlier) {
+        return Ok(());
+    }
+    write_edge(out, step, &edge, replies)
+}
+
+/// The edges of a step, ordered by the first reply of each.
+pub(crate) fn write_edges(
+    out: &mut Vec<u8>,
+    step: &Step,
+    replies: &[Reply],
+) -> Result<(), AllocError>
+    ensures { IfOk result (λ _. out.new.items ≡ out.old.items ++ edges_text step.now replies.now [] replies.now) }
+{
+    for (place, reply) in replies.iter().enumerate() {
+        write_reply(out, step, replies, &replies[..place], *reply)?;
+    }
+    Ok(())
+}

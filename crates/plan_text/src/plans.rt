@@ -1,0 +1,66 @@
+//! Texts of plans.
+ghost use Rattle.std.specs.Prelude.{◌≡◌, ◌++◌, IfOk};
+ghost use Rattle.definitions.specs.Tree.{height};
+ghost use Rattle.rollback_plan.specs.Plans.{tree_of, steps_of};
+ghost use Rattle.plan_text.specs.PlanText.{set_part, step_text, steps_text, plan_text};
+
+use crate::edges::write_edges;
+use call_text::{replies_of, write_number, write_order, write_set};
+use definitions::{Call, Order};
+use listener_set::Numbers;
+use rollback_plan::{Plan, Step};
+use std::alloc::{AllocError, Global};
+
+/// The set that a census must contain.
+fn write_wanted(out: &mut Vec<u8>, order: &Order, set: &Numbers) -> Result<(), AllocError>
+    ensures { IfOk result (λ _. out.new.items ≡ out.old.items ++ set_part order.now set.now) }
+{
+    match order {
+        Order::Make(Call::Census(_)) => {
+            out.extend_from_slice(b" set ")?;
+            write_set(out, set)
+        }
+        _ => Ok(()),
+    }
+}
+
+/// The line of the n-th step.
+fn write_step(out: &mut Vec<u8>, number: u64, step: &Step) -> Result<(), AllocError>
+    ensures { IfOk result (λ _. out.new.items ≡ out.old.items ++ step_text number step.now) }
+{
+    write_number(out, number)?;
+    out.extend_from_slice(b" ")?;
+    write_order(out, step.by, &step.order)?;
+    write_wanted(out, &step.order, &step.set)?;
+    write_edges(out, step, replies_of(&step.order))?;
+    out.extend_from_slice(b"\n")
+}
+
+/// A line for each step, numbered from 1.
+fn write_steps(out: &mut Vec<u8>, steps: &[Step]) -> Result<(), AllocError>
+    ensures { IfOk result (λ _. out.new.items ≡ out.old.items ++ steps_text 1 steps.now) }
+{
+    for (place, step) in steps.iter().enumerate() {
+        write_step(out, place as u64 + 1, step)?;
+    }
+    Ok(())
+}
+
+/// The text of a plan: a line `plan steps S longest L` with the number of its steps and of those on
+/// its longest path, and then a line for each step in order: `N mI CALL`, behind a census ` set SET`,
+/// and for each edge ` | ANSWERS PLACE`, with ` pid NOTE` behind it where it sets the pid note. The
+/// answers of an edge are those whose note and rest of the plan are the same. The only refusal is
+/// want of memory.
+pub fn write_plan(alloc: Global, plan: &Plan) -> Result<Vec<u8>, AllocError>
+    ensures { IfOk result (λ out. out.items ≡ plan_text (height (tree_of plan.now)) (steps_of plan.now)) }
+{
+    let mut out = Vec::new(alloc);
+    let steps = plan.steps();
+    out.extend_from_slice(b"plan steps ")?;
+    write_number(&mut out, steps.len() as u64)?;
+    out.extend_from_slice(b" longest ")?;
+    write_number(&mut out, u64::from(plan.longest()))?;
+    out.extend_from_slice(b"\n")?;
+    write_steps(&mut out, steps)?;
+    Ok(out)
+}

@@ -1,0 +1,65 @@
+//! `plan`: what a control word would do.
+use crate::fault::Fault;
+use crate::start::Start;
+use control_words::{Word, WordRefusal, target_of};
+use definitions::Target;
+use listener_set::Numbers;
+use plan_text::write_plan;
+use reload_planner::PlanRefusal;
+use service_state::Record;
+use std::alloc::Global;
+
+/// What there is to show of a word, and the exit status that goes with it.
+#[derive(Drop)]
+pub struct Outlook {
+    pub text: Vec<u8>,
+    pub status: u8,
+}
+
+/// The plan of a word for a master that has just started, `nothing`, or `refused` with its code.
+pub fn look_ahead(alloc: Global, start: &Start, word: Word) -> Result<Outlook, Fault> {
+    let record = start.record()?;
+    match asked(&record, start, word) {
+        Ok(Some(target)) => planned(alloc, &record, &target),
+        Ok(None) => said(alloc, "nothing\n", "", 0),
+        Err(code) => said(alloc, "refused ", code, 1),
+    }
+}
+
+/// What a word asks for, or the code of its refusal. No worker has beaten yet.
+fn asked(record: &Record, start: &Start, word: Word) -> Result<Option<Target>, &'static str> {
+    if let Word::Beat { nr, .. } = word {
+        if record.ready.next_from(nr) != Some(nr) {
+            return Err("T3");
+        }
+    }
+    target_of(word, record, &Numbers::none(), Some(&start.next)).map_err(code_of)
+}
+
+fn code_of(refusal: WordRefusal) -> &'static str {
+    refusal.code()
+}
+
+fn planned(alloc: Global, record: &Record, target: &Target) -> Result<Outlook, Fault> {
+    match reload_planner::plan(alloc, record, target) {
+        Ok(plan) => Ok(Outlook {
+            text: write_plan(alloc, &plan)?,
+            status: 0,
+        }),
+        Err(PlanRefusal::Memory) => Err(Fault::Memory),
+        Err(PlanRefusal::TooLarge) => said(alloc, "refused ", "P1", 1),
+        Err(PlanRefusal::Unplanned) => said(alloc, "refused ", "P2", 1),
+        Err(PlanRefusal::NoGeneration) => said(alloc, "refused ", "P3", 1),
+    }
+}
+
+/// A word, and a code with its newline where there is one.
+fn said(alloc: Global, word: &str, code: &str, status: u8) -> Result<Outlook, Fault> {
+    let mut text = Vec::new(alloc);
+    text.extend_from_slice(word.as_bytes())?;
+    if !code.is_empty() {
+        text.extend_from_slice(code.as_bytes())?;
+        text.extend_from_slice(b"\n")?;
+    }
+    Ok(Outlook { text, status })
+}

@@ -1,0 +1,57 @@
+use Rattle.std.proofs.Common.{◌≡◌, ℕ, List, length, reverse, take, true, sym, ◌∙◌, ap, subst, arith}
+use Rattle.std.proofs.lemmas.List.{take_all}
+use Rattle.std.proofs.lemmas.Result.{IfOk-weaker}
+use Rattle.definitions.specs.Table.{Address}
+use Rattle.definitions.specs.declared.plans.Side.TheVariants.{Old}
+use Rattle.definitions.specs.Plans.{quits, closes, settle}
+use Rattle.rollback_plan.specs.declared.step.Place.{Place}
+use Rattle.rollback_plan.specs.Drafts.{IsMade, are_places}
+use Rattle.rollback_plan.specs.Back.{AreMade}
+use Rattle.rollback_plan.proofs.DraftTrees.{made_kept}
+use Rattle.rollback_plan.proofs.BackTrees.{all_kept}
+use Rattle.plan_pieces.proofs.Places.{made_places, places_kept}
+use Rattle.reload_planner.specs.Changes.{on_tree, trial_tree, back_tree}
+use Rattle.reload_planner.proofs.reloading.add_reload.Goals as goal
+
+pub add_trial-requires-clause-ways : goal.add_trial-requires-clause-ways
+add_trial-requires-clause-ways c =
+    subst (λ (places : List Place). are_places c.back.new.self places ≡ true) (sym c.deref.ensures.value) (made_places c.back.new.self c.in_ok-ways_back.ways_back.forked.items _ _ c.in_ok-ways_back.ensures.forked)
+
+pub add_opens-requires-clause-rest : goal.add_opens-requires-clause-rest
+add_opens-requires-clause-rest c =
+    let s = c.args.scene.now in
+    let u = c.args.renewal.now in
+    let fresh = u.starts.now in
+    let added = u.added.now in
+    let ways = c.in_ok-ways_back.ways_back in
+    let bad = back_tree s.by s.generation u.generation s.ready s.rounds (reverse added) in
+    let forked = subst (λ (xs : List Address). AreMade c.back.new.self ways.forked.items (length fresh) (λ i. quits s.by u.generation (reverse (take i fresh)) (closes s.by (reverse xs) (settle s.by s.generation s.ready Old s.rounds)))) (take_all (length added) added (omega arith)) c.in_ok-ways_back.ensures.forked in
+    let trial = c.in_ok-trial.ensures.made bad (subst (λ (places : List Place). AreMade c.back.new.self places (length fresh) (λ i. bad (reverse (take i fresh)))) (sym c.deref.ensures.value) forked) in
+    trial.below
+
+pub add_opens-requires-clause-ways : goal.add_opens-requires-clause-ways
+add_opens-requires-clause-ways c =
+    let opened = c.in_ok-ways_back.ways_back.opened.items in
+    subst (λ (places : List Place). are_places c.add_trial.new.draft places ≡ true) (sym c.deref-2.ensures.value)
+    (places_kept c.back.new.self c.add_trial.new.draft opened c.in_ok-trial.ensures.keeps (made_places c.back.new.self opened _ _ c.in_ok-ways_back.ensures.opened))
+
+pub returns-clause-made : goal.returns-clause-made
+returns-clause-made c =
+    let s = c.args.scene.now in
+    let u = c.args.renewal.now in
+    let fresh = u.starts.now in
+    let added = u.added.now in
+    let ways = c.in_ok-ways_back.ways_back in
+    let bad = back_tree s.by s.generation u.generation s.ready s.rounds (reverse added) in
+    let forked = subst (λ (xs : List Address). AreMade c.back.new.self ways.forked.items (length fresh) (λ i. quits s.by u.generation (reverse (take i fresh)) (closes s.by (reverse xs) (settle s.by s.generation s.ready Old s.rounds)))) (take_all (length added) added (omega arith)) c.in_ok-ways_back.ensures.forked in
+    let trial = c.in_ok-trial.ensures.made bad (subst (λ (places : List Place). AreMade c.back.new.self places (length fresh) (λ i. bad (reverse (take i fresh)))) (sym c.deref.ensures.value) forked) in
+    let on = made_kept c.add_on.new.draft c.back.new.self c.in_ok-on.on _ c.in_ok-ways_back.ensures.keeps c.in_ok-on.ensures.made in
+    let there = trial.is ∙ ap (λ t. trial_tree s.by u.generation u.wanted fresh t bad) on.is in
+    let closed = λ (opened : List Address). closes s.by opened (settle s.by s.generation s.ready Old s.rounds) in
+    let opened = all_kept c.back.new.self c.add_trial.new.draft ways.opened.items (length added) (λ i. closed (reverse (take i added))) c.in_ok-trial.ensures.keeps c.in_ok-ways_back.ensures.opened in
+    IfOk-weaker c.add_opens.result _ _
+    (λ place made.
+    made (λ opened. trial_tree s.by u.generation u.wanted fresh (on_tree s.by s.generation u.generation c.args.ready.now s.rounds u.dropped.now u.wanted) (back_tree s.by s.generation u.generation s.ready s.rounds opened)) closed
+    (subst (λ (places : List Place). AreMade c.add_trial.new.draft places (length added) (λ i. closed (reverse (take i added)))) (sym c.deref-2.ensures.value) opened)
+    (sym there))
+    c.add_opens.ensures.made

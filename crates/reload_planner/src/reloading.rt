@@ -1,0 +1,186 @@
+//! The plan that brings a new configuration.
+ghost use Rattle.std.specs.Prelude.{◌≡◌, ◌≤◌, ◌<◌, ◌+◌, ◌*◌, ◌↔◌, List, ℕ, [], None, length, reverse, take, IfOk, IfNone, IsErrOf, IsTrue, OnOk};
+ghost use Rattle.definitions.specs.After as after;
+ghost use Rattle.definitions.specs.Target.{reload_generation};
+ghost use Rattle.definitions.specs.Tree.{Tree};
+ghost use Rattle.definitions.specs.Plans.{census, census_edges, reload_tree};
+ghost use Rattle.rollback_plan.specs.declared.draft.DraftRefusal.TheVariants.{TooLarge};
+ghost use Rattle.rollback_plan.specs.declared.draft.TheConstants.{MOST_STEPS};
+ghost use Rattle.rollback_plan.specs.Drafts.{trees_of, tree_at, are_places, IsMade, Keeps};
+ghost use Rattle.rollback_plan.specs.Back.{AreMade};
+ghost use Rattle.rollback_plan.specs.Plans.{tree_of, note_of, text_of, trees_in};
+ghost use Rattle.reload_planner.specs.Changes.{on_tree, trial_tree, renewal_tree};
+
+use crate::scene::listed;
+use crate::{PlanRefusal, Scene};
+use definitions::{Actor, Call, Order, PidNote, Reply, Settings, Side};
+use listener_set::{Address, Generation, ListenerSet, Numbers};
+use plan_pieces::{add_closes, add_opens, add_quits, add_starts};
+use rollback_plan::{Draft, DraftRefusal, Edge, Place, Plan, Undone};
+use std::alloc::Global;
+
+/// What a reload brings.
+#[derive(Clone, Copy)]
+struct Renewal<'a> {
+    /// What the new workers run.
+    generation: Generation,
+    /// The numbers of the new workers, as a set and upwards.
+    wanted: Numbers,
+    starts: &'a [u32],
+    /// The addresses that are listened on anew.
+    added: &'a [Address],
+    /// The addresses that are listened on no more.
+    dropped: &'a [Address],
+}
+
+/// The generation of a reload; none where the number of its configuration would pass its limit.
+fn next_config(generation: Generation) -> Option<Generation>
+    ensures { result ≡ after.next_config generation }
+{
+    if generation.config == u32::MAX {
+        return None;
+    }
+    Some(Generation {
+        image: generation.image,
+        config: generation.config + 1,
+    })
+}
+
+/// Adds what follows where the new workers are ready: the old ones quit, the last first, what is
+/// listened on no more is closed, and the target settles.
+fn add_on(
+    draft: &mut Draft,
+    scene: &Scene,
+    renewal: &Renewal<'_>,
+    ready: &[u32],
+) -> Result<Place, DraftRefusal>
+    ensures made { IfOk result (λ place. IsMade draft.new place (on_tree scene.now.by scene.now.generation renewal.now.generation ready.now scene.now.rounds renewal.now.dropped.now renewal.now.wanted)) }
+    ensures count { OnOk result (length (trees_of draft.new) ≡ length (trees_of draft.old) + ((1 + 4 * scene.now.rounds) + length renewal.now.dropped.now + length ready.now)) }
+    ensures keeps { Keeps draft.old draft.new }
+    ensures too_large { IsErrOf result TooLarge → MOST_STEPS < length (trees_of draft.old) + ((1 + 4 * scene.now.rounds) + length renewal.now.dropped.now + length ready.now) }
+{
+    let by = scene.by;
+    let settled = draft.settle(
+        by,
+        renewal.generation,
+        &renewal.wanted,
+        Side::Target,
+        scene.rounds,
+    )?;
+    let closing = add_closes(draft, by, renewal.dropped, settled)?;
+    add_quits(draft, by, scene.generation, ready, closing)
+}
+
+/// Adds a census of the new workers.
+fn add_count(
+    draft: &mut Draft,
+    by: Actor,
+    renewal: &Renewal<'_>,
+    full: Place,
+    short: Place,
+) -> Result<Place, DraftRefusal>
+    requires full { full.0 < length (trees_of draft.old) }
+    requires short { short.0 < length (trees_of draft.old) }
+    ensures made { IfOk result (λ place. IsMade draft.new place (census by renewal.now.generation renewal.now.wanted (census_edges (tree_at draft.old full) (tree_at draft.old short)))) }
+    ensures count { OnOk result (length (trees_of draft.new) ≡ length (trees_of draft.old) + 1) }
+    ensures keeps { Keeps draft.old draft.new }
+    ensures too_large { IsErrOf result TooLarge → MOST_STEPS < length (trees_of draft.old) + 1 }
+{
+    draft.add(
+        by,
+        Order::Make(Call::Census(renewal.generation)),
+        &renewal.wanted,
+        &[
+            Edge::to(&[Reply::Full], full),
+            Edge::to(&[Reply::Short], short),
+        ],
+    )
+}
+
+/// Adds the starts of the new workers and their census. The i-th of the ways back is taken where
+/// the first i of them were forked and a start fails, and the last where the census is short.
+fn add_trial(
+    draft: &mut Draft,
+    by: Actor,
+    renewal: &Renewal<'_>,
+    full: Place,
+    ways_back: &[Place],
+) -> Result<Place, DraftRefusal>
+    requires full { full.0 < length (trees_of draft.old) }
+    requires each { length ways_back.now ≡ length renewal.now.starts.now + 1 }
+    requires ways { IsTrue (are_places draft.old ways_back.now) }
+    ensures made { IfOk result (λ place. (bad : List ℕ → Tree) → AreMade draft.old ways_back.now (length renewal.now.starts.now) (λ i. bad (reverse (take i renewal.now.starts.now)))
+        → IsMade draft.new place (trial_tree by renewal.now.generation renewal.now.wanted renewal.now.starts.now (tree_at draft.old full) bad)) }
+    ensures count { OnOk result (length (trees_of draft.new) ≡ length (trees_of draft.old) + (1 + 3 * length renewal.now.starts.now)) }
+    ensures keeps { Keeps draft.old draft.new }
+    ensures too_large { IsErrOf result TooLarge → MOST_STEPS < length (trees_of draft.old) + (1 + 3 * length renewal.now.starts.now) }
+{
+    let (generation, starts) = (renewal.generation, renewal.starts);
+    let counting = add_count(draft, by, renewal, full, ways_back[starts.len()])?;
+    add_starts(draft, by, generation, starts, counting, ways_back)
+}
+
+/// Adds a reload: what is listened on anew is opened and the new workers are started and counted;
+/// it goes on from there, or back.
+fn add_reload(
+    draft: &mut Draft,
+    scene: &Scene,
+    renewal: &Renewal<'_>,
+    ready: &[u32],
+) -> Result<Place, DraftRefusal>
+    ensures made { IfOk result (λ place. IsMade draft.new place (renewal_tree scene.now.by scene.now.generation renewal.now.generation scene.now.ready ready.now scene.now.rounds renewal.now.added.now renewal.now.dropped.now renewal.now.wanted renewal.now.starts.now)) }
+    ensures count { OnOk result (length (trees_of draft.new) ≡ length (trees_of draft.old) + (2 * (1 + 4 * scene.now.rounds) + length renewal.now.dropped.now + 2 * length renewal.now.added.now + length ready.now + 4 * length renewal.now.starts.now + 1)) }
+    ensures too_large { IsErrOf result TooLarge → MOST_STEPS < length (trees_of draft.old) + (2 * (1 + 4 * scene.now.rounds) + length renewal.now.dropped.now + 2 * length renewal.now.added.now + length ready.now + 4 * length renewal.now.starts.now + 1) }
+{
+    let by = scene.by;
+    let on = add_on(draft, scene, renewal, ready)?;
+    let undone = Undone {
+        generation: renewal.generation,
+        forked: renewal.starts,
+        opened: renewal.added,
+    };
+    let ways_back = draft.back(by, &undone, scene.generation, &scene.ready, scene.rounds)?;
+    let trial = add_trial(draft, by, renewal, on, &ways_back.forked)?;
+    add_opens(draft, by, renewal.added, trial, &ways_back.opened)
+}
+
+/// The plan of a reload, where `old` is listened on: it opens what the settings add, starts their
+/// workers in the next generation and counts them. If all is well the old workers quit, what the
+/// settings drop is closed, and it settles on the new workers; and else the new ones quit, what was
+/// opened is closed, and it settles on the old workers. `NoGeneration` exactly where the number of
+/// the configuration would pass its limit. No such plan is too large.
+pub fn plan_reload(
+    alloc: Global,
+    scene: &Scene,
+    old: &ListenerSet,
+    settings: &Settings,
+    note: PidNote,
+) -> Result<Plan, PlanRefusal>
+    requires rounds { scene.now.rounds ≤ 8 }
+    ensures tree { IfOk result (λ plan. tree_of plan ≡ reload_tree scene.now.by scene.now.generation scene.now.ready scene.now.rounds old.now settings.now.listeners settings.now.workers) }
+    ensures note { IfOk result (λ plan. note_of plan ≡ note) }
+    ensures text { IfOk result (λ plan. text_of plan ≡ []) }
+    ensures few { IfOk result (λ plan. length (trees_in plan) ≤ length scene.now.ready + 4 * settings.now.workers + length old.now + 2 * length settings.now.listeners + 2 * (1 + 4 * scene.now.rounds) + 1) }
+    ensures numbered { IsErrOf result PlanRefusal.NoGeneration ↔ (after.next_config scene.now.generation ≡ None) }
+    ensures not_large { IsErrOf result PlanRefusal.TooLarge → ⊥ }
+    ensures planned { IsErrOf result PlanRefusal.Unplanned → ⊥ }
+{
+    let Some(generation) = next_config(scene.generation) else {
+        return Err(PlanRefusal::NoGeneration);
+    };
+    let wanted = Numbers::below(settings.workers);
+    let starts = listed(alloc, &wanted)?;
+    let ready = listed(alloc, &scene.ready)?;
+    let added = settings.listeners.only_in(old);
+    let dropped = old.only_in(&settings.listeners);
+    let renewal = Renewal {
+        generation,
+        wanted,
+        starts: &starts,
+        added: added.as_slice(),
+        dropped: dropped.as_slice(),
+    };
+    let mut draft = Draft::new(alloc);
+    let first = add_reload(&mut draft, scene, &renewal, &ready)?;
+    Ok(draft.finish(first, note, Vec::new(alloc))?)
+}

@@ -1,0 +1,42 @@
+//! The plan that has each worker open its logs anew.
+ghost use Rattle.std.specs.Prelude.{◌≡◌, ◌≤◌, ◌<◌, ◌+◌, ◌*◌, [], length, IfOk, IsErrOf, IsOkUnless, OnOk};
+ghost use Rattle.definitions.specs.Plans.{reopen_tree, settle, usr1s};
+ghost use Rattle.definitions.specs.declared.plans.Side.TheVariants as side;
+ghost use Rattle.rollback_plan.specs.declared.draft.DraftRefusal.TheVariants.{TooLarge};
+ghost use Rattle.rollback_plan.specs.declared.draft.TheConstants.{MOST_STEPS};
+ghost use Rattle.rollback_plan.specs.Drafts.{trees_of, IsMade};
+ghost use Rattle.rollback_plan.specs.Plans.{tree_of, note_of, text_of, trees_in};
+
+use crate::scene::listed;
+use crate::{PlanRefusal, Scene};
+use definitions::{PidNote, Side};
+use plan_pieces::add_usr1s;
+use rollback_plan::{Draft, DraftRefusal, Place, Plan};
+use std::alloc::Global;
+
+/// Adds that these numbers are told to open their logs anew, and the settle.
+fn add_reopening(draft: &mut Draft, scene: &Scene, ready: &[u32]) -> Result<Place, DraftRefusal>
+    ensures made { IfOk result (λ place. IsMade draft.new place (usr1s scene.now.by scene.now.generation ready.now (settle scene.now.by scene.now.generation scene.now.ready side.Target scene.now.rounds))) }
+    ensures count { OnOk result (length (trees_of draft.new) ≡ length (trees_of draft.old) + ((1 + 4 * scene.now.rounds) + length ready.now)) }
+    ensures too_large { IsErrOf result TooLarge → MOST_STEPS < length (trees_of draft.old) + ((1 + 4 * scene.now.rounds) + length ready.now) }
+{
+    let (by, generation) = (scene.by, scene.generation);
+    let settled = draft.settle(by, generation, &scene.ready, Side::Target, scene.rounds)?;
+    add_usr1s(draft, by, generation, ready, settled)
+}
+
+/// The plan of a reopening: it tells each ready worker, upwards, and settles on them. Only `Memory`
+/// is refused: no such plan is too large.
+pub fn plan_reopen(alloc: Global, scene: &Scene, note: PidNote) -> Result<Plan, PlanRefusal>
+    requires rounds { scene.now.rounds ≤ 8 }
+    ensures tree { IfOk result (λ plan. tree_of plan ≡ reopen_tree scene.now.by scene.now.generation scene.now.ready scene.now.rounds) }
+    ensures note { IfOk result (λ plan. note_of plan ≡ note) }
+    ensures text { IfOk result (λ plan. text_of plan ≡ []) }
+    ensures few { IfOk result (λ plan. length (trees_in plan) ≤ length scene.now.ready + (1 + 4 * scene.now.rounds)) }
+    ensures memory { IsOkUnless result PlanRefusal.Memory }
+{
+    let ready = listed(alloc, &scene.ready)?;
+    let mut draft = Draft::new(alloc);
+    let first = add_reopening(&mut draft, scene, &ready)?;
+    Ok(draft.finish(first, note, Vec::new(alloc))?)
+}

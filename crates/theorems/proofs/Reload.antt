@@ -1,0 +1,581 @@
+-- The headline for a reload.
+use Rattle.std.proofs.Common.{◌≡◌, ℕ, ◌+◌, ◌<◌, ◌≤◌, Bool, true, false, cond, not, List, [], ◌∷◌, length, Some, None, refl, sym, ap, ◌∙◌, subst, arith, ◌⊎◌, inl, inr, ⊎_elim}
+use Rattle.std.specs.Prelude.{⊤, option_map, filter, map, reverse, min, ◌&&◌, ◌||◌, ◌==◌, if◌then◌else◌, bytes_eq, is_some}
+use Rattle.std.specs.List.{AllByRecursion, list_any}
+use Rattle.definitions.specs.Table.{Address, same_generation, Hold, is_at, Process, Table, bears, is_ready, is_worker, has_address}
+use Rattle.listener_set.specs.declared.generation.Generation.{Generation}
+use Rattle.definitions.specs.Calls.{lacks_address, put_hold}
+use Rattle.definitions.specs.Tree.{Tree}
+use Rattle.listener_set.specs.Numbers.{RisesFrom, is_in, numbers_below}
+use Rattle.definitions.specs.Plans.{plan_tree, reload_on, reload_tree, starts, settle, opens, closes, reload_back, census, census_edges}
+use Rattle.listener_set.specs.AddressList.{has}
+use Rattle.definitions.specs.Target.{only_in, reload_generation, want}
+use Rattle.definitions.specs.declared.targets.Target.TheVariants.{Reload}
+use Rattle.definitions.specs.Settings.{Settings, IsInRange}
+use Rattle.definitions.specs.After.{Setup, setup_after, recorded, renewed, reloaded, opened, all_opened, kept, next_config}
+use Rattle.theorems.proofs.Listeners.{fds, opens-on, all_closed, closed-kept, added-is, fds-listed, some-held}
+use Rattle.theorems.proofs.Ends.{next-is, moved-after, resized, report_at, service-of, service-short, first-keys, first-service, first-held, first-few, census-within, files-still, kept-after}
+use Rattle.definitions.specs.declared.plans.Side.TheVariants.{Old, Target}
+use Rattle.definitions.specs.declared.plans.End.TheVariants.{Done, RolledBack, ShortOld, ShortTarget}
+use Rattle.definitions.specs.Run.{Pattern, Progress, Ending, At, start_at, outcome_of}
+use Rattle.definitions.specs.Claims.{AgreesAfter, IsStart, has_socket, Says, IsPaid, Kept, Floor, IsCommon, IsBlamed, HasCause, HasDescriptors, ready_with, run_of, ReloadHeadline}
+use Rattle.definitions.specs.Record.{Record, Agrees, addresses_of, listener_of}
+use Rattle.definitions.specs.Service.{Service, service}
+use Rattle.definitions.specs.declared.table.Listener.{Listener}
+use Rattle.theorems.proofs.Rows.{weigh, every-more, and-left, and-right, both-true}
+use Rattle.theorems.proofs.Views.{Names, named, View, Looks, ready_in, eqb-off}
+use Rattle.theorems.proofs.Effects.{none, after_open, after_close, same-is, same-refl, bears-is, looks-allows}
+use Rattle.theorems.proofs.Counts.{Distinct}
+use Rattle.theorems.proofs.Sets.{in-here, in-there, in-cases, below-of, below-on, below-distinct, below-length, weigh-either, weigh-set, weigh-part}
+use Rattle.theorems.proofs.Services.{live-with, live-with-on, fewer-same, ready-floor}
+use Rattle.theorems.proofs.Begins.{first_view, begin, begin-count, rising-distinct}
+use Rattle.theorems.proofs.Addresses.{stays-lacks, stays-put, any-put, has-lacks, lacks-none, lacks-put, stands-filter}
+use Rattle.theorems.proofs.After.{agrees-after}
+use Rattle.theorems.proofs.Logic.{Unasked, Course, Along, Anyhow, from-along, are-mild-anyhow}
+use Rattle.theorems.proofs.Small.{in-reverse, every-is_in, off-from, true-false, or-elim, map-addresses}
+use Rattle.theorems.proofs.Rules.{Scene, plain_scene, Still, floor-by, view, any, plus, seen, ready_of, also, Marks, Band, Less, Only, band-part, band-anew, band-still, rule-quits, rule-starts, rule-settle, rule-count, rule-open, rule-close}
+
+next-other : (g : Generation) → same_generation (reload_generation g) g ≡ false
+next-other g = go (g.image == g.image) (eqb-off (g.config + 1) g.config (omega arith))
+  where
+    go : (a : Bool) → (g.config + 1 == g.config) ≡ false → (a && (g.config + 1 == g.config)) ≡ false
+    go true e = e
+    go false e = refl
+
+pub other-next : (g : Generation) → same_generation g (reload_generation g) ≡ false
+other-next g = go (g.image == g.image) (eqb-off g.config (g.config + 1) (omega arith))
+  where
+    go : (a : Bool) → (g.config == g.config + 1) ≡ false → (a && (g.config == g.config + 1)) ≡ false
+    go true e = e
+    go false e = refl
+
+-- what was opened, the last first
+record HasOpened (a : Address) (holds : List Hold) (H0 : List Hold) (Common Rest : List Hold → Type 0) : Type 0 where
+  hold : Hold
+  before : List Hold
+  is : holds ≡ put_hold hold before
+  names : hold.address ≡ a
+  fresh : has_address a before ≡ false
+  apart : has_address a H0 ≡ false
+  common : Common before
+  rest : Rest before
+
+abbrev From : List Hold → (List Hold → Type 0) → List Address → List Hold → Type 0
+From H0 C [] hs = hs ≡ H0
+From H0 C (a ∷ l) hs = HasOpened a hs H0 C (From H0 C l)
+
+from-has : (H0 : List Hold) (C : List Hold → Type 0) (l : List Address) (hs : List Hold) → From H0 C l hs → (a : Address) → has_address a hs ≡ (has l a || has_address a H0)
+from-has H0 C [] hs o a = ap (has_address a) o
+from-has H0 C (b ∷ l) hs o a =
+    ap (has_address a) o.is ∙ any-put (is_at a) o.hold o.before ∙ ap (λ z. bytes_eq z a || has_address a o.before) o.names ∙ ap (λ z. bytes_eq b a || z) (from-has H0 C l o.before o.rest a) ∙ assoc (bytes_eq b a) (has l a) (has_address a H0)
+  where
+    assoc : (x y z : Bool) → (x || (y || z)) ≡ ((x || y) || z)
+    assoc true y z = refl
+    assoc false y z = refl
+
+-- what is known before the rest of the starts
+record Started (g new : Generation) (R : List ℕ) (n : ℕ) (ks done : List ℕ) (r t : Names) (count : ℕ) : Type 0 where
+  only : (h : Generation) (k : ℕ) → r h k ≡ true → ((h ≡ g) × (is_in R k ≡ true)) ⊎ ((h ≡ new) × (is_in done k ≡ true))
+  fresh : (k : ℕ) → is_in ks k ≡ true → (is_in done k ≡ false) × (k < n)
+  apart : Distinct ks
+  started : (k : ℕ) → is_in done k ≡ true → k < n
+  all : (k : ℕ) → k < n → (is_in done k ≡ true) ⊎ (is_in ks k ≡ true)
+  names : (h : Generation) (k : ℕ) → t h k ≡ true → (named g (is_in R) h k ≡ true) ⊎ (named new (is_in done) h k ≡ true)
+  counted : count ≡ length R + length done
+
+not-on : (b : Bool) → (b ≡ true → ⊥) → b ≡ false
+not-on true h = absurd (h refl)
+not-on false h = refl
+
+one-more : (g : Generation) (R : List ℕ) (n x : ℕ) (ks done : List ℕ) (r t : Names) (count : ℕ) → Started g (reload_generation g) R n (x ∷ ks) done r t count → (r (reload_generation g) x ≡ false) × Started g (reload_generation g) R n ks (x ∷ done) (plus r (reload_generation g) x) (also (reload_generation g) x t) (count + 1)
+one-more g R n x ks done r t count s =
+    let new = reload_generation g in
+    let f = s.fresh x (in-here x x ks refl) in (
+      not-on (r new x) (λ on. ⊎_elim (λ a. true-false (same_generation new g) (subst (λ h. same_generation new h ≡ true) a.0 (same-refl new)) (next-other g)) (λ a. true-false (is_in done x) a.1 f.0) (s.only new x on)),
+      record {
+        only = λ h k e. ⊎_elim (λ a. ⊎_elim (λ b. inl b) (λ b. inr (b.0, in-there x k done b.1)) (s.only h k a)) (λ a. let is = bears-is new x h k a in inr (is.0, in-here x k done (sym is.1))) (or-elim (r h k) (bears new x h k) e);
+        fresh = λ k e.
+            let o = s.fresh k (in-there x k ks e) in
+            (off-from (x ∷ done) k (λ on. ⊎_elim (λ same. true-false (is_in ks x) (subst (λ y. is_in ks y ≡ true) (sym same) e) s.apart.0) (λ a. true-false (is_in done k) a o.0) (in-cases x k done on)), o.1);
+        apart = s.apart.1;
+        started = λ k e. ⊎_elim (λ same. subst (λ y. y < n) same f.1) (λ a. s.started k a) (in-cases x k done e);
+        all = λ k lt. ⊎_elim (λ a. inl (in-there x k done a)) (λ a. ⊎_elim (λ same. inl (in-here x k done same)) (λ b. inr b) (in-cases x k ks a)) (s.all k lt);
+        names = λ h k e. ⊎_elim (λ a. ⊎_elim (λ b. inl b) (λ b. inr (both-true (same_generation h new) (is_in (x ∷ done) k) (and-left _ _ b) (in-there x k done (and-right (same_generation h new) _ b)))) (s.names h k a)) (λ a. let is = bears-is new x h k a in inr (both-true (same_generation h new) (is_in (x ∷ done) k) (and-left _ _ a) (in-here x k done (sym is.1)))) (or-elim (t h k) (bears new x h k) e);
+        counted = omega (arith, s.counted);
+      },
+    )
+
+module _ (t : Table) (rec : Record) (st : Settings) (pattern : Pattern) (s : IsStart t rec) (range : IsInRange st) (ds : HasDescriptors t rec) (numbered : is_some (next_config rec.generation) ≡ true) where
+  abbrev g : Generation
+  g = rec.generation
+
+  abbrev new : Generation
+  new = reload_generation rec.generation
+
+  abbrev R : List ℕ
+  R = rec.ready
+
+  abbrev H0 : List Hold
+  H0 = s.agrees.holds
+
+  abbrev A0 : List Address
+  A0 = addresses_of rec
+
+  abbrev wanted : List Address
+  wanted = st.listeners
+
+  abbrev n : ℕ
+  n = st.workers
+
+  low : n ≤ 1024
+  low = range.workers
+
+  abbrev f : ℕ
+  f = min (length R) n
+
+  abbrev sc : Scene rec.pid rec.generation.image
+  sc = plain_scene rec.pid rec.generation.image f t.files rec.note t.limits
+
+  abbrev co : Course
+  co = record { text = []; pattern = pattern; executing = rec.generation.image ∷ []; heirs = [] }
+
+  acts : is_in (rec.generation.image ∷ []) rec.generation.image ≡ true
+  acts = in-here rec.generation.image rec.generation.image [] refl
+
+  few : sc.floor ≡ min (length R) n
+  few = refl
+
+  abbrev old : Service
+  old = service t
+
+  abbrev target : Service
+  target = want rec (Reload st)
+
+  -- at each address of both services so many Ready workers, losses aside
+  abbrev Level : Progress → Type 0
+  Level q = (a : Address) → IsCommon old target a → f ≤ ready_with a q.table + q.losses
+
+  abbrev inv : Progress → Type 0
+  inv q = Kept old target t q.table × Level q × IsBlamed q
+
+  abbrev post : Ending → Progress → Type 0
+  post e q = Says (outcome_of e q.lacking) old target q.table × IsPaid rec.retries (outcome_of e q.lacking) q × HasCause (outcome_of e q.lacking) q.cause × AgreesAfter rec (Reload st) (report_at e q) rec.pid q.table
+
+  abbrev Goes : Tree → Progress → Type 0
+  Goes tree q = Along inv post Anyhow Unasked co tree q
+
+  -- the old generation holds what was held at first, and any other what the master holds
+  abbrev both : List Hold → View
+  both hs = record { number = rec.pid; others = λ n. false; image = g.image; holds = hs; starting = none; ready = none; held = λ h. if same_generation h g then H0 else hs }
+
+  -- all hold what the master holds
+  abbrev same : List Hold → View
+  same hs = record { number = rec.pid; others = λ n. false; image = g.image; holds = hs; starting = none; ready = none; held = λ h. hs }
+
+  looks0 : Looks (first_view rec H0) t.rows
+  looks0 = begin t rec s
+
+  held-of : (a : Address) → is_some (old a) ≡ true → has_address a H0 ≡ true
+  held-of a e = first-held t rec s a e
+
+  wanted-of : (a : Address) → is_some (target a) ≡ true → has wanted a ≡ true
+  wanted-of a e = go (has wanted a) e
+    where
+      go : (b : Bool) → is_some {T = Generation → ℕ} (if b then Some (λ h. if same_generation h new then n else 0) else None) ≡ true → b ≡ true
+      go true e = refl
+      go false e = e
+
+  -- the common addresses are held, on their sockets
+  abbrev Common : List Hold → Type 0
+  Common hs = (a : Address) → IsCommon old target a → (has_address a hs ≡ true) × ((k : ℕ) → has_socket a k H0 ≡ true → has_socket a k hs ≡ true)
+
+  common0 : Common H0
+  common0 a c = (held-of a c.0, λ k e. e)
+
+  good : (v : View) (hs : List Hold) → v.number ≡ rec.pid → v.holds ≡ hs → ((h : Generation) → (v.held h ≡ H0) ⊎ (v.held h ≡ hs)) → Common hs → (names : Names) (count : ℕ) (w : Bool) (q : Progress) → f ≤ count → Looks (view v any any) q.table.rows → (1 ≤ f → count ≤ ready_of v names q + q.losses) → Marks w q.faults q.losses q.cause → ⊤ → inv q
+  good v hs num is held common names count w q enough looks secured marks beside = (
+    λ a k c on. live-with-on (view v any any) (has_socket a k) q.table.rows looks (ap (has_socket a k) is ∙ (common a c).1 k (sym (live-with (first_view rec H0) (λ n. refl) (has_socket a k) t.rows looks0) ∙ on)),
+    λ a c. floor-by f (ready_with a q.table + q.losses) (λ e. omega (arith, enough, secured e, ready-floor (view v any any) names a q.table.rows (λ h. ⊎_elim (λ e. ap (has_address a) e ∙ held-of a c.0) (λ e. ap (has_address a) e ∙ (common a c).0) (held h)) looks)),
+    (marks.clean, marks.blamed),
+  )
+
+  good-both : (hs : List Hold) → Common hs → (names : Names) (count : ℕ) (w : Bool) (q : Progress) → f ≤ count → Looks (view (both hs) any any) q.table.rows → (1 ≤ f → count ≤ ready_of (both hs) names q + q.losses) → Marks w q.faults q.losses q.cause → ⊤ → inv q
+  good-both hs common = good (both hs) hs refl refl (λ h. either (same_generation h g)) common
+    where
+      either : (b : Bool) → ((if b then H0 else hs) ≡ H0) ⊎ ((if b then H0 else hs) ≡ hs)
+      either true = inl refl
+      either false = inr refl
+
+  good-same : (hs : List Hold) → Common hs → (names : Names) (count : ℕ) (w : Bool) (q : Progress) → f ≤ count → Looks (view (same hs) any any) q.table.rows → (1 ≤ f → count ≤ ready_of (same hs) names q + q.losses) → Marks w q.faults q.losses q.cause → ⊤ → inv q
+  good-same hs common = good (same hs) hs refl refl (λ h. inr refl) common
+
+  held-old : (hs : List Hold) (h : Generation) → h ≡ g → (if same_generation h g then H0 else hs) ≡ H0
+  held-old hs h e = go (same_generation h g) (subst (λ x. same_generation x g ≡ true) (sym e) (same-refl g))
+    where
+      go : (b : Bool) → b ≡ true → (if b then H0 else hs) ≡ H0
+      go true e = refl
+      go false e = cc
+
+  held-new : (hs : List Hold) (h : Generation) → h ≡ new → (if same_generation h g then H0 else hs) ≡ hs
+  held-new hs h e = go (same_generation h g) (subst (λ x. same_generation x g ≡ false) (sym e) (next-other g))
+    where
+      go : (b : Bool) → b ≡ false → (if b then H0 else hs) ≡ hs
+      go true e = cc
+      go false e = refl
+
+  ---- The ends
+
+  abbrev Exactly : Generation → Progress → Type 0
+  Exactly h q = (k : ℕ) → list_any (is_worker is_ready rec.pid h k) q.table.rows ≡ is_in q.ready k
+
+  agrees-old : (r : Names) (q : Progress) → Only g R r → Looks (view (both H0) none r) q.table.rows → Exactly g q → Still t.files rec.note t.limits q.table.files q.note q.table.limits → (e : Ending) → Agrees q.table (recorded (resized rec rec.wanted) rec.pid_path (report_at e q) rec.pid)
+  agrees-old r q only looks exact still e = agrees-after (view (both H0) none r) g q.table _ (λ n. refl) (held-old H0 g refl) (λ h k on. (only h k on).0) looks exact refl refl refl s.agrees.listeners (files-still rec.note q.note rec.pid_path rec.pid t.files q.table.files t.limits q.table.limits s.agrees.files still)
+
+  within-old : (r : Names) (q : Progress) → Only g R r → Looks (view (both H0) none r) q.table.rows → Exactly g q → (k : ℕ) → is_in q.ready k ≡ true → k < rec.wanted
+  within-old r q only looks exact k e = every-is_in (λ j. j < rec.wanted) R s.record_in_range.ready k (census-within (both H0) (λ n. refl) g R r q.table.rows q.ready only looks exact k e)
+
+  old-full : (r : Names) (q : Progress) (c : ℕ) (w : Bool) → (true ≡ true → w ≡ true) → Only g R r → Band (both H0) sc none r (named g (is_in R)) (length R) c w [] q → ready_of (both H0) (named g (is_in R)) q + length q.lacking ≡ length R → Exactly g q → post (At RolledBack) q
+  old-full r q c w up only b saw exact = (
+    λ a. service-of (both H0) (λ n. refl) g R (addresses_of rec) (held-old H0 g refl) (first-keys t rec s) r (length R) q.table only b.looks (omega (arith, saw, ap length b.lacking)) a ∙ sym (first-service t rec s a),
+    tt,
+    b.marks.caused (up refl),
+    kept-after rec (Reload st) (report_at (At RolledBack) q) q.table rec.wanted refl s.record_in_range s.record_in_range.wanted (within-old r q only b.looks exact) (agrees-old r q only b.looks exact b.still (At RolledBack)),
+  )
+
+  old-short : (r : Names) (q : Progress) (x : ℕ) (xs : List ℕ) → Only g R r → Band (both H0) sc none r (named g (is_in R)) (length R) rec.retries true (x ∷ xs) q → ready_of (both H0) (named g (is_in R)) q + length q.lacking ≡ length R → Exactly g q → post (At ShortOld) q
+  old-short r q x xs only b saw exact = (
+    (
+      omega (arith, ap length b.lacking),
+      fewer-same (length q.lacking) _ _ _ _ (λ a. sym (first-service t rec s a)) (λ a. refl) (service-short (both H0) (λ n. refl) g R (addresses_of rec) (held-old H0 g refl) (first-keys t rec s) r (length R) (length q.lacking) q.table only b.looks saw),
+    ),
+    omega (arith, b.budget, saw),
+    b.marks.caused refl,
+    kept-after rec (Reload st) (report_at (At ShortOld) q) q.table rec.wanted refl s.record_in_range s.record_in_range.wanted (within-old r q only b.looks exact) (agrees-old r q only b.looks exact b.still (At ShortOld)),
+  )
+
+  -- the setup of the target, with these holds
+  abbrev moved : List Hold → Setup
+  moved hs = record { listeners = map listener_of hs; generation = new; wanted = n; retries = st.retries; timeout = st.timeout }
+
+  -- the listeners that the record will have
+  abbrev Lists : List Hold → Type 0
+  Lists hs = reloaded st.listeners rec.listeners ≡ Some (map listener_of hs)
+
+  moved-is : (hs : List Hold) → Lists hs → renewed st (reloaded st.listeners rec.listeners) (next_config rec.generation) ≡ Some (moved hs)
+  moved-is hs lists = ap (λ ls. renewed st ls (next_config rec.generation)) lists ∙ ap (λ o. renewed st (Some (map listener_of hs)) o) (next-is rec.generation numbered)
+
+  moved-agrees : (hs : List Hold) (r : Names) (q : Progress) → Only new (numbers_below n) r → Looks (view (same hs) none r) q.table.rows → Exactly new q → Still t.files rec.note t.limits q.table.files q.note q.table.limits → (e : Ending) → Agrees q.table (recorded (moved hs) rec.pid_path (report_at e q) rec.pid)
+  moved-agrees hs r q only looks exact still e = agrees-after (view (same hs) none r) new q.table _ (λ n. refl) refl (λ h k on. (only h k on).0) looks exact refl refl refl refl (files-still rec.note q.note rec.pid_path rec.pid t.files q.table.files t.limits q.table.limits s.agrees.files still)
+
+  within-new : (hs : List Hold) (r : Names) (q : Progress) → Only new (numbers_below n) r → Looks (view (same hs) none r) q.table.rows → Exactly new q → (k : ℕ) → is_in q.ready k ≡ true → k < n
+  within-new hs r q only looks exact k e = below-of n k (census-within (same hs) (λ n. refl) new (numbers_below n) r q.table.rows q.ready only looks exact k e)
+
+  moved-left : (hs : List Hold) → ((a : Address) → has_address a hs ≡ has wanted a) → (e : Ending) (q : Progress) → setup_after (outcome_of e q.lacking) rec (Reload st) ≡ Some (moved hs) → ((k : ℕ) → is_in q.ready k ≡ true → k < n) → Agrees q.table (recorded (moved hs) rec.pid_path (report_at e q) rec.pid) → AgreesAfter rec (Reload st) (report_at e q) rec.pid q.table
+  moved-left hs keys e q is below agrees = moved-after rec (Reload st) (report_at e q) q.table (moved hs) rec.pid is (some-held hs wanted keys range.listens) low range.retries range.timeout_least range.timeout_most s.record_in_range s.record_in_range.pid below agrees
+
+  new-full : (hs : List Hold) → Lists hs → ((a : Address) → has_address a hs ≡ has wanted a) → (r : Names) (q : Progress) (c : ℕ) (w : Bool) → (false ≡ true → w ≡ true) → Only new (numbers_below n) r → Band (same hs) sc none r (named new (is_in (numbers_below n))) (length (numbers_below n)) c w [] q → ready_of (same hs) (named new (is_in (numbers_below n))) q + length q.lacking ≡ length (numbers_below n) → Exactly new q → post (At Done) q
+  new-full hs lists keys r q c w up only b saw exact = (
+    service-of (same hs) (λ n. refl) new (numbers_below n) wanted refl keys r n q.table only b.looks (omega (arith, saw, ap length b.lacking, below-length n)),
+    tt,
+    tt,
+    moved-left hs keys (At Done) q (moved-is hs lists) (within-new hs r q only b.looks exact) (moved-agrees hs r q only b.looks exact b.still (At Done)),
+  )
+
+  new-short : (hs : List Hold) → Lists hs → ((a : Address) → has_address a hs ≡ has wanted a) → (r : Names) (q : Progress) (x : ℕ) (xs : List ℕ) → Only new (numbers_below n) r → Band (same hs) sc none r (named new (is_in (numbers_below n))) (length (numbers_below n)) rec.retries true (x ∷ xs) q → ready_of (same hs) (named new (is_in (numbers_below n))) q + length q.lacking ≡ length (numbers_below n) → Exactly new q → post (At ShortTarget) q
+  new-short hs lists keys r q x xs only b saw exact = (
+    (omega (arith, ap length b.lacking), service-short (same hs) (λ n. refl) new (numbers_below n) wanted refl keys r n (length q.lacking) q.table only b.looks (omega (arith, saw, below-length n))),
+    omega (arith, b.budget, saw),
+    b.marks.caused refl,
+    moved-left hs keys (At ShortTarget) q (moved-is hs lists) (within-new hs r q only b.looks exact) (moved-agrees hs r q only b.looks exact b.still (At ShortTarget)),
+  )
+
+  low-R : (k : ℕ) → is_in R k ≡ true → k < 1024
+  low-R k e = let lt = every-is_in (λ j. j < rec.wanted) R s.record_in_range.ready k e in omega (arith, lt, s.record_in_range.wanted)
+
+  dR : Distinct R
+  dR = rising-distinct R s.rising
+
+  ---- The way back
+
+  close-old : (l : List Address) (hs : List Hold) → From H0 Common l hs → Common hs → (r : Names) (c : ℕ) (ls : List ℕ) (q : Progress) → Only g R r → Band (both hs) sc none r (named g (is_in R)) (length R) c true ls q → Goes (closes g.image l (settle g.image g R Old rec.retries)) q
+  close-old [] hs o common r c ls q only b =
+      let b' = subst (λ x. Band (both x) sc none r (named g (is_in R)) (length R) c true ls q) o b in
+      rule-settle inv post co (both H0) acts sc (good-both H0 common0) Old g R (held-old H0 g refl) dR low-R rec.retries true old-full old-short rec.retries 0 (omega arith) true (λ e. refl) r ls q only (band-anew inv post co (both H0) acts sc (good-both H0 common0) none r (named g (is_in R)) (length R) c true ls q b')
+  close-old (a ∷ l) hs o common r c ls q only b =
+      rule-close inv post co (both hs) acts sc (good-both hs common) (closes g.image l (settle g.image g R Old rec.retries)) a r (named g (is_in R)) (length R) c true ls q
+      (λ q' b'. close-old l o.before o.rest o.common r c ls q' only (record {
+        looks = looks-allows (view (after_close a (both hs)) none r) (view (both o.before) none r) (record {
+          number = refl;
+          others = λ n e. e;
+          image = refl;
+          holds = ap (lacks_address a) o.is ∙ lacks-put a o.hold o.before o.names o.fresh;
+          starting = λ h k e. e;
+          ready = λ h k e. e;
+          held_starting = λ h k e. absurd (cc e);
+          held = λ h k e. ap (lacks_address a) (held-old hs h (only h k e).0) ∙ lacks-none a H0 o.apart ∙ sym (held-old o.before h (only h k e).0);
+        }) q'.table.rows b'.looks;
+        enough = b'.enough;
+        secured = b'.secured;
+        budget = b'.budget;
+        lacking = b'.lacking;
+        still = b'.still;
+        marks = b'.marks;
+        beside = tt;
+      })) b
+
+  abbrev St : List ℕ → List ℕ → Names → Names → ℕ → Type 0
+  St ks done r names count = Started g new R n ks done r names count
+
+  old-part : (hs : List Hold) (ks done : List ℕ) (ss r names : Names) (count : ℕ) → St ks done r names count → (rows : List Process) → Looks (view (both hs) ss r) rows → weigh (ready_in rec.pid names) rows + length R ≤ weigh (ready_in rec.pid (named g (is_in R))) rows + count
+  old-part hs ks done ss r names count st rows looks =
+      omega (arith, weigh-either rec.pid names (named g (is_in R)) (named new (is_in done)) st.names rows, weigh-set (view (both hs) ss r) new rows looks done, st.counted)
+
+  new-part : (hs : List Hold) (done : List ℕ) (r names : Names) (count : ℕ) → St [] done r names count → (rows : List Process) → Looks (view (both hs) none r) rows → weigh (ready_in rec.pid names) rows + length (numbers_below n) ≤ weigh (ready_in rec.pid (named new (is_in (numbers_below n)))) rows + count
+  new-part hs done r names count st rows looks =
+      omega (arith, weigh-either rec.pid names (named g (is_in R)) (named new (is_in done)) st.names rows, weigh-set (view (both hs) none r) g rows looks R, weigh-part (view (both hs) none r) new rows looks done (numbers_below n) (below-distinct n) (λ k e. ⊎_elim (λ a. a) (λ a. absurd (cc)) (st.all k (below-of n k e))), st.counted)
+
+  -- what quits of the new workers leave
+  only-old : (ks done quit : List ℕ) (r r' names : Names) (count : ℕ) → St ks done r names count → ((k : ℕ) → is_in done k ≡ true → is_in quit k ≡ true) → Less new r quit r' → Only g R r'
+  only-old ks done quit r r' names count st covers less h k e =
+      let l = less h k e in
+      ⊎_elim (λ a. a) (λ a. absurd (true-false (is_in quit k) (covers k a.1) (l.1 a.0))) (st.only h k l.0)
+
+  off-old : (k : ℕ) → named g (is_in R) new k ≡ false
+  off-old k = go (same_generation new g) (next-other g)
+    where
+      go : (b : Bool) → b ≡ false → (b && is_in R k) ≡ false
+      go true e = absurd (cc)
+      go false e = refl
+
+  off-new : (k : ℕ) → named new (is_in (numbers_below n)) g k ≡ false
+  off-new k = go (same_generation g new) (other-next g)
+    where
+      go : (b : Bool) → b ≡ false → (b && is_in (numbers_below n) k) ≡ false
+      go true e = absurd (cc)
+      go false e = refl
+
+  back : (l : List Address) (hs : List Hold) → From H0 Common l hs → Common hs → (ks done quit : List ℕ) (ss r names : Names) (count c : ℕ) (ls : List ℕ) (q : Progress) → St ks done r names count → ((k : ℕ) → is_in done k ≡ true → is_in quit k ≡ true) → Only new quit ss → Band (both hs) sc ss r names count c true ls q → Goes (reload_back g.image g R rec.retries l quit) q
+  back l hs o common ks done quit ss r names count c ls q st covers only b =
+      let tree = closes g.image l (settle g.image g R Old rec.retries) in
+      let b1 = band-part inv post co (both hs) acts sc (good-both hs common) ss r names (named g (is_in R)) count (length R) c true ls q (old-part hs ks done ss r names count st) (omega arith) b in
+      rule-quits inv post co (both hs) acts sc (good-both hs common) tree new quit ss r (named g (is_in R)) (length R) c true ls q (λ k e. off-old k)
+      (λ s' r' q' less_s less b'. close-old l hs o common r' c ls q' (only-old ks done quit r r' names count st covers less)
+      (band-still inv post co (both hs) acts sc (good-both hs common) s' none r' (named g (is_in R)) (length R) c true ls q' (λ h k e. let l = less_s h k e in let o = only h k l.0 in absurd (true-false (is_in quit k) o.1 (l.1 o.0))) b')) b1
+
+  ---- The way on
+
+  -- b is not wanted
+  common-lacks : (b : Address) (hs : List Hold) → has wanted b ≡ false → Common hs → Common (lacks_address b hs)
+  common-lacks b hs off common a c = stays-lacks wanted a b H0 hs off (wanted-of a c.1) (common a c)
+
+  close-new : (l : List Address) (hs : List Hold) → Lists (all_closed l hs) → AllByRecursion (λ b. has wanted b ≡ false) l → ((a : Address) → (has_address a hs && not (has l a)) ≡ has wanted a) → Common hs → (r : Names) (c : ℕ) (q : Progress) → Only new (numbers_below n) r → Band (same hs) sc none r (named new (is_in (numbers_below n))) (length (numbers_below n)) c false [] q → Goes (closes g.image l (settle g.image new (numbers_below n) Target rec.retries)) q
+  close-new [] hs lists off keys common r c q only b =
+      rule-settle inv post co (same hs) acts sc (good-same hs common) Target new (numbers_below n) refl (below-distinct n) (λ k e. omega (arith, below-of n k e)) rec.retries false (new-full hs lists (λ a. sym (and-true (has_address a hs)) ∙ keys a)) (new-short hs lists (λ a. sym (and-true (has_address a hs)) ∙ keys a)) rec.retries 0 (omega arith) false (λ e. e) r [] q only (band-anew inv post co (same hs) acts sc (good-same hs common) none r (named new (is_in (numbers_below n))) (length (numbers_below n)) c false [] q b)
+    where
+      and-true : (z : Bool) → (z && true) ≡ z
+      and-true true = refl
+      and-true false = refl
+  close-new (x ∷ l) hs lists off keys common r c q only b =
+      rule-close inv post co (same hs) acts sc (good-same hs common) (closes g.image l (settle g.image new (numbers_below n) Target rec.retries)) x r (named new (is_in (numbers_below n))) (length (numbers_below n)) c false [] q
+      (λ q' b'. close-new l (lacks_address x hs) lists off.1 (λ a. ap (λ z. z && not (has l a)) (has-lacks a x hs) ∙ move (has_address a hs) (bytes_eq x a) (has l a) ∙ keys a) (common-lacks x hs off.0 common) r c q' only b') b
+    where
+      move : (h e r : Bool) → ((h && not e) && not r) ≡ (h && not (e || r))
+      move true true r = refl
+      move true false r = refl
+      move false e r = refl
+
+  abbrev dropped : List Address
+  dropped = only_in A0 wanted
+
+  abbrev added : List Address
+  added = only_in wanted A0
+
+  abbrev way_on : Tree
+  way_on = reload_on g.image g R rec.retries dropped n
+
+  not-off : (b : Bool) → not b ≡ true → b ≡ false
+  not-off true e = cc
+  not-off false e = refl
+
+  every-filter : (test : Address → Bool) (P : Address → Type 0) (l : List Address) → ((a : Address) → test a ≡ true → P a) → AllByRecursion P (filter test l)
+  every-filter test P [] h = tt
+  every-filter test P (x ∷ l) h = go (test x) refl (every-filter test P l h)
+    where
+      go : (b : Bool) → test x ≡ b → AllByRecursion P (filter test l) → AllByRecursion P (cond b (x ∷ filter test l) (filter test l))
+      go true e all = (h x e, all)
+      go false e all = all
+
+  -- what is held when all is opened, less what is dropped, is what is wanted
+  keys-of : (hs : List Hold) → ((a : Address) → has_address a hs ≡ (has added a || has_address a H0)) → (a : Address) → (has_address a hs && not (has dropped a)) ≡ has wanted a
+  keys-of hs has_it a =
+      ap (λ z. z && not (has dropped a)) (has_it a) ∙ ap (λ z. (z || has_address a H0) && not (has dropped a)) (stands-filter (λ b. not (has A0 b)) wanted a)
+      ∙ ap (λ z. ((has wanted a && not (has A0 a)) || z) && not (has dropped a)) (held-A0 a)
+      ∙ ap (λ z. ((has wanted a && not (has A0 a)) || has A0 a) && not z) (stands-filter (λ b. not (has wanted b)) A0 a) ∙ table (has wanted a) (has A0 a)
+    where
+      table : (w o : Bool) → (((w && not o) || o) && not (o && not w)) ≡ w
+      table true true = refl
+      table true false = refl
+      table false true = refl
+      table false false = refl
+
+      held-A0 : (a : Address) → has_address a H0 ≡ has A0 a
+      held-A0 a = held-map H0 ∙ ap (λ l. has l a) (sym (map-addresses H0) ∙ ap (map (λ (l : Listener). l.address)) s.agrees.listeners)
+        where
+          held-map : (hs : List Hold) → has_address a hs ≡ has (map (λ h. h.address) hs) a
+          held-map [] = refl
+          held-map (h ∷ hs) = ap (λ b. bytes_eq h.address a || b) (held-map hs)
+
+  on : (hs : List Hold) → Lists (all_closed dropped hs) → ((a : Address) → has_address a hs ≡ (has added a || has_address a H0)) → Common hs → (done : List ℕ) (r r1 names : Names) (count c : ℕ) (q : Progress) → St [] done r names count → ((h : Generation) (k : ℕ) → r1 h k ≡ true → r h k ≡ true) → Band (both hs) sc none r1 (named new (is_in (numbers_below n))) (length (numbers_below n)) c false [] q → Goes way_on q
+  on hs lists has_it common done r r1 names count c q st within b =
+      let tree = closes g.image dropped (settle g.image new (numbers_below n) Target rec.retries) in
+      rule-quits inv post co (both hs) acts sc (good-both hs common) tree g (reverse R) none r1 (named new (is_in (numbers_below n))) (length (numbers_below n)) c false [] q (λ k e. off-new k)
+      (λ s' r' q' less_s less b0.
+      let b' = band-still inv post co (both hs) acts sc (good-both hs common) s' none r' (named new (is_in (numbers_below n))) (length (numbers_below n)) c false [] q' (λ h k e. (less_s h k e).0) b0 in
+      let only : Only new (numbers_below n) r' = λ h k e.
+      let l = less h k e in
+      ⊎_elim (λ a. absurd (true-false (is_in (reverse R) k) (in-reverse R k ∙ a.1) (l.1 a.0))) (λ a. (a.0, below-on n k (st.started k a.1))) (st.only h k (within h k l.0)) in
+      close-new dropped hs lists (every-filter (λ a. not (has wanted a)) (λ b. has wanted b ≡ false) A0 (λ a e. not-off (has wanted a) e)) (keys-of hs has_it) common r' c q' only (record {
+        looks = looks-allows (view (both hs) none r') (view (same hs) none r') (record {
+          number = refl;
+          others = λ n e. e;
+          image = refl;
+          holds = refl;
+          starting = λ h k e. e;
+          ready = λ h k e. e;
+          held_starting = λ h k e. absurd (cc e);
+          held = λ h k e. held-new hs h (only h k e).0;
+        }) q'.table.rows b'.looks;
+        enough = b'.enough;
+        secured = b'.secured;
+        budget = b'.budget;
+        lacking = b'.lacking;
+        still = b'.still;
+        marks = b'.marks;
+        beside = tt;
+      })) b
+
+  -- every way covers what was started
+  count-step : (l : List Address) (hs : List Hold) → Lists (all_closed dropped hs) → From H0 Common l hs → ((a : Address) → has_address a hs ≡ (has added a || has_address a H0)) → Common hs → (done : List ℕ) (r names : Names) (count c : ℕ) (q : Progress) → St [] done r names count → Band (both hs) sc none r names count c false [] q → Goes (census g.image new (numbers_below n) (census_edges way_on (reload_back g.image g R rec.retries l (reverse (numbers_below n))))) q
+  count-step l hs lists o has_it common done r names count c q st b =
+      rule-count inv post co (both hs) acts sc (good-both hs common) way_on (reload_back g.image g R rec.retries l (reverse (numbers_below n))) new (numbers_below n) r names count c false [] q (below-distinct n) (λ k e. omega (arith, below-of n k e))
+      (λ k e. ⊎_elim (λ a. low-R k a.1) (λ a. omega (arith, st.started k a.1)) (st.only new k e))
+      (new-part hs done r names count st)
+      (λ cs q' e b' saw exact.
+      let b1 = band-part inv post co (both hs) acts sc (good-both hs common) none (seen r new cs) names (named new (is_in (numbers_below n))) count (length (numbers_below n)) c false [] q' (λ rows looks. new-part hs done r names count st rows (widen cs rows looks)) (omega (arith, below-length n)) b' in
+      on hs lists has_it common done r (seen r new cs) names count c q' st (λ h k e'. and-left (r h k) _ e') b1)
+      (λ cs x xs q' e b' saw exact.
+      let b1 : Band (both hs) sc none r names count c true (x ∷ xs) q' = record { looks = widen cs q'.table.rows b'.looks; enough = b'.enough; secured = b'.secured; budget = b'.budget; lacking = b'.lacking; still = b'.still; marks = b'.marks; beside = tt } in
+      back l hs o common [] done (reverse (numbers_below n)) none r names count c (x ∷ xs) q' st (λ k e'. in-reverse (numbers_below n) k ∙ below-on n k (st.started k e')) (λ h k e'. absurd (cc)) b1)
+      b
+    where
+      widen : (cs : List ℕ) (rows : List Process) → Looks (view (both hs) none (seen r new cs)) rows → Looks (view (both hs) none r) rows
+      widen cs rows looks = looks-allows (view (both hs) none (seen r new cs)) (view (both hs) none r) (record { number = refl; others = λ n e. e; image = refl; holds = refl; starting = λ h k e. e; ready = λ h k e. and-left (r h k) _ e; held_starting = λ h k e. refl; held = λ h k e. refl }) rows looks
+
+  ---- The whole plan
+
+  after-opens : (l : List Address) (hs : List Hold) → Lists (all_closed dropped hs) → From H0 Common l hs → ((a : Address) → has_address a hs ≡ (has added a || has_address a H0)) → Common hs → (r : Names) (c : ℕ) (q : Progress) → Only g R r → Band (both hs) sc none r (named g (is_in R)) (length R) c false [] q → Goes (starts g.image new (numbers_below n) (census g.image new (numbers_below n) (census_edges way_on (reload_back g.image g R rec.retries l (reverse (numbers_below n))))) (λ forked. reload_back g.image g R rec.retries l forked)) q
+  after-opens l hs lists o has_it common r c q only b =
+      rule-starts inv post co (both hs) acts sc (good-both hs common) (Started g new R n) _ (λ forked. reload_back g.image g R rec.retries l forked) new (held-new hs new refl) (one-more g R n) [] false c (numbers_below n) r (named g (is_in R)) (length R)
+      (λ done r' names count q' st b'. count-step l hs lists o has_it common done r' names count c q' st b')
+      (λ forked ks done ss r' names count q' within only_s st covers b'. back l hs o common ks done forked ss r' names count (c + 1) [] q' st
+      (λ k e. ⊎_elim (λ z. absurd (cc (e, ap (λ l. is_in l k) z.1))) (λ all. all k (below-on n k (st.started k e))) covers) only_s b')
+      q
+      (record {
+        only = λ h k e. inl (only h k e);
+        fresh = λ k e. (refl, below-of n k e);
+        apart = below-distinct n;
+        started = λ k e. absurd (cc);
+        all = λ k lt. inr (below-on n k lt);
+        names = λ h k e. inl e;
+        counted = omega arith;
+      }) b
+
+  put-common : (h : Hold) (hs : List Hold) → Common hs → Common (put_hold h hs)
+  put-common h hs common a c = stays-put h a H0 hs (common a c)
+
+  opening : (todo l : List Address) (hs : List Hold) → (all_opened todo (map listener_of hs) ≡ opened st.listeners rec.listeners) × RisesFrom 3 (fds hs) → AllByRecursion (λ a. has_address a H0 ≡ false) todo → From H0 Common l hs → ((a : Address) → (has l a || has todo a) ≡ has added a) → Common hs → (r : Names) (c : ℕ) (q : Progress) → Only g R r → Band (both hs) sc none r (named g (is_in R)) (length R) c false [] q → Goes (opens g.image todo l (λ opened. starts g.image new (numbers_below n) (census g.image new (numbers_below n) (census_edges way_on (reload_back g.image g R rec.retries opened (reverse (numbers_below n))))) (λ forked. reload_back g.image g R rec.retries opened forked)) (λ opened. closes g.image opened (settle g.image g R Old rec.retries))) q
+  opening [] l hs listing off o in_all common r c q only b =
+      let keys : (a : Address) → has_address a hs ≡ (has added a || has_address a H0) = λ a. from-has H0 Common l hs o a ∙ ap (λ z. z || has_address a H0) (sym (or-false (has l a)) ∙ in_all a) in
+      let lists : Lists (all_closed dropped hs) = ap (λ o. option_map (kept wanted) o) (sym listing.0) ∙ ap (λ ls. Some ls) (sym (closed-kept A0 wanted hs (λ a. keys a ∙ ap (λ z. has added a || z) (first-keys t rec s a)))) in
+      after-opens l hs lists o keys common r c q only b
+    where
+      or-false : (z : Bool) → (z || false) ≡ z
+      or-false true = refl
+      or-false false = refl
+  opening (x ∷ todo) l hs listing off o in_all common r c q only b =
+      rule-open inv post co (both hs) acts sc (good-both hs common) _ _ x r (named g (is_in R)) (length R) c false [] q
+      (λ h q' is fd room fresh b'. opening todo (x ∷ l) (put_hold h hs) (opens-on t.limits.descriptors h hs todo (opened st.listeners rec.listeners) ds.limit listing.1 fd room (subst (λ z. all_opened (z ∷ todo) (map listener_of hs) ≡ opened st.listeners rec.listeners) (sym is) listing.0)) off.1 (record { hold = h; before = hs; is = refl; names = is; fresh = fresh; apart = off.0; common = common; rest = o }) (λ a. move (bytes_eq x a) (has l a) (has todo a) ∙ in_all a) (put-common h hs common) r c q' only (record {
+        looks = looks-allows (view (after_open h (both hs)) none r) (view (both (put_hold h hs)) none r) (record {
+          number = refl;
+          others = λ n e. e;
+          image = refl;
+          holds = refl;
+          starting = λ h k e. e;
+          ready = λ h k e. e;
+          held_starting = λ j k e. absurd (cc e);
+          held = λ j k e. held-old hs j (only j k e).0 ∙ sym (held-old (put_hold h hs) j (only j k e).0);
+        }) q'.table.rows b'.looks;
+        enough = b'.enough;
+        secured = b'.secured;
+        budget = b'.budget;
+        lacking = b'.lacking;
+        still = b'.still;
+        marks = b'.marks;
+        beside = tt;
+      }))
+      (λ q' b'. close-old l hs o common r (c + 1) [] q' only b') b
+    where
+      move : (e p t : Bool) → ((e || p) || t) ≡ (p || (e || t))
+      move true true t = refl
+      move true false t = refl
+      move false p t = refl
+
+  first-listing : (all_opened added (map listener_of H0) ≡ opened st.listeners rec.listeners) × RisesFrom 3 (fds H0)
+  first-listing = (
+    ap (λ ls. all_opened added ls) s.agrees.listeners ∙ ap (λ l. all_opened l rec.listeners) (sym (added-is st.listeners rec.listeners)),
+    subst (λ l. RisesFrom 3 l) (sym (fds-listed H0 ∙ ap (map (λ (l : Listener). l.descriptor)) s.agrees.listeners)) ds.descriptors,
+  )
+
+  goes : Goes (reload_tree g.image g R rec.retries A0 wanted n) (start_at t rec.note)
+  goes =
+      let count = begin-count t rec s in
+      opening added [] H0 first-listing (every-filter (λ a. not (has A0 a)) (λ a. has_address a H0 ≡ false) wanted (λ a e. held-none a (not-off (has A0 a) e))) refl (λ a. refl) common0 (named g (is_in R)) 0 (start_at t rec.note)
+      (λ h k e. (same-is h g (and-left _ _ e), and-right (same_generation h g) _ e))
+      (record {
+        looks = looks-allows (first_view rec H0) (view (both H0) none (named g (is_in R))) (record { number = refl; others = λ n e. e; image = refl; holds = refl; starting = λ h k e. e; ready = λ h k e. e; held_starting = λ h k e. absurd (cc e); held = λ h k e. sym (held-old H0 h (same-is h g (and-left _ _ e))) }) t.rows looks0;
+        enough = omega (arith, few);
+        secured = λ e. omega (arith, count);
+        budget = omega (arith, count);
+        lacking = refl;
+        still = record { files_stay = refl; note_stays = refl; limits_stay = refl };
+        marks = record { clean = λ e. refl; blamed = λ e. absurd (cc e); caused = λ e. absurd (cc e) };
+        beside = tt;
+      })
+    where
+      held-none : (a : Address) → has A0 a ≡ false → has_address a H0 ≡ false
+      held-none a e = held-map H0 ∙ ap (λ l. has l a) (sym (map-addresses H0) ∙ ap (map (λ (l : Listener). l.address)) s.agrees.listeners) ∙ e
+        where
+          held-map : (hs : List Hold) → has_address a hs ≡ has (map (λ h. h.address) hs) a
+          held-map [] = refl
+          held-map (h ∷ hs) = ap (λ b. bytes_eq h.address a || b) (held-map hs)
+
+pub reload_headline : ReloadHeadline
+reload_headline t rec st pattern a =
+    let (range, ds, numbered) = a.accepts in
+    let at = start_at t rec.note in
+    let tree = plan_tree rec (Reload st) in
+    let i = inv t rec st pattern a.start range ds numbered in
+    let c = co t rec st pattern a.start range ds numbered in
+    let all = from-along i (post t rec st pattern a.start range ds numbered) Anyhow Unasked c tree at (goes t rec st pattern a.start range ds numbered) a.spared (are-mild-anyhow c tree at) in
+    let ran = run_of rec (Reload st) pattern t in
+    let target = want rec (Reload st) in (
+      record {
+        says = all.last.0;
+        after = all.last.3;
+        kept = every-more i (λ q. Kept (service t) target t q.table) (λ q h. h.0) ran.passed all.always;
+        blamed = every-more i IsBlamed (λ q h. h.2) ran.passed all.always;
+        cause = all.last.2;
+        paid = all.last.1;
+      },
+      every-more i (Floor (service t) target t st.workers) (λ q h address common. omega (arith, first-few t rec a.start address, h.1 address common)) ran.passed all.always,
+    )

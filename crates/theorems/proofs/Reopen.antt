@@ -1,0 +1,63 @@
+-- The headline for a reopening.
+use Rattle.theorems.proofs.Rows.{and-left, and-right}
+use Rattle.theorems.proofs.Begins.{rising-distinct}
+use Rattle.theorems.proofs.Views.{named}
+use Rattle.theorems.proofs.Effects.{none, same-is}
+use Rattle.theorems.proofs.Small.{every-is_in}
+use Rattle.std.proofs.Common.{ℕ, ◌<◌, false, List, [], length, refl, arith}
+use Rattle.listener_set.specs.Numbers.{is_in}
+use Rattle.listener_set.specs.declared.generation.Generation.{Generation}
+use Rattle.definitions.specs.Table.{same_generation, Table}
+use Rattle.definitions.specs.Record.{Record}
+use Rattle.definitions.specs.declared.targets.Target.TheVariants.{Reopen}
+use Rattle.definitions.specs.declared.plans.Side.TheVariants.{Target}
+use Rattle.definitions.specs.Plans.{plan_tree, reopen_tree, settle}
+use Rattle.definitions.specs.Run.{Pattern, start_at}
+use Rattle.definitions.specs.Claims.{IsStart, ReopenHeadline}
+use Rattle.theorems.proofs.Same.{Like, first, scene, inv, post, course, acts, good, Goes, new-full, new-short, start-band, whole}
+use Rattle.theorems.proofs.Rules.{rule-usr1s, rule-settle}
+
+-- The target wants what there is.
+abbrev like_reopen : (t : Table) (rec : Record) → IsStart t rec → Like rec Reopen
+like_reopen t rec s = record {
+  count = length rec.ready;
+  set = rec.ready;
+  wanted = rec.wanted;
+  floor = 0;
+  sized = refl;
+  wants = refl;
+  below = λ k e. every-is_in (λ j. j < rec.wanted) rec.ready s.record_in_range.ready k e;
+  most = s.record_in_range.wanted;
+  done = refl;
+  short = λ m. refl;
+  rolled_back = refl;
+  short_old = λ m. refl;
+  leaves = λ ran h. h;
+}
+
+module _ (t : Table) (rec : Record) (pattern : Pattern) (s : IsStart t rec) where
+  abbrev g : Generation
+  g = rec.generation
+
+  abbrev R : List ℕ
+  R = rec.ready
+
+  abbrev like : Like rec Reopen
+  like = like_reopen t rec s
+
+  goes : Goes t rec Reopen pattern s like (reopen_tree g.image g R rec.retries) (start_at t rec.note)
+  goes =
+      let u = first t rec Reopen pattern s like in
+      let sc = scene t rec Reopen pattern s like in
+      let I = inv t rec Reopen pattern s like in
+      let P = post t rec Reopen pattern s like in
+      let C = course t rec Reopen pattern s like in
+      let A = acts t rec Reopen pattern s like in
+      let G = good t rec Reopen pattern s like in
+      rule-usr1s I P C u A sc G (settle g.image g R Target rec.retries) g R none u.ready (named g (is_in R)) (length R) 0 false [] (start_at t rec.note)
+      (λ q b. rule-settle I P C u A sc G Target g R refl (rising-distinct R s.rising) (λ k e. let lt = like.below k e in omega (arith, lt, s.record_in_range.wanted)) rec.retries false (new-full t rec Reopen pattern s like false) (new-short t rec Reopen pattern s like) rec.retries 0 (omega arith) false (λ e. e) u.ready [] q
+      (λ h k e. (same-is h g (and-left _ _ e), and-right (same_generation h g) _ e)) b)
+      (start-band t rec Reopen pattern s like (omega arith))
+
+pub reopen_headline : ReopenHeadline
+reopen_headline t rec pattern a = (whole t rec Reopen pattern a.start (like_reopen t rec a.start) (plan_tree rec Reopen) (goes t rec pattern a.start) a.spared).0

@@ -1,0 +1,334 @@
+-- The headline for a stop.
+use Rattle.std.proofs.Common.{◌≡◌, ℕ, ◌+◌, ◌≤◌, Bool, true, false, not, List, [], ◌∷◌, Option, Some, None, refl, sym, ap, ◌∙◌, subst, arith, ⊎_elim}
+use Rattle.std.specs.Prelude.{filter_map, reverse, unwrap_or, ⊤, ◌==◌, bytes_eq, if◌then◌else◌}
+use Rattle.std.specs.List.{AllByRecursion, list_any, cons_option}
+use Rattle.listener_set.specs.Numbers.{is_in}
+use Rattle.listener_set.specs.declared.generation.Generation.{Generation}
+use Rattle.definitions.specs.declared.plans.PidNote.{PidNote}
+use Rattle.definitions.specs.declared.plans.PidNote.TheVariants.{InPlace, AtOldbin, OldbinLeft, Left, NoFile}
+use Rattle.definitions.specs.declared.plans.End.TheVariants.{Done, RolledBack, ShortOld, ShortTarget}
+use Rattle.definitions.specs.declared.plans.Order.TheVariants.{Make}
+use Rattle.definitions.specs.declared.calls.Call.TheVariants.{RemovePid, Leave}
+use Rattle.definitions.specs.declared.calls.Answer.TheVariants as answer
+use Rattle.definitions.specs.declared.targets.Target.TheVariants.{Stop}
+use Rattle.definitions.specs.Table.{FilePath, File, Process, Master, Worker, Foreign, Table, Hold, Caller, owner_at, owner_if, has_address}
+use Rattle.definitions.specs.Calls.{Stepped, gives, step_by, each_row, with_files, without_file, without_master}
+use Rattle.definitions.specs.Service.{is_live_with, service, IsSame}
+use Rattle.definitions.specs.Record.{Record, FilesAre, oldbin}
+use Rattle.definitions.specs.Target.{want}
+use Rattle.definitions.specs.Tree.{Tree, Ends, reply_of}
+use Rattle.definitions.specs.Plans.{plan_tree, stop_tree, quits, kills, awaits_gone, then_edge, note_edges, removes, remove_oldbin_too, has_oldbin, stopped, does}
+use Rattle.definitions.specs.Run.{outcome_of, Pattern, Progress, Ending, At, Lost, Ran, start_at, noted, after_call, after_moment, answered}
+use Rattle.definitions.specs.Claims.{is_failed_removal, Says, HasCause, IsPaid, IsStart, Kept, IsBlamed, StopNote, StopHeadline, run_of}
+use Rattle.theorems.proofs.Rows.{every-more}
+use Rattle.theorems.proofs.Files.{gone-file}
+use Rattle.theorems.proofs.Views.{Names, View, Looks, Fine, finds, eqb-refl}
+use Rattle.theorems.proofs.Exits.{spares-each}
+use Rattle.theorems.proofs.Effects.{none, looks-allows}
+use Rattle.theorems.proofs.Sets.{in-here}
+use Rattle.theorems.proofs.Services.{sole-fine}
+use Rattle.theorems.proofs.Notes.{LeftByFault, SaidBy, left-by}
+use Rattle.theorems.proofs.Ends.{report_at}
+use Rattle.definitions.specs.After.{record_after}
+use Rattle.definitions.specs.declared.calls.Reply.{Reply}
+use Rattle.theorems.proofs.Begins.{first_view, begin}
+use Rattle.theorems.proofs.Logic.{Unasked, course_after, Behind, Course, Anyhow, Along, from-along, are-mild-anyhow, remove-cases, unfailing}
+use Rattle.theorems.proofs.Rules.{rule-waits, band-anew, Scene, plain_scene, Marks, Band, view, any, ready_of, Answers, marks-plain, marks-wrong, rule-step, rule-quits, rule-kills, band-exits, band-inv}
+
+---- Files
+
+-- no file appears where another is removed
+pub still-gone : (path other : FilePath) (files : List File) → owner_at path files ≡ None → owner_at path (without_file other files) ≡ None
+still-gone path other [] e = refl
+still-gone path other (f ∷ files) e = go (bytes_eq f.path path) refl e (still-gone path other files) (not (bytes_eq f.path other))
+  where
+    go : (b : Bool) → bytes_eq f.path path ≡ b → owner_if b f.owner (owner_at path files) ≡ None → (owner_at path files ≡ None → owner_at path (without_file other files) ≡ None) → (c : Bool) → owner_at path (if c then f ∷ without_file other files else without_file other files) ≡ None
+    go true is e ih c = absurd (cc)
+    go false is e ih true = rw is (ih e)
+    go false is e ih false = ih e
+
+---- Leaving
+
+-- when the only master leaves, no live master is there
+none-live : (v : View) (test : List Hold → Bool) (rows : List Process) → AllByRecursion (Fine v) rows → list_any (is_live_with test) (filter_map (without_master v.number) rows) ≡ false
+none-live v test [] fine = refl
+none-live v test (Master n q i live hs ∷ rows) fine = go (n == v.number) (eqb-refl n v.number fine.0.0) (none-live v test rows fine.1)
+  where
+    go : (b : Bool) → b ≡ true → list_any (is_live_with test) (filter_map (without_master v.number) rows) ≡ false → list_any (is_live_with test) (cons_option (if b then None else Some (Master n (if q == v.number then 1 else q) i live hs)) (filter_map (without_master v.number) rows)) ≡ false
+    go true e ih = ih
+    go false e ih = absurd (cc)
+none-live v test (Worker n q g k st hs ∷ rows) fine = go (q == v.number) (none-live v test rows fine.1)
+  where
+    go : (b : Bool) → list_any (is_live_with test) (filter_map (without_master v.number) rows) ≡ false → list_any (is_live_with test) (cons_option (if b then None else Some (Worker n q g k st hs)) (filter_map (without_master v.number) rows)) ≡ false
+    go true ih = ih
+    go false ih = ih
+none-live v test (Foreign n hs ∷ rows) fine = none-live v test rows fine.1
+
+-- The files after a stop are as its note says; where a removal failed they may be anything.
+abbrev pub FilesThen : PidNote → Option FilePath → List File → Type 0
+FilesThen NoFile None files = ⊤
+FilesThen NoFile (Some path) files = (owner_at path files ≡ None) × (owner_at (oldbin path) files ≡ None)
+FilesThen Left path files = ⊤
+FilesThen InPlace path files = ⊥
+FilesThen AtOldbin path files = ⊥
+FilesThen OldbinLeft path files = ⊥
+
+module _ (t : Table) (rec : Record) (quick : Bool) (pattern : Pattern) (s : IsStart t rec) where
+  abbrev g : Generation
+  g = rec.generation
+
+  abbrev R : List ℕ
+  R = rec.ready
+
+  abbrev u : View
+  u = first_view rec s.agrees.holds
+
+  abbrev sc : List File → PidNote → Scene rec.pid rec.generation.image
+  sc files note = plain_scene rec.pid rec.generation.image 0 files note t.limits
+
+  abbrev co : Course
+  co = record { text = []; pattern = pattern; executing = rec.generation.image ∷ []; heirs = [] }
+
+  acts : is_in (rec.generation.image ∷ []) rec.generation.image ≡ true
+  acts = in-here rec.generation.image rec.generation.image [] refl
+
+  abbrev inv : Progress → Type 0
+  inv q = Kept (service t) (want rec (Stop quick)) t q.table × IsBlamed q
+
+  abbrev post : Ending → Progress → Type 0
+  post (At Done) q = IsSame (service q.table) (want rec (Stop quick)) × FilesThen q.note rec.pid_path q.table.files
+  post (At RolledBack) q = ⊥
+  post (At ShortOld) q = ⊥
+  post (At ShortTarget) q = ⊥
+  post Lost q = ⊥
+
+  abbrev Goes : Tree → Progress → Type 0
+  Goes tree q = Along inv post Anyhow Unasked co tree q
+
+  good : (names : Names) (count : ℕ) (w : Bool) (q : Progress) → 0 ≤ count → Looks (view u any any) q.table.rows → (1 ≤ 0 → count ≤ ready_of u names q + q.losses) → Marks w q.faults q.losses q.cause → ⊤ → inv q
+  good names count w q enough looks secured marks beside = (λ a socket common on. absurd (cc (common.1)), (marks.clean, marks.blamed))
+
+  -- what is known: the master is alone, and of its workers nothing is counted
+  abbrev Holds : List File → PidNote → Bool → Progress → Type 0
+  Holds files note w q = Band u (sc files note) any any none 0 0 w [] q
+
+  widen : (files : List File) (note : PidNote) (st r : Names) (w : Bool) (q : Progress) → Band u (sc files note) st r none 0 0 w [] q → Holds files note w q
+  widen files note st r w q b = record {
+    looks = looks-allows (view u st r) (view u any any) (record { number = refl; others = λ n e. e; image = refl; holds = refl; starting = λ h k e. refl; ready = λ h k e. refl; held_starting = λ h k e. refl; held = λ h k e. refl }) q.table.rows b.looks;
+    enough = b.enough;
+    secured = λ e. absurd (omega (arith, e));
+    budget = omega arith;
+    lacking = b.lacking;
+    still = b.still;
+    marks = b.marks;
+    beside = tt;
+  }
+
+  forget : (files : List File) (note : PidNote) (w : Bool) (q : Progress) → Holds files note w q → Holds files note false q
+  forget files note w q b = record { looks = b.looks; enough = b.enough; secured = λ e. absurd (omega (arith, e)); budget = omega arith; lacking = b.lacking; still = b.still; marks = record { clean = b.marks.clean; blamed = b.marks.blamed; caused = λ e. absurd (cc e) }; beside = tt }
+
+  ---- The steps
+
+  quits-all : (rest : Tree) (ks : List ℕ) (files : List File) (note : PidNote) (q : Progress) → ((q' : Progress) → Holds files note false q' → Goes rest q') → Holds files note false q → Goes (quits g.image g ks rest) q
+  quits-all rest ks files note q next b =
+      rule-quits inv post co u acts (sc files note) good rest g ks any any none 0 0 false [] q (λ k e. refl) (λ st r q' less_s less b'. next q' (widen files note st r false q' b')) b
+
+  kills-all : (rest : Tree) (ks : List ℕ) (files : List File) (note : PidNote) (q : Progress) → ((q' : Progress) → Holds files note false q' → Goes rest q') → Holds files note false q → Goes (kills g.image g ks rest) q
+  kills-all rest ks files note q next b =
+      rule-kills inv post co u acts (sc files note) good rest g ks any any none 0 0 false [] q (λ k e. refl) (λ st r q' less_s less b'. next q' (widen files note st r false q' b')) b
+
+  waits-all : (rest : Tree) (ks : List ℕ) (files : List File) (note : PidNote) (q : Progress) → ((q' : Progress) → Holds files note false q' → Goes rest q') → Holds files note false q → Goes (awaits_gone g.image g ks rest) q
+  waits-all rest ks files note q next b =
+      rule-waits inv post co u acts (sc files note) good rest g ks any any none 0 false [] q (λ k e. refl)
+      (λ st r w k q' sub_st sub_r up b'. next q' (forget files note w q' (widen files note st r w q' (band-anew inv post co u acts (sc files note) good st r none 0 k w [] q' b')))) 0 b
+
+  said-so : (said : Option PidNote) (files : List File) (note : PidNote) (w : Bool) (q : Progress) → Holds files note w q → Holds files (unwrap_or said note) w (noted said q)
+  said-so None files note w q b = b
+  said-so (Some x) files note w q b = record { looks = b.looks; enough = b.enough; secured = λ e. absurd (omega (arith, e)); budget = omega arith; lacking = b.lacking; still = record { files_stay = b.still.files_stay; note_stays = refl; limits_stay = b.still.limits_stay }; marks = b.marks; beside = tt }
+
+  -- A removal, and what its edges say.
+  removal : (path : FilePath) (fine fault : Option PidNote) (rest : Tree) (files : List File) (note : PidNote) (q : Progress) → ((q' : Progress) → Holds (without_file path files) (unwrap_or fine note) false q' → Goes rest q') → ((q' : Progress) → Holds files (unwrap_or fault note) false q' → Goes rest q') → Holds files note false q → Goes (does g.image (RemovePid path) (note_edges fine fault rest)) q
+  removal path fine fault rest files note q on_fine on_fault b =
+      let order = Make (RemovePid path) in
+      let bs = note_edges fine fault rest in
+      rule-step inv post co u acts (sc files note) good order [] bs any any none 0 0 false [] q refl b (λ p b' fate.
+      remove-cases co.text g.image (record { number = rec.pid; holds = s.agrees.holds }) path fate p.table (λ st. Answers inv post co u acts (sc files note) good order [] bs p st)
+      (on_fault (noted fault (after_call order [] (gives answer.IoFault p.table) p)) (forget files (unwrap_or fault note) true _
+      (said-so fault files note true (after_call order [] (gives answer.IoFault p.table) p)
+      (record { looks = b'.looks; enough = b'.enough; secured = λ e. absurd (omega (arith, e)); budget = omega arith; lacking = b'.lacking; still = b'.still; marks = marks-wrong false p.faults (p.faults + 1) p.losses (p.calls + 1) p.cause (omega arith) b'.marks; beside = tt }))))
+      (on_fine (noted fine (after_call order [] (gives answer.Fine (with_files (without_file path p.table.files) p.table)) p))
+      (said-so fine (without_file path files) note false (after_call order [] (gives answer.Fine (with_files (without_file path p.table.files) p.table)) p)
+      (record {
+        looks = b'.looks;
+        enough = b'.enough;
+        secured = λ e. absurd (omega (arith, e));
+        budget = omega arith;
+        lacking = b'.lacking;
+        still = record { files_stay = ap (without_file path) b'.still.files_stay; note_stays = b'.still.note_stays; limits_stay = b'.still.limits_stay };
+        marks = marks-plain false p.faults p.losses (p.calls + 1) p.cause b'.marks;
+        beside = tt;
+      }))))
+
+  ---- The ends
+
+  leaving : (files : List File) (note : PidNote) (q : Progress) → FilesThen note rec.pid_path files → Holds files note false q → Goes (stopped g.image) q
+  leaving files note q as_said b spared mild =
+      let order = Make Leave in
+      let moment = pattern (q.calls + 1) in
+      let middle = after_moment moment.exits q in
+      let sp = spares-each co.executing g.image moment.exits acts spared in
+      let b' = band-exits u (sc files note) any any none 0 0 false [] moment.exits q sp mild b in
+      let me : Caller = record { number = rec.pid; holds = s.agrees.holds } in
+      let is : answered [] g.image order moment.fate middle ≡ gives answer.Fine (each_row (without_master rec.pid) middle.table) =
+      ap (λ (o : Option Caller). step_by [] g.image o Leave moment.fate middle.table) (finds (view u any any) middle.table.rows b'.looks) ∙ unfailing [] g.image me Leave moment.fate middle.table tt in
+      let gone = after_call order [] (gives answer.Fine (each_row (without_master rec.pid) middle.table)) middle in
+      let marks = marks-plain false middle.faults middle.losses (middle.calls + 1) middle.cause b'.marks in
+      let fine = sole-fine (view u any any) (λ n. refl) middle.table.rows b'.looks.fine in
+      let kept : inv gone = (λ a socket common on. absurd (cc (common.1)), (marks.clean, marks.blamed)) in
+      let empty : IsSame (service gone.table) (want rec (Stop quick)) = λ a. rw (none-live (view u any any) (has_address a) middle.table.rows fine) refl in
+      let files_then : FilesThen gone.note rec.pid_path gone.table.files = subst (λ x. FilesThen x rec.pid_path gone.table.files) (sym b'.still.note_stays) (subst (λ x. FilesThen note rec.pid_path x) (sym b'.still.files_stay) as_said) in (
+        band-inv inv post co u acts (sc files note) good any any none 0 0 false [] q b,
+        band-inv inv post co u acts (sc files note) good any any none 0 0 false [] middle b',
+        tt,
+        subst (λ (st : Stepped). Behind inv post Anyhow Unasked (course_after order co) (then_edge (Ends Done)) (reply_of [] st.answer) (after_call order [] st middle)) (sym is) (kept, (empty, files_then)),
+      )
+
+  -- the rest of the plan, from what the files and the note are
+  abbrev Next : Option FilePath → Type 0
+  Next path = (files : List File) (note : PidNote) (q : Progress) → FilesThen note path files → Holds files note false q → Goes (stopped g.image) q
+
+  -- The file with the suffix goes too.
+  removing-both : (path : FilePath) (files : List File) (note : PidNote) (q : Progress) → Next (Some path) → Holds files note false q → Goes (does g.image (RemovePid path) (note_edges (Some NoFile) (Some Left) (does g.image (RemovePid (oldbin path)) (note_edges None (Some Left) (stopped g.image))))) q
+  removing-both path files note q next b =
+      removal path (Some NoFile) (Some Left) (does g.image (RemovePid (oldbin path)) (note_edges None (Some Left) (stopped g.image))) files note q
+      (λ q' b'. removal (oldbin path) None (Some Left) (stopped g.image) (without_file path files) NoFile q'
+      (λ q'' b''. next (without_file (oldbin path) (without_file path files)) NoFile q'' (still-gone path (oldbin path) (without_file path files) (gone-file path files), gone-file (oldbin path) (without_file path files)) b'')
+      (λ q'' b''. next (without_file path files) Left q'' tt b'') b')
+      (λ q' b'. removal (oldbin path) None (Some Left) (stopped g.image) files Left q' (λ q'' b''. next (without_file (oldbin path) files) Left q'' tt b'') (λ q'' b''. next files Left q'' tt b'') b') b
+
+  removing : (path : Option FilePath) (note : PidNote) (files : List File) (q : Progress) → Next path → FilesAre note path rec.pid files → Holds files note false q → Goes (removes g.image path note (stopped g.image)) q
+  removing None InPlace files q next are b = absurd are
+  removing None AtOldbin files q next are b = absurd are
+  removing None OldbinLeft files q next are b = absurd are
+  removing None Left files q next are b = absurd are
+  removing None NoFile files q next are b = next files NoFile q tt b
+  removing (Some path) InPlace files q next are b =
+      removal path (Some NoFile) (Some Left) (stopped g.image) files InPlace q
+      (λ q' b'. next (without_file path files) NoFile q' (gone-file path files, still-gone (oldbin path) path files are.1) b')
+      (λ q' b'. next files Left q' tt b') b
+  removing (Some path) AtOldbin files q next are b = removing-both path files AtOldbin q next b
+  removing (Some path) OldbinLeft files q next are b = removing-both path files OldbinLeft q next b
+  removing (Some path) Left files q next are b = absurd are
+  removing (Some path) NoFile files q next are b = absurd are
+
+  ---- The whole plan
+
+  at_first : Holds t.files rec.note false (start_at t rec.note)
+  at_first =
+      let looks0 = begin t rec s in
+      widen t.files rec.note none u.ready false (start_at t rec.note)
+      (record { looks = looks0; enough = omega arith; secured = λ e. absurd (omega (arith, e)); budget = omega arith; lacking = refl; still = record { files_stay = refl; note_stays = refl; limits_stay = refl }; marks = record { clean = λ e. refl; blamed = λ e. absurd (cc e); caused = λ e. absurd (cc e) }; beside = tt })
+
+  ending : (q : Progress) → Holds t.files rec.note false q → Goes (removes g.image rec.pid_path rec.note (stopped g.image)) q
+  ending q b = removing rec.pid_path rec.note t.files q (λ files note q' as_said b'. leaving files note q' as_said b') s.agrees.files b
+
+  goes-quick : Goes (kills g.image g R (removes g.image rec.pid_path rec.note (stopped g.image))) (start_at t rec.note)
+  goes-quick = kills-all (removes g.image rec.pid_path rec.note (stopped g.image)) R t.files rec.note (start_at t rec.note) ending at_first
+
+  goes-slowly : Goes (quits g.image g (reverse R) (awaits_gone g.image g (reverse R) (removes g.image rec.pid_path rec.note (stopped g.image)))) (start_at t rec.note)
+  goes-slowly =
+      quits-all (awaits_gone g.image g (reverse R) (removes g.image rec.pid_path rec.note (stopped g.image))) (reverse R) t.files rec.note (start_at t rec.note)
+      (λ q b. waits-all (removes g.image rec.pid_path rec.note (stopped g.image)) (reverse R) t.files rec.note q ending b) at_first
+
+---- Only a failed removal leaves a file
+
+unsaid : (removes : Bool) (replies : List Reply) → SaidBy removes replies None
+unsaid removes replies e = absurd (cc e)
+
+said-none : (removes : Bool) (replies : List Reply) → SaidBy removes replies (Some NoFile)
+said-none removes replies e = absurd (cc e)
+
+by-quits : (by : ℕ) (g : Generation) (ks : List ℕ) (rest : Tree) → LeftByFault rest → LeftByFault (quits by g ks rest)
+by-quits by g [] rest h = h
+by-quits by g (x ∷ ks) rest h = (unsaid false _, by-quits by g ks rest h, tt)
+
+by-kills : (by : ℕ) (g : Generation) (ks : List ℕ) (rest : Tree) → LeftByFault rest → LeftByFault (kills by g ks rest)
+by-kills by g [] rest h = h
+by-kills by g (x ∷ ks) rest h = (unsaid false _, by-kills by g ks rest h, tt)
+
+by-waits : (by : ℕ) (g : Generation) (ks : List ℕ) (rest : Tree) → LeftByFault rest → LeftByFault (awaits_gone by g ks rest)
+by-waits by g [] rest h = h
+by-waits by g (x ∷ ks) rest h =
+    let more = by-waits by g ks rest h in
+    (unsaid false _, more, (unsaid false _, (unsaid false _, more, tt), tt))
+
+by-removes : (by : ℕ) (path : Option FilePath) (note : PidNote) (rest : Tree) → LeftByFault rest → LeftByFault (removes by path note rest)
+by-removes by None note rest h = h
+by-removes by (Some path) note rest h =
+    let more = too (has_oldbin note) in
+    (said-none true _, more, ((λ e. (refl, refl)), more, tt))
+  where
+    too : (b : Bool) → LeftByFault (remove_oldbin_too by path b rest)
+    too true = (unsaid true _, h, ((λ e. (refl, refl)), h, tt))
+    too false = h
+
+by-stop : (by : ℕ) (g : Generation) (ready : List ℕ) (path : Option FilePath) (note : PidNote) (quick : Bool) → LeftByFault (stop_tree by g ready path note quick)
+by-stop by g ready path note true = by-kills by g ready (removes by path note (stopped by)) (by-removes by path note (stopped by) (unsaid false _, tt, tt))
+by-stop by g ready path note false =
+    by-quits by g (reverse ready) (awaits_gone by g (reverse ready) (removes by path note (stopped by)))
+    (by-waits by g (reverse ready) (removes by path note (stopped by)) (by-removes by path note (stopped by) (unsaid false _, tt, tt)))
+
+---- The headline
+
+not-left : (note : PidNote) (path : Option FilePath) (pid : ℕ) (files : List File) → FilesAre note path pid files → note ≡ Left → ⊥
+not-left InPlace path pid files are e = cc e
+not-left AtOldbin path pid files are e = cc e
+not-left OldbinLeft path pid files are e = cc e
+not-left NoFile path pid files are e = cc e
+not-left Left None pid files are e = are
+not-left Left (Some path) pid files are e = are
+
+stop-note : (note : PidNote) (path : Option FilePath) (ran : Ran) → FilesThen note path ran.last.table.files → (note ≡ Left → list_any (λ e. is_failed_removal e.call e.answer) ran.entries ≡ true) → StopNote note path ran
+stop-note NoFile None ran files failed = tt
+stop-note NoFile (Some path) ran files failed = files
+stop-note Left path ran files failed = failed refl
+stop-note InPlace path ran files failed = absurd files
+stop-note AtOldbin path ran files failed = absurd files
+stop-note OldbinLeft path ran files failed = absurd files
+
+-- A stop is done, whatever is answered.
+abbrev AllDone : Table → Record → Bool → Ending → Progress → Type 0
+AllDone t rec quick e q =
+    Says (outcome_of e q.lacking) (service t) (want rec (Stop quick)) q.table × (record_after rec (Stop quick) (report_at e q) rec.pid ≡ None) × HasCause (outcome_of e q.lacking) q.cause × IsPaid rec.retries (outcome_of e q.lacking) q
+
+all-done : (t : Table) (rec : Record) (quick : Bool) (pattern : Pattern) (s : IsStart t rec) (e : Ending) (q : Progress) → post t rec quick pattern s e q → AllDone t rec quick e q × FilesThen q.note rec.pid_path q.table.files
+all-done t rec quick pattern s (At Done) q h = ((h.0, refl, tt, tt), h.1)
+all-done t rec quick pattern s (At RolledBack) q h = absurd h
+all-done t rec quick pattern s (At ShortOld) q h = absurd h
+all-done t rec quick pattern s (At ShortTarget) q h = absurd h
+all-done t rec quick pattern s Lost q h = absurd h
+
+goes : (t : Table) (rec : Record) (quick : Bool) (pattern : Pattern) (s : IsStart t rec) → Goes t rec quick pattern s (plan_tree rec (Stop quick)) (start_at t rec.note)
+goes t rec true pattern s = goes-quick t rec true pattern s
+goes t rec false pattern s = goes-slowly t rec false pattern s
+
+pub stop_headline : StopHeadline
+stop_headline t rec quick pattern a =
+    let at = start_at t rec.note in
+    let tree = plan_tree rec (Stop quick) in
+    let i = inv t rec quick pattern a.start in
+    let c = co t rec quick pattern a.start in
+    let all = from-along i (post t rec quick pattern a.start) Anyhow Unasked c tree at (goes t rec quick pattern a.start) a.spared (are-mild-anyhow c tree at) in
+    let ran = run_of rec (Stop quick) pattern t in
+    let done = all-done t rec quick pattern a.start ran.ending ran.last all.last in
+    let failed : ran.last.note ≡ Left → list_any (λ e. is_failed_removal e.call e.answer) ran.entries ≡ true = λ e.
+    ⊎_elim (λ x. absurd (not-left rec.note rec.pid_path rec.pid t.files a.start.agrees.files x)) (λ x. x)
+    (left-by [] tree pattern at (by-stop rec.generation.image rec.generation rec.ready rec.pid_path rec.note quick) e) in
+    record {
+      says = done.0.0;
+      after = (done.0.1, stop-note ran.last.note rec.pid_path ran done.1 failed);
+      kept = every-more i (λ q. Kept (service t) (want rec (Stop quick)) t q.table) (λ q h. h.0) ran.passed all.always;
+      blamed = every-more i IsBlamed (λ q h. h.1) ran.passed all.always;
+      cause = done.0.2;
+      paid = done.0.3;
+    }

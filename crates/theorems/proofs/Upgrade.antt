@@ -1,0 +1,165 @@
+-- The headline for an upgrade.
+use Rattle.std.proofs.Common.{◌≡◌, ◌≢◌, ℕ, ◌+◌, ◌<◌, true, false, List, [], ◌∷◌, length, Option, Some, None, refl, sym, ap, ◌∙◌, subst, arith, inl}
+use Rattle.listener_set.specs.Numbers.{is_in, numbers_below}
+use Rattle.definitions.specs.declared.plans.PidNote.{PidNote}
+use Rattle.definitions.specs.declared.plans.PidNote.TheVariants.{InPlace, AtOldbin, OldbinLeft, Left, NoFile}
+use Rattle.definitions.specs.declared.plans.Order.TheVariants.{Make}
+use Rattle.definitions.specs.declared.plans.Side.TheVariants.{Old}
+use Rattle.definitions.specs.declared.calls.Call.TheVariants.{MovePid, SpawnMaster, Census}
+use Rattle.definitions.specs.declared.calls.Answer.TheVariants as answer
+use Rattle.definitions.specs.declared.calls.Reply.TheVariants as reply
+use Rattle.definitions.specs.declared.targets.Target.TheVariants.{Upgrade}
+use Rattle.definitions.specs.Table.{FilePath, File, Master, Caller, same_generation, owner_at}
+use Rattle.definitions.specs.Calls.{gives, with_files, with_file, without_file, with_new_row}
+use Rattle.definitions.specs.Record.{FilesAre, oldbin}
+use Rattle.definitions.specs.Target.{want}
+use Rattle.definitions.specs.Tree.{Tree, Nothing}
+use Rattle.definitions.specs.Plans.{back_from, plan_tree, on, does, settle, spawn_edges, move_aside, back_alone, tries, tries_all, new_calls, relieve, upgrade_tree}
+use Rattle.definitions.specs.Service.{service}
+use Rattle.definitions.specs.Run.{Ending, Progress, after_call, after_moment, start_at}
+use Rattle.definitions.specs.Claims.{Kept, Floor, IsBlamed, run_of, UpgradeHeadline}
+use Rattle.theorems.proofs.Rows.{every-more, and-left, and-right}
+use Rattle.theorems.proofs.Views.{Names, named, eqb-refl}
+use Rattle.theorems.proofs.Effects.{none, same-is}
+use Rattle.theorems.proofs.Begins.{begin-count}
+use Rattle.theorems.proofs.Ends.{first-few}
+use Rattle.theorems.proofs.Files.{written-file}
+use Rattle.theorems.proofs.Logic.{Unasked, Anyhow, from-along, are-mild-anyhow, move-cases, spawn-cases}
+use Rattle.theorems.proofs.Rules.{Scene, view, Band, Only, marks-plain, rule-step-at, band-failed, failed_at, Answers}
+use Rattle.theorems.proofs.Duo.{master-below, spawned-looks}
+use Rattle.theorems.proofs.UpgradeStage.{Given, g, new, R, H0, A0, f, n, wanted, few-old, looks0, co, acts, inv, post, Goes, u, w, common0, alone_scene, good-alone}
+use Rattle.theorems.proofs.UpgradeBack.{Aside, settle-old, goes-back-alone}
+use Rattle.theorems.proofs.UpgradeCalls.{new-goes}
+use Rattle.theorems.proofs.UpgradeRelief.{relieves}
+
+module _ (c : Given) where
+  abbrev I : Progress → Type 0
+  I = inv c
+
+  abbrev P : Ending → Progress → Type 0
+  P = post c
+
+  abbrev image : ℕ
+  image = (new c).image
+
+  abbrev sc : List File → Scene c.rec.pid c.rec.generation.image
+  sc files = alone_scene c c.rec.pid c.rec.generation.image (f c) 0 files c.rec.note
+
+  abbrev Alone : List File → Names → Progress → Type 0
+  Alone files r q = Band (u c) (sc files) none r (named (g c) (is_in (R c))) (length (R c)) 0 false [] q
+
+  abbrev rest : Tree
+  rest = relieve c.rec.generation.image image (g c) (R c) c.rec.retries c.rec.pid_path (n c)
+
+  abbrev back : Tree
+  back = back_from c.rec.generation.image image (g c) (R c) c.rec.retries c.rec.pid_path
+
+  abbrev ok : Tree
+  ok = tries_all image (new_calls (g c) c.rec.pid_path (A0 c) (wanted c) (n c)) (tries image (Census (new c)) (numbers_below (n c)) rest back) back
+
+  abbrev bad : Tree
+  bad = back_alone c.rec.generation.image (g c) (R c) c.rec.retries c.rec.pid_path
+
+  -- the next process number is above the master's
+  above : c.rec.pid < c.t.next_process
+  above = master-below c.rec.pid 0 c.t.rows c.t.next_process c.start.formed.ascending (omega (arith, (looks0 c).alone))
+
+  spawns : (r : Names) (files : List File) (q : Progress) → Only (g c) (R c) r → Aside c c.rec.pid_path files → q.table.next_process ≡ c.t.next_process → Alone files r q → Goes c (co c) (does c.rec.generation.image (SpawnMaster image) (spawn_edges ok bad)) q
+  spawns r files q only aside next b =
+      let order = Make (SpawnMaster image) in
+      let bs = spawn_edges ok bad in
+      let gd = good-alone c (u c) (f c) 0 (H0 c) (inl (omega arith)) refl (λ h. refl) (common0 c) in
+      let me : Caller = record { number = c.rec.pid; holds = H0 c } in
+      rule-step-at I P (co c) (u c) (acts c) (sc files) gd order [] bs none r (named (g c) (is_in (R c))) (length (R c)) 0 false [] q refl b (λ es b' fate.
+      let p = after_moment es q in
+      let failed = goes-back-alone c (f c) 0 (inl (omega arith)) r 1 [] files (failed_at I P (co c) (u c) (acts c) (sc files) gd p) aside only (band-failed I P (co c) (u c) (acts c) (sc files) gd none r (named (g c) (is_in (R c))) (length (R c)) 0 false [] p b') in
+      spawn-cases (co c).text c.rec.generation.image me image fate p.table (λ st. Answers I P (co c) (u c) (acts c) (sc files) gd order [] bs p st) failed failed failed
+      (let m = q.table.next_process in
+      let ne : m ≢ c.rec.pid = λ e. absurd (omega (arith, e, next, above)) in
+      let t' = with_new_row p.table (λ k. Master k c.rec.pid image true (H0 c)) in
+      let two = spawned-looks (view (u c) none r) (w c m (H0 c) none none) c.rec.pid p.table.rows (λ k. refl) (λ e. ne (sym e)) (eqb-refl c.rec.pid c.rec.pid refl) (λ e. absurd (omega (arith, e))) b'.looks in
+      new-goes c m ne r only rest files (after_call order [] (gives answer.Spawned t') p) aside
+      (λ hs r' files' q' lists keys common aside' written only' b''. relieves c m ne (omega (arith, next, above, c.start.record_in_range.pid)) r only hs r' only' lists keys common files' q' aside' written b'')
+      (record {
+        looks = two.old.looks;
+        enough = b'.enough;
+        secured = λ e. omega (arith, b'.secured e, two.old.same (named (g c) (is_in (R c))));
+        budget = omega (arith, b'.budget, two.old.same (named (g c) (is_in (R c))));
+        lacking = b'.lacking;
+        marks = marks-plain false p.faults p.losses (p.calls + 1) p.cause b'.marks;
+        still = b'.still;
+        beside = (inl two.new, omega arith);
+      })))
+
+  -- The pid file goes aside, where it isn't yet.
+  moves : (path : FilePath) (r : Names) (q : Progress) → Only (g c) (R c) r → Some path ≡ c.rec.pid_path → owner_at path c.t.files ≡ Some c.rec.pid → q.table.next_process ≡ c.t.next_process → Alone c.t.files r q → Goes c (co c) (does c.rec.generation.image (MovePid path (oldbin path)) (on (reply.Fine ∷ []) (does c.rec.generation.image (SpawnMaster image) (spawn_edges ok bad)) (on (reply.IoFault ∷ []) (settle c.rec.generation.image (g c) (R c) Old c.rec.retries) Nothing))) q
+  moves path r q only is there next b =
+      let order = Make (MovePid path (oldbin path)) in
+      let bs = on (reply.Fine ∷ []) (does c.rec.generation.image (SpawnMaster image) (spawn_edges ok bad)) (on (reply.IoFault ∷ []) (settle c.rec.generation.image (g c) (R c) Old c.rec.retries) Nothing) in
+      let gd = good-alone c (u c) (f c) 0 (H0 c) (inl (omega arith)) refl (λ h. refl) (common0 c) in
+      let me : Caller = record { number = c.rec.pid; holds = H0 c } in
+      rule-step-at I P (co c) (u c) (acts c) (sc c.t.files) gd order [] bs none r (named (g c) (is_in (R c))) (length (R c)) 0 false [] q refl b (λ es b' fate.
+      let p = after_moment es q in
+      move-cases (co c).text c.rec.generation.image me path (oldbin path) fate p.table (λ st. Answers I P (co c) (u c) (acts c) (sc c.t.files) gd order [] bs p st)
+      (settle-old c (f c) 0 (inl (omega arith)) c.t.files c.rec.note r 1 [] (failed_at I P (co c) (u c) (acts c) (sc c.t.files) gd p) c.start.agrees.files only
+      (band-failed I P (co c) (u c) (acts c) (sc c.t.files) gd none r (named (g c) (is_in (R c))) (length (R c)) 0 false [] p b'))
+      (λ owner found.
+      let files' = with_file (oldbin path) owner (without_file path p.table.files) in
+      let same : Some owner ≡ Some c.rec.pid = sym found ∙ ap (owner_at path) b'.still.files_stay ∙ there in
+      spawns r files' (after_call order [] (gives answer.Fine (with_files files' p.table)) p) only
+      (subst (λ o. Aside c o files') is (written-file (oldbin path) owner (without_file path p.table.files) ∙ same)) next
+      (record {
+        looks = b'.looks;
+        enough = b'.enough;
+        secured = b'.secured;
+        budget = b'.budget;
+        lacking = b'.lacking;
+        marks = marks-plain false p.faults p.losses (p.calls + 1) p.cause b'.marks;
+        still = record { files_stay = refl; note_stays = b'.still.note_stays; limits_stay = b'.still.limits_stay };
+        beside = b'.beside;
+      })))
+
+  begins : (path : Option FilePath) (note : PidNote) (r : Names) (q : Progress) → Only (g c) (R c) r → path ≡ c.rec.pid_path → note ≡ c.rec.note → FilesAre note path c.rec.pid c.t.files → q.table.next_process ≡ c.t.next_process → Alone c.t.files r q → Goes c (co c) (move_aside c.rec.generation.image path note (does c.rec.generation.image (SpawnMaster image) (spawn_edges ok bad)) (settle c.rec.generation.image (g c) (R c) Old c.rec.retries)) q
+  begins None note r q only is same are next b = spawns r c.t.files q only (subst (λ o. Aside c o c.t.files) is (subst (λ x. FilesAre x None c.rec.pid c.t.files) same are)) next b
+  begins (Some path) AtOldbin r q only is same are next b = spawns r c.t.files q only (subst (λ o. Aside c o c.t.files) is are) next b
+  begins (Some path) InPlace r q only is same are next b = moves path r q only is are.0 next b
+  begins (Some path) OldbinLeft r q only is same are next b = moves path r q only is are.0 next b
+  begins (Some path) Left r q only is same are next b = absurd are
+  begins (Some path) NoFile r q only is same are next b = absurd are
+
+  pub goes : Goes c (co c) (upgrade_tree c.rec.generation.image (g c) (R c) c.rec.retries c.rec.pid_path c.rec.note (A0 c) (wanted c) (n c)) (start_at c.t c.rec.note)
+  goes =
+      let count = begin-count c.t c.rec c.start in
+      begins c.rec.pid_path c.rec.note (named (g c) (is_in (R c))) (start_at c.t c.rec.note) (λ h k e. (same-is h (g c) (and-left _ _ e), and-right (same_generation h (g c)) _ e)) refl refl c.start.agrees.files refl
+      (record {
+        looks = looks0 c;
+        enough = few-old c;
+        secured = λ e. omega (arith, count);
+        budget = omega (arith, count);
+        lacking = refl;
+        marks = record { clean = λ e. refl; blamed = λ e. absurd (cc e); caused = λ e. absurd (cc e) };
+        still = record { files_stay = refl; note_stays = refl; limits_stay = refl };
+        beside = omega arith;
+      })
+
+pub upgrade_headline : UpgradeHeadline
+upgrade_headline t rec st pattern a =
+    let (range, ds, numbered) = a.accepts in
+    let c : Given = record { t = t; rec = rec; st = st; pattern = pattern; start = a.start; range = range; ds = ds; numbered = numbered } in
+    let at = start_at t rec.note in
+    let tree = plan_tree rec (Upgrade st) in
+    let all = from-along (inv c) (post c) Anyhow Unasked (co c) tree at (goes c) a.spared (are-mild-anyhow (co c) tree at) in
+    let ran = run_of rec (Upgrade st) pattern t in
+    let target = want rec (Upgrade st) in
+    let (pid, after) = all.last.3 in (
+      pid,
+      record {
+        says = all.last.0;
+        after = after;
+        kept = every-more (inv c) (λ q. Kept (service t) target t q.table) (λ q h. h.0) ran.passed all.always;
+        blamed = every-more (inv c) IsBlamed (λ q h. h.2) ran.passed all.always;
+        cause = all.last.2;
+        paid = all.last.1;
+      },
+      every-more (inv c) (Floor (service t) target t st.workers) (λ q h address common. omega (arith, first-few t rec a.start address, h.1 address common)) ran.passed all.always,
+    )

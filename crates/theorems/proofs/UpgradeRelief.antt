@@ -1,0 +1,189 @@
+-- An upgrade's old master is relieved: its workers quit and are waited for, it leaves, and the new one settles.
+use Rattle.std.proofs.Common.{◌≡◌, ◌≢◌, ℕ, ◌+◌, ◌≤◌, Bool, true, false, List, [], ◌∷◌, length, Option, Some, None, refl, sym, ap, ◌∙◌, subst, arith, inl, inr, ⊎_elim}
+use Rattle.std.specs.Prelude.{reverse, is_some}
+use Rattle.listener_set.specs.Numbers.{is_in, numbers_below}
+use Rattle.listener_set.specs.AddressList.{has}
+use Rattle.listener_set.specs.declared.generation.Generation.{Generation}
+use Rattle.definitions.specs.declared.plans.PidNote.{PidNote}
+use Rattle.definitions.specs.declared.plans.PidNote.TheVariants.{InPlace, OldbinLeft}
+use Rattle.definitions.specs.declared.plans.Side.TheVariants.{Target}
+use Rattle.definitions.specs.declared.plans.Order.TheVariants.{Make}
+use Rattle.definitions.specs.declared.calls.Call.TheVariants.{Alive, Leave, RemovePid}
+use Rattle.definitions.specs.declared.calls.Answer.TheVariants as answer
+use Rattle.definitions.specs.declared.calls.Reply.TheVariants as reply
+use Rattle.definitions.specs.Table.{Address, FilePath, File, Hold, Caller, has_address, owner_at}
+use Rattle.definitions.specs.Calls.{Stepped, gives, step_by, each_row, dropped, is_image, asked_alive, with_files, without_file, without_master}
+use Rattle.definitions.specs.Record.{FilesAre, oldbin}
+use Rattle.definitions.specs.Tree.{Tree, Nothing, reply_of}
+use Rattle.definitions.specs.Plans.{on, does, then_edge, note_edges, awaits_gone, settle, remove_oldbin, hand_over, back_late, relieve}
+use Rattle.definitions.specs.Run.{Ending, Progress, noted, after_call, after_moment, answered}
+use Rattle.theorems.proofs.Views.{Names, named, View, Looks, finds, eqb-is, eqb-refl}
+use Rattle.theorems.proofs.Effects.{none, looks-allows}
+use Rattle.theorems.proofs.Exits.{spares-each, shrinks}
+use Rattle.theorems.proofs.Sets.{in-here, in-there, below-of, below-distinct, below-length}
+use Rattle.theorems.proofs.Small.{in-reverse, true-false}
+use Rattle.theorems.proofs.Files.{gone-file, other-removed, oldbin-other, no-path}
+use Rattle.theorems.proofs.Logic.{Unasked, Anyhow, Behind, course_after, remove-cases, unfailing}
+use Rattle.theorems.proofs.Rules.{Scene, view, any, ready_of, Marks, Band, Only, marks-plain, marks-wrong, rule-step, rule-quits, rule-waits, rule-settle, band-exits, band-inv, band-anew, band-failed, failed_at, Answers}
+use Rattle.theorems.proofs.Duo.{OneOther, alone-left, dead-none, dead-weigh, asked-looks, asked-dead, with_other}
+use Rattle.theorems.proofs.UpgradeStage.{Given, g, new, R, H0, f, n, low, wanted, few-new, co, co_after, acts, acts-after, inv, post, Goes, u, w, x, Common, Lists, Second, alone_scene, good-alone, pair_scene, good-pair, new-full, new-short}
+use Rattle.theorems.proofs.UpgradeBack.{Aside, goes-back-late}
+use Rattle.theorems.proofs.UpgradeCalls.{Written}
+
+module _ (c : Given) (m : ℕ) (ne : m ≢ c.rec.pid) (some : 1 ≤ m) (r0 : Names) (only0 : Only (g c) (R c) r0) (hs : List Hold) (r : Names) (only : Only (new c) (numbers_below (n c)) r) (lists : Lists c hs) (keys : (a : Address) → has_address a hs ≡ has (wanted c) a) (common : Common c hs) where
+  abbrev I : Progress → Type 0
+  I = inv c
+
+  abbrev P : Ending → Progress → Type 0
+  P = post c
+
+  abbrev S : List ℕ
+  S = numbers_below (n c)
+
+  abbrev T : Names
+  T = named (new c) (is_in S)
+
+  abbrev v : View
+  v = with_other m (u c)
+
+  abbrev second : View
+  second = w c m hs none r
+
+  abbrev both : List File → Scene c.rec.pid c.rec.generation.image
+  both files = pair_scene c second ne (eqb-refl c.rec.pid c.rec.pid refl) T (n c) 0 files c.rec.note
+
+  good : (files : List File) (names' : Names) (count : ℕ) (b : Bool) (q : Progress) → 0 ≤ count → Looks (view v any any) q.table.rows → (1 ≤ 0 → count ≤ ready_of v names' q + q.losses) → Marks b q.faults q.losses q.cause → Second c second T (n c) q.table.rows q.losses → I q
+  good files = good-pair c v second hs T (n c) 0 (inr (few-new c, common, λ h. refl)) refl (λ h. refl)
+
+  -- the old master's workers of these names are there, and nothing of them is counted
+  abbrev Beside : List File → Names → Names → Bool → Progress → Type 0
+  Beside files st rd b q = Band v (both files) st rd none 0 0 b [] q
+
+  -- no worker of the old master is left
+  bared : (files : List File) (st rd : Names) (k : ℕ) (b : Bool) (q : Progress) → ((h : Generation) (j : ℕ) → st h j ≡ true → none h j ≡ true) → ((h : Generation) (j : ℕ) → rd h j ≡ true → none h j ≡ true) → Band v (both files) st rd none 0 k b [] q → Beside files none none b q
+  bared files st rd k b q off_st off_rd h = record {
+    looks = looks-allows (view v st rd) (view v none none) (record { number = refl; others = λ j e. e; image = refl; holds = refl; starting = off_st; ready = off_rd; held_starting = λ j i e. refl; held = λ j i e. refl }) q.table.rows h.looks;
+    enough = omega arith;
+    secured = λ e. absurd (omega (arith, e));
+    budget = omega arith;
+    lacking = h.lacking;
+    marks = h.marks;
+    still = h.still;
+    beside = h.beside;
+  }
+
+  ---- The new master is alone
+
+  abbrev last : List File → PidNote → Scene m (new c).image
+  last files note = alone_scene c m (new c).image (f c) 0 files note
+
+  good-last : (files : List File) (note : PidNote) (names : Names) (count : ℕ) (b : Bool) (q : Progress) → f c ≤ count → Looks (view (x c m hs r) any any) q.table.rows → (1 ≤ f c → count ≤ ready_of (x c m hs r) names q + q.losses) → Marks b q.faults q.losses q.cause → 0 ≤ q.losses → I q
+  good-last files note = good-alone c (x c m hs r) (f c) 0 hs (inl (omega arith)) refl (λ h. refl) common
+
+  settles : (files : List File) (note : PidNote) (b : Bool) (q : Progress) → FilesAre note c.rec.pid_path m files → Band (x c m hs r) (last files note) none r T (length S) 0 b [] q → Goes c (co_after c) (settle (new c).image (new c) S Target c.rec.retries) q
+  settles files note b q are h =
+      rule-settle I P (co_after c) (x c m hs r) (acts-after c) (last files note) (good-last files note) Target (new c) S refl (below-distinct (n c)) (λ k e. omega (arith, below-of (n c) k e, low c)) c.rec.retries false
+      (λ r' q' k' b' up only' h' saw exact. new-full c m some hs lists keys files note are r' q' only' h'.looks h'.lacking h'.still saw exact)
+      (λ r' q' y ys only' h' saw exact. new-short c m some hs lists keys files note are r' q' y ys only' h'.looks h'.lacking (h'.marks.caused refl) h'.still h'.budget saw exact)
+      c.rec.retries 0 (omega arith) b (λ e. absurd (cc e)) r [] q only h
+
+  -- The old master's file goes, and the new one settles.
+  removes : (path : Option FilePath) (rest : Tree) (files : List File) (b : Bool) (q : Progress) → Written c m ne r0 only0 path files → ((files' : List File) (note' : PidNote) (b' : Bool) (q' : Progress) → FilesAre note' path m files' → Band (x c m hs r) (last files' note') none r T (length S) 0 b' [] q' → Goes c (co_after c) rest q') → Band (x c m hs r) (last files c.rec.note) none r T (length S) 0 b [] q → Goes c (co_after c) (remove_oldbin (new c).image path rest) q
+  removes None rest files b q written next h = next files c.rec.note b q (no-path c.rec.note c.rec.pid m files files written) h
+  removes (Some path) rest files b q written next h =
+      let order = Make (RemovePid (oldbin path)) in
+      let bs = note_edges (Some InPlace) (Some OldbinLeft) rest in
+      let sc = last files c.rec.note in
+      let gd = good-last files c.rec.note in
+      rule-step I P (co_after c) (x c m hs r) (acts-after c) sc gd order [] bs none r T (length S) 0 b [] q refl h (λ p h' fate.
+      remove-cases (co_after c).text (new c).image (record { number = m; holds = hs }) (oldbin path) fate p.table (λ st. Answers I P (co_after c) (x c m hs r) (acts-after c) sc gd order [] bs p st)
+      (let h2 = band-anew I P (co_after c) (x c m hs r) (acts-after c) sc gd none r T (length S) 1 true [] _ (band-failed I P (co_after c) (x c m hs r) (acts-after c) sc gd none r T (length S) 0 b [] p h') in
+      next files OldbinLeft true (noted (Some OldbinLeft) (failed_at I P (co_after c) (x c m hs r) (acts-after c) sc gd p)) (written.0, ap is_some written.1)
+      (record { looks = h2.looks; enough = h2.enough; secured = h2.secured; budget = h2.budget; lacking = h2.lacking; marks = h2.marks; still = record { files_stay = h2.still.files_stay; note_stays = refl; limits_stay = h2.still.limits_stay }; beside = h2.beside }))
+      (let files' = without_file (oldbin path) p.table.files in
+      let there : owner_at path files' ≡ Some m = other-removed (oldbin path) path p.table.files (oldbin-other path) ∙ ap (owner_at path) h'.still.files_stay ∙ written.0 in
+      next files' InPlace b (noted (Some InPlace) (after_call order [] (gives answer.Fine (with_files files' p.table)) p)) (there, gone-file (oldbin path) p.table.files)
+      (record { looks = h'.looks; enough = h'.enough; secured = h'.secured; budget = h'.budget; lacking = h'.lacking; marks = marks-plain b p.faults p.losses (p.calls + 1) p.cause h'.marks; still = record { files_stay = refl; note_stays = refl; limits_stay = h'.still.limits_stay }; beside = h'.beside })))
+
+  ---- The old master leaves
+
+  leaves : (files : List File) (b : Bool) (q : Progress) → Written c m ne r0 only0 c.rec.pid_path files → Looks second q.table.rows → Beside files none none b q → Goes c (co c) (hand_over c.rec.generation.image (new c).image (g c) c.rec.retries c.rec.pid_path (n c)) q
+  leaves files b q written looks h spared mild =
+      let order = Make Leave in
+      let moment = c.pattern (q.calls + 1) in
+      let middle = after_moment moment.exits q in
+      let images = c.rec.generation.image ∷ (new c).image ∷ [] in
+      let sp = spares-each images c.rec.generation.image moment.exits (in-here c.rec.generation.image c.rec.generation.image ((new c).image ∷ []) refl) spared in
+      let sp_new = spares-each images (new c).image moment.exits (in-there c.rec.generation.image (new c).image ((new c).image ∷ []) (in-here (new c).image (new c).image [] refl)) spared in
+      let h' = band-exits v (both files) none none none 0 0 b [] moment.exits q sp mild h in
+      let looks' = (shrinks second moment.exits q.table.rows sp_new looks).looks in
+      let me : Caller = record { number = c.rec.pid; holds = H0 c } in
+      let is : answered (co c).text c.rec.generation.image order moment.fate middle ≡ gives answer.Fine (each_row (without_master c.rec.pid) middle.table) =
+      ap (λ (o : Option Caller). step_by (co c).text c.rec.generation.image o Leave moment.fate middle.table) (finds (view v none none) middle.table.rows h'.looks) ∙ unfailing (co c).text c.rec.generation.image me Leave moment.fate middle.table tt in
+      let gone = after_call order [] (gives answer.Fine (each_row (without_master c.rec.pid) middle.table)) middle in
+      let one : OneOther second c.rec.pid = (ne, λ j e. eqb-is j c.rec.pid e) in
+      let alone = alone-left second c.rec.pid middle.table.rows one looks' in
+      let rest = remove_oldbin (new c).image c.rec.pid_path (settle (new c).image (new c) S Target c.rec.retries) in
+      let after : Goes c (co_after c) rest gone = removes c.rec.pid_path (settle (new c).image (new c) S Target c.rec.retries) files b gone written (λ files' note' b' q' are h2. settles files' note' b' q' are h2) (record {
+        looks = alone.looks;
+        enough = omega (arith, few-new c, below-length (n c));
+        secured = λ e. omega (arith, h'.beside.1, alone.same T, below-length (n c));
+        budget = omega (arith, h'.beside.1, alone.same T, below-length (n c));
+        lacking = h'.lacking;
+        marks = marks-plain b middle.faults middle.losses (middle.calls + 1) middle.cause h'.marks;
+        still = h'.still;
+        beside = omega arith;
+      }) in (
+        band-inv I P (co c) v (acts c) (both files) (good files) none none none 0 0 b [] q h,
+        band-inv I P (co c) v (acts c) (both files) (good files) none none none 0 0 b [] middle h',
+        tt,
+        subst (λ (st : Stepped). Behind I P Anyhow Unasked (course_after order (co c)) (then_edge rest) (reply_of [] st.answer) (after_call order [] st middle)) (sym is) after,
+      )
+
+  -- It asks whether the new one lives: then it leaves, and else goes back.
+  asks : (files : List File) (b : Bool) (q : Progress) → Aside c c.rec.pid_path files → Written c m ne r0 only0 c.rec.pid_path files → Beside files none none b q → Goes c (co c) (does c.rec.generation.image (Alive (new c).image) (on (reply.IsAlive ∷ []) (hand_over c.rec.generation.image (new c).image (g c) c.rec.retries c.rec.pid_path (n c)) (on (reply.Gone ∷ []) (back_late c.rec.generation.image (new c).image (g c) (R c) c.rec.retries c.rec.pid_path) Nothing))) q
+  asks files b q aside written h =
+      let order = Make (Alive (new c).image) in
+      let bs = on (reply.IsAlive ∷ []) (hand_over c.rec.generation.image (new c).image (g c) c.rec.retries c.rec.pid_path (n c)) (on (reply.Gone ∷ []) (back_late c.rec.generation.image (new c).image (g c) (R c) c.rec.retries c.rec.pid_path) Nothing) in
+      rule-step I P (co c) v (acts c) (both files) (good files) order [] bs none none none 0 0 b [] q refl h (λ p h' fate.
+      let me : Caller = record { number = c.rec.pid; holds = H0 c } in
+      let answered_by : Option Caller → Type 0 = λ o. Answers I P (co c) v (acts c) (both files) (good files) order [] bs p (asked_alive o (new c).image p.table) in
+      subst (λ st. Answers I P (co c) v (acts c) (both files) (good files) order [] bs p st) (sym (unfailing (co c).text c.rec.generation.image me (Alive (new c).image) fate p.table tt))
+      (⊎_elim
+      (λ looks. subst answered_by (sym (finds second p.table.rows looks))
+      (leaves files b (after_call order [] (gives answer.IsAlive p.table) p) written looks
+      (record { looks = h'.looks; enough = h'.enough; secured = λ e. absurd (omega (arith, e)); budget = omega arith; lacking = h'.lacking; marks = marks-plain b p.faults p.losses (p.calls + 1) p.cause h'.marks; still = h'.still; beside = h'.beside })))
+      (λ dead. subst answered_by (sym (dead-none second p.table.rows dead))
+      (let framed = asked-looks (view v none none) (new c).image p.table.rows (λ e. absurd (omega (arith, e))) h'.looks in
+      goes-back-late c m ne hs none r common 0 [] files (after_call order [] (gives answer.Gone (each_row (dropped (is_image (new c).image)) p.table)) p) aside
+      (record {
+        looks = framed.looks;
+        enough = omega arith;
+        secured = λ e. absurd (omega (arith, e));
+        budget = omega arith;
+        lacking = h'.lacking;
+        marks = marks-wrong b p.faults (p.faults + 1) p.losses (p.calls + 1) p.cause (omega arith) h'.marks;
+        still = h'.still;
+        beside = (inr (asked-dead second (new c).image p.table.rows dead), omega (arith, h'.beside.1, dead-weigh second T p.table.rows dead, few-new c));
+      })))
+      h'.beside.0))
+
+  ---- All of it
+
+  pub relieves : (files : List File) (q : Progress) → Aside c c.rec.pid_path files → Written c m ne r0 only0 c.rec.pid_path files → Band v (pair_scene c second ne (eqb-refl c.rec.pid c.rec.pid refl) T (n c) (f c) files c.rec.note) none r0 (named (g c) (is_in (R c))) (length (R c)) 0 false [] q → Goes c (co c) (relieve c.rec.generation.image (new c).image (g c) (R c) c.rec.retries c.rec.pid_path (n c)) q
+  relieves files q aside written h =
+      let ask = does c.rec.generation.image (Alive (new c).image) (on (reply.IsAlive ∷ []) (hand_over c.rec.generation.image (new c).image (g c) c.rec.retries c.rec.pid_path (n c)) (on (reply.Gone ∷ []) (back_late c.rec.generation.image (new c).image (g c) (R c) c.rec.retries c.rec.pid_path) Nothing)) in
+      rule-quits I P (co c) v (acts c) (both files) (good files) (awaits_gone c.rec.generation.image (g c) (reverse (R c)) ask) (g c) (reverse (R c)) none r0 none 0 0 false [] q (λ k e. refl)
+      (λ st rd q' less_st less_rd h'. rule-waits I P (co c) v (acts c) (both files) (good files) ask (g c) (reverse (R c)) none none none 0 false [] q' (λ k e. refl)
+      (λ st' rd' b k q'' sub_st sub_rd up h''. asks files b q'' aside written (bared files st' rd' k b q'' sub_st sub_rd h''))
+      0 (bared files st rd 0 false q' (λ j i e. (less_st j i e).0) (λ j i e. let l = less_rd j i e in let o = only0 j i l.0 in absurd (true-false (is_in (reverse (R c)) i) (in-reverse (R c) i ∙ o.1) (l.1 o.0))) h'))
+      (record {
+        looks = h.looks;
+        enough = omega arith;
+        secured = λ e. absurd (omega (arith, e));
+        budget = omega arith;
+        lacking = h.lacking;
+        marks = h.marks;
+        still = h.still;
+        beside = h.beside;
+      })

@@ -1,0 +1,282 @@
+-- An upgrade: who is on the stage, what each part keeps, and the ends.
+use Rattle.std.proofs.Common.{◌≡◌, ◌≢◌, ℕ, ◌+◌, ◌<◌, ◌≤◌, Bool, true, false, List, [], ◌∷◌, length, Some, None, refl, sym, ap, ◌∙◌, arith, ◌⊎◌, ⊎_elim}
+use Rattle.std.specs.Prelude.{map, min, if◌then◌else◌, is_some}
+use Rattle.std.specs.List.{list_any}
+use Rattle.listener_set.specs.Numbers.{is_in, numbers_below}
+use Rattle.listener_set.specs.AddressList.{has}
+use Rattle.listener_set.specs.declared.generation.Generation.{Generation}
+use Rattle.definitions.specs.declared.targets.Target.TheVariants.{Upgrade}
+use Rattle.definitions.specs.declared.plans.PidNote.{PidNote}
+use Rattle.definitions.specs.declared.plans.End.TheVariants.{Done, RolledBack, ShortOld, ShortTarget}
+use Rattle.definitions.specs.Settings.{Settings, IsInRange}
+use Rattle.definitions.specs.Table.{Address, File, Hold, Process, Table, same_generation, has_address, is_worker, is_ready}
+use Rattle.definitions.specs.Service.{Service, service}
+use Rattle.definitions.specs.Record.{Record, Agrees, FilesAre, addresses_of, listener_of}
+use Rattle.definitions.specs.Target.{upgrade_generation, want, text_handed}
+use Rattle.definitions.specs.After.{Setup, setup_after, recorded, renewed, upgraded, next_image}
+use Rattle.definitions.specs.Tree.{Tree}
+use Rattle.definitions.specs.Run.{Pattern, Progress, Ending, At, outcome_of}
+use Rattle.definitions.specs.Claims.{AgreesAfter, IsStart, has_socket, Says, IsPaid, Kept, IsCommon, IsBlamed, HasCause, HasDescriptors, ready_with}
+use Rattle.theorems.proofs.Rows.{weigh}
+use Rattle.theorems.proofs.Views.{Names, named, View, Looks, ready_in}
+use Rattle.theorems.proofs.Effects.{none}
+use Rattle.theorems.proofs.Exits.{falls-all}
+use Rattle.theorems.proofs.Counts.{Distinct}
+use Rattle.theorems.proofs.Sets.{in-here, below-of, below-length}
+use Rattle.theorems.proofs.Services.{live-with, live-with-on, fewer-same, ready-floor}
+use Rattle.theorems.proofs.Begins.{first_view, begin, rising-distinct}
+use Rattle.theorems.proofs.Small.{every-is_in}
+use Rattle.theorems.proofs.Listeners.{some-held}
+use Rattle.theorems.proofs.After.{agrees-after}
+use Rattle.theorems.proofs.Ends.{next-image-is, moved-after, resized, report_at, service-of, service-short, first-keys, first-service, first-held, census-within, files-still, kept-after}
+use Rattle.theorems.proofs.Logic.{Unasked, Course, Along, Anyhow}
+use Rattle.theorems.proofs.Rules.{Scene, Still, Marks, Only, view, any, ready_of, floor-by}
+use Rattle.theorems.proofs.Duo.{Lives, beside-change, beside-drop, beside-grow, lives-exits, dead-weigh, new_view, sole}
+
+-- What an upgrade is given.
+pub record Given : Type 0 where
+  pub t : Table
+  pub rec : Record
+  pub st : Settings
+  pub pattern : Pattern
+  pub start : IsStart t rec
+  pub range : IsInRange st
+  pub ds : HasDescriptors t rec
+  pub numbered : is_some (next_image rec.generation) ≡ true
+
+module _ (c : Given) where
+  abbrev pub g : Generation
+  g = c.rec.generation
+
+  abbrev pub new : Generation
+  new = upgrade_generation c.rec.generation
+
+  abbrev pub R : List ℕ
+  R = c.rec.ready
+
+  abbrev pub H0 : List Hold
+  H0 = c.start.agrees.holds
+
+  abbrev pub A0 : List Address
+  A0 = addresses_of c.rec
+
+  abbrev pub wanted : List Address
+  wanted = c.st.listeners
+
+  abbrev pub n : ℕ
+  n = c.st.workers
+
+  abbrev pub f : ℕ
+  f = min (length R) n
+
+  pub low : n ≤ 1024
+  low = c.range.workers
+
+  pub few-old : f ≤ length R
+  few-old = omega arith
+
+  pub few-new : f ≤ n
+  few-new = omega arith
+
+  -- the old master executes, and then the new one
+  abbrev pub co : Course
+  co = record { text = text_handed c.rec (Upgrade c.st); pattern = c.pattern; executing = g.image ∷ []; heirs = new.image ∷ [] }
+
+  abbrev pub co_after : Course
+  co_after = record { text = text_handed c.rec (Upgrade c.st); pattern = c.pattern; executing = new.image ∷ []; heirs = new.image ∷ [] }
+
+  pub acts : is_in co.executing g.image ≡ true
+  acts = in-here g.image g.image [] refl
+
+  pub acts-after : is_in co_after.executing new.image ≡ true
+  acts-after = in-here new.image new.image [] refl
+
+  abbrev pub old : Service
+  old = service c.t
+
+  abbrev pub target : Service
+  target = want c.rec (Upgrade c.st)
+
+  -- at each address of both services so many Ready workers, losses aside
+  abbrev pub Level : Progress → Type 0
+  Level q = (a : Address) → IsCommon old target a → f ≤ ready_with a q.table + q.losses
+
+  abbrev pub inv : Progress → Type 0
+  inv q = Kept old target c.t q.table × Level q × IsBlamed q
+
+  abbrev pub post : Ending → Progress → Type 0
+  post e q =
+      Says (outcome_of e q.lacking) old target q.table × IsPaid c.rec.retries (outcome_of e q.lacking) q × HasCause (outcome_of e q.lacking) q.cause
+      × ((pid : ℕ) × AgreesAfter c.rec (Upgrade c.st) (report_at e q) pid q.table)
+
+  abbrev pub Goes : Course → Tree → Progress → Type 0
+  Goes x tree q = Along inv post Anyhow Unasked x tree q
+
+  ---- The masters
+
+  -- the old one, alone or beside another
+  abbrev pub u : View
+  u = first_view c.rec H0
+
+  pub looks0 : Looks u c.t.rows
+  looks0 = begin c.t c.rec c.start
+
+  pub low-R : (k : ℕ) → is_in R k ≡ true → k < 1024
+  low-R k e = let lt = every-is_in (λ j. j < c.rec.wanted) R c.start.record_in_range.ready k e in omega (arith, lt, c.start.record_in_range.wanted)
+
+  pub dR : Distinct R
+  dR = rising-distinct R c.start.rising
+
+  -- the new one
+  abbrev pub w : ℕ → List Hold → Names → Names → View
+  w m hs s r = new_view m new.image c.rec.pid hs s r
+
+  held-of : (a : Address) → is_some (old a) ≡ true → has_address a H0 ≡ true
+  held-of a e = first-held c.t c.rec c.start a e
+
+  pub wanted-of : (a : Address) → is_some (target a) ≡ true → has wanted a ≡ true
+  wanted-of a e = go (has wanted a) e
+    where
+      go : (b : Bool) → is_some {T = Generation → ℕ} (if b then Some (λ h. if same_generation h new then n else 0) else None) ≡ true → b ≡ true
+      go true e = refl
+      go false e = e
+
+  -- the common addresses are held, on their sockets
+  abbrev pub Common : List Hold → Type 0
+  Common hs = (a : Address) → IsCommon old target a → (has_address a hs ≡ true) × ((k : ℕ) → has_socket a k H0 ≡ true → has_socket a k hs ≡ true)
+
+  pub common0 : Common H0
+  common0 a h = (held-of a h.0, λ k e. e)
+
+  kept-by : (v : View) (hs : List Hold) → v.holds ≡ hs → Common hs → (q : Progress) → Looks v q.table.rows → Kept old target c.t q.table
+  kept-by v hs is common q looks = λ a k h on. live-with-on v (has_socket a k) q.table.rows looks (ap (has_socket a k) is ∙ (common a h).1 k (sym (live-with u (λ n. refl) (has_socket a k) c.t.rows looks0) ∙ on))
+
+  level-by : (v : View) (hs : List Hold) → Common hs → ((h : Generation) → v.held h ≡ hs) → (names : Names) (count : ℕ) (q : Progress) → f ≤ count → Looks v q.table.rows → (1 ≤ f → count ≤ ready_of v names q + q.losses) → Level q
+  level-by v hs common held names count q enough looks secured = λ a h. floor-by f (ready_with a q.table + q.losses) (λ e. omega (arith, enough, secured e, ready-floor v names a q.table.rows (λ j. ap (has_address a) (held j) ∙ (common a h).0) looks))
+
+  ---- The parts
+
+  -- The master is alone: the floor is its own workers', or so many were lost.
+  abbrev pub alone_scene : (m image floor need : ℕ) → List File → PidNote → Scene m image
+  alone_scene m image floor need files note = record {
+    floor = floor;
+    files = files;
+    note = note;
+    limits = c.t.limits;
+    Mild = Anyhow;
+    Holds = λ rows losses faults. need ≤ losses;
+    exits = λ es rows losses more faults sp mild e h. omega (arith, h);
+    changes = λ test f rows losses faults mine stays h. h;
+    drops = λ test rows losses faults mine h. h;
+    grows = λ n g x hs rows losses faults h. h;
+    fails = λ rows losses faults h. h;
+  }
+
+  pub good-alone : (v : View) (floor need : ℕ) (hs : List Hold) → (f ≤ floor) ⊎ (f ≤ need) → v.holds ≡ hs → ((h : Generation) → v.held h ≡ hs) → Common hs → (names : Names) (count : ℕ) (b : Bool) (q : Progress) → floor ≤ count → Looks (view v any any) q.table.rows → (1 ≤ floor → count ≤ ready_of v names q + q.losses) → Marks b q.faults q.losses q.cause → need ≤ q.losses → inv q
+  good-alone v floor need hs kind is held common names count b q enough looks secured marks lost = (
+    kept-by (view v any any) hs is common q looks,
+    ⊎_elim (λ le. level-by (view v any any) hs common held names count q (omega (arith, le, enough)) looks (λ e. secured (omega (arith, e, le)))) (λ le a h. omega (arith, le, lost)) kind,
+    (marks.clean, marks.blamed),
+  )
+
+  -- Two masters, of which the first is spared: the other one lives or is dead, and of so many of its names all that are not Ready were lost.
+  abbrev pub Second : View → Names → ℕ → List Process → ℕ → Type 0
+  Second v names d rows losses = Lives v rows × (d ≤ weigh (ready_in v.number names) rows + losses)
+
+  abbrev pub pair_scene : (v : View) → v.number ≢ c.rec.pid → v.others c.rec.pid ≡ true → (names : Names) (d floor : ℕ) → List File → PidNote → Scene c.rec.pid g.image
+  pair_scene v ne on names d floor files note = record {
+    floor = floor;
+    files = files;
+    note = note;
+    limits = c.t.limits;
+    Mild = Anyhow;
+    Holds = λ rows losses faults. Second v names d rows losses;
+    exits = λ es rows losses more faults sp mild e h. (lives-exits v es rows h.0, omega (arith, h.1, falls-all v.number names es rows, e));
+    changes = λ test f rows losses faults mine stays h. let b = beside-change v c.rec.pid test f rows ne mine stays h.0 in (b.lives, omega (arith, h.1, b.same names));
+    drops = λ test rows losses faults mine h. let b = beside-drop v c.rec.pid test rows ne mine h.0 in (b.lives, omega (arith, h.1, b.same names));
+    grows = λ k g x hs rows losses faults h. let b = beside-grow v c.rec.pid k g x hs rows ne on h.0 in (b.lives, omega (arith, h.1, b.same names));
+    fails = λ rows losses faults h. h;
+  }
+
+  -- The floor is the old one's workers', or the other one's.
+  pub good-pair : (v x : View) (hs : List Hold) (names : Names) (d floor : ℕ) → (f ≤ floor) ⊎ ((f ≤ d) × Common hs × ((h : Generation) → x.held h ≡ hs)) → v.holds ≡ H0 → ((h : Generation) → v.held h ≡ H0) → (names' : Names) (count : ℕ) (b : Bool) (q : Progress) → floor ≤ count → Looks (view v any any) q.table.rows → (1 ≤ floor → count ≤ ready_of v names' q + q.losses) → Marks b q.faults q.losses q.cause → Second x names d q.table.rows q.losses → inv q
+  good-pair v x hs names d floor kind is held names' count b q enough looks secured marks second = (
+    kept-by (view v any any) H0 is common0 q looks,
+    ⊎_elim (λ le. level-by (view v any any) H0 common0 held names' count q (omega (arith, le, enough)) looks (λ e. secured (omega (arith, e, le))))
+        (λ o. ⊎_elim (λ lives. level-by x hs o.1 o.2 names d q o.0 lives (λ e. second.1)) (λ dead a h. omega (arith, o.0, second.1, dead-weigh x names q.table.rows dead)) second.0) kind,
+    (marks.clean, marks.blamed),
+  )
+
+  ---- The ends on the old side
+
+  abbrev pub Exactly : ℕ → Generation → Progress → Type 0
+  Exactly m h q = (k : ℕ) → list_any (is_worker is_ready m h k) q.table.rows ≡ is_in q.ready k
+
+  abbrev pub Saw : ℕ → Generation → List ℕ → Progress → Type 0
+  Saw m h S q = weigh (ready_in m (named h (is_in S))) q.table.rows + length q.lacking ≡ length S
+
+  module _ (files : List File) (note : PidNote) (are : FilesAre note c.rec.pid_path c.rec.pid files) where
+    agrees-old : (r : Names) (q : Progress) → Only g R r → Looks (view u none r) q.table.rows → Exactly c.rec.pid g q → Still files note c.t.limits q.table.files q.note q.table.limits → (e : Ending) → Agrees q.table (recorded (resized c.rec c.rec.wanted) c.rec.pid_path (report_at e q) c.rec.pid)
+    agrees-old r q only looks exact still e = agrees-after (view u none r) g q.table _ (λ n. refl) refl (λ h k on. (only h k on).0) looks exact refl refl refl c.start.agrees.listeners (files-still note q.note c.rec.pid_path c.rec.pid files q.table.files c.t.limits q.table.limits are still)
+
+    within-old : (r : Names) (q : Progress) → Only g R r → Looks (view u none r) q.table.rows → Exactly c.rec.pid g q → (k : ℕ) → is_in q.ready k ≡ true → k < c.rec.wanted
+    within-old r q only looks exact k e = every-is_in (λ j. j < c.rec.wanted) R c.start.record_in_range.ready k (census-within u (λ n. refl) g R r q.table.rows q.ready only looks exact k e)
+
+    pub old-full : (r : Names) (q : Progress) → Only g R r → Looks (view u none r) q.table.rows → q.lacking ≡ [] → is_some q.cause ≡ true → Still files note c.t.limits q.table.files q.note q.table.limits → Saw c.rec.pid g R q → Exactly c.rec.pid g q → post (At RolledBack) q
+    old-full r q only looks full caused still saw exact = (
+      λ a. service-of u (λ n. refl) g R (addresses_of c.rec) refl (first-keys c.t c.rec c.start) r (length R) q.table only looks (omega (arith, saw, ap length full)) a ∙ sym (first-service c.t c.rec c.start a),
+      tt,
+      caused,
+      (c.rec.pid, kept-after c.rec (Upgrade c.st) (report_at (At RolledBack) q) q.table c.rec.wanted refl c.start.record_in_range c.start.record_in_range.wanted (within-old r q only looks exact) (agrees-old r q only looks exact still (At RolledBack))),
+    )
+
+    pub old-short : (r : Names) (q : Progress) (x : ℕ) (xs : List ℕ) → Only g R r → Looks (view u none r) q.table.rows → q.lacking ≡ x ∷ xs → is_some q.cause ≡ true → Still files note c.t.limits q.table.files q.note q.table.limits → length R + c.rec.retries ≤ weigh (ready_in c.rec.pid (named g (is_in R))) q.table.rows + q.losses + q.faults → Saw c.rec.pid g R q → Exactly c.rec.pid g q → post (At ShortOld) q
+    old-short r q x xs only looks short caused still budget saw exact = (
+      (
+        omega (arith, ap length short),
+        fewer-same (length q.lacking) _ _ _ _ (λ a. sym (first-service c.t c.rec c.start a)) (λ a. refl) (service-short u (λ n. refl) g R (addresses_of c.rec) refl (first-keys c.t c.rec c.start) r (length R) (length q.lacking) q.table only looks saw),
+      ),
+      omega (arith, budget, saw),
+      caused,
+      (c.rec.pid, kept-after c.rec (Upgrade c.st) (report_at (At ShortOld) q) q.table c.rec.wanted refl c.start.record_in_range c.start.record_in_range.wanted (within-old r q only looks exact) (agrees-old r q only looks exact still (At ShortOld))),
+    )
+
+  ---- The ends on the target's side
+
+  -- the new master alone
+  abbrev pub x : ℕ → List Hold → Names → View
+  x m hs r = sole (w m hs none r)
+
+  -- the setup of the target, with these holds
+  abbrev pub moved : List Hold → Setup
+  moved hs = record { listeners = map listener_of hs; generation = new; wanted = n; retries = c.st.retries; timeout = c.st.timeout }
+
+  -- the listeners that the record will have
+  abbrev pub Lists : List Hold → Type 0
+  Lists hs = upgraded c.st.listeners c.rec.listeners ≡ Some (map listener_of hs)
+
+  moved-is : (hs : List Hold) → Lists hs → renewed c.st (upgraded c.st.listeners c.rec.listeners) (next_image c.rec.generation) ≡ Some (moved hs)
+  moved-is hs lists = ap (λ ls. renewed c.st ls (next_image c.rec.generation)) lists ∙ ap (λ o. renewed c.st (Some (map listener_of hs)) o) (next-image-is c.rec.generation c.numbered)
+
+  module _ (m : ℕ) (some : 1 ≤ m) (hs : List Hold) (lists : Lists hs) (keys : (a : Address) → has_address a hs ≡ has wanted a) (files : List File) (note : PidNote) (are : FilesAre note c.rec.pid_path m files) where
+    moved-left : (r : Names) (q : Progress) → Only new (numbers_below n) r → Looks (view (x m hs r) none r) q.table.rows → Exactly m new q → Still files note c.t.limits q.table.files q.note q.table.limits → (e : Ending) → setup_after (outcome_of e q.lacking) c.rec (Upgrade c.st) ≡ Some (moved hs) → AgreesAfter c.rec (Upgrade c.st) (report_at e q) m q.table
+    moved-left r q only looks exact still e is =
+        moved-after c.rec (Upgrade c.st) (report_at e q) q.table (moved hs) m is (some-held hs wanted keys c.range.listens) low c.range.retries c.range.timeout_least c.range.timeout_most c.start.record_in_range some
+        (λ k on. below-of n k (census-within (x m hs r) (λ n. refl) new (numbers_below n) r q.table.rows q.ready only looks exact k on))
+        (agrees-after (view (x m hs r) none r) new q.table _ (λ n. refl) refl (λ h k on. (only h k on).0) looks exact refl refl refl refl (files-still note q.note c.rec.pid_path m files q.table.files c.t.limits q.table.limits are still))
+
+    pub new-full : (r : Names) (q : Progress) → Only new (numbers_below n) r → Looks (view (x m hs r) none r) q.table.rows → q.lacking ≡ [] → Still files note c.t.limits q.table.files q.note q.table.limits → Saw m new (numbers_below n) q → Exactly m new q → post (At Done) q
+    new-full r q only looks full still saw exact = (
+      service-of (x m hs r) (λ n. refl) new (numbers_below n) wanted refl keys r n q.table only looks (omega (arith, saw, ap length full, below-length n)),
+      tt,
+      tt,
+      (m, moved-left r q only looks exact still (At Done) (moved-is hs lists)),
+    )
+
+    pub new-short : (r : Names) (q : Progress) (y : ℕ) (ys : List ℕ) → Only new (numbers_below n) r → Looks (view (x m hs r) none r) q.table.rows → q.lacking ≡ y ∷ ys → is_some q.cause ≡ true → Still files note c.t.limits q.table.files q.note q.table.limits → length (numbers_below n) + c.rec.retries ≤ weigh (ready_in m (named new (is_in (numbers_below n)))) q.table.rows + q.losses + q.faults → Saw m new (numbers_below n) q → Exactly m new q → post (At ShortTarget) q
+    new-short r q y ys only looks short caused still budget saw exact = (
+      (omega (arith, ap length short), service-short (x m hs r) (λ n. refl) new (numbers_below n) wanted refl keys r n (length q.lacking) q.table only looks (omega (arith, saw, below-length n))),
+      omega (arith, budget, saw),
+      caused,
+      (m, moved-left r q only looks exact still (At ShortTarget) (moved-is hs lists)),
+    )

@@ -1,0 +1,134 @@
+-- An upgrade's tree up to where its old master is relieved, and the pieces from there, as calls that keep a fact on the table.
+use Rattle.std.proofs.Common.{◌≡◌, ◌≢◌, ℕ, false, List, [], ◌∷◌, ◌++◌, Option, Some, None, refl, arith}
+use Rattle.std.specs.Prelude.{⊤, map}
+use Rattle.std.specs.List.{AllByRecursion}
+use Rattle.listener_set.specs.Numbers.{numbers_below}
+use Rattle.definitions.specs.declared.calls.Call.{Call}
+use Rattle.definitions.specs.declared.calls.Call.TheVariants.{OpenAt, CloseAt, Fork, AwaitReady, Census, Adopt, WritePid, MovePid, SpawnMaster, TermMaster}
+use Rattle.definitions.specs.declared.calls.Fate.{Fate}
+use Rattle.definitions.specs.declared.names.Name.{Name}
+use Rattle.definitions.specs.declared.plans.PidNote.{PidNote}
+use Rattle.definitions.specs.declared.plans.PidNote.TheVariants.{InPlace, AtOldbin, OldbinLeft, Left, NoFile}
+use Rattle.definitions.specs.declared.plans.Side.TheVariants.{Old}
+use Rattle.definitions.specs.declared.plans.Order.TheVariants.{Make}
+use Rattle.definitions.specs.declared.reports.Entry.{Entry}
+use Rattle.definitions.specs.Table.{Address, FilePath, Table}
+use Rattle.definitions.specs.Exits.{after_exits}
+use Rattle.definitions.specs.Calls.{step_with}
+use Rattle.definitions.specs.Manner.{is_leave_call}
+use Rattle.definitions.specs.declared.calls.Reply.TheVariants as reply
+use Rattle.definitions.specs.Tree.{Tree, Branches, Nothing, Does, plain_reply, replies_to}
+use Rattle.definitions.specs.Plans.{on, others, then_edge, note_edges, settle, back_alone, back_from, move_back, move_aside, tries, tries_all, new_calls, pid_calls, relieve, spawn_edges, upgrade_tree, does}
+use Rattle.definitions.specs.Run.{Progress, Lost}
+use Rattle.definitions.specs.Record.{oldbin}
+use Rattle.definitions.specs.Target.{only_in}
+use Rattle.definitions.specs.Claims.{names_any}
+use Rattle.theorems.proofs.Logic.{Exiting}
+use Rattle.theorems.proofs.Processes.{AnyCall}
+use Rattle.theorems.proofs.Traces.{Asking, Finally, Good, AllGood, good-call}
+use Rattle.theorems.proofs.UpgradeStage.{Given, g, new, R, A0, n, wanted, co}
+
+-- nothing is known of what was done
+abbrev pub Free : List Entry → Type 0
+Free past = ⊤
+
+pub any-stays : (image : ℕ) (call : Call) → AnyCall image call → is_leave_call call ≡ false
+any-stays image (OpenAt a) any = refl
+any-stays image (CloseAt a) any = refl
+any-stays image (Fork h x) any = refl
+any-stays image (AwaitReady h x) any = refl
+any-stays image (Census h) any = refl
+any-stays image Adopt any = refl
+any-stays image (WritePid path) any = refl
+any-stays image (MovePid from to) any = refl
+any-stays image (SpawnMaster i) any = refl
+any-stays image (TermMaster i) any = refl
+any-stays image _ any = absurd any
+
+all-joined : (P : Call → Type 0) (l k : List Call) → AllByRecursion P l → AllByRecursion P k → AllByRecursion P (l ++ k)
+all-joined P [] k a b = b
+all-joined P (x ∷ l) k a b = (a.0, all-joined P l k a.1 b)
+
+all-mapped : {X : Type 0} (P : Call → Type 0) (f : X → Call) (l : List X) → ((x : X) → P (f x)) → AllByRecursion P (map f l)
+all-mapped P f [] h = tt
+all-mapped P f (x ∷ l) h = (h x, all-mapped P f l h)
+
+module _ (c : Given) (due : Asking) (post : Finally) (mild : Exiting) (lost : (past : List Entry) (p : Progress) → post past Lost p) (F : Table → Type 0) (exits : (es : List Name) (t : Table) → names_any (co c).executing es ≡ false → mild es t.rows → F t → F (after_exits es t)) where
+  abbrev pub IsGood : (List Entry → Type 0) → Tree → Type 0
+  IsGood K t = Good due post mild (co c) lost F K t
+
+  ---- Up to the relief
+
+  module _ (any : (text : List ℕ) (by : ℕ) (call : Call) (fate : Option Fate) (t : Table) → AnyCall c.rec.generation.image call → F t → F (step_with text by call fate t).table) (asks : (past : List Entry) (call : Call) (t : Table) → AnyCall c.rec.generation.image call → F t → due past call t) (settled : IsGood Free (settle c.rec.generation.image (g c) (R c) Old c.rec.retries)) (relieved : IsGood Free (relieve c.rec.generation.image (new c).image (g c) (R c) c.rec.retries c.rec.pid_path (n c))) where
+    one-call : (by : ℕ) (call : Call) (set : List ℕ) (bs : Branches) → AnyCall c.rec.generation.image call → AllGood due post mild (co c) lost F Free bs → IsGood Free (Does by (Make call) set bs)
+    one-call by call set bs is all = good-call due post mild (co c) lost F Free by call set bs (any-stays c.rec.generation.image call is) exits (λ past e k. tt) (λ past t k h. asks past call t is h) (λ text fate t h. any text by call fate t is h) all
+
+    apart : (new c).image ≢ c.rec.generation.image
+    apart e = absurd (omega (arith, e))
+
+    moved-back : (path : Option FilePath) (rest : Tree) → IsGood Free rest → IsGood Free (move_back c.rec.generation.image path rest)
+    moved-back None rest h = h
+    moved-back (Some path) rest h = one-call c.rec.generation.image (MovePid (oldbin path) path) [] (note_edges (Some InPlace) (Some AtOldbin) rest) tt (h, (h, tt))
+
+    abbrev alone : Tree
+    alone = back_alone c.rec.generation.image (g c) (R c) c.rec.retries c.rec.pid_path
+
+    back-good : IsGood Free alone
+    back-good = moved-back c.rec.pid_path (settle c.rec.generation.image (g c) (R c) Old c.rec.retries) settled
+
+    abbrev back : Tree
+    back = back_from c.rec.generation.image (new c).image (g c) (R c) c.rec.retries c.rec.pid_path
+
+    from-good : IsGood Free back
+    from-good = one-call c.rec.generation.image (TermMaster (new c).image) [] (then_edge alone) apart (back-good, tt)
+
+    abbrev edges : Call → Tree → Branches
+    edges call rest = on (plain_reply call ∷ []) rest (on (others (replies_to call) ++ reply.MasterGone ∷ []) back Nothing)
+
+    tries-good : (calls : List Call) (rest : Tree) → AllByRecursion (AnyCall c.rec.generation.image) calls → IsGood Free rest → IsGood Free (tries_all (new c).image calls rest back)
+    tries-good [] rest all h = h
+    tries-good (call ∷ calls) rest all h = one-call (new c).image call [] (edges call (tries_all (new c).image calls rest back)) all.0 (tries-good calls rest all.1 h, (from-good, tt))
+
+    abbrev Calls : List Call → Type 0
+    Calls calls = AllByRecursion (AnyCall c.rec.generation.image) calls
+
+    joined : (l k : List Call) → Calls l → Calls k → Calls (l ++ k)
+    joined l k a b = all-joined (AnyCall c.rec.generation.image) l k a b
+
+    calls-any : (path : Option FilePath) (closes opens : List Address) (ks : List ℕ) → Calls (Adopt ∷ map CloseAt closes ++ map OpenAt opens ++ map (Fork (new c)) ks ++ map (AwaitReady (new c)) ks ++ pid_calls path WritePid)
+    calls-any path closes opens ks =
+        let a = Adopt ∷ map CloseAt closes in
+        let b = map OpenAt opens in
+        let f = map (Fork (new c)) ks in
+        let w = map (AwaitReady (new c)) ks in
+        joined (a ++ b ++ f ++ w) (pid_calls path WritePid) (joined (a ++ b ++ f) w (joined (a ++ b) f (joined a b (tt, mapped CloseAt closes (λ x. tt)) (mapped OpenAt opens (λ x. tt))) (mapped (Fork (new c)) ks (λ x. tt))) (mapped (AwaitReady (new c)) ks (λ x. tt))) (written path)
+      where
+        mapped : {X : Type 0} (f : X → Call) (l : List X) → ((x : X) → AnyCall c.rec.generation.image (f x)) → Calls (map f l)
+        mapped f l h = all-mapped (AnyCall c.rec.generation.image) f l h
+
+        written : (path : Option FilePath) → Calls (pid_calls path WritePid)
+        written None = tt
+        written (Some path) = (tt, tt)
+
+    abbrev relief : Tree
+    relief = relieve c.rec.generation.image (new c).image (g c) (R c) c.rec.retries c.rec.pid_path (n c)
+
+    abbrev ok : Tree
+    ok = tries_all (new c).image (new_calls (g c) c.rec.pid_path (A0 c) (wanted c) (n c)) (tries (new c).image (Census (new c)) (numbers_below (n c)) relief back) back
+
+    ok-good : IsGood Free ok
+    ok-good = tries-good (new_calls (g c) c.rec.pid_path (A0 c) (wanted c) (n c)) (tries (new c).image (Census (new c)) (numbers_below (n c)) relief back) (calls-any c.rec.pid_path (only_in (A0 c) (wanted c)) (only_in (wanted c) (A0 c)) (numbers_below (n c))) (one-call (new c).image (Census (new c)) (numbers_below (n c)) (edges (Census (new c)) relief) tt (relieved, (from-good, tt)))
+
+    spawn-good : IsGood Free (does c.rec.generation.image (SpawnMaster (new c).image) (spawn_edges ok alone))
+    spawn-good = one-call c.rec.generation.image (SpawnMaster (new c).image) [] (spawn_edges ok alone) apart (ok-good, (back-good, tt))
+
+    aside-good : (path : Option FilePath) (note : PidNote) (rest bad : Tree) → IsGood Free rest → IsGood Free bad → IsGood Free (move_aside c.rec.generation.image path note rest bad)
+    aside-good None note rest bad h b = h
+    aside-good (Some path) AtOldbin rest bad h b = h
+    aside-good (Some path) InPlace rest bad h b = one-call c.rec.generation.image (MovePid path (oldbin path)) [] (on (reply.Fine ∷ []) rest (on (reply.IoFault ∷ []) bad Nothing)) tt (h, (b, tt))
+    aside-good (Some path) OldbinLeft rest bad h b = one-call c.rec.generation.image (MovePid path (oldbin path)) [] (on (reply.Fine ∷ []) rest (on (reply.IoFault ∷ []) bad Nothing)) tt (h, (b, tt))
+    aside-good (Some path) Left rest bad h b = one-call c.rec.generation.image (MovePid path (oldbin path)) [] (on (reply.Fine ∷ []) rest (on (reply.IoFault ∷ []) bad Nothing)) tt (h, (b, tt))
+    aside-good (Some path) NoFile rest bad h b = one-call c.rec.generation.image (MovePid path (oldbin path)) [] (on (reply.Fine ∷ []) rest (on (reply.IoFault ∷ []) bad Nothing)) tt (h, (b, tt))
+
+    pub upgrade-good : IsGood Free (upgrade_tree c.rec.generation.image (g c) (R c) c.rec.retries c.rec.pid_path c.rec.note (A0 c) (wanted c) (n c))
+    upgrade-good = aside-good c.rec.pid_path c.rec.note (does c.rec.generation.image (SpawnMaster (new c).image) (spawn_edges ok alone)) (settle c.rec.generation.image (g c) (R c) Old c.rec.retries) spawn-good settled

@@ -1,0 +1,47 @@
+-- Tables and runs that break a claim.
+use Rattle.std.proofs.Common.{◌≡◌, ℕ, ◌+◌, Bool, true, false, refl, sym, ap, subst, arith, ⊎_elim}
+use Rattle.std.specs.Prelude.{is_some, count_by}
+use Rattle.listener_set.specs.declared.generation.Generation.{Generation}
+use Rattle.definitions.specs.Table.{Table, same_generation}
+use Rattle.definitions.specs.Service.{service, is_serving}
+use Rattle.definitions.specs.Claims.{IsFewerAt}
+use Rattle.theorems.specs.Examples.{first, port, other_port, two_workers, count_if}
+use Rattle.theorems.specs.WrongTables.{none_left, WrongTables}
+use Rattle.theorems.proofs.Effects.{same-is}
+
+no : true ≡ false → ⊥
+no e = cc
+
+abbrev counts : Table → Generation → ℕ
+counts t g = count_by (is_serving port g) t.rows
+
+-- Of the generation that had two workers, two are lacking, and no other can have lost one.
+two_less : IsFewerAt 1 (service two_workers port) (service none_left port) → ⊥
+two_less h = go (same_generation first h.0) refl
+  where
+    go : (b : Bool) → same_generation first h.0 ≡ b → ⊥
+    go true e =
+        let less : counts two_workers first ≡ counts none_left first + 1 = subst (λ g. counts two_workers g ≡ counts none_left g + 1) (sym (same-is first h.0 e)) h.1 in
+        absurd (cc (less))
+    go false e = absurd (cc (h.2 first e))
+
+pub wrong_tables : WrongTables
+wrong_tables = record {
+  done = λ h. let e = ap (λ o. count_if o first) (h port) in absurd (cc);
+  rolled_back = λ h. no (ap is_some (h other_port));
+  degraded = λ h. two_less (h.1 port);
+  lost = λ h. h;
+  kept = λ h. no (sym (h port 1 (refl, refl) refl));
+  floor = λ h. absurd (omega (arith, h port (refl, refl)));
+  agrees = λ h. h.running.1.1.1.0 refl;
+  files = λ h. absurd (cc (h.0));
+  stop_note = λ h. absurd (cc (h.0));
+  blamed = λ h. absurd (omega (arith, h.0 refl));
+  blamed_falsely = λ h. absurd (omega (arith, h.1 refl));
+  cause = λ h. absurd (cc);
+  paid = λ h. absurd (omega (arith, h));
+  stays = λ h. ⊎_elim (λ a. no (sym a)) (λ a. no (sym a)) (h 102 1 refl refl);
+  goes = λ h. no (h 101 0 refl refl);
+  kills = λ h. no (sym (h.0 102 1 refl refl));
+  leaves = λ h. no (sym h.0);
+}

@@ -1,0 +1,88 @@
+-- Tables and runs that break a claim, one for each.
+use Rattle.std.specs.Prelude.{ℕ, true, [], ◌∷◌, ◌++◌, Option, Some, None}
+use Rattle.listener_set.specs.Numbers.{is_in}
+use Rattle.definitions.specs.declared.table.Stance.TheVariants.{Starting, Ready}
+use Rattle.definitions.specs.declared.calls.Call.TheVariants.{Kill, Leave}
+use Rattle.definitions.specs.declared.calls.Answer.TheVariants as answer
+use Rattle.definitions.specs.declared.plans.End.TheVariants as end
+use Rattle.definitions.specs.declared.plans.PidNote.TheVariants.{InPlace, NoFile}
+use Rattle.definitions.specs.declared.plans.Side.TheVariants as side
+use Rattle.definitions.specs.declared.reports.Entry.{Entry}
+use Rattle.definitions.specs.declared.reports.Outcome.TheVariants.{Done, RolledBack, Degraded, Lost}
+use Rattle.definitions.specs.declared.targets.Target.TheVariants.{Workers}
+use Rattle.definitions.specs.Table.{Master, Worker, Table}
+use Rattle.definitions.specs.Service.{service}
+use Rattle.definitions.specs.Record.{Agrees, FilesAre}
+use Rattle.definitions.specs.Target.{want}
+use Rattle.definitions.specs.Run.{Progress, Ran, At, start_at}
+use Rattle.definitions.specs.Manner.{Stays, Goes, KillsOnlyLate, LeavesLast}
+use Rattle.definitions.specs.Claims.{Says, Kept, Floor, IsBlamed, HasCause, IsPaid, StopNote}
+use Rattle.theorems.specs.Examples.{first, port, other_port, pid_file, holds, two_workers, two_ready, table_with, pid_files, own_rows, m1}
+
+---- Tables
+
+abbrev pub one_left : Table
+one_left = table_with (Master 100 1 1 true holds ∷ Worker 101 100 first 0 Ready holds ∷ []) pid_files 65535
+
+abbrev pub none_left : Table
+none_left = table_with (Master 100 1 1 true holds ∷ []) pid_files 65535
+
+abbrev pub one_starts : Table
+one_starts = table_with (own_rows ++ Worker 103 100 first 2 Starting holds ∷ []) pid_files 65535
+
+-- an address more than there was
+abbrev pub left_open : Table
+left_open = table_with (Master 100 1 1 true (record { fd = 3; socket = 1; address = port } ∷ record { fd = 4; socket = 2; address = other_port } ∷ []) ∷ []) pid_files 65535
+
+-- the address on another socket
+abbrev pub opened_anew : Table
+opened_anew = table_with (Master 100 1 1 true (record { fd = 3; socket = 2; address = port } ∷ []) ∷ []) pid_files 65535
+
+---- Runs
+
+abbrev pub progress : Table → ℕ → ℕ → Option ℕ → Progress
+progress t faults losses cause = record { table = t; calls = 1; ready = []; lacking = []; faults = faults; losses = losses; cause = cause; note = InPlace }
+
+-- of one call, from one table to another
+abbrev pub ran_from : Table → Entry → Table → Ran
+ran_from t e t' = record {
+  entries = e ∷ [];
+  passed = start_at t InPlace ∷ start_at t InPlace ∷ start_at t' InPlace ∷ [];
+  ending = At end.Done;
+  last = start_at t' InPlace;
+}
+
+abbrev pub Refuted : Type 0 → Type 0
+Refuted claim = claim → ⊥
+
+pub record WrongTables : Type 0 where
+  -- Two workers where three are wanted.
+  pub done : Refuted (Says Done (service two_workers) (want (two_ready 3) (Workers 3)) two_workers)
+  -- An address was left open.
+  pub rolled_back : Refuted (Says RolledBack (service none_left) (want (two_ready 3) (Workers 3)) left_open)
+  -- Two are lacking, and one is named.
+  pub degraded : Refuted (Says (Degraded side.Old 1) (service two_workers) (want (two_ready 3) (Workers 3)) none_left)
+  pub lost : Refuted (Says Lost (service two_workers) (want (two_ready 3) (Workers 3)) two_workers)
+  -- An address that both services name was closed and opened anew.
+  pub kept : Refuted (Kept (service two_workers) (want (two_ready 3) (Workers 2)) two_workers opened_anew)
+  -- The old workers went before new ones were ready.
+  pub floor : Refuted (Floor (service two_workers) (want (two_ready 3) (Workers 2)) two_workers 2 (progress one_left 0 0 None))
+  -- A worker is left Starting.
+  pub agrees : Refuted (Agrees one_starts (two_ready 3))
+  -- The note says that the file is in its place.
+  pub files : Refuted (FilesAre InPlace (Some pid_file) 100 [])
+  pub stop_note : Refuted (StopNote NoFile (Some pid_file) (ran_from two_workers (m1 Leave answer.Fine) two_workers))
+  -- A fault without a cause, and a cause without a fault or a loss.
+  pub blamed : Refuted (IsBlamed (progress two_workers 1 0 None))
+  pub blamed_falsely : Refuted (IsBlamed (progress two_workers 0 0 (Some 1)))
+  pub cause : Refuted (HasCause RolledBack None)
+  -- It gave up at its first failure, with three retries.
+  pub paid : Refuted (IsPaid 3 (Degraded side.Old 1) (progress one_left 1 0 (Some 1)))
+  -- A worker went that was no loss.
+  pub stays : Refuted (Stays two_workers (λ k. true) (ran_from two_workers (m1 (Kill first 1) answer.Fine) one_left))
+  -- An overdue worker is still there.
+  pub goes : Refuted (Goes two_workers (is_in (0 ∷ [])) (ran_from two_workers (m1 (Kill first 1) answer.Fine) one_left))
+  -- A worker was killed that was never told to quit.
+  pub kills : Refuted (KillsOnlyLate two_workers (ran_from two_workers (m1 (Kill first 1) answer.Fine) one_left))
+  -- A master left without waiting for its workers.
+  pub leaves : Refuted (LeavesLast (two_ready 3) (ran_from two_workers (m1 Leave answer.Fine) none_left))

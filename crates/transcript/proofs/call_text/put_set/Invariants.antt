@@ -1,7 +1,0 @@
-use Rattle.std.proofs.Common.{◌≡◌, ◌++◌}
-use Rattle.transcript.specs.CallText.{runs_text, set_text}
-use Rattle.transcript.proofs.call_text.put_set.Given as goal
-
-abbrev pub invariant-loop-number : goal.invariant-loop-number
-invariant-loop-number l =
-    l.out.items ++ runs_text l.first l.last l.number-iterator ≡ l.fn.out.items ++ set_text l.fn.numbers
