@@ -75,12 +75,21 @@ fn enact<R: AllocGlobal + Files, I: Read, O: Write>(
     }
     let patterns = read_patterns(alloc, input)?;
     let mut text = Vec::new(alloc);
-    let done = rehearse(alloc, &mut rehearsal, &words, &patterns, &mut text);
+    let mut done = rehearse(alloc, &mut rehearsal, &words, &patterns, &mut text);
     if options.state && done.is_ok() {
-        text.extend_from_slice(rehearsal.state()?.as_slice())?;
+        if let Err(fault) = show_state(&rehearsal, &mut text) {
+            done = Err(fault);
+        }
     }
     write(output, text.as_slice())?;
     done
+}
+
+/// Appends the table of processes, files and the service.
+fn show_state(rehearsal: &Rehearsal, text: &mut Vec<u8>) -> Result<(), Fault> {
+    let state = rehearsal.state()?;
+    text.extend_from_slice(state.as_slice())?;
+    Ok(())
 }
 
 /// `plan`: writes what a word would do.
