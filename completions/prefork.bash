@@ -1,0 +1,59 @@
+# Bash completion for prefork: subcommands, options, files and control words.
+# To use it: source completions/prefork.bash
+
+_prefork() {
+    local signals='HUP QUIT INT TERM USR1 USR2 WINCH TTIN TTOU'
+    local cur=${COMP_WORDS[COMP_CWORD]} prev=${COMP_WORDS[COMP_CWORD - 1]}
+    local options word
+
+    COMPREPLY=()
+    if ((COMP_CWORD == 1)); then
+        mapfile -t COMPREPLY < <(compgen -W 'enact plan --help --version' -- "$cur")
+        return
+    fi
+
+    # Bash parts words at = and :, so that --from=FILE comes as three words.
+    [[ $cur == = ]] && cur=''
+    [[ $prev == = ]] && prev=${COMP_WORDS[COMP_CWORD - 2]}
+    case $prev in
+        --from | --to)
+            compopt -o default
+            return
+            ;;
+        --workers | --held | :) return ;;
+    esac
+    [[ $cur == : ]] && return
+
+    case ${COMP_WORDS[1]} in
+        enact) options='--from --to --workers --bare --held --state --help' ;;
+        plan) options='--from --to --workers --bare --help' ;;
+        *) return ;;
+    esac
+    local before=("${COMP_WORDS[@]:2:COMP_CWORD-2}")
+
+    # Each option is given once at most.
+    if [[ $cur == -* ]]; then
+        for word in $options; do
+            [[ " ${before[*]} " == *" $word "* ]] && continue
+            [[ $word == "$cur"* ]] && COMPREPLY+=("$word")
+        done
+        return
+    fi
+
+    # One word is all that plan takes.
+    if [[ ${COMP_WORDS[1]} == plan ]]; then
+        for word in "${before[@]}"; do
+            [[ " $signals " == *" $word "* || $word == [\'\"]* ]] && return
+        done
+    fi
+
+    # The words with numbers are one argument, and so begin with a quote that is still to be closed.
+    mapfile -t COMPREPLY < <(compgen -W "$signals" -- "$cur")
+    for word in beat tick; do
+        [[ $word == "$cur"* ]] || continue
+        COMPREPLY+=("'$word ")
+        [[ -n $cur ]] && compopt -o nospace
+    done
+}
+
+complete -F _prefork prefork
