@@ -7,9 +7,7 @@ one_more : (n : ℕ) (ks : List ℕ) (k : ℕ) → AllByRecursion (λ j. j < n) 
 one_more n [] k all lt = (lt, tt)
 one_more n (j ∷ ks) k all lt = (all.0, one_more n ks k all.1 lt)
 
-up_to : (n m : ℕ) → m ≤ n → AllByRecursion (λ j. j < n) (numbers_below m)
+pub up_to : (n m : ℕ) → m ≤ n → AllByRecursion (λ j. j < n) (numbers_below m)
 up_to n zero le = tt
 up_to n (suc m) le = one_more n (numbers_below m) m (up_to n m (omega arith)) (omega arith)
 
-pub all_below : (n : ℕ) → AllByRecursion (λ j. j < n) (numbers_below n)
-all_below n = up_to n n (omega arith)

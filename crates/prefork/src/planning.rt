@@ -1,7 +1,10 @@
 //! `plan`: what a control word would do.
+ghost use Rattle.std.specs.Prelude.{IfOk, IfSome};
+ghost use Rattle.definitions.specs.Target.{IsTarget};
+
 use crate::fault::Fault;
 use crate::start::Start;
-use control_words::{Word, WordRefusal, target_of};
+use control_words::{Word, target_of};
 use definitions::Target;
 use listener_set::Numbers;
 use plan_text::write_plan;
@@ -27,20 +30,23 @@ pub fn look_ahead(alloc: Global, start: &Start, word: Word) -> Result<Outlook, F
 }
 
 /// What a word asks for, or the code of its refusal. No worker has beaten yet.
-fn asked(record: &Record, start: &Start, word: Word) -> Result<Option<Target>, &'static str> {
+fn asked(record: &Record, start: &Start, word: Word) -> Result<Option<Target>, &'static str>
+    ensures { IfOk result (λ target. IfSome target IsTarget) }
+{
     if let Word::Beat { nr, .. } = word {
         if record.ready.next_from(nr) != Some(nr) {
             return Err("T3");
         }
     }
-    target_of(word, record, &Numbers::none(), Some(&start.next)).map_err(code_of)
+    match target_of(word, record, &Numbers::none(), Some(&start.next)) {
+        Ok(target) => Ok(target),
+        Err(refusal) => Err(refusal.code()),
+    }
 }
 
-fn code_of(refusal: WordRefusal) -> &'static str {
-    refusal.code()
-}
-
-fn planned(alloc: Global, record: &Record, target: &Target) -> Result<Outlook, Fault> {
+fn planned(alloc: Global, record: &Record, target: &Target) -> Result<Outlook, Fault>
+    requires { IsTarget target.now }
+{
     match reload_planner::plan(alloc, record, target) {
         Ok(plan) => Ok(Outlook {
             text: write_plan(alloc, &plan)?,
