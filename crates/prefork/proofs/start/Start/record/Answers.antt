@@ -1,4 +1,4 @@
-use Rattle.std.proofs.Common.{◌<◌, ◌≤◌, sym, subst, arith}
+use Rattle.std.proofs.Common.{◌<◌, sym, subst, arith}
 use Rattle.std.specs.List.{AllByRecursion}
 use Rattle.prefork.proofs.Below.{up_to}
 use Rattle.prefork.proofs.start.Start.record.Goals as goal
