@@ -1,6 +1,7 @@
 //! How long the planning of a reload takes, at 128 and at 1,024 workers before and after. It writes
 //! how many steps each plan has, and to the error output the least time of all runs.
 #![tactic(auto)]
+
 ghost use Rattle.std.specs.Prelude.{◌≤◌};
 
 use definitions::{Settings, Target};
@@ -12,7 +13,11 @@ use std::time::{Duration, Instant};
 const RUNS: u32 = 50;
 
 /// The plan's steps, and the least time in which it was made.
-fn measured(rt: &HostRuntime, state: &Record, target: &Target) -> anyhow::Result<(usize, Duration)> {
+fn measured(
+    rt: &HostRuntime,
+    state: &Record,
+    target: &Target,
+) -> anyhow::Result<(usize, Duration)> {
     let mut least = Duration::MAX;
     let mut steps = 0;
     for _run in 0..RUNS {
@@ -34,7 +39,10 @@ fn reload(rt: &HostRuntime, workers: u32) -> anyhow::Result<()>
     let state = Record::start(&settings, workers, &ready, 100);
     let (steps, least) = measured(rt, &state, &Target::Reload(settings))?;
     println!(rt; "HUP {workers} to {workers}: {steps} steps")?;
-    eprintln!(rt; "HUP {workers} to {workers}: {} microseconds", least.as_micros())?;
+    eprintln!(rt;
+        "HUP {workers} to {workers}: {} microseconds",
+        least.as_micros()
+    )?;
     Ok(())
 }
 

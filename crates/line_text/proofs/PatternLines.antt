@@ -41,10 +41,11 @@ numbered_found text v e =
     let n = then (λ n. option_and_then (λ (q : List ℕ × List ℕ). event_of n q.0 q.1) (cut 32 parts.0.1)) (moment_of parts.0.0) v parts.2 in
     let rest = then (λ (q : List ℕ × List ℕ). event_of n.0 q.0 q.1) (cut 32 parts.0.1) v n.2 in
     let number = count_reads.found parts.0.0 n.0 n.1 in
-    let got = event_found n.0 rest.0.0 rest.0.1 v number.0 rest.2 in
-    (got.0,
+    let got = event_found n.0 rest.0.0 rest.0.1 v number.0 rest.2 in (
+      got.0,
       cut_found 32 text parts.0 parts.1 ∙ ap (λ t. t ++ 32 ∷ parts.0.1) number.1
-      ∙ ap (λ t. decimal n.0 ++ 32 ∷ t) (cut_found 32 parts.0.1 rest.0 rest.1) ∙ got.1)
+          ∙ ap (λ t. decimal n.0 ++ 32 ∷ t) (cut_found 32 parts.0.1 rest.0 rest.1) ∙ got.1,
+    )
 
 numbered_only : (n : ℕ) (verb what : List ℕ) (o : Option PatternLine) → IsCount n → lacks 32 verb ≡ true → event_of n verb what ≡ o → numbered_of (decimal n ++ 32 ∷ (verb ++ 32 ∷ what)) ≡ o
 numbered_only n verb what o h apart e =

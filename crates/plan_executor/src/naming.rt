@@ -1,7 +1,6 @@
 //! Which moment of a run kills the executing master.
 ghost use Rattle.std.specs.Prelude.{◌≡◌, ◌<◌, ◌∷◌, [], length};
 ghost use Rattle.std.specs.List.{list_any};
-
 ghost use Rattle.definitions.specs.Manner.{is_leave_call};
 ghost use Rattle.kernel_model.specs.Pattern.{moment_at};
 ghost use Rattle.plan_executor.specs.Naming.{first_naming, is_master};

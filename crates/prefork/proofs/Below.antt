@@ -10,4 +10,3 @@ one_more n (j ∷ ks) k all lt = (all.0, one_more n ks k all.1 lt)
 pub up_to : (n m : ℕ) → m ≤ n → AllByRecursion (λ j. j < n) (numbers_below m)
 up_to n zero le = tt
 up_to n (suc m) le = one_more n (numbers_below m) m (up_to n m (omega arith)) (omega arith)
-

@@ -99,8 +99,9 @@ fn plan<R: AllocGlobal + Files, O: Write>(
     output: &mut O,
 ) -> Result<u8, Fault> {
     let alloc = rt.alloc();
-    let word = control_words::read(options.word.as_bytes())
-        .map_err(|refusal| Fault::Word(1, refusal))?;
+    let word = control_words::read(options.word.as_bytes()).map_err(|refusal| Fault::Word(
+        1, refusal,
+    ))?;
     let start = Start::read(rt, &options.start)?;
     let outlook = planning::look_ahead(alloc, &start, word)?;
     write(output, outlook.text.as_slice())?;
