@@ -3,6 +3,7 @@
 #![tactic(auto)]
 
 ghost use Rattle.std.specs.Prelude.{◌≤◌};
+ghost use Rattle.definitions.specs.Target.{IsTarget};
 
 use definitions::{Settings, Target};
 use listener_set::Numbers;
@@ -13,11 +14,9 @@ use std::time::{Duration, Instant};
 const RUNS: u32 = 50;
 
 /// The plan's steps, and the least time in which it was made.
-fn measured(
-    rt: &HostRuntime,
-    state: &Record,
-    target: &Target,
-) -> anyhow::Result<(usize, Duration)> {
+fn measured(rt: &HostRuntime, state: &Record, target: &Target) -> anyhow::Result<(usize, Duration)>
+    requires { IsTarget target.now }
+{
     let mut least = Duration::MAX;
     let mut steps = 0;
     for _run in 0..RUNS {
