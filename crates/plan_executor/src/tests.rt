@@ -35,11 +35,11 @@ fn failing(alloc: Global) -> Result<Pattern, Fail> {
     Ok(pattern)
 }
 
-/// The pattern in which somebody exits before the n-th call.
-fn leaving(alloc: Global, n: u32, name: Name) -> Result<Pattern, Fail> {
+/// The pattern in which a master exits before the n-th call.
+fn leaving(alloc: Global, n: u32, image: u32) -> Result<Pattern, Fail> {
     let mut pattern = Pattern::new(alloc);
     if n >= 1 {
-        pattern.add_exit(n, name)?;
+        pattern.add_exit(n, Name::Master(image))?;
     }
     Ok(pattern)
 }
@@ -71,7 +71,7 @@ fn one_worker_more_is_started_and_counted(rt: HostRuntime) -> Result<(), Fail> {
 #[test]
 fn the_exit_of_the_executing_master_is_refused(rt: HostRuntime) -> Result<(), Fail> {
     let mut kernel = booted(rt.alloc())?;
-    let pattern = leaving(rt.alloc(), 1, Name::Master(1))?;
+    let pattern = leaving(rt.alloc(), 1, 1)?;
     let refused = one_more(rt.alloc(), &mut kernel, &record(), &pattern);
     assert!(rt; matches!(refused, Err(EnactRefusal::MasterNamed(1))));
     Ok(())
@@ -80,7 +80,7 @@ fn the_exit_of_the_executing_master_is_refused(rt: HostRuntime) -> Result<(), Fa
 #[test]
 fn exits_of_others_and_after_the_end_are_no_matter(rt: HostRuntime) -> Result<(), Fail> {
     let mut kernel = booted(rt.alloc())?;
-    let mut pattern = leaving(rt.alloc(), 4, Name::Master(1))?;
+    let mut pattern = leaving(rt.alloc(), 4, 1)?;
     pattern.add_exit(1, Name::Master(2))?;
     assert!(rt; one_more(rt.alloc(), &mut kernel, &record(), &pattern).is_ok());
     Ok(())
@@ -90,7 +90,8 @@ fn exits_of_others_and_after_the_end_are_no_matter(rt: HostRuntime) -> Result<()
 fn a_target_without_a_plan_is_refused_by_its_planner(rt: HostRuntime) -> Result<(), Fail> {
     let mut kernel = booted(rt.alloc())?;
     let quiet = Pattern::new(rt.alloc());
-    let refused = enact(rt.alloc(), &mut kernel, &record(), &Target::Reopen, &quiet);
+    let upgrade = Target::Upgrade(Settings::plain());
+    let refused = enact(rt.alloc(), &mut kernel, &record(), &upgrade, &quiet);
     assert!(rt; matches!(refused, Err(EnactRefusal::Plan(PlanRefusal::Unplanned))));
     Ok(())
 }
