@@ -263,6 +263,10 @@ MendHeadline =
 abbrev pub ReopenHeadline : Type 0
 ReopenHeadline = (t : Table) (r : Record) (pattern : Pattern) → IsAccepted t r Reopen pattern → Keeps t r Reopen r.pid (run_of r Reopen pattern t)
 
+-- And keeps the floor: it touches no worker, and starts what is lacking.
+abbrev pub ReopenFloor : Type 0
+ReopenFloor = (t : Table) (r : Record) (pattern : Pattern) → IsAccepted t r Reopen pattern → KeepsFloor t r Reopen (run_of r Reopen pattern t)
+
 abbrev pub ReloadHeadline : Type 0
 ReloadHeadline =
     (t : Table) (r : Record) (s : Settings) (pattern : Pattern) → IsAccepted t r (Reload s) pattern →

@@ -5,7 +5,7 @@
 ghost use Rattle.std.specs.Prelude.{ℕ, List, Bool};
 ghost use Rattle.definitions.specs.Settings.{Settings};
 ghost use Rattle.definitions.specs.declared.targets.Target.TheVariants.{Workers, Mend, Reopen, Reload, Upgrade, Stop};
-ghost use Rattle.definitions.specs.Claims.{InManner, MendHeadline, ReloadHeadline, ReopenHeadline, RunsWithin, StopHeadline, UpgradeHeadline, WorkersHeadline};
+ghost use Rattle.definitions.specs.Claims.{InManner, MendHeadline, ReloadHeadline, ReopenFloor, ReopenHeadline, RunsWithin, StopHeadline, UpgradeHeadline, WorkersHeadline};
 ghost use Rattle.theorems.specs.Examples.{HasStart};
 ghost use Rattle.theorems.specs.WorkedRuns.{WorkedRuns};
 ghost use Rattle.theorems.specs.WrongTables.{WrongTables};
@@ -31,6 +31,7 @@ pub fn mends_end_as_reported()
 /// Whatever fails and whoever exits, a reopening of the logs ends as it reports.
 pub fn reopenings_end_as_reported()
     ensures headline { ReopenHeadline }
+    ensures floor { ReopenFloor }
     ensures manner { InManner Reopen }
 {}
 
