@@ -6,6 +6,7 @@ ghost use Rattle.std.specs.Prelude.{ℕ, List, Bool};
 ghost use Rattle.definitions.specs.Settings.{Settings};
 ghost use Rattle.definitions.specs.declared.targets.Target.TheVariants.{Workers, Mend, Reopen, Reload, Upgrade, Stop};
 ghost use Rattle.definitions.specs.Claims.{InManner, MendHeadline, ReloadHeadline, ReopenFloor, ReopenHeadline, RunsWithin, StopHeadline, UpgradeHeadline, WorkersHeadline};
+ghost use Rattle.definitions.specs.Settling.{SettlesAlways};
 ghost use Rattle.theorems.specs.Examples.{HasStart};
 ghost use Rattle.theorems.specs.WorkedRuns.{WorkedRuns};
 ghost use Rattle.theorems.specs.WrongTables.{WrongTables};
@@ -46,6 +47,12 @@ pub fn stops_end_as_reported()
 pub fn upgrades_end_as_reported()
     ensures headline { UpgradeHeadline }
     ensures manner { (s : Settings) → InManner (Upgrade s) }
+{}
+
+/// A settle ends full with all its numbers Ready, or short by just those that are missing, which
+/// failures and losses account for.
+pub fn settles_end_as_counted()
+    ensures { SettlesAlways }
 {}
 
 /// A run makes no more calls than the longest path of its plan has steps.

@@ -1,0 +1,55 @@
+-- What every plan ends with: a settle, by a master that others may stand beside.
+use Rattle.std.specs.Prelude.{ℕ, ◌≡◌, ◌≤◌, ◌<◌, ◌+◌, Bool, true, false, not, List, [], ◌∷◌, length, filter, Option, Some, None, ⊤, ◌⊎◌}
+use Rattle.std.specs.List.{list_any, AllByRecursion}
+use Rattle.listener_set.specs.Numbers.{IsRising, is_in}
+use Rattle.definitions.specs.Table.{Generation, Hold, Process, Master, Worker, Foreign, Table, Caller, live_master, is_worker, is_ready}
+use Rattle.definitions.specs.Formed.{IsFormed}
+use Rattle.definitions.specs.Record.{IsRunning}
+use Rattle.definitions.specs.Tree.{Side}
+use Rattle.definitions.specs.Plans.{settle, full_end, short_end}
+use Rattle.definitions.specs.Run.{Pattern, Progress, Ending, At, Ran, run_with}
+use Rattle.definitions.specs.Claims.{refused_from}
+
+-- No live master of the image has another number.
+abbrev pub IsOnly : ℕ → ℕ → Process → Type 0
+IsOnly image pid (Master n q i true hs) = i ≡ image → n ≡ pid
+IsOnly image pid (Master n q i false hs) = ⊤
+IsOnly image pid (Worker n q g k s hs) = ⊤
+IsOnly image pid (Foreign n hs) = ⊤
+
+-- One master and its workers, whoever else is in the table: it is the live master of its image; of its workers none is
+-- Starting, and each Ready one is of the generation, holds what the master holds, and has a number of the set.
+pub record HasSide (t : Table) (image pid : ℕ) (holds : List Hold) (g : Generation) (set : List ℕ) : Type 0 where
+  pub lives : live_master image t.rows ≡ Some (record { number = pid; holds = holds })
+  pub only : AllByRecursion (IsOnly image pid) t.rows
+  pub running : AllByRecursion (IsRunning pid g holds) t.rows
+  pub within : (k : ℕ) → list_any (is_worker is_ready pid g k) t.rows ≡ true → is_in set k ≡ true
+
+-- the numbers of the set that no Ready worker of the master bears
+abbrev pub missing : ℕ → Generation → List ℕ → Table → List ℕ
+missing pid g set t = filter (λ k. not (list_any (is_worker is_ready pid g k) t.rows)) set
+
+-- From the first progress to the last: a full end, and none is missing; or a short end, whose last count lacked just as many
+-- as are missing, at least one. Those and all rounds together are no more than what was missing at first and what failed or
+-- was lost on the way.
+abbrev pub IsSettled : Side → ℕ → ℕ → Generation → List ℕ → Progress → Ending → Progress → Type 0
+IsSettled side rounds pid g set first end last =
+    ((end ≡ At (full_end side)) × (missing pid g set last.table ≡ []))
+    ⊎ ((end ≡ At (short_end side)) × (1 ≤ length last.lacking) × (length last.lacking ≡ length (missing pid g set last.table)) × (length last.lacking + rounds + (first.faults + first.losses) ≤ length (missing pid g set first.table) + (last.faults + last.losses)))
+
+-- How a settle ends; the last count is what is Ready then, the master and its workers are as they have to be, and the files
+-- and the note are as they were.
+pub record Settles (image pid : ℕ) (holds : List Hold) (g : Generation) (set : List ℕ) (side : Side) (rounds : ℕ) (first : Progress) (ran : Ran) : Type 0 where
+  pub settled : IsSettled side rounds pid g set first ran.ending ran.last
+  pub counted : (k : ℕ) → list_any (is_worker is_ready pid g k) ran.last.table.rows ≡ is_in ran.last.ready k
+  pub side_after : HasSide ran.last.table image pid holds g set
+  pub files_stay : ran.last.table.files ≡ first.table.files
+  pub note_stays : ran.last.note ≡ first.note
+
+-- From each such table, and whatever was done before, a settle for the set settles, under each pattern that spares its master.
+abbrev pub SettlesAlways : Type 0
+SettlesAlways =
+    (text : List ℕ) (image pid : ℕ) (holds : List Hold) (g : Generation) (set : List ℕ) (side : Side) (rounds : ℕ) (pattern : Pattern) (first : Progress) →
+    IsFormed first.table → HasSide first.table image pid holds g set → IsRising set → AllByRecursion (λ k. k < 1024) set →
+    refused_from text (image ∷ []) [] (settle image g set side rounds) pattern first ≡ None →
+    Settles image pid holds g set side rounds first (run_with text (settle image g set side rounds) pattern first)
