@@ -15,6 +15,7 @@ use Rattle.definitions.specs.Service.{service}
 use Rattle.definitions.specs.Record.{Agrees, FilesAre}
 use Rattle.definitions.specs.Target.{want}
 use Rattle.definitions.specs.Run.{Progress, Ran, At, start_at}
+use Rattle.definitions.specs.Settling.{IsSettled}
 use Rattle.definitions.specs.Manner.{Stays, Goes, KillsOnlyLate, LeavesLast}
 use Rattle.definitions.specs.Claims.{Says, Kept, Floor, IsBlamed, HasCause, IsPaid, StopNote, IsLeft}
 use Rattle.theorems.specs.Examples.{first, port, other_port, pid_file, holds, two_workers, two_without_file, two_ready, table_with, pid_files, own_rows, m1}
@@ -51,6 +52,10 @@ ran_from t e t' = record {
   ending = At end.Done;
   last = start_at t' InPlace;
 }
+
+-- the last count lacked one
+abbrev pub lacks_one : Table → ℕ → Progress
+lacks_one t faults = record { table = t; calls = 1; ready = []; lacking = 1 ∷ []; faults = faults; losses = 0; cause = Some 1; note = InPlace }
 
 abbrev pub Refuted : Type 0 → Type 0
 Refuted claim = claim → ⊥
@@ -90,3 +95,7 @@ pub record WrongTables : Type 0 where
   pub kills : Refuted (KillsOnlyLate two_workers (ran_from two_workers (m1 (Kill first 1) answer.Fine) one_left))
   -- A master left without waiting for its workers.
   pub leaves : Refuted (LeavesLast (two_ready 3) (ran_from two_workers (m1 Leave answer.Fine) none_left))
+  -- A settle said full while a worker was missing; said short by one while two were; gave up at its first failure.
+  pub settled : Refuted (IsSettled side.Target 3 100 first (0 ∷ 1 ∷ []) (start_at two_workers InPlace) (At end.Done) (progress one_left 0 1 None))
+  pub settled_by_count : Refuted (IsSettled side.Target 0 100 first (0 ∷ 1 ∷ []) (start_at two_workers InPlace) (At end.ShortTarget) (lacks_one none_left 2))
+  pub settled_early : Refuted (IsSettled side.Target 3 100 first (0 ∷ 1 ∷ []) (start_at two_workers InPlace) (At end.ShortTarget) (lacks_one one_left 1))
