@@ -2,11 +2,14 @@
 use Rattle.std.specs.Prelude.{ℕ, ◌≡◌, ◌≤◌, ◌<◌, ◌+◌, Bool, true, false, not, List, [], ◌∷◌, length, filter, Option, Some, None, ⊤, ◌⊎◌}
 use Rattle.std.specs.List.{list_any, AllByRecursion}
 use Rattle.listener_set.specs.Numbers.{IsRising, is_in}
-use Rattle.definitions.specs.Table.{Generation, Hold, Process, Master, Worker, Foreign, Table, Caller, live_master, is_worker, is_ready}
+use Rattle.listener_set.specs.AddressList.{has}
+use Rattle.definitions.specs.Table.{Address, Generation, Hold, Process, Master, Worker, Foreign, Table, Caller, live_master, is_worker, is_ready}
 use Rattle.definitions.specs.Formed.{IsFormed}
 use Rattle.definitions.specs.Record.{IsRunning}
-use Rattle.definitions.specs.Tree.{Side}
-use Rattle.definitions.specs.Plans.{settle, full_end, short_end}
+use Rattle.definitions.specs.declared.table.Stance.TheVariants.{Starting, Ready, Draining, Exited}
+use Rattle.definitions.specs.Tree.{Side, Tree}
+use Rattle.definitions.specs.declared.plans.Side.TheVariants as side
+use Rattle.definitions.specs.Plans.{settle, quits, closes, full_end, short_end}
 use Rattle.definitions.specs.Run.{Pattern, Progress, Ending, At, Ran, run_with}
 use Rattle.definitions.specs.Claims.{refused_from}
 
@@ -53,3 +56,42 @@ SettlesAlways =
     IsFormed first.table → HasSide first.table image pid holds g set → IsRising set → AllByRecursion (λ k. k < 1024) set →
     refused_from text (image ∷ []) [] (settle image g set side rounds) pattern first ≡ None →
     Settles image pid holds g set side rounds first (run_with text (settle image g set side rounds) pattern first)
+
+---- The way back
+
+-- Back to a set of one generation: what was started of another, or of other numbers, quits; what was opened is closed; and
+-- the old side settles. A change of the number of workers goes back so with nothing opened, a reload with its new generation,
+-- and where it could not open all its addresses with nothing started.
+abbrev pub back : ℕ → Generation → List ℕ → List Address → Generation → List ℕ → ℕ → Tree
+back by new forked opened g set rounds = quits by new forked (closes by opened (settle by g set side.Old rounds))
+
+-- the holds of other addresses
+abbrev pub without : List Address → List Hold → List Hold
+without addresses holds = filter (λ h. not (has addresses h.address)) holds
+
+-- Each active worker of the master is one of the set, which holds what the master held first, or was started on the way and
+-- holds what the master holds now; only such a one may be Starting.
+abbrev pub IsReturning : ℕ → List Hold → List Address → Generation → List ℕ → Generation → List ℕ → Process → Type 0
+IsReturning pid holds opened g set new forked (Worker n q h k Ready hs) =
+    q ≡ pid → ((h ≡ g) × (is_in set k ≡ true) × (hs ≡ without opened holds)) ⊎ ((h ≡ new) × (is_in forked k ≡ true) × (hs ≡ holds))
+IsReturning pid holds opened g set new forked (Worker n q h k Starting hs) = q ≡ pid → (h ≡ new) × (is_in forked k ≡ true) × (hs ≡ holds)
+IsReturning pid holds opened g set new forked (Worker n q h k Draining hs) = ⊤
+IsReturning pid holds opened g set new forked (Worker n q h k Exited hs) = ⊤
+IsReturning pid holds opened g set new forked (Master n q i live hs) = ⊤
+IsReturning pid holds opened g set new forked (Foreign n hs) = ⊤
+
+-- One master on its way back, whoever else is in the table. Where both generations are the same nothing was opened, and other
+-- numbers were started.
+pub record IsOnReturn (t : Table) (image pid : ℕ) (holds : List Hold) (opened : List Address) (g : Generation) (set : List ℕ) (new : Generation) (forked : List ℕ) : Type 0 where
+  pub lives : live_master image t.rows ≡ Some (record { number = pid; holds = holds })
+  pub only : AllByRecursion (IsOnly image pid) t.rows
+  pub returning : AllByRecursion (IsReturning pid holds opened g set new forked) t.rows
+  pub apart : new ≡ g → (opened ≡ []) × ((k : ℕ) → is_in forked k ≡ true → is_in set k ≡ false)
+
+-- Each way back settles for the old side, with what was held before the addresses were opened.
+abbrev pub ReturnsAlways : Type 0
+ReturnsAlways =
+    (text : List ℕ) (image pid : ℕ) (holds : List Hold) (opened : List Address) (g : Generation) (set : List ℕ) (new : Generation) (forked : List ℕ) (rounds : ℕ) (pattern : Pattern) (first : Progress) →
+    IsFormed first.table → IsOnReturn first.table image pid holds opened g set new forked → IsRising set → AllByRecursion (λ k. k < 1024) set →
+    refused_from text (image ∷ []) [] (back image new forked opened g set rounds) pattern first ≡ None →
+    Settles image pid (without opened holds) g set side.Old rounds first (run_with text (back image new forked opened g set rounds) pattern first)

@@ -1,6 +1,6 @@
 -- A settle of a master that others may stand beside.
 use Rattle.std.proofs.Common.{◌≡◌, ◌≢◌, ℕ, zero, suc, ◌+◌, ◌<◌, ◌≤◌, Bool, true, false, cond, not, List, [], ◌∷◌, length, Option, Some, None, refl, sym, ap, ◌∙◌, subst, arith, ◌⊎◌, inl, inr, ⊎_elim}
-use Rattle.std.specs.Prelude.{⊤, ◌&&◌, ◌||◌, ◌==◌, filter, is_some, if◌then◌else◌}
+use Rattle.std.specs.Prelude.{bytes_eq, ⊤, ◌&&◌, ◌||◌, ◌==◌, filter, is_some, if◌then◌else◌}
 use Rattle.std.specs.List.{AllByRecursion, list_any}
 use Rattle.listener_set.specs.Numbers.{is_in, lacks, IsRising}
 use Rattle.listener_set.specs.declared.generation.Generation.{Generation}
@@ -10,25 +10,30 @@ use Rattle.definitions.specs.declared.plans.Side.{Side}
 use Rattle.definitions.specs.declared.plans.Order.{Order}
 use Rattle.definitions.specs.declared.plans.PidNote.{PidNote}
 use Rattle.definitions.specs.declared.calls.Reply.{Reply}
-use Rattle.definitions.specs.Table.{Hold, Process, Master, Worker, Foreign, Table, Caller, live_master, caller_if, is_worker, is_active, is_ready, same_generation, number_of}
+use Rattle.definitions.specs.Table.{Address, has_address, Hold, Process, Master, Worker, Foreign, Table, Caller, live_master, caller_if, is_worker, is_active, is_ready, same_generation, number_of}
 use Rattle.definitions.specs.Formed.{IsFormed, IsQuiet, IsAscending}
 use Rattle.definitions.specs.Record.{IsRunning}
 use Rattle.definitions.specs.Tree.{Tree, Branches, Ends, Does, Nothing, Branch, among, reply_of, call_of}
-use Rattle.definitions.specs.Plans.{settle, full_end, short_end}
+use Rattle.definitions.specs.Plans.{settle, closes, full_end, short_end}
 use Rattle.definitions.specs.Run.{Pattern, Progress, Ending, At, Ran, run_with, goes_with, noted, after_call, after_moment, answered, is_plain}
 use Rattle.definitions.specs.Path.{first_cause, went_wrong}
 use Rattle.definitions.specs.Claims.{names_any, executing_at, executing_after, refused_from, refused_behind}
-use Rattle.definitions.specs.Settling.{IsOnly, HasSide, missing, IsSettled, Settles, SettlesAlways}
-use Rattle.theorems.proofs.Rows.{one, weigh, every-more, every-both, count-weigh, and-left, and-right, both-true}
+use Rattle.definitions.specs.Settling.{IsOnly, HasSide, missing, Settles, SettlesAlways, IsReturning, back, without, ReturnsAlways}
+use Rattle.theorems.proofs.Rows.{one, weigh, every-more, every-both, count-weigh, and-left, and-right, both-true, or-left, or-right}
 use Rattle.theorems.proofs.Views.{Row, Names, master_of, named, View, Looks, ready_in, finds, eqb-refl, eqb-off, eqb-is}
-use Rattle.theorems.proofs.Effects.{none, same-is, bears-is, same-refl}
+use Rattle.theorems.proofs.Effects.{none, same-is, bears-is, same-refl, after_close, looks-allows}
 use Rattle.theorems.proofs.Counts.{Distinct, count-set, every-any_of, in-filter}
 use Rattle.theorems.proofs.Sets.{in-here, every-in}
-use Rattle.theorems.proofs.Small.{every-is_in, or-elim}
+use Rattle.theorems.proofs.Small.{every-is_in, or-elim, true-false}
 use Rattle.theorems.proofs.Begins.{rising-distinct}
 use Rattle.theorems.proofs.Duo.{rises-to}
-use Rattle.theorems.proofs.Logic.{Course, Anyhow, Unasked, from-along, are-mild-anyhow}
-use Rattle.theorems.proofs.Rules.{Scene, plain_scene, Marks, Band, Still, Only, view, rule-settle}
+use Rattle.theorems.proofs.Logic.{Course, Anyhow, Unasked, Along, from-along, are-mild-anyhow}
+use Rattle.theorems.proofs.Rules.{Scene, plain_scene, Band, Only, Less, view, rule-settle, rule-close, rule-quits}
+use Rattle.theorems.proofs.Addresses.{same-address, address-refl, lacks-none}
+use Rattle.theorems.proofs.Listeners.{all_closed, all-closed-is}
+use Rattle.definitions.specs.Calls.{lacks_address}
+use Rattle.listener_set.specs.AddressList.{has}
+use Rattle.definitions.specs.declared.plans.Side.TheVariants.{Old}
 
 ---- The first table
 
@@ -344,14 +349,21 @@ module _ (image pid : ℕ) (holds : List Hold) (g : Generation) (S : List ℕ) w
           beside = tt;
         }
 
-    settles-here : ((k : ℕ) → is_in S k ≡ true → k < 1024) → Looks u p.table.rows → refused_from text (image ∷ []) [] (settle image g S side rounds) pattern p ≡ None → Settles image pid holds g S side rounds p (run_with text (settle image g S side rounds) pattern p)
-    settles-here below looks spared =
-        let tree = settle image g S side rounds in
+    abbrev Goes : Tree → Progress → Type 0
+    Goes tree q = Along inv post Anyhow Unasked co tree q
+
+    acts : is_in (image ∷ []) image ≡ true
+    acts = in-here image image [] refl
+
+    -- from what is known before it
+    settle-goes : ((k : ℕ) → is_in S k ≡ true → k < 1024) → (r : Names) (w : Bool) (ls : List ℕ) (q : Progress) → Only g S r → Band u sc none r (named g (is_in S)) (length S) owed w ls q → Goes (settle image g S side rounds) q
+    settle-goes below r w ls q only b = rule-settle inv post co u acts sc (λ t n w q a b c d e. tt) side g S refl dS below (owed + rounds) false full short rounds owed refl w (λ e. absurd (cc e)) r ls q only b
+
+    -- what goes along a tree from there is so of its run
+    settles-by : (tree : Tree) → Goes tree begun → refused_from text (image ∷ []) [] tree pattern p ≡ None → Settles image pid holds g S side rounds p (run_with text tree pattern p)
+    settles-by tree goes spared =
         let ran = run_with text tree pattern p in
         let ran' = run_with text tree pattern begun in
-        let acts : is_in (image ∷ []) image ≡ true = in-here image image [] refl in
-        let goes = rule-settle inv post co u acts sc (λ t n w q a b c d e. tt) side g S refl dS below (owed + rounds) false full short rounds owed refl false (λ e. e) (named g (is_in S)) p.lacking begun
-        (λ h k e. (same-is h g (and-left _ _ e), and-right (same_generation h g) _ e)) (first-band looks) in
         let all = from-along inv post Anyhow Unasked co tree begun goes (refused-twin text (image ∷ []) [] tree pattern p (p.faults + more) (Some 0) ∙ spared) (are-mild-anyhow co tree begun) in
         let twin = twins more text tree pattern p (p.faults + more) (Some 0) refl in
         let end : post ran.ending (recounted ran.last twin.1 twin.2) = subst (λ (q : Progress). post ran.ending q) twin.3 (subst (λ (e : Ending). post e ran'.last) twin.0 all.last) in
@@ -365,4 +377,213 @@ module _ (image pid : ℕ) (holds : List Hold) (g : Generation) (S : List ℕ) w
 
 pub settles_always : SettlesAlways
 settles_always text image pid holds g set side rounds pattern first formed has rising below spared =
-    settles-here image pid holds g set text side rounds pattern first (rising-distinct set rising) (every-is_in (λ k. k < 1024) set below) (first-looks image pid holds g set first.table formed has) spared
+    let dS = rising-distinct set rising in
+    let below_set = every-is_in (λ k. k < 1024) set below in
+    let looks = first-looks image pid holds g set first.table formed has in
+    settles-by image pid holds g set text side rounds pattern first dS (settle image g set side rounds)
+    (settle-goes image pid holds g set text side rounds pattern first dS below_set (named g (is_in set)) false first.lacking (begun image pid holds g set text side rounds pattern first dS)
+    (λ h k e. (same-is h g (and-left _ _ e), and-right (same_generation h g) _ e)) (first-band image pid holds g set text side rounds pattern first dS looks)) spared
+
+---- The way back
+
+filter-none : (hs : List Hold) → without [] hs ≡ hs
+filter-none [] = refl
+filter-none (h ∷ hs) = ap (λ l. h ∷ l) (filter-none hs)
+
+without-off : (opened : List Address) (a : Address) (hs : List Hold) → has opened a ≡ true → has_address a (without opened hs) ≡ false
+without-off opened a [] on = refl
+without-off opened a (x ∷ hs) on = go (has opened x.address) refl (bytes_eq x.address a) refl (without-off opened a hs on)
+  where
+    go : (b : Bool) → has opened x.address ≡ b → (c : Bool) → bytes_eq x.address a ≡ c → has_address a (without opened hs) ≡ false → has_address a (cond (not b) (x ∷ without opened hs) (without opened hs)) ≡ false
+    go true e c f ih = ih
+    go false e true f ih = let on' : has opened x.address ≡ true = subst (λ z. has opened z ≡ true) (sym (same-address x.address a f)) on in absurd (cc)
+    go false e false f ih = rw f ih
+
+all-has : (l big : List Address) → ((a : Address) → has l a ≡ true → has big a ≡ true) → AllByRecursion (λ a. has big a ≡ true) l
+all-has [] big h = tt
+all-has (x ∷ l) big h = (h x (rw (address-refl x) refl), all-has l big (λ a e. h a (or-right (bytes_eq x a) (has l a) e)))
+
+module _ (image pid : ℕ) (holds : List Hold) (opened : List Address) (g : Generation) (S : List ℕ) (new : Generation) (forked : List ℕ) (apart : new ≡ g → (opened ≡ []) × ((k : ℕ) → is_in forked k ≡ true → is_in S k ≡ false)) where
+  abbrev kept : List Hold
+  kept = without opened holds
+
+  abbrev held_by : Generation → List Hold
+  held_by h = if same_generation h g then kept else holds
+
+  abbrev either : Names
+  either h k = named g (is_in S) h k || named new (is_in forked) h k
+
+  -- both the old workers and those that were started
+  abbrev wide : View
+  wide = record { number = pid; others = λ n. true; image = image; holds = holds; starting = named new (is_in forked); ready = either; held = held_by }
+
+  held-old : held_by g ≡ kept
+  held-old = rw (same-refl g) refl
+
+  held-new : held_by new ≡ holds
+  held-new = go (same_generation new g) refl
+    where
+      go : (b : Bool) → same_generation new g ≡ b → (if b then kept else holds) ≡ holds
+      go true e = ap (λ l. without l holds) (apart (same-is new g e)).0 ∙ filter-none holds
+      go false e = refl
+
+  named-on : (h : Generation) (T : List ℕ) (f : Generation) (k : ℕ) → f ≡ h → is_in T k ≡ true → named h (is_in T) f k ≡ true
+  named-on h T f k e in_it = both-true (same_generation f h) (is_in T k) (subst (λ x. same_generation x h ≡ true) (sym e) (same-refl h)) in_it
+
+  abbrev Found : Process → Type 0
+  Found p = Ours image (record { number = pid; holds = holds }) p × IsReturning pid holds opened g S new forked p × IsQuiet p
+
+  back-row : (p : Process) → Found p → Row wide p
+  back-row (Master n q i live hs) h = go (n == pid) refl
+    where
+      go : (b : Bool) → (n == pid) ≡ b → Row wide (Master n q i live hs)
+      go true e =
+          let is = eqb-is n pid e in
+          let o = h.0.0 is in
+          inl (is, o.0, o.1, o.2)
+      go false e =
+          let off = eqb-not n pid e in
+          inr (off, refl, ⊎_elim (λ a. inl a) (λ a. inr (λ x. off (a x))) h.0.1)
+  back-row (Worker n q f k st hs) h = go (q == pid) refl
+    where
+      on : (e : q ≡ pid) (st : Stance) → Found (Worker n q f k st hs) → Row wide (Worker n q f k st hs)
+      on e Starting h =
+          let c = h.1 e in
+          inl (e, (named-on new forked f k c.0 c.1, c.2 ∙ sym (ap held_by c.0 ∙ held-new)))
+      on e Ready h =
+          ⊎_elim (λ c. inl (e, (or-left (named g (is_in S) f k) (named new (is_in forked) f k) (named-on g S f k c.0 c.1), c.2 ∙ sym (ap held_by c.0 ∙ held-old))))
+          (λ c. inl (e, (or-right (named g (is_in S) f k) (named new (is_in forked) f k) (named-on new forked f k c.0 c.1), c.2 ∙ sym (ap held_by c.0 ∙ held-new)))) (h.1 e)
+      on e Draining h = inl (e, h.2)
+      on e Exited h = inl (e, h.2)
+
+      go : (b : Bool) → (q == pid) ≡ b → Row wide (Worker n q f k st hs)
+      go true e = on (eqb-is q pid e) st h
+      go false e = inr (eqb-not q pid e, refl)
+  back-row (Foreign n hs) h = inl tt
+
+  back-looks : (t : Table) → IsFormed t → live_master image t.rows ≡ Some (record { number = pid; holds = holds }) → AllByRecursion (IsOnly image pid) t.rows → AllByRecursion (IsReturning pid holds opened g S new forked) t.rows → Looks wide t.rows
+  back-looks t formed lives only returning =
+      let own = ours image (record { number = pid; holds = holds }) 0 t.rows t.next_process formed.ascending lives only in
+      record {
+        fine = every-more (λ p. (Ours image (record { number = pid; holds = holds }) p × IsReturning pid holds opened g S new forked p) × IsQuiet p) (Row wide) (λ p h. back-row p (h.0.0, h.0.1, h.1)) t.rows
+            (every-both _ _ t.rows (every-both _ _ t.rows own.0 returning) formed.quiet);
+        alone = own.1;
+        once = λ h k. subst (λ n. n ≤ 1) (count-weigh (is_worker is_active pid h k) t.rows) (formed.once pid h k);
+      }
+
+  module _ (text : List ℕ) (rounds : ℕ) (pattern : Pattern) (p : Progress) (dS : Distinct S) (below : (k : ℕ) → is_in S k ≡ true → k < 1024) where
+    abbrev inv' : Progress → Type 0
+    inv' = inv image pid kept g S text Old rounds pattern p dS
+
+    abbrev post' : Ending → Progress → Type 0
+    post' = post image pid kept g S text Old rounds pattern p dS
+
+    abbrev co' : Course
+    co' = co image pid kept g S text Old rounds pattern p dS
+
+    abbrev sc' : Scene pid image
+    sc' = sc image pid kept g S text Old rounds pattern p dS
+
+    abbrev paid : ℕ
+    paid = owed image pid kept g S text Old rounds pattern p dS
+
+    abbrev Runs' : Tree → Progress → Type 0
+    Runs' tree q = Along inv' post' Anyhow Unasked co' tree q
+
+    abbrev t : Names
+    t = named g (is_in S)
+
+    abbrev acts' : is_in (image ∷ []) image ≡ true
+    acts' = in-here image image [] refl
+
+    -- the old workers, while the master still holds more
+    abbrev narrow : List Hold → View
+    narrow hs = record { number = pid; others = λ n. true; image = image; holds = hs; starting = none; ready = named g (is_in S); held = λ h. kept }
+
+    close-all : (l : List Address) (hs : List Hold) → all_closed l hs ≡ kept → AllByRecursion (λ a. has_address a kept ≡ false) l → (r : Names) (ls : List ℕ) (q : Progress) → Only g S r → Band (narrow hs) sc' none r t (length S) paid false ls q → Runs' (closes image l (settle image g S Old rounds)) q
+    close-all [] hs is off r ls q only b =
+        settle-goes image pid kept g S text Old rounds pattern p dS below r false ls q only (subst (λ x. Band (narrow x) sc' none r t (length S) paid false ls q) is b)
+    close-all (a ∷ l) hs is off r ls q only b =
+        rule-close inv' post' co' (narrow hs) acts' sc' (λ t n w q a b c d e. tt) (closes image l (settle image g S Old rounds)) a r t (length S) paid false ls q
+        (λ q' b'. close-all l (lacks_address a hs) is off.1 r ls q' only (record {
+          looks = looks-allows (view (after_close a (narrow hs)) none r) (view (narrow (lacks_address a hs)) none r) (record {
+            number = refl;
+            others = λ n e. e;
+            image = refl;
+            holds = refl;
+            starting = λ h k e. e;
+            ready = λ h k e. e;
+            held_starting = λ h k e. absurd (cc e);
+            held = λ h k e. lacks-none a kept off.0;
+          }) q'.table.rows b'.looks;
+          enough = b'.enough;
+          secured = b'.secured;
+          budget = b'.budget;
+          lacking = b'.lacking;
+          still = b'.still;
+          marks = b'.marks;
+          beside = tt;
+        })) b
+
+    off-old : (k : ℕ) → is_in forked k ≡ true → t new k ≡ false
+    off-old k e = go (same_generation new g) refl
+      where
+        go : (b : Bool) → same_generation new g ≡ b → (b && is_in S k) ≡ false
+        go true is = (apart (same-is new g is)).1 k e
+        go false is = refl
+
+    -- who is left once those that were started have quit
+    left-over : (r : Names) → Less new either forked r → Only g S r
+    left-over r less h k e =
+        let l = less h k e in
+        ⊎_elim (λ a. (same-is h g (and-left _ _ a), and-right (same_generation h g) _ a))
+        (λ a. absurd (true-false (is_in forked k) (and-right (same_generation h new) _ a) (l.1 (same-is h new (and-left _ _ a))))) (or-elim (named g (is_in S) h k) (named new (is_in forked) h k) l.0)
+
+    none-starts : (s : Names) → Less new (named new (is_in forked)) forked s → (h : Generation) (k : ℕ) → s h k ≡ true → ⊥
+    none-starts s less h k e =
+        let l = less h k e in
+        true-false (is_in forked k) (and-right (same_generation h new) _ l.0) (l.1 (same-is h new (and-left _ _ l.0)))
+
+    back-goes : Looks wide p.table.rows → Runs' (back image new forked opened g S rounds) (begun image pid kept g S text Old rounds pattern p dS)
+    back-goes looks =
+        let q0 = begun image pid kept g S text Old rounds pattern p dS in
+        let rest = closes image opened (settle image g S Old rounds) in
+        let count = missing-count wide g p.table S _ looks dS (ready-among pid g p.table.rows S) in
+        let gone : AllByRecursion (λ a. has_address a kept ≡ false) opened = every-more (λ a. has opened a ≡ true) (λ a. has_address a kept ≡ false) (λ a e. without-off opened a holds e) opened (all-has opened opened (λ a e. e)) in
+        rule-quits inv' post' co' wide acts' sc' (λ t n w q a b c d e. tt) rest new forked (named new (is_in forked)) either t (length S) paid false p.lacking q0 off-old
+        (λ s' r' q less_s less b. close-all opened holds (all-closed-is opened holds) gone r' p.lacking q (left-over r' less) (record {
+          looks = looks-allows (view wide s' r') (view (narrow holds) none r') (record {
+            number = refl;
+            others = λ n e. e;
+            image = refl;
+            holds = refl;
+            starting = λ h k e. absurd (none-starts s' less_s h k e);
+            ready = λ h k e. e;
+            held_starting = λ h k e. absurd (none-starts s' less_s h k e);
+            held = λ h k e. ap held_by (left-over r' less h k e).0 ∙ held-old;
+          }) q.table.rows b.looks;
+          enough = b.enough;
+          secured = b.secured;
+          budget = b.budget;
+          lacking = b.lacking;
+          still = b.still;
+          marks = b.marks;
+          beside = tt;
+        }))
+        (record {
+          looks = looks;
+          enough = omega arith;
+          secured = λ e. absurd (omega (arith, e));
+          budget = omega (arith, count);
+          lacking = refl;
+          marks = record { clean = λ e. absurd (cc e); blamed = λ e. omega arith; caused = λ e. absurd (cc e) };
+          still = record { files_stay = refl; note_stays = refl; limits_stay = refl };
+          beside = tt;
+        })
+
+pub returns_always : ReturnsAlways
+returns_always text image pid holds opened g set new forked rounds pattern first formed on rising below spared =
+    let dS = rising-distinct set rising in
+    let looks = back-looks image pid holds opened g set new forked on.apart first.table formed on.lives on.only on.returning in
+    settles-by image pid (without opened holds) g set text Old rounds pattern first dS (back image new forked opened g set rounds)
+    (back-goes image pid holds opened g set new forked on.apart text rounds pattern first dS (every-is_in (λ k. k < 1024) set below) looks) spared
