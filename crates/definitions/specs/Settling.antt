@@ -1,15 +1,16 @@
 -- What every plan ends with: a settle, by a master that others may stand beside.
-use Rattle.std.specs.Prelude.{ℕ, ◌≡◌, ◌≤◌, ◌<◌, ◌+◌, Bool, true, false, not, List, [], ◌∷◌, length, filter, Option, Some, None, ⊤, ◌⊎◌}
+use Rattle.std.specs.Prelude.{ℕ, ◌≡◌, ◌≤◌, ◌<◌, ◌+◌, true, false, not, List, [], ◌∷◌, length, filter, reverse, nat_lt, Some, None, ⊤, ◌⊎◌}
 use Rattle.std.specs.List.{list_any, AllByRecursion}
-use Rattle.listener_set.specs.Numbers.{IsRising, is_in}
+use Rattle.listener_set.specs.Numbers.{IsRising, is_in, numbers_below}
 use Rattle.listener_set.specs.AddressList.{has}
-use Rattle.definitions.specs.Table.{Address, Generation, Hold, Process, Master, Worker, Foreign, Table, Caller, live_master, is_worker, is_ready}
+use Rattle.definitions.specs.Table.{Address, Generation, Hold, Process, Master, Worker, Foreign, Table, live_master, is_worker, is_ready}
 use Rattle.definitions.specs.Formed.{IsFormed}
 use Rattle.definitions.specs.Record.{IsRunning}
 use Rattle.definitions.specs.declared.table.Stance.TheVariants.{Starting, Ready, Draining, Exited}
 use Rattle.definitions.specs.Tree.{Side, Tree}
 use Rattle.definitions.specs.declared.plans.Side.TheVariants as side
-use Rattle.definitions.specs.Plans.{settle, quits, closes, full_end, short_end}
+use Rattle.definitions.specs.Plans.{settle, starts, quits, closes, workers_tree, reload_back, full_end, short_end}
+use Rattle.definitions.specs.Target.{reload_generation}
 use Rattle.definitions.specs.Run.{Pattern, Progress, Ending, At, Ran, run_with}
 use Rattle.definitions.specs.Claims.{refused_from}
 
@@ -32,13 +33,13 @@ pub record HasSide (t : Table) (image pid : ℕ) (holds : List Hold) (g : Genera
 abbrev pub missing : ℕ → Generation → List ℕ → Table → List ℕ
 missing pid g set t = filter (λ k. not (list_any (is_worker is_ready pid g k) t.rows)) set
 
--- From the first progress to the last: a full end, and none is missing; or a short end, whose last count lacked just as many
--- as are missing, at least one. Those and all rounds together are no more than what was missing at first and what failed or
--- was lost on the way.
+-- From the first progress to the last: a full end, and none is missing; or a short end, whose last count lacked just those
+-- that are missing, at least one. Those and all rounds together are no more than what was missing at first and what failed
+-- or was lost on the way.
 abbrev pub IsSettled : Side → ℕ → ℕ → Generation → List ℕ → Progress → Ending → Progress → Type 0
 IsSettled side rounds pid g set first end last =
     ((end ≡ At (full_end side)) × (missing pid g set last.table ≡ []))
-    ⊎ ((end ≡ At (short_end side)) × (1 ≤ length last.lacking) × (length last.lacking ≡ length (missing pid g set last.table)) × (length last.lacking + rounds + (first.faults + first.losses) ≤ length (missing pid g set first.table) + (last.faults + last.losses)))
+    ⊎ ((end ≡ At (short_end side)) × (1 ≤ length last.lacking) × (last.lacking ≡ missing pid g set last.table) × (length last.lacking + rounds + (first.faults + first.losses) ≤ length (missing pid g set first.table) + (last.faults + last.losses)))
 
 -- How a settle ends; the last count is what is Ready then, the master and its workers are as they have to be, and the files
 -- and the note are as they were.
@@ -95,3 +96,13 @@ ReturnsAlways =
     IsFormed first.table → IsOnReturn first.table image pid holds opened g set new forked → IsRising set → AllByRecursion (λ k. k < 1024) set →
     refused_from text (image ∷ []) [] (back image new forked opened g set rounds) pattern first ≡ None →
     Settles image pid (without opened holds) g set side.Old rounds first (run_with text (back image new forked opened g set rounds) pattern first)
+
+-- The plans go back so: from a failed start of a change of the number of workers, and of a reload.
+pub record PlansGoBack : Type 0 where
+  pub workers :
+      (by : ℕ) (g : Generation) (ready : List ℕ) (retries n : ℕ) →
+      workers_tree by g ready retries n
+      ≡ starts by g (filter (λ k. not (is_in ready k)) (numbers_below n))
+      (quits by g (reverse (filter (λ k. not (nat_lt k n)) ready)) (settle by g (numbers_below n) side.Target retries))
+      (λ forked. back by g forked [] g ready retries)
+  pub reload : (by : ℕ) (g : Generation) (ready : List ℕ) (retries : ℕ) (opened : List Address) (forked : List ℕ) → reload_back by g ready retries opened forked ≡ back by (reload_generation g) forked opened g ready retries

@@ -1,24 +1,29 @@
 -- A settle of a master that others may stand beside.
 use Rattle.std.proofs.Common.{◌≡◌, ◌≢◌, ℕ, zero, suc, ◌+◌, ◌<◌, ◌≤◌, Bool, true, false, cond, not, List, [], ◌∷◌, length, Option, Some, None, refl, sym, ap, ◌∙◌, subst, arith, ◌⊎◌, inl, inr, ⊎_elim}
-use Rattle.std.specs.Prelude.{bytes_eq, ⊤, ◌&&◌, ◌||◌, ◌==◌, filter, is_some, if◌then◌else◌}
+use Rattle.std.specs.Prelude.{bytes_eq, ⊤, ◌&&◌, ◌||◌, ◌==◌, filter, if◌then◌else◌}
 use Rattle.std.specs.List.{AllByRecursion, list_any}
-use Rattle.listener_set.specs.Numbers.{is_in, lacks, IsRising}
+use Rattle.listener_set.specs.Numbers.{is_in, lacks}
 use Rattle.listener_set.specs.declared.generation.Generation.{Generation}
 use Rattle.definitions.specs.declared.table.Stance.TheVariants.{Starting, Ready, Draining, Exited}
 use Rattle.definitions.specs.declared.table.Stance.{Stance}
+use Rattle.definitions.specs.declared.plans.End.{End}
 use Rattle.definitions.specs.declared.plans.Side.{Side}
 use Rattle.definitions.specs.declared.plans.Order.{Order}
 use Rattle.definitions.specs.declared.plans.PidNote.{PidNote}
 use Rattle.definitions.specs.declared.calls.Reply.{Reply}
-use Rattle.definitions.specs.Table.{Address, has_address, Hold, Process, Master, Worker, Foreign, Table, Caller, live_master, caller_if, is_worker, is_active, is_ready, same_generation, number_of}
+use Rattle.definitions.specs.Table.{Address, has_address, Hold, Process, Master, Worker, Foreign, Table, Caller, live_master, caller_if, is_worker, is_active, is_ready, same_generation}
 use Rattle.definitions.specs.Formed.{IsFormed, IsQuiet, IsAscending}
 use Rattle.definitions.specs.Record.{IsRunning}
-use Rattle.definitions.specs.Tree.{Tree, Branches, Ends, Does, Nothing, Branch, among, reply_of, call_of}
-use Rattle.definitions.specs.Plans.{settle, closes, full_end, short_end}
+use Rattle.definitions.specs.Tree.{Tree, Branches, Ends, Does, Nothing, Branch, among, reply_of, full_or_short, call_of}
+use Rattle.definitions.specs.declared.plans.Order.TheVariants.{Make, ForkLacking, AwaitLacking, KillLacking}
+use Rattle.definitions.specs.declared.calls.Call.TheVariants.{Census, CloseAt, Quit}
+use Rattle.definitions.specs.declared.calls.Answer.{Answer}
+use Rattle.definitions.specs.declared.calls.Answer.TheVariants as answer
+use Rattle.definitions.specs.Plans.{settle, round, census, quits, closes, census_edges, fork_edges, await_any_edges, then_edge, full_end, short_end}
 use Rattle.definitions.specs.Run.{Pattern, Progress, Ending, At, Ran, run_with, goes_with, noted, after_call, after_moment, answered, is_plain}
 use Rattle.definitions.specs.Path.{first_cause, went_wrong}
 use Rattle.definitions.specs.Claims.{names_any, executing_at, executing_after, refused_from, refused_behind}
-use Rattle.definitions.specs.Settling.{IsOnly, HasSide, missing, Settles, SettlesAlways, IsReturning, back, without, ReturnsAlways}
+use Rattle.definitions.specs.Settling.{PlansGoBack, IsOnly, HasSide, missing, Settles, SettlesAlways, IsReturning, back, without, ReturnsAlways}
 use Rattle.theorems.proofs.Rows.{one, weigh, every-more, every-both, count-weigh, and-left, and-right, both-true, or-left, or-right}
 use Rattle.theorems.proofs.Views.{Row, Names, master_of, named, View, Looks, ready_in, finds, eqb-refl, eqb-off, eqb-is}
 use Rattle.theorems.proofs.Effects.{none, same-is, bears-is, same-refl, after_close, looks-allows}
@@ -26,12 +31,11 @@ use Rattle.theorems.proofs.Counts.{Distinct, count-set, every-any_of, in-filter}
 use Rattle.theorems.proofs.Sets.{in-here, every-in}
 use Rattle.theorems.proofs.Small.{every-is_in, or-elim, true-false}
 use Rattle.theorems.proofs.Begins.{rising-distinct}
-use Rattle.theorems.proofs.Duo.{rises-to}
 use Rattle.theorems.proofs.Logic.{Course, Anyhow, Unasked, Along, from-along, are-mild-anyhow}
 use Rattle.theorems.proofs.Rules.{Scene, plain_scene, Band, Only, Less, view, rule-settle, rule-close, rule-quits}
 use Rattle.theorems.proofs.Addresses.{same-address, address-refl, lacks-none}
 use Rattle.theorems.proofs.Listeners.{all_closed, all-closed-is}
-use Rattle.definitions.specs.Calls.{lacks_address}
+use Rattle.definitions.specs.Calls.{gives, lacks_address}
 use Rattle.listener_set.specs.AddressList.{has}
 use Rattle.definitions.specs.declared.plans.Side.TheVariants.{Old}
 
@@ -194,6 +198,80 @@ ready-among m g rows S =
     every-in (λ k. list_any (is_worker is_ready m g k) rows ≡ is_in (filter (λ j. list_any (is_worker is_ready m g j) rows) S) k) S
     (λ k e. sym (in-filter (λ j. list_any (is_worker is_ready m g j) rows) S k ∙ ap (λ b. b && list_any (is_worker is_ready m g k) rows) e))
 
+---- The last count lacks what it does not have
+
+module _ (text : List ℕ) (pattern : Pattern) (set : List ℕ) where
+  abbrev Named : Ran → Type 0
+  Named ran = (end : End) → ran.ending ≡ At end → ran.last.lacking ≡ lacks set ran.last.ready
+
+  abbrev AlwaysNamed : Tree → Type 0
+  AlwaysNamed tree = (q : Progress) → Named (run_with text tree pattern q)
+
+  abbrev AllNamed : Branches → Type 0
+  AllNamed Nothing = ⊤
+  AllNamed (Branch replies said rest more) = AlwaysNamed rest × AllNamed more
+
+  branches-named : (bs : Branches) → AllNamed bs → (r : Reply) (q : Progress) → Named (goes_with text bs r pattern q)
+  branches-named Nothing all r q = λ end is. absurd (cc is)
+  branches-named (Branch replies said rest more) all r q =
+      let here = all.0 (noted said q) in
+      let there = branches-named more all.1 r q in
+      elim (among replies r) as (λ b. Named (elim b as (λ c. Ran) [ true ↦ run_with text rest pattern (noted said q) | false ↦ goes_with text more r pattern q ])) [
+        | true ↦ here
+        | false ↦ there
+      ]
+
+  does-named : (by : ℕ) (order : Order) (s : List ℕ) (bs : Branches) → AllNamed bs → AlwaysNamed (Does by order s bs)
+  does-named by order s bs all q =
+      let moment = pattern (q.calls + 1) in
+      let middle = after_moment moment.exits q in
+      let st = answered text by order moment.fate middle in
+      branches-named bs all (reply_of s st.answer) (after_call order s st middle)
+
+  -- behind a count
+  abbrev NamedThen : Tree → Type 0
+  NamedThen tree = (q : Progress) → q.lacking ≡ lacks set q.ready → Named (run_with text tree pattern q)
+
+  end-named : (end : End) → NamedThen (Ends end)
+  end-named end q is e on = is
+
+  census-named : (by : ℕ) (g : Generation) (full short : Tree) → NamedThen full → NamedThen short → AlwaysNamed (census by g set (census_edges full short))
+  census-named by g full short on_full on_short q =
+      let moment = pattern (q.calls + 1) in
+      let middle = after_moment moment.exits q in
+      let st = answered text by (Make (Census g)) moment.fate middle in
+      go st.answer st.table middle
+    where
+      go : (a : Answer) (t : Table) (middle : Progress) → Named (goes_with text (census_edges full short) (reply_of set a) pattern (after_call (Make (Census g)) set (gives a t) middle))
+      go (answer.Counted ns) t middle =
+          let q1 = after_call (Make (Census g)) set (gives (answer.Counted ns) t) middle in
+          elim (lacks set ns) as (λ l. Named (goes_with text (census_edges full short) (full_or_short l) pattern q1)) [
+            | [] ↦ on_full q1 refl
+            | x ∷ xs ↦ on_short q1 refl
+          ]
+      go _ t middle = λ end is. absurd (cc is)
+
+  round-named : (by : ℕ) (g : Generation) (rest : Tree) → AlwaysNamed rest → AlwaysNamed (round by g rest)
+  round-named by g rest named =
+      let killed = Does by (KillLacking g) [] (then_edge rest) in
+      let waited = does-named by (AwaitLacking g) [] (await_any_edges rest killed) (named, (does-named by (KillLacking g) [] (then_edge rest) (named, tt), tt)) in
+      does-named by (ForkLacking g) [] (fork_edges (Does by (AwaitLacking g) [] (await_any_edges rest killed)) rest) (waited, (named, tt))
+
+  settle-named : (by : ℕ) (g : Generation) (side : Side) (rounds : ℕ) → AlwaysNamed (settle by g set side rounds)
+  settle-named by g side zero = census-named by g (Ends (full_end side)) (Ends (short_end side)) (end-named (full_end side)) (end-named (short_end side))
+  settle-named by g side (suc rounds) =
+      let rest = settle by g set side rounds in
+      let more = round-named by g rest (settle-named by g side rounds) in
+      census-named by g (Ends (full_end side)) (round by g rest) (end-named (full_end side)) (λ q is. more q)
+
+  quits-named : (by : ℕ) (g : Generation) (ks : List ℕ) (rest : Tree) → AlwaysNamed rest → AlwaysNamed (quits by g ks rest)
+  quits-named by g [] rest named = named
+  quits-named by g (k ∷ ks) rest named = does-named by (Make (Quit g k)) [] (then_edge (quits by g ks rest)) (quits-named by g ks rest named, tt)
+
+  closes-named : (by : ℕ) (addresses : List Address) (rest : Tree) → AlwaysNamed rest → AlwaysNamed (closes by addresses rest)
+  closes-named by [] rest named = named
+  closes-named by (a ∷ more) rest named = does-named by (Make (CloseAt a)) [] (then_edge (closes by more rest)) (closes-named by more rest named, tt)
+
 ---- One master's side
 
 eqb-not : (n k : ℕ) → (n == k) ≡ false → n ≢ k
@@ -306,7 +384,7 @@ module _ (image pid : ℕ) (holds : List Hold) (g : Generation) (S : List ℕ) w
     abbrev EndsSo : Ending → Progress → Type 0
     EndsSo e q =
         ((e ≡ At (full_end side)) × (missing pid g S q.table ≡ []))
-        ⊎ ((e ≡ At (short_end side)) × (1 ≤ length q.lacking) × (length q.lacking ≡ length (missing pid g S q.table)) × (length q.lacking + rounds + (p.faults + p.losses) + 1 ≤ q.faults + q.losses))
+        ⊎ ((e ≡ At (short_end side)) × (1 ≤ length q.lacking) × (length q.lacking + rounds + (p.faults + p.losses) + 1 ≤ q.faults + q.losses))
 
     abbrev post : Ending → Progress → Type 0
     post e q = EndsSo e q × Exactly q × HasSide q.table image pid holds g S × (q.table.files ≡ p.table.files) × (q.note ≡ p.note)
@@ -324,10 +402,9 @@ module _ (image pid : ℕ) (holds : List Hold) (g : Generation) (S : List ℕ) w
 
     short : (r : Names) (q : Progress) (x : ℕ) (xs : List ℕ) → Only g S r → Band u sc none r (named g (is_in S)) (length S) (owed + rounds) true (x ∷ xs) q → weigh (ready_in pid (named g (is_in S))) q.table.rows + length q.lacking ≡ length S → Exactly q → post (At (short_end side)) q
     short r q x xs only b saw exact =
-        let as_many : length q.lacking ≡ length (missing pid g S q.table) = omega (arith, saw, count-of r q b.looks exact) in
         let some : 1 ≤ length q.lacking = omega (arith, ap length b.lacking) in
         let paid : length q.lacking + rounds + (p.faults + p.losses) + 1 ≤ q.faults + q.losses = omega (arith, b.budget, saw) in
-        (inr (refl, some, as_many, paid), exact, side-of r q.table only b.looks, b.still.files_stay, b.still.note_stays)
+        (inr (refl, some, paid), exact, side-of r q.table only b.looks, b.still.files_stay, b.still.note_stays)
 
     abbrev more : ℕ
     more = length (missing pid g S p.table) + 1
@@ -360,15 +437,17 @@ module _ (image pid : ℕ) (holds : List Hold) (g : Generation) (S : List ℕ) w
     settle-goes below r w ls q only b = rule-settle inv post co u acts sc (λ t n w q a b c d e. tt) side g S refl dS below (owed + rounds) false full short rounds owed refl w (λ e. absurd (cc e)) r ls q only b
 
     -- what goes along a tree from there is so of its run
-    settles-by : (tree : Tree) → Goes tree begun → refused_from text (image ∷ []) [] tree pattern p ≡ None → Settles image pid holds g S side rounds p (run_with text tree pattern p)
-    settles-by tree goes spared =
+    settles-by : (tree : Tree) → AlwaysNamed text pattern S tree → Goes tree begun → refused_from text (image ∷ []) [] tree pattern p ≡ None → Settles image pid holds g S side rounds p (run_with text tree pattern p)
+    settles-by tree named goes spared =
         let ran = run_with text tree pattern p in
         let ran' = run_with text tree pattern begun in
         let all = from-along inv post Anyhow Unasked co tree begun goes (refused-twin text (image ∷ []) [] tree pattern p (p.faults + more) (Some 0) ∙ spared) (are-mild-anyhow co tree begun) in
         let twin = twins more text tree pattern p (p.faults + more) (Some 0) refl in
         let end : post ran.ending (recounted ran.last twin.1 twin.2) = subst (λ (q : Progress). post ran.ending q) twin.3 (subst (λ (e : Ending). post e ran'.last) twin.0 all.last) in
+        let said : (e : End) → ran.ending ≡ At e → ran.last.lacking ≡ missing pid g S ran.last.table = λ e is.
+        named p e is ∙ filter-same (λ k. not (is_in ran.last.ready k)) (λ k. not (list_any (is_worker is_ready pid g k) ran.last.table.rows)) S (every-in (λ k. not (is_in ran.last.ready k) ≡ not (list_any (is_worker is_ready pid g k) ran.last.table.rows)) S (λ k e. ap not (sym (end.1 k)))) in
         record {
-          settled = ⊎_elim (λ a. inl a) (λ a. inr (a.0, a.1, a.2, omega (arith, a.3, twin.4))) end.0;
+          settled = ⊎_elim (λ a. inl a) (λ a. inr (a.0, a.1, said (short_end side) a.0, omega (arith, a.2, twin.4))) end.0;
           counted = end.1;
           side_after = end.2;
           files_stay = end.3;
@@ -380,7 +459,7 @@ settles_always text image pid holds g set side rounds pattern first formed has r
     let dS = rising-distinct set rising in
     let below_set = every-is_in (λ k. k < 1024) set below in
     let looks = first-looks image pid holds g set first.table formed has in
-    settles-by image pid holds g set text side rounds pattern first dS (settle image g set side rounds)
+    settles-by image pid holds g set text side rounds pattern first dS (settle image g set side rounds) (settle-named text pattern set image g side rounds)
     (settle-goes image pid holds g set text side rounds pattern first dS below_set (named g (is_in set)) false first.lacking (begun image pid holds g set text side rounds pattern first dS)
     (λ h k e. (same-is h g (and-left _ _ e), and-right (same_generation h g) _ e)) (first-band image pid holds g set text side rounds pattern first dS looks)) spared
 
@@ -586,4 +665,8 @@ returns_always text image pid holds opened g set new forked rounds pattern first
     let dS = rising-distinct set rising in
     let looks = back-looks image pid holds opened g set new forked on.apart first.table formed on.lives on.only on.returning in
     settles-by image pid (without opened holds) g set text Old rounds pattern first dS (back image new forked opened g set rounds)
+    (quits-named text pattern set image new forked (closes image opened (settle image g set Old rounds)) (closes-named text pattern set image opened (settle image g set Old rounds) (settle-named text pattern set image g Old rounds)))
     (back-goes image pid holds opened g set new forked on.apart text rounds pattern first dS (every-is_in (λ k. k < 1024) set below) looks) spared
+
+pub plans_go_back : PlansGoBack
+plans_go_back = record { workers = λ by g ready retries n. refl; reload = λ by g ready retries opened forked. refl }

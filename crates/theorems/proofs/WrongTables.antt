@@ -47,6 +47,7 @@ wrong_tables = record {
   kills = λ h. no (sym (h.0 102 1 refl refl));
   leaves = λ h. no (sym h.0);
   settled = λ h. ⊎_elim (λ a. let e = ap length a.1 in absurd (omega (arith, e))) (λ a. absurd (cc (a.0))) h;
-  settled_by_count = λ h. ⊎_elim (λ a. absurd (cc (a.0))) (λ a. absurd (omega (arith, a.2))) h;
+  settled_by_count = λ h. ⊎_elim (λ a. absurd (cc)) (λ a. let e = ap length a.2 in absurd (omega (arith, e))) h;
   settled_early = λ h. ⊎_elim (λ a. absurd (cc (a.0))) (λ a. absurd (omega (arith, a.3))) h;
+  side_after = λ h. h.running.1.1.1.0 refl;
 }

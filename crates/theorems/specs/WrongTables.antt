@@ -15,7 +15,7 @@ use Rattle.definitions.specs.Service.{service}
 use Rattle.definitions.specs.Record.{Agrees, FilesAre}
 use Rattle.definitions.specs.Target.{want}
 use Rattle.definitions.specs.Run.{Progress, Ran, At, start_at}
-use Rattle.definitions.specs.Settling.{IsSettled}
+use Rattle.definitions.specs.Settling.{IsSettled, HasSide}
 use Rattle.definitions.specs.Manner.{Stays, Goes, KillsOnlyLate, LeavesLast}
 use Rattle.definitions.specs.Claims.{Says, Kept, Floor, IsBlamed, HasCause, IsPaid, StopNote, IsLeft}
 use Rattle.theorems.specs.Examples.{first, port, other_port, pid_file, holds, two_workers, two_without_file, two_ready, table_with, pid_files, own_rows, m1}
@@ -99,3 +99,5 @@ pub record WrongTables : Type 0 where
   pub settled : Refuted (IsSettled side.Target 3 100 first (0 ∷ 1 ∷ []) (start_at two_workers InPlace) (At end.Done) (progress one_left 0 1 None))
   pub settled_by_count : Refuted (IsSettled side.Target 0 100 first (0 ∷ 1 ∷ []) (start_at two_workers InPlace) (At end.ShortTarget) (lacks_one none_left 2))
   pub settled_early : Refuted (IsSettled side.Target 3 100 first (0 ∷ 1 ∷ []) (start_at two_workers InPlace) (At end.ShortTarget) (lacks_one one_left 1))
+  -- A worker is left Starting after it.
+  pub side_after : Refuted (HasSide one_starts 1 100 holds first (0 ∷ 1 ∷ 2 ∷ []))

@@ -6,7 +6,7 @@ ghost use Rattle.std.specs.Prelude.{ℕ, List, Bool};
 ghost use Rattle.definitions.specs.Settings.{Settings};
 ghost use Rattle.definitions.specs.declared.targets.Target.TheVariants.{Workers, Mend, Reopen, Reload, Upgrade, Stop};
 ghost use Rattle.definitions.specs.Claims.{InManner, MendHeadline, ReloadHeadline, ReopenFloor, ReopenHeadline, RunsWithin, StopHeadline, UpgradeHeadline, WorkersHeadline};
-ghost use Rattle.definitions.specs.Settling.{ReturnsAlways, SettlesAlways};
+ghost use Rattle.definitions.specs.Settling.{PlansGoBack, ReturnsAlways, SettlesAlways};
 ghost use Rattle.theorems.specs.Examples.{HasStart};
 ghost use Rattle.theorems.specs.WorkedRuns.{WorkedRuns};
 ghost use Rattle.theorems.specs.WrongTables.{WrongTables};
@@ -54,6 +54,7 @@ pub fn upgrades_end_as_reported()
 pub fn settles_end_as_counted()
     ensures settle { SettlesAlways }
     ensures back { ReturnsAlways }
+    ensures plans { PlansGoBack }
 {}
 
 /// A run makes no more calls than the longest path of its plan has steps.
