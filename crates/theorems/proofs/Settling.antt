@@ -438,14 +438,14 @@ module _ (image pid : ℕ) (holds : List Hold) (g : Generation) (S : List ℕ) w
 
     -- what goes along a tree from there is so of its run
     settles-by : (tree : Tree) → AlwaysNamed text pattern S tree → Goes tree begun → refused_from text (image ∷ []) [] tree pattern p ≡ None → Settles image pid holds g S side rounds p (run_with text tree pattern p)
-    settles-by tree named goes spared =
+    settles-by tree always goes spared =
         let ran = run_with text tree pattern p in
         let ran' = run_with text tree pattern begun in
         let all = from-along inv post Anyhow Unasked co tree begun goes (refused-twin text (image ∷ []) [] tree pattern p (p.faults + more) (Some 0) ∙ spared) (are-mild-anyhow co tree begun) in
         let twin = twins more text tree pattern p (p.faults + more) (Some 0) refl in
         let end : post ran.ending (recounted ran.last twin.1 twin.2) = subst (λ (q : Progress). post ran.ending q) twin.3 (subst (λ (e : Ending). post e ran'.last) twin.0 all.last) in
         let said : (e : End) → ran.ending ≡ At e → ran.last.lacking ≡ missing pid g S ran.last.table = λ e is.
-        named p e is ∙ filter-same (λ k. not (is_in ran.last.ready k)) (λ k. not (list_any (is_worker is_ready pid g k) ran.last.table.rows)) S (every-in (λ k. not (is_in ran.last.ready k) ≡ not (list_any (is_worker is_ready pid g k) ran.last.table.rows)) S (λ k e. ap not (sym (end.1 k)))) in
+        always p e is ∙ filter-same (λ k. not (is_in ran.last.ready k)) (λ k. not (list_any (is_worker is_ready pid g k) ran.last.table.rows)) S (every-in (λ k. not (is_in ran.last.ready k) ≡ not (list_any (is_worker is_ready pid g k) ran.last.table.rows)) S (λ k e. ap not (sym (end.1 k)))) in
         record {
           settled = ⊎_elim (λ a. inl a) (λ a. inr (a.0, a.1, said (short_end side) a.0, omega (arith, a.2, twin.4))) end.0;
           counted = end.1;
