@@ -2,7 +2,8 @@
 use Rattle.std.specs.Prelude.{map, ℕ, ◌≡◌, ◌≤◌, ◌+◌, min, Bool, true, false, ◌&&◌, ◌||◌, ◌==◌, nat_le, ◌++◌, List, [], if◌then◌else◌, ◌∷◌, length, Option, Some, None, is_some, count_by, bytes_eq, ⊤}
 use Rattle.std.specs.List.{list_any, AllByRecursion}
 use Rattle.listener_set.specs.Numbers.{IsRising, RisesFrom, is_in}
-use Rattle.definitions.specs.Table.{FilePath, owner_at, Address, same_generation, Hold, Process, Master, Worker, Foreign, Table, Generation, is_ready, has_address}
+use Rattle.listener_set.specs.AddressList.{has}
+use Rattle.definitions.specs.Table.{FilePath, owner_at, is_own, Address, same_generation, Hold, Process, Master, Worker, Foreign, Table, Generation, is_ready, has_address}
 use Rattle.definitions.specs.Exits.{Name}
 use Rattle.definitions.specs.declared.names.Name.TheVariants as name
 use Rattle.definitions.specs.Formed.{IsFormed}
@@ -11,7 +12,7 @@ use Rattle.definitions.specs.Record.{Listener, Record, IsRecord, Agrees, PidNote
 use Rattle.definitions.specs.Target.{Target, Workers, Mend, Reopen, Reload, Upgrade, Stop, want, count_wanted, upgrade_generation, text_handed}
 use Rattle.definitions.specs.Tree.{Order, Make, ForkLacking, AwaitLacking, KillLacking, Reply, among, reply_of, Tree, Branches, Ends, Does, Nothing, Branch, height}
 use Rattle.definitions.specs.Plans.{plan_tree}
-use Rattle.definitions.specs.Path.{Report, Outcome}
+use Rattle.definitions.specs.Path.{Report, Outcome, Entry}
 use Rattle.definitions.specs.declared.reports.Outcome.TheVariants as outcome
 use Rattle.definitions.specs.declared.plans.Side.TheVariants as side
 use Rattle.definitions.specs.After.{record_after, next_config, next_image}
@@ -128,27 +129,42 @@ pub record AgreesAfter (r : Record) (target : Target) (report : Report) (pid : �
   pub agrees : Agrees t record_then
   pub record_in_range : IsRecord record_then
 
-abbrev pub is_failed_removal : Call → Answer → Bool
-is_failed_removal (RemovePid path) answer.IoFault = true
-is_failed_removal _ _ = false
+-- the removal of the file at one of the paths failed
+abbrev pub is_failed_removal : List FilePath → Call → Answer → Bool
+is_failed_removal paths (RemovePid path) answer.IoFault = has paths path
+is_failed_removal paths _ _ = false
 
--- The note after a stop: no file, or a removal that failed.
+abbrev pub was_failed : List FilePath → List Entry → Bool
+was_failed paths entries = list_any (λ e. is_failed_removal paths e.call e.answer) entries
+
+-- the process number that the file at the path held in the first table of a run
+abbrev pub first_owner : FilePath → List Progress → Option ℕ
+first_owner path [] = None
+first_owner path (p ∷ passed) = owner_at path p.table.files
+
+-- Where the removal of the file failed, what was there at first is there: its owner, or no file. Else no file is there.
+abbrev pub IsRemoved : FilePath → Ran → Type 0
+IsRemoved path ran = owner_at path ran.last.table.files ≡ (if was_failed (path ∷ []) ran.entries then first_owner path ran.passed else None)
+
+-- The note after a stop: no file is there, or a removal failed and left what was there.
 abbrev pub StopNote : PidNote → Option FilePath → Ran → Type 0
 StopNote NoFile None ran = ⊤
 StopNote NoFile (Some path) ran = (owner_at path ran.last.table.files ≡ None) × (owner_at (oldbin path) ran.last.table.files ≡ None)
-StopNote Left path ran = list_any (λ e. is_failed_removal e.call e.answer) ran.entries ≡ true
+StopNote Left (Some path) ran = (was_failed (path ∷ oldbin path ∷ []) ran.entries ≡ true) × IsRemoved path ran × IsRemoved (oldbin path) ran
+StopNote Left None ran = ⊥
 StopNote InPlace path ran = ⊥
 StopNote AtOldbin path ran = ⊥
 StopNote OldbinLeft path ran = ⊥
 
--- After a stop there is no record.
+-- After a stop there is no record, and no master and no worker.
 abbrev pub IsLeft : Record → Target → ℕ → Ran → Type 0
 IsLeft r (Workers n) pid ran = AgreesAfter r (Workers n) (report_of ran) pid ran.last.table
 IsLeft r (Mend overdue) pid ran = AgreesAfter r (Mend overdue) (report_of ran) pid ran.last.table
 IsLeft r Reopen pid ran = AgreesAfter r Reopen (report_of ran) pid ran.last.table
 IsLeft r (Reload s) pid ran = AgreesAfter r (Reload s) (report_of ran) pid ran.last.table
 IsLeft r (Upgrade s) pid ran = AgreesAfter r (Upgrade s) (report_of ran) pid ran.last.table
-IsLeft r (Stop quick) pid ran = (record_after r (Stop quick) (report_of ran) pid ≡ None) × StopNote ran.last.note r.pid_path ran
+IsLeft r (Stop quick) pid ran =
+    (record_after r (Stop quick) (report_of ran) pid ≡ None) × (list_any is_own ran.last.table.rows ≡ false) × StopNote ran.last.note r.pid_path ran
 
 ---- What is kept throughout
 
@@ -246,6 +262,10 @@ MendHeadline =
 
 abbrev pub ReopenHeadline : Type 0
 ReopenHeadline = (t : Table) (r : Record) (pattern : Pattern) → IsAccepted t r Reopen pattern → Keeps t r Reopen r.pid (run_of r Reopen pattern t)
+
+-- And keeps the floor: it touches no worker, and starts what is lacking.
+abbrev pub ReopenFloor : Type 0
+ReopenFloor = (t : Table) (r : Record) (pattern : Pattern) → IsAccepted t r Reopen pattern → KeepsFloor t r Reopen (run_of r Reopen pattern t)
 
 abbrev pub ReloadHeadline : Type 0
 ReloadHeadline =

@@ -3,7 +3,7 @@ use Rattle.std.specs.Prelude.{ℕ, ◌≡◌, ◌≤◌, ◌+◌, true, List, []
 use Rattle.std.specs.List.{list_any, AllByRecursion}
 use Rattle.definitions.specs.Table.{Generation, Starting, Ready, Draining, Exited, Process, Master, Worker, Foreign, Table, number_of, is_active, is_worker, is_live_master}
 
--- A worker that drains or has exited holds nothing, nor does a master that has.
+-- A worker that drains or has exited holds nothing; of a master, or of somebody else's process, nothing is asked.
 abbrev pub IsQuiet : Process → Type 0
 IsQuiet (Worker n q g k Starting hs) = ⊤
 IsQuiet (Worker n q g k Ready hs) = ⊤

@@ -14,3 +14,4 @@ pub mod Run
 pub mod After
 pub mod Manner
 pub mod Claims
+pub mod Settling

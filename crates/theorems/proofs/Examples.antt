@@ -3,9 +3,14 @@ use Rattle.std.proofs.Common.{◌≡◌, ℕ, ◌+◌, ◌≤◌, Bool, true, fa
 use Rattle.std.specs.Prelude.{◌&&◌, ◌==◌, count_by}
 use Rattle.std.proofs.lemmas.Bool.Decides.{nat_tests}
 use Rattle.listener_set.specs.declared.generation.Generation.{Generation}
-use Rattle.definitions.specs.Table.{same_generation, is_worker, is_active}
+use Rattle.definitions.specs.Table.{same_generation, is_worker, is_active, is_ready}
+use Rattle.std.specs.List.{list_any}
+use Rattle.std.specs.Prelude.{[], ◌∷◌}
+use Rattle.listener_set.specs.Numbers.{is_in}
+use Rattle.definitions.specs.Formed.{IsFormed}
+use Rattle.definitions.specs.Settling.{HasSide}
 use Rattle.definitions.specs.Claims.{IsStart}
-use Rattle.theorems.specs.Examples.{two_ready, two_workers, first, holds, HasStart}
+use Rattle.theorems.specs.Examples.{two_ready, two_workers, two_masters, first, holds, HasStart}
 use Rattle.theorems.proofs.Rows.{one, count-weigh}
 
 at-most : (x s a b : Bool) → (a ≡ true → b ≡ false) → one (x && (s && a)) + (one (x && (s && b)) + 0) ≤ 1
@@ -52,5 +57,28 @@ start = record {
   rising = (omega arith, (omega arith, tt));
 }
 
+-- Beside another master too.
+once_beside : (q : ℕ) (h : Generation) (k : ℕ) → count_by (is_worker is_active q h k) two_masters.rows ≤ 1
+once_beside q h k = subst (λ n. n ≤ 1) (sym (count-weigh (is_worker is_active q h k) two_masters.rows)) (omega (arith, at-most (100 == q) (same_generation first h) (0 == k) (1 == k) (apart k)))
+
+formed_beside : IsFormed two_masters
+formed_beside = record {
+  once = once_beside;
+  quiet = (tt, (tt, (tt, (tt, tt))));
+  parents = (tt, (refl, (refl, (tt, tt))));
+  ascending = (omega arith, (omega arith, (omega arith, (omega arith, omega arith))));
+}
+
+within_two : (k : ℕ) → list_any (is_worker is_ready 100 first k) two_masters.rows ≡ true → is_in (0 ∷ 1 ∷ []) k ≡ true
+within_two k e = e
+
+has_side : HasSide two_masters 1 100 holds first (0 ∷ 1 ∷ [])
+has_side = record {
+  lives = refl;
+  only = ((λ e. refl), (tt, (tt, ((λ e. absurd (omega (arith, e))), tt))));
+  running = (tt, ((λ e. (refl, refl)), ((λ e. (refl, refl)), (tt, tt))));
+  within = within_two;
+}
+
 pub has_start : HasStart
-has_start = (start, record { descriptors = (omega arith, tt); limit = omega arith })
+has_start = (start, record { descriptors = (omega arith, tt); limit = omega arith }, formed_beside, has_side)

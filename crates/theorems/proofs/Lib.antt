@@ -35,6 +35,8 @@ pub mod Reopen
 pub mod Addresses
 pub mod Listeners
 pub mod Reload
+pub mod Settling
+pub mod StopFiles
 pub mod Stop
 pub mod Notes
 pub mod Lights

@@ -99,7 +99,7 @@ filter-all : (hs : List Hold) → filter (λ h. true) hs ≡ hs
 filter-all [] = refl
 filter-all (x ∷ hs) = ap (λ l. x ∷ l) (filter-all hs)
 
-all-closed-is : (dropped : List Address) (hs : List Hold) → all_closed dropped hs ≡ filter (λ h. not (has dropped h.address)) hs
+pub all-closed-is : (dropped : List Address) (hs : List Hold) → all_closed dropped hs ≡ filter (λ h. not (has dropped h.address)) hs
 all-closed-is [] hs = sym (filter-all hs)
 all-closed-is (a ∷ more) hs =
     all-closed-is more (lacks_address a hs) ∙ filter-filter (λ h. not (has more h.address)) (λ h. not (bytes_eq h.address a)) hs

@@ -1,5 +1,5 @@
 -- The headline for a reopening.
-use Rattle.theorems.proofs.Rows.{and-left, and-right}
+use Rattle.theorems.proofs.Rows.{and-left, and-right, every-more}
 use Rattle.theorems.proofs.Begins.{rising-distinct}
 use Rattle.theorems.proofs.Views.{named}
 use Rattle.theorems.proofs.Effects.{none, same-is}
@@ -13,8 +13,10 @@ use Rattle.definitions.specs.declared.targets.Target.TheVariants.{Reopen}
 use Rattle.definitions.specs.declared.plans.Side.TheVariants.{Target}
 use Rattle.definitions.specs.Plans.{plan_tree, reopen_tree, settle}
 use Rattle.definitions.specs.Run.{Pattern, start_at}
-use Rattle.definitions.specs.Claims.{IsStart, ReopenHeadline}
-use Rattle.theorems.proofs.Same.{Like, first, scene, inv, post, course, acts, good, Goes, new-full, new-short, start-band, whole}
+use Rattle.definitions.specs.Claims.{IsStart, Floor, ReopenHeadline, ReopenFloor, run_of}
+use Rattle.definitions.specs.Service.{service}
+use Rattle.definitions.specs.Target.{want}
+use Rattle.theorems.proofs.Same.{Like, first, scene, inv, post, course, acts, good, Goes, Level, new-full, new-short, start-band, whole}
 use Rattle.theorems.proofs.Rules.{rule-usr1s, rule-settle}
 
 -- The target wants what there is.
@@ -23,7 +25,7 @@ like_reopen t rec s = record {
   count = length rec.ready;
   set = rec.ready;
   wanted = rec.wanted;
-  floor = 0;
+  floor = length rec.ready;
   sized = refl;
   wants = refl;
   below = λ k e. every-is_in (λ j. j < rec.wanted) rec.ready s.record_in_range.ready k e;
@@ -61,3 +63,9 @@ module _ (t : Table) (rec : Record) (pattern : Pattern) (s : IsStart t rec) wher
 
 pub reopen_headline : ReopenHeadline
 reopen_headline t rec pattern a = (whole t rec Reopen pattern a.start (like_reopen t rec a.start) (plan_tree rec Reopen) (goes t rec pattern a.start) a.spared).0
+
+pub reopen_floor : ReopenFloor
+reopen_floor t rec pattern a =
+    let like = like_reopen t rec a.start in
+    let all = whole t rec Reopen pattern a.start like (plan_tree rec Reopen) (goes t rec pattern a.start) a.spared in
+    every-more (Level t rec Reopen pattern a.start like) (Floor (service t) (want rec Reopen) t (length rec.ready)) (λ q h address common. omega (arith, h address common)) (run_of rec Reopen pattern t).passed all.1

@@ -11,7 +11,7 @@ use Rattle.definitions.specs.declared.plans.Order.TheVariants.{Make}
 use Rattle.definitions.specs.declared.calls.Call.TheVariants.{RemovePid, Leave}
 use Rattle.definitions.specs.declared.calls.Answer.TheVariants as answer
 use Rattle.definitions.specs.declared.targets.Target.TheVariants.{Stop}
-use Rattle.definitions.specs.Table.{FilePath, File, Process, Master, Worker, Foreign, Table, Hold, Caller, owner_at, owner_if, has_address}
+use Rattle.definitions.specs.Table.{is_own, FilePath, File, Process, Master, Worker, Foreign, Table, Hold, Caller, owner_at, owner_if, has_address}
 use Rattle.definitions.specs.Calls.{Stepped, gives, step_by, each_row, with_files, without_file, without_master}
 use Rattle.definitions.specs.Service.{is_live_with, service, IsSame}
 use Rattle.definitions.specs.Record.{Record, FilesAre, oldbin}
@@ -19,9 +19,12 @@ use Rattle.definitions.specs.Target.{want}
 use Rattle.definitions.specs.Tree.{Tree, Ends, reply_of}
 use Rattle.definitions.specs.Plans.{plan_tree, stop_tree, quits, kills, awaits_gone, then_edge, note_edges, removes, remove_oldbin_too, has_oldbin, stopped, does}
 use Rattle.definitions.specs.Run.{outcome_of, Pattern, Progress, Ending, At, Lost, Ran, start_at, noted, after_call, after_moment, answered}
-use Rattle.definitions.specs.Claims.{is_failed_removal, Says, HasCause, IsPaid, IsStart, Kept, IsBlamed, StopNote, StopHeadline, run_of}
+use Rattle.definitions.specs.Claims.{was_failed, IsRemoved, Says, HasCause, IsPaid, IsStart, Kept, IsBlamed, StopNote, StopHeadline, run_of}
 use Rattle.theorems.proofs.Rows.{every-more}
-use Rattle.theorems.proofs.Files.{gone-file}
+use Rattle.listener_set.specs.AddressList.{has}
+use Rattle.theorems.proofs.Addresses.{address-refl}
+use Rattle.theorems.proofs.Files.{gone-file, other-oldbin}
+use Rattle.theorems.proofs.StopFiles.{Ended, files-removed}
 use Rattle.theorems.proofs.Views.{Names, View, Looks, Fine, finds, eqb-refl}
 use Rattle.theorems.proofs.Exits.{spares-each}
 use Rattle.theorems.proofs.Effects.{none, looks-allows}
@@ -64,11 +67,27 @@ none-live v test (Worker n q g k st hs ∷ rows) fine = go (q == v.number) (none
     go false ih = ih
 none-live v test (Foreign n hs ∷ rows) fine = none-live v test rows fine.1
 
--- The files after a stop are as its note says; where a removal failed they may be anything.
+-- And no process of any master.
+none-own : (v : View) (rows : List Process) → AllByRecursion (Fine v) rows → list_any is_own (filter_map (without_master v.number) rows) ≡ false
+none-own v [] fine = refl
+none-own v (Master n q i live hs ∷ rows) fine = go (n == v.number) (eqb-refl n v.number fine.0.0) (none-own v rows fine.1)
+  where
+    go : (b : Bool) → b ≡ true → list_any is_own (filter_map (without_master v.number) rows) ≡ false → list_any is_own (cons_option (if b then None else Some (Master n (if q == v.number then 1 else q) i live hs)) (filter_map (without_master v.number) rows)) ≡ false
+    go true e ih = ih
+    go false e ih = absurd (cc)
+none-own v (Worker n q g k st hs ∷ rows) fine = go (q == v.number) (eqb-refl q v.number fine.0.0) (none-own v rows fine.1)
+  where
+    go : (b : Bool) → b ≡ true → list_any is_own (filter_map (without_master v.number) rows) ≡ false → list_any is_own (cons_option (if b then None else Some (Worker n q g k st hs)) (filter_map (without_master v.number) rows)) ≡ false
+    go true e ih = ih
+    go false e ih = absurd (cc)
+none-own v (Foreign n hs ∷ rows) fine = none-own v rows fine.1
+
+-- The files after a stop are as its note says; of what a failed removal left, see StopFiles.
 abbrev pub FilesThen : PidNote → Option FilePath → List File → Type 0
 FilesThen NoFile None files = ⊤
 FilesThen NoFile (Some path) files = (owner_at path files ≡ None) × (owner_at (oldbin path) files ≡ None)
-FilesThen Left path files = ⊤
+FilesThen Left None files = ⊥
+FilesThen Left (Some path) files = ⊤
 FilesThen InPlace path files = ⊥
 FilesThen AtOldbin path files = ⊥
 FilesThen OldbinLeft path files = ⊥
@@ -96,7 +115,7 @@ module _ (t : Table) (rec : Record) (quick : Bool) (pattern : Pattern) (s : IsSt
   inv q = Kept (service t) (want rec (Stop quick)) t q.table × IsBlamed q
 
   abbrev post : Ending → Progress → Type 0
-  post (At Done) q = IsSame (service q.table) (want rec (Stop quick)) × FilesThen q.note rec.pid_path q.table.files
+  post (At Done) q = IsSame (service q.table) (want rec (Stop quick)) × (list_any is_own q.table.rows ≡ false) × FilesThen q.note rec.pid_path q.table.files
   post (At RolledBack) q = ⊥
   post (At ShortOld) q = ⊥
   post (At ShortTarget) q = ⊥
@@ -190,7 +209,7 @@ module _ (t : Table) (rec : Record) (quick : Bool) (pattern : Pattern) (s : IsSt
         band-inv inv post co u acts (sc files note) good any any none 0 0 false [] q b,
         band-inv inv post co u acts (sc files note) good any any none 0 0 false [] middle b',
         tt,
-        subst (λ (st : Stepped). Behind inv post Anyhow Unasked (course_after order co) (then_edge (Ends Done)) (reply_of [] st.answer) (after_call order [] st middle)) (sym is) (kept, (empty, files_then)),
+        subst (λ (st : Stepped). Behind inv post Anyhow Unasked (course_after order co) (then_edge (Ends Done)) (reply_of [] st.answer) (after_call order [] st middle)) (sym is) (kept, (empty, none-own (view u any any) middle.table.rows fine, files_then)),
       )
 
   -- the rest of the plan, from what the files and the note are
@@ -242,41 +261,53 @@ module _ (t : Table) (rec : Record) (quick : Bool) (pattern : Pattern) (s : IsSt
 
 ---- Only a failed removal leaves a file
 
-unsaid : (removes : Bool) (replies : List Reply) → SaidBy removes replies None
-unsaid removes replies e = absurd (cc e)
+abbrev paths_of : Option FilePath → List FilePath
+paths_of None = []
+paths_of (Some path) = path ∷ oldbin path ∷ []
 
-said-none : (removes : Bool) (replies : List Reply) → SaidBy removes replies (Some NoFile)
-said-none removes replies e = absurd (cc e)
+unsaid : (paths : List FilePath) (removes : Bool) (replies : List Reply) → SaidBy paths removes replies None
+unsaid paths removes replies e = absurd (cc e)
 
-by-quits : (by : ℕ) (g : Generation) (ks : List ℕ) (rest : Tree) → LeftByFault rest → LeftByFault (quits by g ks rest)
-by-quits by g [] rest h = h
-by-quits by g (x ∷ ks) rest h = (unsaid false _, by-quits by g ks rest h, tt)
+said-none : (paths : List FilePath) (removes : Bool) (replies : List Reply) → SaidBy paths removes replies (Some NoFile)
+said-none paths removes replies e = absurd (cc e)
 
-by-kills : (by : ℕ) (g : Generation) (ks : List ℕ) (rest : Tree) → LeftByFault rest → LeftByFault (kills by g ks rest)
-by-kills by g [] rest h = h
-by-kills by g (x ∷ ks) rest h = (unsaid false _, by-kills by g ks rest h, tt)
+by-quits : (paths : List FilePath) (by : ℕ) (g : Generation) (ks : List ℕ) (rest : Tree) → LeftByFault paths rest → LeftByFault paths (quits by g ks rest)
+by-quits paths by g [] rest h = h
+by-quits paths by g (x ∷ ks) rest h = (unsaid paths false _, by-quits paths by g ks rest h, tt)
 
-by-waits : (by : ℕ) (g : Generation) (ks : List ℕ) (rest : Tree) → LeftByFault rest → LeftByFault (awaits_gone by g ks rest)
-by-waits by g [] rest h = h
-by-waits by g (x ∷ ks) rest h =
-    let more = by-waits by g ks rest h in
-    (unsaid false _, more, (unsaid false _, (unsaid false _, more, tt), tt))
+by-kills : (paths : List FilePath) (by : ℕ) (g : Generation) (ks : List ℕ) (rest : Tree) → LeftByFault paths rest → LeftByFault paths (kills by g ks rest)
+by-kills paths by g [] rest h = h
+by-kills paths by g (x ∷ ks) rest h = (unsaid paths false _, by-kills paths by g ks rest h, tt)
 
-by-removes : (by : ℕ) (path : Option FilePath) (note : PidNote) (rest : Tree) → LeftByFault rest → LeftByFault (removes by path note rest)
+by-waits : (paths : List FilePath) (by : ℕ) (g : Generation) (ks : List ℕ) (rest : Tree) → LeftByFault paths rest → LeftByFault paths (awaits_gone by g ks rest)
+by-waits paths by g [] rest h = h
+by-waits paths by g (x ∷ ks) rest h =
+    let more = by-waits paths by g ks rest h in
+    (unsaid paths false _, more, (unsaid paths false _, (unsaid paths false _, more, tt), tt))
+
+by-removes : (by : ℕ) (path : Option FilePath) (note : PidNote) (rest : Tree) → LeftByFault (paths_of path) rest → LeftByFault (paths_of path) (removes by path note rest)
 by-removes by None note rest h = h
 by-removes by (Some path) note rest h =
+    let paths = paths_of (Some path) in
     let more = too (has_oldbin note) in
-    (said-none true _, more, ((λ e. (refl, refl)), more, tt))
+    let on : has paths path ≡ true = rw (address-refl path) refl in
+    (said-none paths _ _, more, ((λ e. (on, refl)), more, tt))
   where
-    too : (b : Bool) → LeftByFault (remove_oldbin_too by path b rest)
-    too true = (unsaid true _, h, ((λ e. (refl, refl)), h, tt))
+    too : (b : Bool) → LeftByFault (paths_of (Some path)) (remove_oldbin_too by path b rest)
+    too true =
+        let paths = paths_of (Some path) in
+        let on : has paths (oldbin path) ≡ true = rw (other-oldbin path, address-refl (oldbin path)) refl in
+        (unsaid paths _ _, h, ((λ e. (on, refl)), h, tt))
     too false = h
 
-by-stop : (by : ℕ) (g : Generation) (ready : List ℕ) (path : Option FilePath) (note : PidNote) (quick : Bool) → LeftByFault (stop_tree by g ready path note quick)
-by-stop by g ready path note true = by-kills by g ready (removes by path note (stopped by)) (by-removes by path note (stopped by) (unsaid false _, tt, tt))
+by-stop : (by : ℕ) (g : Generation) (ready : List ℕ) (path : Option FilePath) (note : PidNote) (quick : Bool) → LeftByFault (paths_of path) (stop_tree by g ready path note quick)
+by-stop by g ready path note true =
+    let paths = paths_of path in
+    by-kills paths by g ready (removes by path note (stopped by)) (by-removes by path note (stopped by) (unsaid paths false _, tt, tt))
 by-stop by g ready path note false =
-    by-quits by g (reverse ready) (awaits_gone by g (reverse ready) (removes by path note (stopped by)))
-    (by-waits by g (reverse ready) (removes by path note (stopped by)) (by-removes by path note (stopped by) (unsaid false _, tt, tt)))
+    let paths = paths_of path in
+    by-quits paths by g (reverse ready) (awaits_gone by g (reverse ready) (removes by path note (stopped by)))
+    (by-waits paths by g (reverse ready) (removes by path note (stopped by)) (by-removes by path note (stopped by) (unsaid paths false _, tt, tt)))
 
 ---- The headline
 
@@ -288,21 +319,24 @@ not-left NoFile path pid files are e = cc e
 not-left Left None pid files are e = are
 not-left Left (Some path) pid files are e = are
 
-stop-note : (note : PidNote) (path : Option FilePath) (ran : Ran) → FilesThen note path ran.last.table.files → (note ≡ Left → list_any (λ e. is_failed_removal e.call e.answer) ran.entries ≡ true) → StopNote note path ran
-stop-note NoFile None ran files failed = tt
-stop-note NoFile (Some path) ran files failed = files
-stop-note Left path ran files failed = failed refl
-stop-note InPlace path ran files failed = absurd files
-stop-note AtOldbin path ran files failed = absurd files
-stop-note OldbinLeft path ran files failed = absurd files
+stop-note : (note : PidNote) (path : Option FilePath) (ran : Ran) → FilesThen note path ran.last.table.files → (note ≡ Left → was_failed (paths_of path) ran.entries ≡ true) → ((x : FilePath) → path ≡ Some x → IsRemoved x ran × IsRemoved (oldbin x) ran) → StopNote note path ran
+stop-note NoFile None ran files failed removed = tt
+stop-note NoFile (Some path) ran files failed removed = files
+stop-note Left None ran files failed removed = absurd files
+stop-note Left (Some path) ran files failed removed =
+    let both = removed path refl in
+    (failed refl, both.0, both.1)
+stop-note InPlace path ran files failed removed = absurd files
+stop-note AtOldbin path ran files failed removed = absurd files
+stop-note OldbinLeft path ran files failed removed = absurd files
 
 -- A stop is done, whatever is answered.
 abbrev AllDone : Table → Record → Bool → Ending → Progress → Type 0
 AllDone t rec quick e q =
     Says (outcome_of e q.lacking) (service t) (want rec (Stop quick)) q.table × (record_after rec (Stop quick) (report_at e q) rec.pid ≡ None) × HasCause (outcome_of e q.lacking) q.cause × IsPaid rec.retries (outcome_of e q.lacking) q
 
-all-done : (t : Table) (rec : Record) (quick : Bool) (pattern : Pattern) (s : IsStart t rec) (e : Ending) (q : Progress) → post t rec quick pattern s e q → AllDone t rec quick e q × FilesThen q.note rec.pid_path q.table.files
-all-done t rec quick pattern s (At Done) q h = ((h.0, refl, tt, tt), h.1)
+all-done : (t : Table) (rec : Record) (quick : Bool) (pattern : Pattern) (s : IsStart t rec) (e : Ending) (q : Progress) → post t rec quick pattern s e q → AllDone t rec quick e q × Ended e × (list_any is_own q.table.rows ≡ false) × FilesThen q.note rec.pid_path q.table.files
+all-done t rec quick pattern s (At Done) q h = ((h.0, refl, tt, tt), tt, h.1, h.2)
 all-done t rec quick pattern s (At RolledBack) q h = absurd h
 all-done t rec quick pattern s (At ShortOld) q h = absurd h
 all-done t rec quick pattern s (At ShortTarget) q h = absurd h
@@ -321,12 +355,12 @@ stop_headline t rec quick pattern a =
     let all = from-along i (post t rec quick pattern a.start) Anyhow Unasked c tree at (goes t rec quick pattern a.start) a.spared (are-mild-anyhow c tree at) in
     let ran = run_of rec (Stop quick) pattern t in
     let done = all-done t rec quick pattern a.start ran.ending ran.last all.last in
-    let failed : ran.last.note ≡ Left → list_any (λ e. is_failed_removal e.call e.answer) ran.entries ≡ true = λ e.
+    let failed : ran.last.note ≡ Left → was_failed (paths_of rec.pid_path) ran.entries ≡ true = λ e.
     ⊎_elim (λ x. absurd (not-left rec.note rec.pid_path rec.pid t.files a.start.agrees.files x)) (λ x. x)
-    (left-by [] tree pattern at (by-stop rec.generation.image rec.generation rec.ready rec.pid_path rec.note quick) e) in
+    (left-by (paths_of rec.pid_path) [] tree pattern at (by-stop rec.generation.image rec.generation rec.ready rec.pid_path rec.note quick) e) in
     record {
       says = done.0.0;
-      after = (done.0.1, stop-note ran.last.note rec.pid_path ran done.1 failed);
+      after = (done.0.1, done.2, stop-note ran.last.note rec.pid_path ran done.3 failed (λ x is. files-removed x t rec quick pattern is a.start.agrees.files a.spared done.1));
       kept = every-more i (λ q. Kept (service t) (want rec (Stop quick)) t q.table) (λ q h. h.0) ran.passed all.always;
       blamed = every-more i IsBlamed (λ q h. h.1) ran.passed all.always;
       cause = done.0.2;

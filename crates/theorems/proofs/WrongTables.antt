@@ -1,5 +1,5 @@
 -- Tables and runs that break a claim.
-use Rattle.std.proofs.Common.{◌≡◌, ℕ, ◌+◌, Bool, true, false, refl, sym, ap, subst, arith, ⊎_elim}
+use Rattle.std.proofs.Common.{◌≡◌, ℕ, ◌+◌, Bool, true, false, length, refl, sym, ap, subst, arith, ⊎_elim}
 use Rattle.std.specs.Prelude.{is_some, count_by}
 use Rattle.listener_set.specs.declared.generation.Generation.{Generation}
 use Rattle.definitions.specs.Table.{Table, same_generation}
@@ -36,6 +36,8 @@ wrong_tables = record {
   agrees = λ h. h.running.1.1.1.0 refl;
   files = λ h. absurd (cc (h.0));
   stop_note = λ h. absurd (cc (h.0));
+  file_gone = λ h. absurd (cc (h.1));
+  stopped = λ h. no (h.1);
   blamed = λ h. absurd (omega (arith, h.0 refl));
   blamed_falsely = λ h. absurd (omega (arith, h.1 refl));
   cause = λ h. absurd (cc);
@@ -44,4 +46,8 @@ wrong_tables = record {
   goes = λ h. no (h 101 0 refl refl);
   kills = λ h. no (sym (h.0 102 1 refl refl));
   leaves = λ h. no (sym h.0);
+  settled = λ h. ⊎_elim (λ a. let e = ap length a.1 in absurd (omega (arith, e))) (λ a. absurd (cc (a.0))) h;
+  settled_by_count = λ h. ⊎_elim (λ a. absurd (cc)) (λ a. let e = ap length a.2 in absurd (omega (arith, e))) h;
+  settled_early = λ h. ⊎_elim (λ a. absurd (cc (a.0))) (λ a. absurd (omega (arith, a.3))) h;
+  side_after = λ h. h.running.1.1.1.0 refl;
 }

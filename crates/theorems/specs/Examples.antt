@@ -13,6 +13,8 @@ use Rattle.definitions.specs.declared.reports.Report.{Report}
 use Rattle.definitions.specs.declared.reports.Outcome.{Outcome}
 use Rattle.definitions.specs.Table.{Address, FilePath, Hold, Process, Master, Worker, Foreign, File, Table}
 use Rattle.definitions.specs.Settings.{Settings}
+use Rattle.definitions.specs.Formed.{IsFormed}
+use Rattle.definitions.specs.Settling.{HasSide}
 use Rattle.definitions.specs.Service.{service}
 use Rattle.definitions.specs.Record.{Record}
 use Rattle.definitions.specs.Claims.{IsStart, HasDescriptors}
@@ -93,6 +95,16 @@ two_ready_without_file = record_with (0 ∷ 1 ∷ []) 2 3 None NoFile
 abbrev pub settings_of : List Address → ℕ → Settings
 settings_of listeners workers = record { listeners = listeners; workers = workers; timeout = 60; retries = 3; pid = Some pid_file }
 
+-- a new master beside the old one
+abbrev pub two_masters : Table
+two_masters = record {
+  rows = own_rows ++ Master 103 100 2 true holds ∷ [];
+  files = pid_files;
+  next_process = 104;
+  next_socket = 2;
+  limits = record { processes = 65535; descriptors = 64 };
+}
+
 ---- Patterns
 
 -- one moment and the rest
@@ -134,4 +146,6 @@ serving ran a g = count_if (service ran.last.table a) g
 ---- The premises can be met
 
 abbrev pub HasStart : Type 0
-HasStart = IsStart two_workers (two_ready 3) × HasDescriptors two_workers (two_ready 3)
+HasStart =
+    IsStart two_workers (two_ready 3) × HasDescriptors two_workers (two_ready 3)
+    × IsFormed two_masters × HasSide two_masters 1 100 holds first (0 ∷ 1 ∷ [])

@@ -2,22 +2,23 @@
 use Rattle.std.specs.Prelude.{ℕ, true, [], ◌∷◌, ◌++◌, Option, Some, None}
 use Rattle.listener_set.specs.Numbers.{is_in}
 use Rattle.definitions.specs.declared.table.Stance.TheVariants.{Starting, Ready}
-use Rattle.definitions.specs.declared.calls.Call.TheVariants.{Kill, Leave}
+use Rattle.definitions.specs.declared.calls.Call.TheVariants.{Kill, RemovePid, Leave}
 use Rattle.definitions.specs.declared.calls.Answer.TheVariants as answer
 use Rattle.definitions.specs.declared.plans.End.TheVariants as end
-use Rattle.definitions.specs.declared.plans.PidNote.TheVariants.{InPlace, NoFile}
+use Rattle.definitions.specs.declared.plans.PidNote.TheVariants.{InPlace, Left, NoFile}
 use Rattle.definitions.specs.declared.plans.Side.TheVariants as side
 use Rattle.definitions.specs.declared.reports.Entry.{Entry}
 use Rattle.definitions.specs.declared.reports.Outcome.TheVariants.{Done, RolledBack, Degraded, Lost}
-use Rattle.definitions.specs.declared.targets.Target.TheVariants.{Workers}
+use Rattle.definitions.specs.declared.targets.Target.TheVariants.{Workers, Stop}
 use Rattle.definitions.specs.Table.{Master, Worker, Table}
 use Rattle.definitions.specs.Service.{service}
 use Rattle.definitions.specs.Record.{Agrees, FilesAre}
 use Rattle.definitions.specs.Target.{want}
 use Rattle.definitions.specs.Run.{Progress, Ran, At, start_at}
+use Rattle.definitions.specs.Settling.{IsSettled, HasSide}
 use Rattle.definitions.specs.Manner.{Stays, Goes, KillsOnlyLate, LeavesLast}
-use Rattle.definitions.specs.Claims.{Says, Kept, Floor, IsBlamed, HasCause, IsPaid, StopNote}
-use Rattle.theorems.specs.Examples.{first, port, other_port, pid_file, holds, two_workers, two_ready, table_with, pid_files, own_rows, m1}
+use Rattle.definitions.specs.Claims.{Says, Kept, Floor, IsBlamed, HasCause, IsPaid, StopNote, IsLeft}
+use Rattle.theorems.specs.Examples.{first, port, other_port, pid_file, holds, two_workers, two_without_file, two_ready, table_with, pid_files, own_rows, m1}
 
 ---- Tables
 
@@ -52,6 +53,10 @@ ran_from t e t' = record {
   last = start_at t' InPlace;
 }
 
+-- the last count lacked one
+abbrev pub lacks_one : Table → ℕ → Progress
+lacks_one t faults = record { table = t; calls = 1; ready = []; lacking = 1 ∷ []; faults = faults; losses = 0; cause = Some 1; note = InPlace }
+
 abbrev pub Refuted : Type 0 → Type 0
 Refuted claim = claim → ⊥
 
@@ -72,6 +77,10 @@ pub record WrongTables : Type 0 where
   -- The note says that the file is in its place.
   pub files : Refuted (FilesAre InPlace (Some pid_file) 100 [])
   pub stop_note : Refuted (StopNote NoFile (Some pid_file) (ran_from two_workers (m1 Leave answer.Fine) two_workers))
+  -- The removal failed, and yet the file is gone.
+  pub file_gone : Refuted (StopNote Left (Some pid_file) (ran_from two_workers (m1 (RemovePid pid_file) answer.IoFault) two_without_file))
+  -- After a stop the master is still there.
+  pub stopped : Refuted (IsLeft (two_ready 3) (Stop true) 100 (ran_from two_workers (m1 (Kill first 1) answer.Fine) none_left))
   -- A fault without a cause, and a cause without a fault or a loss.
   pub blamed : Refuted (IsBlamed (progress two_workers 1 0 None))
   pub blamed_falsely : Refuted (IsBlamed (progress two_workers 0 0 (Some 1)))
@@ -86,3 +95,9 @@ pub record WrongTables : Type 0 where
   pub kills : Refuted (KillsOnlyLate two_workers (ran_from two_workers (m1 (Kill first 1) answer.Fine) one_left))
   -- A master left without waiting for its workers.
   pub leaves : Refuted (LeavesLast (two_ready 3) (ran_from two_workers (m1 Leave answer.Fine) none_left))
+  -- A settle said full while a worker was missing; said short by one while two were; gave up at its first failure.
+  pub settled : Refuted (IsSettled side.Target 3 100 first (0 ∷ 1 ∷ []) (start_at two_workers InPlace) (At end.Done) (progress one_left 0 1 None))
+  pub settled_by_count : Refuted (IsSettled side.Target 0 100 first (0 ∷ 1 ∷ []) (start_at two_workers InPlace) (At end.ShortTarget) (lacks_one none_left 2))
+  pub settled_early : Refuted (IsSettled side.Target 3 100 first (0 ∷ 1 ∷ []) (start_at two_workers InPlace) (At end.ShortTarget) (lacks_one one_left 1))
+  -- A worker is left Starting after it.
+  pub side_after : Refuted (HasSide one_starts 1 100 holds first (0 ∷ 1 ∷ 2 ∷ []))

@@ -5,7 +5,8 @@
 ghost use Rattle.std.specs.Prelude.{ℕ, List, Bool};
 ghost use Rattle.definitions.specs.Settings.{Settings};
 ghost use Rattle.definitions.specs.declared.targets.Target.TheVariants.{Workers, Mend, Reopen, Reload, Upgrade, Stop};
-ghost use Rattle.definitions.specs.Claims.{InManner, MendHeadline, ReloadHeadline, ReopenHeadline, RunsWithin, StopHeadline, UpgradeHeadline, WorkersHeadline};
+ghost use Rattle.definitions.specs.Claims.{InManner, MendHeadline, ReloadHeadline, ReopenFloor, ReopenHeadline, RunsWithin, StopHeadline, UpgradeHeadline, WorkersHeadline};
+ghost use Rattle.definitions.specs.Settling.{PlansGoBack, ReturnsAlways, SettlesAlways};
 ghost use Rattle.theorems.specs.Examples.{HasStart};
 ghost use Rattle.theorems.specs.WorkedRuns.{WorkedRuns};
 ghost use Rattle.theorems.specs.WrongTables.{WrongTables};
@@ -31,6 +32,7 @@ pub fn mends_end_as_reported()
 /// Whatever fails and whoever exits, a reopening of the logs ends as it reports.
 pub fn reopenings_end_as_reported()
     ensures headline { ReopenHeadline }
+    ensures floor { ReopenFloor }
     ensures manner { InManner Reopen }
 {}
 
@@ -45,6 +47,14 @@ pub fn stops_end_as_reported()
 pub fn upgrades_end_as_reported()
     ensures headline { UpgradeHeadline }
     ensures manner { (s : Settings) → InManner (Upgrade s) }
+{}
+
+/// A settle ends full with all its numbers Ready, or short by just those that are missing, which
+/// failures and losses account for; and so does a way back, which ends with one.
+pub fn settles_end_as_counted()
+    ensures settle { SettlesAlways }
+    ensures back { ReturnsAlways }
+    ensures plans { PlansGoBack }
 {}
 
 /// A run makes no more calls than the longest path of its plan has steps.
