@@ -73,13 +73,13 @@ IsAnswer _ = ⊤
 abbrev pub IsAnswerTo : Call → Answer → Type 0
 IsAnswerTo call a = IsAnswer a × (is_listed call a ≡ true)
 
--- Calls are counted from 1, and so is what a service lacks.
+-- Calls are counted from 1, and so is what a service lacks. A report's text may name any number as its cause.
 abbrev pub IsCount : ℕ → Type 0
 IsCount n = (1 ≤ n) × (n < 2 ^ 32)
 
 abbrev pub IsCause : Option ℕ → Type 0
 IsCause None = ⊤
-IsCause (Some n) = IsCount n
+IsCause (Some n) = IsNumber n
 
 abbrev pub IsOutcome : Outcome → Type 0
 IsOutcome outcome.Done = ⊤
