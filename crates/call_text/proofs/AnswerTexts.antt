@@ -10,11 +10,12 @@ use Rattle.definitions.specs.declared.calls.Reply.{Reply}
 use Rattle.definitions.specs.declared.calls.Reply.TheVariants.{MasterGone}
 use Rattle.definitions.specs.declared.calls.Reply.TheVariants as reply
 use Rattle.definitions.specs.Tree.{replies_to, reply_of, same_reply, among, is_listed}
+use Rattle.definitions.specs.Handover.{number_within}
 use Rattle.call_text.specs.NumberText.{set_text}
 use Rattle.call_text.specs.CallText.{answer_word, answer_text}
 use Rattle.call_text.specs.Reads.{Reads}
 use Rattle.call_text.specs.Ranges.{IsAnswer, IsAnswerTo}
-use Rattle.call_text.specs.Reading.{some_if, cut, number_within}
+use Rattle.call_text.specs.Reading.{some_if, cut}
 use Rattle.call_text.specs.SetReading.{set_of}
 use Rattle.call_text.specs.AnswerReading.{listed, is_answer, plain_answers, plain_of, answer_about, answer_from, answer_of, answer_to}
 use Rattle.call_text.proofs.CutTexts.{lacks, cut_found, cut_at, cut_none}

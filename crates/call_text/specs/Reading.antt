@@ -36,9 +36,6 @@ behind word text = do
 abbrev pub number_below : ℕ → List ℕ → Option ℕ
 number_below limit text = number_of text >>= (λ n. some_if (nat_lt n limit) n)
 
-abbrev pub number_within : ℕ → ℕ → List ℕ → Option ℕ
-number_within least most text = number_of text >>= (λ n. some_if (nat_le least n && nat_le n most) n)
-
 abbrev pub worker_number : List ℕ → Option ℕ
 worker_number text = number_below 1024 text
 
