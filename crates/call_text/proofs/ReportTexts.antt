@@ -1,5 +1,5 @@
 -- Reports are read as they are written.
-use Rattle.std.proofs.Common.{◌≡◌, ℕ, ◌<◌, ◌≤◌, Bool, true, false, cond, List, [], ◌∷◌, ◌++◌, Option, Some, None, refl, sym, ap, subst, ◌∙◌, arith}
+use Rattle.std.proofs.Common.{◌≡◌, ℕ, Bool, true, false, cond, List, ◌∷◌, ◌++◌, Option, Some, None, refl, sym, ap, subst, ◌∙◌}
 use Rattle.std.specs.Prelude.{⊤, codes, bytes_eq, option_map, option_and_then}
 use Rattle.std.specs.Fmt.{decimal}
 use Rattle.definitions.specs.declared.plans.PidNote.{PidNote}
