@@ -1,5 +1,5 @@
 -- Answers are read as they are written.
-use Rattle.std.proofs.Common.{◌≡◌, ℕ, ◌≤◌, ◌^◌, ◌<◌, Bool, true, false, cond, ◌||◌, List, [], ◌∷◌, ◌++◌, Option, Some, None, refl, sym, ap, subst, ◌∙◌, arith}
+use Rattle.std.proofs.Common.{◌≡◌, ℕ, Bool, true, false, cond, ◌||◌, List, [], ◌∷◌, ◌++◌, Option, Some, None, refl, sym, ap, subst, ◌∙◌, arith}
 use Rattle.std.specs.Prelude.{codes, bytes_eq, option_map, option_and_then, find}
 use Rattle.std.specs.Fmt.{decimal}
 use Rattle.std.proofs.lemmas.List.Folds.{list_any-append}
@@ -9,12 +9,13 @@ use Rattle.definitions.specs.declared.calls.Answer.TheVariants as answer
 use Rattle.definitions.specs.declared.calls.Reply.{Reply}
 use Rattle.definitions.specs.declared.calls.Reply.TheVariants.{MasterGone}
 use Rattle.definitions.specs.declared.calls.Reply.TheVariants as reply
-use Rattle.definitions.specs.Tree.{replies_to, reply_of, same_reply, among, is_listed}
+use Rattle.definitions.specs.Tree.{replies_to, same_reply, among, is_listed}
+use Rattle.definitions.specs.Handover.{number_within}
 use Rattle.call_text.specs.NumberText.{set_text}
-use Rattle.call_text.specs.CallText.{answer_word, answer_text}
+use Rattle.call_text.specs.CallText.{answer_text}
 use Rattle.call_text.specs.Reads.{Reads}
 use Rattle.call_text.specs.Ranges.{IsAnswer, IsAnswerTo}
-use Rattle.call_text.specs.Reading.{some_if, cut, number_within}
+use Rattle.call_text.specs.Reading.{some_if, cut}
 use Rattle.call_text.specs.SetReading.{set_of}
 use Rattle.call_text.specs.AnswerReading.{listed, is_answer, plain_answers, plain_of, answer_about, answer_from, answer_of, answer_to}
 use Rattle.call_text.proofs.CutTexts.{lacks, cut_found, cut_at, cut_none}

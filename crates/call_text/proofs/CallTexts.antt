@@ -1,5 +1,5 @@
 -- Calls are read as they are written.
-use Rattle.std.proofs.Common.{◌≡◌, ℕ, ◌==◌, ◌^◌, eqb, Bool, true, false, cond, List, [], ◌∷◌, ◌++◌, Option, Some, None, refl, sym, ap, subst, ◌∙◌, arith}
+use Rattle.std.proofs.Common.{◌≡◌, ℕ, ◌==◌, eqb, Bool, true, false, cond, List, [], ◌∷◌, ◌++◌, Option, Some, None, refl, sym, ap, subst, ◌∙◌, arith}
 use Rattle.std.specs.Prelude.{codes, bytes_eq, option_map, option_and_then}
 use Rattle.std.specs.Fmt.{decimal}
 use Rattle.std.proofs.lemmas.Bool.Decides.{nat_tests}
@@ -10,7 +10,7 @@ use Rattle.definitions.specs.declared.calls.Call.TheVariants as call
 use Rattle.call_text.specs.declared.verbs.Verb.{Verb}
 use Rattle.call_text.specs.declared.verbs.Verb.TheVariants as verb
 use Rattle.call_text.specs.Reads.{Reads}
-use Rattle.call_text.specs.Reading.{cut, joined, generation_of, worker_of, address_of, path_of, paths_of}
+use Rattle.call_text.specs.Reading.{cut, worker_of}
 use Rattle.call_text.specs.NumberText.{generation_text}
 use Rattle.call_text.specs.CallText.{master_text, call_text, call_line, worker_text}
 use Rattle.call_text.specs.Ranges.{IsNumber, IsCall, IsCallLine, IsWorker}

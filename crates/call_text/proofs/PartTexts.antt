@@ -1,6 +1,6 @@
 -- Generations, workers, addresses and paths are read as they are written.
-use Rattle.std.proofs.Common.{◌≡◌, ℕ, ◌+◌, ◌-◌, ◌≤◌, ◌<◌, ◌^◌, leb, Bool, true, false, cond, ◌&&◌, List, [], ◌∷◌, ◌++◌, length, take, drop, Option, Some, None, Result, Ok, Err, refl, sym, ap, ◌∙◌, arith, inl, inr}
-use Rattle.std.specs.Prelude.{codes, bytes_eq}
+use Rattle.std.proofs.Common.{◌≡◌, ℕ, ◌+◌, ◌-◌, leb, Bool, true, false, cond, ◌&&◌, List, ◌∷◌, ◌++◌, length, take, drop, Option, Some, None, Result, Ok, Err, refl, sym, ap, ◌∙◌, arith, inl, inr}
+use Rattle.std.specs.Prelude.{codes, bytes_eq, is_ok}
 use Rattle.std.specs.Fmt.{decimal}
 use Rattle.std.specs.List.{list_all}
 use Rattle.std.specs.Char.{is_ascii_graphic, is_ascii_digit}
@@ -10,15 +10,16 @@ use Rattle.std.proofs.Math.Seq.{take-append_seam, drop-append_seam}
 use Rattle.listener_set.specs.declared.generation.Generation.{Generation}
 use Rattle.listener_set.specs.declared.address.AddressRefusal.{AddressRefusal}
 use Rattle.listener_set.specs.NumberText.{number_of}
-use Rattle.listener_set.specs.AddressText.{reading, check, accepted as taken}
+use Rattle.listener_set.specs.AddressText.{reading, check, accepted as taken, IsAddress}
 use Rattle.listener_set.specs.PathText.{is_path, begins_with_slash}
+use Rattle.listener_set.proofs.AddressGrammar.{grammar}
 use Rattle.listener_set.proofs.NumberTextLemmas.{both}
 use Rattle.call_text.specs.NumberText.{generation_text}
 use Rattle.call_text.specs.CallText.{worker_text}
-use Rattle.call_text.specs.Ranges.{IsNumber, IsWorkerNumber, IsGeneration, IsWorker, IsAddress, IsPath}
+use Rattle.call_text.specs.Ranges.{IsNumber, IsWorkerNumber, IsGeneration, IsWorker, IsPath}
 use Rattle.call_text.specs.Reading.{some_if, joined, worker_number, generation_from, generation_of, worker_of, accepted, address_of, is_suffixed, suffixed_of, path_of, paths_of}
 use Rattle.call_text.proofs.CutTexts.{lacks, lacks-append, lacks-all, lacks-decimal}
-use Rattle.call_text.proofs.Readers.{IsReader, joined_reads, mapped_reads, chosen, number_reads, worker_number_reads, same_bytes, bytes_same}
+use Rattle.call_text.proofs.Readers.{IsReader, joined_reads, mapped_reads, chosen, number_reads, worker_number_reads, same_bytes}
 
 -- ---- generations and workers
 pub number_lacks : (b n : ℕ) → is_ascii_digit b ≡ false → IsNumber n → lacks b (decimal n) ≡ true
@@ -43,18 +44,23 @@ worker_reads =
 pub address_reads : IsReader IsAddress (λ a. a) address_of
 address_reads = record {
   found = λ text a e. at text a (check text) refl e;
-  only = λ a h. ap accepted h;
+  only = λ a h. again a (check a) ((grammar a (reading a) refl).1 h);
 }
   where
     at : (text a : List ℕ) (r : Result (Unit {0}) AddressRefusal) → check text ≡ r → accepted (taken text (check text)) ≡ Some a → IsAddress a × (text ≡ a)
     at text a (Ok u) k e =
         let same : Some text ≡ Some a = sym (ap (λ r. accepted (taken text r)) k) ∙ e in
         let is : text ≡ a = cc in
-        (sym (ap reading is) ∙ ap (taken text) k ∙ ap (λ t. Ok t) is, is)
+        let read : reading a ≡ Ok a = sym (ap reading is) ∙ ap (taken text) k ∙ ap (λ t. Ok t) is in
+        ((grammar a (reading a) refl).0 (ap is_ok read), is)
     at text a (Err x) k e =
         let none : Option (List ℕ) = None in
         let no : none ≡ Some a = sym (ap (λ r. accepted (taken text r)) k) ∙ e in
         absurd cc
+
+    again : (a : List ℕ) (r : Result (Unit {0}) AddressRefusal) → is_ok (taken a r) ≡ true → accepted (taken a r) ≡ Some a
+    again a (Ok u) h = refl
+    again a (Err x) h = absurd cc
 
 -- ---- paths
 suffixed_found : (text path : List ℕ) → suffixed_of text ≡ Some path → IsPath path × (text ≡ path)

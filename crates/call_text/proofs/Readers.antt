@@ -1,13 +1,14 @@
 -- Readers that give back exactly what was written.
-use Rattle.std.proofs.Common.{◌≡◌, ℕ, ◌+◌, ◌≤◌, ◌<◌, ◌^◌, leb, ltb, subst, Bool, true, false, cond, ◌&&◌, List, [], ◌∷◌, ◌++◌, Option, Some, None, refl, sym, ap, ◌∙◌, arith, inl, inr}
-use Rattle.std.specs.Prelude.{⊤, IfSome, option_map, option_and_then, find, bytes_eq}
+use Rattle.std.proofs.Common.{◌≡◌, ℕ, ◌≤◌, ◌<◌, ◌^◌, leb, ltb, subst, Bool, true, false, cond, ◌&&◌, List, [], ◌∷◌, ◌++◌, Option, Some, None, refl, sym, ap, ◌∙◌, arith}
+use Rattle.std.specs.Prelude.{IfSome, option_map, option_and_then, find, bytes_eq}
 use Rattle.std.specs.Cmp.Lexicographic.{bytes_decides}
 use Rattle.std.specs.Fmt.{decimal}
 use Rattle.std.proofs.lemmas.Bool.Decides.{nat_tests}
 use Rattle.listener_set.specs.NumberText.{number_of}
 use Rattle.listener_set.proofs.NumberTextLemmas.{both, decimal-number_of, number_of-decimal}
+use Rattle.definitions.specs.Handover.{number_if_within, number_within}
 use Rattle.call_text.specs.Reads.{Reads}
-use Rattle.call_text.specs.Reading.{some_if, cut, joined, behind, number_within, worker_number, count_of}
+use Rattle.call_text.specs.Reading.{some_if, cut, joined, behind, worker_number, count_of}
 use Rattle.call_text.specs.Ranges.{IsNumber, IsWorkerNumber, IsCount}
 use Rattle.call_text.proofs.CutTexts.{lacks, cut_found, cut_at}
 
@@ -120,10 +121,14 @@ worker_number_reads' limit small = record {
 pub worker_number_reads : IsReader IsWorkerNumber decimal worker_number
 worker_number_reads = worker_number_reads' 1024 (omega arith)
 
+within_then : (least most : ℕ) (o : Option ℕ) → number_if_within least most o ≡ option_and_then (λ n. some_if (leb least n && leb n most) n) o
+within_then least most None = refl
+within_then least most (Some n) = refl
+
 pub within_reads : (least most : ℕ) → most < 2 ^ 32 → IsReader (λ n. (least ≤ n) × (n ≤ most)) decimal (number_within least most)
 within_reads least most small = record {
   found = λ text n e.
-      let from = then (λ n. some_if (leb least n && leb n most) n) (number_of text) n e in
+      let from = then (λ n. some_if (leb least n && leb n most) n) (number_of text) n (sym (within_then least most (number_of text)) ∙ e) in
       let is = chosen (leb least from.0 && leb from.0 most) from.0 n from.2 in
       let tests = both (leb least from.0) (leb from.0 most) is.0 in
       let low : leb least from.0 ≡ true = tests.0 in
@@ -135,7 +140,7 @@ within_reads least most small = record {
       let low : leb least n ≡ true = (let ge : least ≤ n = h.0 in grind (arith, nat_tests)) in
       let high : leb n most ≡ true = (let le : n ≤ most = h.1 in grind (arith, nat_tests)) in
       let le : n ≤ most = h.1 in
-      ap (option_and_then (λ n. some_if (leb least n && leb n most) n)) (number_reads.only n (omega arith)) ∙ rw (low, high) refl;
+      ap (number_if_within least most) (number_reads.only n (omega arith)) ∙ rw (low, high) refl;
 }
 
 pub count_reads : IsReader IsCount decimal count_of

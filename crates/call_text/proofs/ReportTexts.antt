@@ -1,5 +1,5 @@
 -- Reports are read as they are written.
-use Rattle.std.proofs.Common.{◌≡◌, ℕ, ◌<◌, ◌≤◌, Bool, true, false, cond, List, [], ◌∷◌, ◌++◌, Option, Some, None, refl, sym, ap, subst, ◌∙◌, arith}
+use Rattle.std.proofs.Common.{◌≡◌, ℕ, Bool, true, false, cond, List, ◌∷◌, ◌++◌, Option, Some, None, refl, sym, ap, subst, ◌∙◌}
 use Rattle.std.specs.Prelude.{⊤, codes, bytes_eq, option_map, option_and_then}
 use Rattle.std.specs.Fmt.{decimal}
 use Rattle.definitions.specs.declared.plans.PidNote.{PidNote}
@@ -9,6 +9,7 @@ use Rattle.definitions.specs.declared.plans.Side.TheVariants as side
 use Rattle.definitions.specs.declared.reports.Report.{Report}
 use Rattle.definitions.specs.declared.reports.Outcome.{Outcome}
 use Rattle.definitions.specs.declared.reports.Outcome.TheVariants as outcome
+use Rattle.listener_set.specs.NumberText.{number_of}
 use Rattle.call_text.specs.Words.{note_text, side_text}
 use Rattle.call_text.specs.ReportText.{outcome_text, cause_text, ending_text, report_text}
 use Rattle.call_text.specs.Reads.{Reads}
@@ -16,7 +17,7 @@ use Rattle.call_text.specs.Ranges.{IsCount, IsCause, IsOutcome, IsReport}
 use Rattle.call_text.specs.Reading.{cut, joined, behind, count_of}
 use Rattle.call_text.specs.ReportReading.{all_notes, note_of, both_sides, side_of, plain_outcome, cause_of, noted_of, Ending, ending_of, degraded_from, degraded_of, plain_report, parts_of, report_from, report_of}
 use Rattle.call_text.proofs.CutTexts.{lacks, cut_found, cut_at}
-use Rattle.call_text.proofs.Readers.{IsReader, reads, mapped, then, joined_reads, mapped_reads, behind_found, behind_at, find_found, count_reads, same_bytes}
+use Rattle.call_text.proofs.Readers.{IsReader, reads, mapped, then, joined_reads, mapped_reads, behind_found, behind_at, find_found, number_reads, count_reads, same_bytes}
 use Rattle.call_text.proofs.PartTexts.{number_lacks}
 
 -- ---- notes and sides
@@ -58,7 +59,7 @@ noted_reads = behind_reads (codes "pid") (λ (n : PidNote). ⊤) note_text note_
 cause_found : (text : List ℕ) (c : Option ℕ) → cause_of text ≡ Some c → IsCause c × (text ≡ cause_text c)
 cause_found text c e = at (bytes_eq text (codes "none")) refl e
   where
-    at : (b : Bool) → bytes_eq text (codes "none") ≡ b → cond b (Some None) (option_map (λ n. Some n) (count_of text)) ≡ Some c → IsCause c × (text ≡ cause_text c)
+    at : (b : Bool) → bytes_eq text (codes "none") ≡ b → cond b (Some None) (option_map (λ n. Some n) (number_of text)) ≡ Some c → IsCause c × (text ≡ cause_text c)
     at true k e =
         let nothing : Option ℕ = None in
         let same : Some nothing ≡ Some c = e in
@@ -66,32 +67,32 @@ cause_found text c e = at (bytes_eq text (codes "none")) refl e
         let W : Option ℕ → Type 0 = λ c. IsCause c × (text ≡ cause_text c) in
         subst W is (tt, same_bytes text (codes "none") k)
     at false k e =
-        let n = mapped (λ (n : ℕ). Some n) (count_of text) c e in
-        let got = count_reads.found text n.0 n.1 in
+        let n = mapped (λ (n : ℕ). Some n) (number_of text) c e in
+        let got = number_reads.found text n.0 n.1 in
         let W : Option ℕ → Type 0 = λ c. IsCause c × (text ≡ cause_text c) in
-        subst W n.2 (got.0, got.1)
+        subst W n.2 got
 
 cause_only : (c : Option ℕ) → IsCause c → cause_of (cause_text c) ≡ Some c
 cause_only None h = refl
 cause_only (Some n) h = at (bytes_eq (decimal n) (codes "none")) refl
   where
-    again : option_map (λ (n : ℕ). Some n) (count_of (decimal n)) ≡ Some (Some n)
-    again = ap (option_map (λ (n : ℕ). Some n)) (count_reads.only n h)
+    again : option_map (λ (n : ℕ). Some n) (number_of (decimal n)) ≡ Some (Some n)
+    again = ap (option_map (λ (n : ℕ). Some n)) (number_reads.only n h)
 
     at : (b : Bool) → bytes_eq (decimal n) (codes "none") ≡ b → cause_of (decimal n) ≡ Some (Some n)
     at true k =
         let word : decimal n ≡ codes "none" = same_bytes (decimal n) (codes "none") k in
         let nothing : Option (Option ℕ) = None in
-        let no : nothing ≡ Some (Some n) = sym (ap (λ t. option_map (λ (n : ℕ). Some n) (count_of t)) word) ∙ again in
+        let no : nothing ≡ Some (Some n) = sym (ap (λ t. option_map (λ (n : ℕ). Some n) (number_of t)) word) ∙ again in
         absurd cc
-    at false k = ap (λ b. cond b (Some None) (option_map (λ (n : ℕ). Some n) (count_of (decimal n)))) k ∙ again
+    at false k = ap (λ b. cond b (Some None) (option_map (λ (n : ℕ). Some n) (number_of (decimal n)))) k ∙ again
 
 cause_reads : IsReader IsCause cause_text cause_of
 cause_reads = record { found = cause_found; only = cause_only }
 
 cause_lacks : (c : Option ℕ) → IsCause c → lacks 32 (cause_text c) ≡ true
 cause_lacks None h = refl
-cause_lacks (Some n) h = number_lacks 32 n refl h.1
+cause_lacks (Some n) h = number_lacks 32 n refl h
 
 abbrev IsEnding : Ending → Type 0
 IsEnding p = IsCause p.0 × ⊤

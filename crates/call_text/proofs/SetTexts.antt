@@ -1,11 +1,9 @@
 -- Sets of numbers are read as they are written.
-use Rattle.std.proofs.Common.{◌≡◌, ℕ, zero, suc, ◌+◌, ◌-◌, ◌≤◌, ◌<◌, ◌^◌, ◌==◌, eqb, leb, ltb, Bool, true, false, cond, not, List, [], ◌∷◌, ◌++◌, length, Option, Some, None, refl, sym, ap, subst, ◌∙◌, arith, append_assoc, append-nil}
+use Rattle.std.proofs.Common.{◌≡◌, ℕ, ◌+◌, ◌-◌, ◌≤◌, ◌<◌, ◌==◌, eqb, leb, ltb, Bool, true, false, cond, List, [], ◌∷◌, ◌++◌, length, Option, Some, None, refl, sym, ap, subst, ◌∙◌, arith, append_assoc, append-nil}
 use Rattle.std.specs.Prelude.{codes, bytes_eq, option_map, option_and_then}
 use Rattle.std.specs.Fmt.{decimal}
 use Rattle.std.specs.List.{slice_split, onto_first, join_with_byte}
-use Rattle.std.specs.Char.{is_ascii_digit}
 use Rattle.std.proofs.lemmas.Bool.Decides.{nat_tests}
-use Rattle.std.proofs.lemmas.List.{length-append}
 use Rattle.std.proofs.lemmas.List.Splits.{join_with_byte-slice_split, length-slice_split}
 use Rattle.listener_set.specs.Numbers.{AreBelow, AreNumbers}
 use Rattle.listener_set.specs.NumberWordsLemmas.{AreBelow-append}
@@ -13,7 +11,7 @@ use Rattle.call_text.specs.NumberText.{run_text, runs_text, set_text}
 use Rattle.call_text.specs.Reads.{Reads}
 use Rattle.call_text.specs.Reading.{some_if, cut, worker_number}
 use Rattle.call_text.specs.declared.sets.SetReader.{SetReader}
-use Rattle.call_text.specs.SetReading.{is_comma, with_run, several_of, run_from, run_of, begun, numbers_in, with_numbers, with_part, with_parts, set_of}
+use Rattle.call_text.specs.SetReading.{is_comma, several_of, run_from, run_of, begun, numbers_in, with_numbers, with_part, with_parts, set_of}
 use Rattle.call_text.proofs.CutTexts.{with_first, cut-cons, cut_found, cut_at, cut_none, lacks, lacks-append}
 use Rattle.call_text.proofs.Readers.{IsReader, reads, mapped, then, chosen, same_bytes, worker_number_reads}
 use Rattle.call_text.proofs.PartTexts.{number_lacks}

@@ -5,8 +5,9 @@ use Rattle.definitions.specs.declared.calls.Answer.{Answer}
 use Rattle.definitions.specs.declared.calls.Answer.TheVariants as answer
 use Rattle.definitions.specs.declared.calls.Reply.TheVariants.{MasterGone}
 use Rattle.definitions.specs.Tree.{replies_to, reply_of, among}
+use Rattle.definitions.specs.Handover.{number_within}
 use Rattle.call_text.specs.CallText.{answer_word}
-use Rattle.call_text.specs.Reading.{◌>>=◌, some_if, cut, number_within}
+use Rattle.call_text.specs.Reading.{◌>>=◌, some_if, cut}
 use Rattle.call_text.specs.SetReading.{set_of}
 
 -- whether an answer is among a call's

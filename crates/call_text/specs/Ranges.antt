@@ -1,7 +1,7 @@
 -- The values that have a text which is read.
-use Rattle.std.specs.Prelude.{⊤, ℕ, ◌≡◌, ◌≤◌, ◌<◌, ◌^◌, true, ◌⊎◌, List, ◌++◌, Option, Some, None, Ok, codes}
+use Rattle.std.specs.Prelude.{⊤, ℕ, ◌≡◌, ◌≤◌, ◌<◌, ◌^◌, true, ◌⊎◌, List, ◌++◌, Option, Some, None, codes}
 use Rattle.listener_set.specs.declared.generation.Generation.{Generation}
-use Rattle.listener_set.specs.AddressText.{reading}
+use Rattle.listener_set.specs.AddressText.{IsAddress}
 use Rattle.listener_set.specs.PathText.{is_path}
 use Rattle.listener_set.specs.Numbers.{AreNumbers}
 use Rattle.definitions.specs.declared.names.Name.{Name}
@@ -32,9 +32,6 @@ abbrev pub IsName : Name → Type 0
 IsName (name.Worker g nr) = IsWorker g nr
 IsName (name.Draining g nr) = IsWorker g nr
 IsName (name.Master i) = IsNumber i
-
-abbrev pub IsAddress : List ℕ → Type 0
-IsAddress a = reading a ≡ Ok a
 
 -- a path that a configuration can name, or such a one with a suffix
 abbrev pub IsPath : List ℕ → Type 0
@@ -73,13 +70,13 @@ IsAnswer _ = ⊤
 abbrev pub IsAnswerTo : Call → Answer → Type 0
 IsAnswerTo call a = IsAnswer a × (is_listed call a ≡ true)
 
--- Calls are counted from 1, and so is what a service lacks.
+-- Calls are counted from 1, and so is what a service lacks. A report's text may name any number as its cause.
 abbrev pub IsCount : ℕ → Type 0
 IsCount n = (1 ≤ n) × (n < 2 ^ 32)
 
 abbrev pub IsCause : Option ℕ → Type 0
 IsCause None = ⊤
-IsCause (Some n) = IsCount n
+IsCause (Some n) = IsNumber n
 
 abbrev pub IsOutcome : Outcome → Type 0
 IsOutcome outcome.Done = ⊤

@@ -1,5 +1,5 @@
 -- What reading a text gives, part by part.
-use Rattle.std.specs.Prelude.{ℕ, ◌+◌, ◌-◌, ◌==◌, nat_lt, nat_le, Bool, true, ◌&&◌, List, [], ◌∷◌, ◌++◌, length, take, drop, Option, Some, None, option_map, option_and_then, Result, Ok, Err, position, find, bytes_eq, codes, if◌then◌else◌}
+use Rattle.std.specs.Prelude.{ℕ, ◌+◌, ◌-◌, ◌==◌, nat_lt, nat_le, Bool, ◌&&◌, List, length, take, drop, Option, Some, None, option_map, option_and_then, Result, Ok, Err, position, bytes_eq, codes, if◌then◌else◌}
 use Rattle.listener_set.specs.NumberText.{number_of}
 use Rattle.listener_set.specs.AddressText.{reading}
 use Rattle.listener_set.specs.PathText.{is_path}
@@ -35,9 +35,6 @@ behind word text = do
 
 abbrev pub number_below : ℕ → List ℕ → Option ℕ
 number_below limit text = number_of text >>= (λ n. some_if (nat_lt n limit) n)
-
-abbrev pub number_within : ℕ → ℕ → List ℕ → Option ℕ
-number_within least most text = number_of text >>= (λ n. some_if (nat_le least n && nat_le n most) n)
 
 abbrev pub worker_number : List ℕ → Option ℕ
 worker_number text = number_below 1024 text

@@ -1,5 +1,6 @@
 -- What reading a report gives, part by part.
 use Rattle.std.specs.Prelude.{ℕ, Bool, List, [], ◌∷◌, Option, Some, None, option_map, find, bytes_eq, codes, if◌then◌else◌}
+use Rattle.listener_set.specs.NumberText.{number_of}
 use Rattle.definitions.specs.declared.plans.PidNote.{PidNote}
 use Rattle.definitions.specs.declared.plans.PidNote.TheVariants.{InPlace, AtOldbin, OldbinLeft, Left, NoFile}
 use Rattle.definitions.specs.declared.plans.Side.{Side}
@@ -37,7 +38,7 @@ plain_outcome word =
     else None
 
 abbrev pub cause_of : List ℕ → Option (Option ℕ)
-cause_of text = if bytes_eq text (codes "none") then Some None else option_map (λ n. Some n) (count_of text)
+cause_of text = if bytes_eq text (codes "none") then Some None else option_map (λ n. Some n) (number_of text)
 
 abbrev pub noted_of : List ℕ → Option PidNote
 noted_of text = behind (codes "pid") text >>= note_of

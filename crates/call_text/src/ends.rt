@@ -10,7 +10,7 @@ use crate::cuts::{behind, cut};
 use crate::parts::read_count;
 use crate::words::{note_text, side_text};
 use definitions::{Outcome, PidNote, Report, Side};
-use listener_set::Numbers;
+use listener_set::{Numbers, read_number};
 
 /// All notes.
 const NOTES: [PidNote; 5] = [
@@ -64,14 +64,14 @@ fn read_plain(word: &[u8]) -> Option<Outcome>
     None
 }
 
-/// The number of a call, from 1, or `none`.
+/// A number, or `none`.
 fn read_cause(text: &[u8]) -> Option<Option<u32>>
     ensures { result ≡ cause_of text.now }
 {
     if text == b"none".as_slice() {
         return Some(None);
     }
-    let number = read_count(text)?;
+    let number = read_number(text)?;
     Some(Some(number))
 }
 
@@ -137,8 +137,9 @@ fn read_whole(text: &[u8], ready: &Numbers) -> Option<Report>
 }
 
 /// Reads a report as `write_report` writes it, without a newline, and no other text. The text does
-/// not say which numbers were ready, so they are handed in. A shortfall and a cause are from 1 to
-/// 4,294,967,295. Any bytes may come.
+/// not say which numbers were ready, so they are handed in. A shortfall is from 1 to 4,294,967,295,
+/// a cause from 0 to that: no run blames a call 0, so who compares the report with its run finds it
+/// wrong. Any bytes may come.
 pub fn read_report(text: &[u8], ready: &Numbers) -> Option<Report>
     ensures exact { result ≡ report_of ready.now text.now }
     ensures reads { Reads (IsReport ready.now) report_text text.now result }

@@ -1,6 +1,7 @@
 //! Numbers, generations, workers, addresses and paths, read.
 ghost use Rattle.std.specs.Prelude.{◌≡◌, ◌≤◌, ◌<◌, IfSome};
-ghost use Rattle.call_text.specs.Reading.{count_of, generation_of, worker_of, worker_number, number_within, address_of, suffixed_of, path_of, paths_of};
+ghost use Rattle.definitions.specs.Handover.{number_within};
+ghost use Rattle.call_text.specs.Reading.{count_of, generation_of, worker_of, worker_number, address_of, suffixed_of, path_of, paths_of};
 
 use crate::cuts::cut;
 use listener_set::{Address, FilePath, Generation, WORKER_LIMIT, read_number};

@@ -227,6 +227,12 @@ fn reports_are_read_as_they_are_written(rt: HostRuntime) -> Result<(), Fail> {
             PidNote::Left,
             "lost cause 1 pid left",
         ),
+        (
+            Outcome::Done,
+            Some(0),
+            PidNote::InPlace,
+            "done cause 0 pid in-place",
+        ),
     ];
     for (outcome, cause, note, text) in reports {
         let report = Report {
@@ -241,7 +247,6 @@ fn reports_are_read_as_they_are_written(rt: HostRuntime) -> Result<(), Fail> {
         assert!(rt; read_report(text.as_bytes(), &ready) == Some(report));
     }
     assert!(rt; read_report(b"degraded old 0 cause 1 pid left", &ready).is_none());
-    assert!(rt; read_report(b"done cause 0 pid left", &ready).is_none());
     assert!(rt; read_report(b"done cause none", &ready).is_none());
     Ok(())
 }

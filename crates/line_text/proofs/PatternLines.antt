@@ -1,14 +1,14 @@
 -- Lines of patterns are read as they are written.
-use Rattle.std.proofs.Common.{◌≡◌, ℕ, Bool, true, false, cond, List, [], ◌∷◌, ◌++◌, Option, Some, None, refl, sym, ap, subst, ◌∙◌}
+use Rattle.std.proofs.Common.{◌≡◌, ℕ, Bool, true, false, cond, List, ◌∷◌, ◌++◌, Option, Some, None, refl, sym, ap, subst, ◌∙◌}
 use Rattle.std.specs.Prelude.{codes, bytes_eq, option_map, option_and_then}
 use Rattle.std.specs.Fmt.{decimal}
 use Rattle.definitions.specs.declared.names.Name.{Name}
 use Rattle.definitions.specs.declared.calls.Fate.{Fate}
 use Rattle.call_text.specs.Words.{fate_text}
 use Rattle.call_text.specs.NameText.{name_text}
-use Rattle.call_text.specs.Ranges.{IsName, IsCount}
+use Rattle.call_text.specs.Ranges.{IsCount}
 use Rattle.call_text.specs.Reads.{Reads}
-use Rattle.call_text.specs.Reading.{cut, count_of}
+use Rattle.call_text.specs.Reading.{cut}
 use Rattle.call_text.specs.NameReading.{name_of, fate_of}
 use Rattle.call_text.proofs.CutTexts.{lacks, cut_found, cut_at}
 use Rattle.call_text.proofs.Readers.{IsReader, reads, mapped, then, count_reads, same_bytes}
@@ -17,7 +17,7 @@ use Rattle.call_text.proofs.NameTexts.{name_reads, fate_reads}
 use Rattle.line_text.specs.declared.pattern_line.PatternLine.{PatternLine}
 use Rattle.line_text.specs.declared.pattern_line.PatternLine.TheVariants.{Exit, Fail, Next}
 use Rattle.line_text.specs.PatternText.{line_text, IsLine}
-use Rattle.line_text.specs.PatternReading.{moment_of, event_of, numbered_of, any_of}
+use Rattle.line_text.specs.PatternReading.{moment_of, event_of, numbered_of, line_of}
 
 event_found : (n : ℕ) (verb what : List ℕ) (v : PatternLine) → IsCount n → event_of n verb what ≡ Some v → IsLine v × (decimal n ++ 32 ∷ (verb ++ 32 ∷ what) ≡ line_text v)
 event_found n verb what v h e = at (bytes_eq verb (codes "exit")) refl (bytes_eq verb (codes "fail")) refl e
@@ -55,17 +55,17 @@ numbered_only n verb what o h apart e =
     ∙ e
 
 -- a line that begins with a number is not `next`
-not_next : (text : List ℕ) (v : PatternLine) → numbered_of text ≡ Some v → any_of text ≡ Some v
+not_next : (text : List ℕ) (v : PatternLine) → numbered_of text ≡ Some v → line_of text ≡ Some v
 not_next text v e = at (bytes_eq text (codes "next")) refl
   where
-    at : (b : Bool) → bytes_eq text (codes "next") ≡ b → any_of text ≡ Some v
+    at : (b : Bool) → bytes_eq text (codes "next") ≡ b → line_of text ≡ Some v
     at true k =
         let none : Option PatternLine = None in
         let no : none ≡ Some v = sym (ap numbered_of (same_bytes text (codes "next") k)) ∙ e in
         absurd cc
     at false k = ap (λ b. cond b (Some Next) (numbered_of text)) k ∙ e
 
-any_found : (text : List ℕ) (v : PatternLine) → any_of text ≡ Some v → IsLine v × (text ≡ line_text v)
+any_found : (text : List ℕ) (v : PatternLine) → line_of text ≡ Some v → IsLine v × (text ≡ line_text v)
 any_found text v e = at (bytes_eq text (codes "next")) refl e
   where
     at : (b : Bool) → bytes_eq text (codes "next") ≡ b → cond b (Some Next) (numbered_of text) ≡ Some v → IsLine v × (text ≡ line_text v)
@@ -76,15 +76,15 @@ any_found text v e = at (bytes_eq text (codes "next")) refl e
         subst W is (tt, same_bytes text (codes "next") k)
     at false k e = numbered_found text v e
 
-any_only : (v : PatternLine) → IsLine v → any_of (line_text v) ≡ Some v
+any_only : (v : PatternLine) → IsLine v → line_of (line_text v) ≡ Some v
 any_only (Exit n x) h =
     not_next (decimal n ++ 32 ∷ (codes "exit " ++ name_text x)) (Exit n x) (numbered_only n (codes "exit") (name_text x) (Some (Exit n x)) h.0 refl (ap (option_map (λ x. Exit n x)) (name_reads.only x h.1)))
 any_only (Fail n f) h =
     not_next (decimal n ++ 32 ∷ (codes "fail " ++ fate_text f)) (Fail n f) (numbered_only n (codes "fail") (fate_text f) (Some (Fail n f)) h refl (ap (option_map (λ f. Fail n f)) (fate_reads.only f tt)))
 any_only Next h = refl
 
-pub line_reads : IsReader IsLine line_text any_of
+pub line_reads : IsReader IsLine line_text line_of
 line_reads = record { found = any_found; only = any_only }
 
-pub Reads-line : (text : List ℕ) → Reads IsLine line_text text (any_of text)
-Reads-line text = reads IsLine line_text any_of line_reads text
+pub Reads-line : (text : List ℕ) → Reads IsLine line_text text (line_of text)
+Reads-line text = reads IsLine line_text line_of line_reads text

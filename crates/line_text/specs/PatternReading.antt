@@ -21,5 +21,6 @@ numbered_of line = do
   rest ← cut 32 parts.1
   event_of n rest.0 rest.1
 
-abbrev pub any_of : List ℕ → Option PatternLine
-any_of line = if bytes_eq line (codes "next") then Some Next else numbered_of line
+-- `next`, `N exit NAME` or `N fail FATE`
+abbrev pub line_of : List ℕ → Option PatternLine
+line_of line = if bytes_eq line (codes "next") then Some Next else numbered_of line

@@ -1,7 +1,7 @@
 //! Lines of a patterns text.
 ghost use Rattle.std.specs.Prelude.{◌≡◌, ◌++◌, ◌∷◌, [], IfOk};
 ghost use Rattle.call_text.specs.Reads.{Reads};
-ghost use Rattle.line_text.specs.PatternReading.{moment_of, event_of, numbered_of, any_of};
+ghost use Rattle.line_text.specs.PatternReading.{moment_of, event_of, numbered_of, line_of};
 
 use call_text::{cut, fate_text, read_fate, read_name, write_name, write_number};
 use definitions::{Fate, Name};
@@ -25,7 +25,7 @@ impl PatternLine {
     /// Reads a line without its newline, with single spaces, and no other text. N is from 1 to
     /// 4,294,967,295. Any bytes may come.
     pub fn read(line: &[u8]) -> Option<Self>
-        ensures exact { result ≡ any_of line.now }
+        ensures exact { result ≡ line_of line.now }
         ensures reads { Reads IsLine line_text line.now result }
     {
         read_any(line)
@@ -84,7 +84,7 @@ fn read_numbered(line: &[u8]) -> Option<PatternLine>
 }
 
 fn read_any(line: &[u8]) -> Option<PatternLine>
-    ensures { result ≡ any_of line.now }
+    ensures { result ≡ line_of line.now }
 {
     if line == b"next".as_slice() {
         return Some(PatternLine::Next);

@@ -3,7 +3,7 @@ use Rattle.std.proofs.Common.{◌≡◌, ℕ, suc, ◌+◌, ◌<◌, ◌==◌, n
 use Rattle.std.specs.Prelude.{option_map}
 use Rattle.std.specs.List.{prefix_len}
 use Rattle.std.proofs.lemmas.Bool.{cases_Bool, cases_lt, lt-ltb, le-ltb}
-use Rattle.transcript.specs.PatternText.{cut}
+use Rattle.call_text.specs.Reading.{cut}
 use Rattle.transcript.specs.PatternsText.{lines_of}
 
 abbrev with_first : ℕ → Option (List ℕ × List ℕ) → Option (List ℕ × List ℕ)

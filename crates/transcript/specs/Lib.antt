@@ -1,4 +1,3 @@
-pub mod PatternText
 pub mod PatternsText
 pub mod Reader
 pub mod Block

@@ -4,11 +4,11 @@ use Rattle.definitions.specs.declared.names.Name.{Name}
 use Rattle.definitions.specs.declared.calls.Fate.{Fate}
 use Rattle.definitions.specs.Run.{quiet, Pattern}
 use Rattle.kernel_model.specs.Pattern.{with_exit, with_fate}
-use Rattle.transcript.specs.declared.pattern_line.PatternLine.{PatternLine}
-use Rattle.transcript.specs.declared.pattern_line.PatternLine.TheVariants.{Exit, Fail, Next}
+use Rattle.line_text.specs.declared.pattern_line.PatternLine.{PatternLine}
+use Rattle.line_text.specs.declared.pattern_line.PatternLine.TheVariants.{Exit, Fail, Next}
+use Rattle.line_text.specs.PatternReading.{line_of}
 use Rattle.transcript.specs.declared.refusal.TextRefusal.{TextRefusal}
 use Rattle.transcript.specs.declared.refusal.TextRefusal.TheVariants.{Line, Order}
-use Rattle.transcript.specs.PatternText.{line_of}
 
 ---- Lines
 

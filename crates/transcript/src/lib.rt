@@ -2,7 +2,6 @@
 #![tactic(auto)]
 
 mod block;
-mod pattern_line;
 mod patterns;
 mod refusal;
 

@@ -1,13 +1,14 @@
 //! Patterns as texts.
 ghost use Rattle.std.specs.Prelude.{◌≡◌, ◌≢◌, ◌<◌, ◌≤◌, ◌++◌, ◌∷◌, [], map, length, Some, None, Ok, Err, OnOk, IfOk, IfErr};
 ghost use Rattle.kernel_model.specs.Pattern.{moment_at, IsNameWithin};
-ghost use Rattle.transcript.specs.PatternText.{IsLineWithin};
+ghost use Rattle.line_text.specs.PatternText.{IsLine};
 ghost use Rattle.transcript.specs.PatternsText.{lines_of, may_follow, begun, with_exit_in, with_fate_in, placed, patterns_of};
 
 use crate::TextRefusal;
-use crate::pattern_line::{PatternLine, cut};
+use call_text::cut;
 use definitions::{Fate, Name};
 use kernel_model::Pattern;
+use line_text::PatternLine;
 use std::alloc::{AllocError, Global};
 use std::mem;
 
@@ -77,7 +78,7 @@ impl Reader {
 
     /// Takes a line in, if it may stand here.
     fn take(&mut self, alloc: Global, line: &PatternLine, place: usize) -> Result<(), TextRefusal>
-        requires { IsLineWithin line.now }
+        requires { IsLine line.now }
         ensures ok { OnOk result (placed line.now (seen self.old) ≡ Some (seen self.new)) }
         ensures err { IfErr result (λ e. e ≢ TextRefusal.Memory
             → (placed line.now (seen self.old) ≡ None) × (e ≡ TextRefusal.Order place)) }
