@@ -24,7 +24,7 @@ use Rattle.plan_executor.specs.Range.{HasRange}
 use Rattle.plan_executor.specs.Refusals.{NamesMaster}
 use Rattle.plan_executor.proofs.Reporting.{whole-run}
 use Rattle.plan_executor.proofs.Refused.{refused-is}
-use Rattle.definitions.specs.Claims.{IsStart, IsAccepted, HasDescriptors, refused_moment, Keeps, InManner, WorkersHeadline, MendHeadline, ReopenHeadline, ReloadHeadline, StopHeadline}
+use Rattle.definitions.specs.Claims.{IsStart, IsAccepted, HasDescriptors, refused_moment, Keeps, InManner, WorkersHeadline, MendHeadline, ReopenHeadline, ReopenFloor, ReloadHeadline, StopHeadline}
 use Rattle.definitions.specs.Manner.{Manner}
 use Rattle.definitions.specs.Settings.{Settings}
 
@@ -36,6 +36,7 @@ pub record Headlines : Type 0 where
   pub mends_manner : (overdue : List ℕ) → InManner (Mend overdue)
   pub reopenings : ReopenHeadline
   pub reopenings_manner : InManner Reopen
+  pub reopenings_floor : ReopenFloor
   pub reloads : ReloadHeadline
   pub reloads_manner : (s : Settings) → InManner (Reload s)
   pub stops : StopHeadline
@@ -62,7 +63,7 @@ keeps h t r (Mend overdue) pattern tree start ds within range is =
     (λ spared. let a : IsAccepted t r (Mend overdue) pattern = record { start = start; accepts = tt; spared = spared } in (h.mends t r overdue pattern a, tt, h.mends_manner overdue t r pattern a))
 keeps h t r Reopen pattern tree start ds within range is =
     subst (IsKept t r Reopen pattern) (same_Some (plan_tree r Reopen) tree is)
-    (λ spared. let a : IsAccepted t r Reopen pattern = record { start = start; accepts = tt; spared = spared } in (h.reopenings t r pattern a, tt, h.reopenings_manner t r pattern a))
+    (λ spared. let a : IsAccepted t r Reopen pattern = record { start = start; accepts = tt; spared = spared } in (h.reopenings t r pattern a, h.reopenings_floor t r pattern a, h.reopenings_manner t r pattern a))
 keeps h t r (Reload s) pattern tree start ds within range is =
     let found = reload-tree (next_config r.generation) (plan_tree r (Reload s)) tree is in
     subst (IsKept t r (Reload s) pattern) found.1

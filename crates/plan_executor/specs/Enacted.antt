@@ -15,14 +15,13 @@ use Rattle.kernel_model.specs.State.{State}
 use Rattle.plan_executor.specs.Lawful.{IsWholeRun}
 use Rattle.plan_executor.specs.declared.enactment.Enacted.{Enacted}
 
--- Where a target starts workers before it quits others, its run keeps the floor. A mend kills first, a reopening changes no worker,
--- and a stop leaves none.
+-- Where a target quits nobody, or only when others are ready, its run keeps the floor. A mend kills first, and a stop leaves none.
 abbrev pub HasFloor : Table → Record → Target → Ran → Type 0
 HasFloor t r (Workers n) ran = KeepsFloor t r (Workers n) ran
 HasFloor t r (Reload s) ran = KeepsFloor t r (Reload s) ran
 HasFloor t r (Upgrade s) ran = KeepsFloor t r (Upgrade s) ran
 HasFloor t r (Mend overdue) ran = ⊤
-HasFloor t r Reopen ran = ⊤
+HasFloor t r Reopen ran = KeepsFloor t r Reopen ran
 HasFloor t r (Stop quick) ran = ⊤
 
 -- The record agreed, and the target's plan was run, from the first table to the last, under the pattern: entries and report are

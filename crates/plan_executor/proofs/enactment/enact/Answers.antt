@@ -93,6 +93,7 @@ returns-clause-ok c =
       mends_manner = c.mends_end_as_reported.ensures.manner;
       reopenings = c.reopenings_end_as_reported.ensures.headline;
       reopenings_manner = c.reopenings_end_as_reported.ensures.manner;
+      reopenings_floor = c.reopenings_end_as_reported.ensures.floor;
       reloads = c.reloads_end_as_reported.ensures.headline;
       reloads_manner = c.reloads_end_as_reported.ensures.manner;
       stops = c.stops_end_as_reported.ensures.headline;
