@@ -31,8 +31,9 @@ _prefork() {
     esac
     local before=("${COMP_WORDS[@]:2:COMP_CWORD-2}")
 
-    # Each option is given once at most.
+    # Each option is given once at most, and none behind --.
     if [[ $cur == -* ]]; then
+        [[ " ${before[*]} " == *' -- '* ]] && return
         for word in $options; do
             [[ " ${before[*]} " == *" $word "* ]] && continue
             [[ $word == "$cur"* ]] && COMPREPLY+=("$word")
