@@ -1,6 +1,6 @@
 use super::*;
 use definitions::{Actor, Answer, Call, Fate, Limits, Name, Stance};
-use listener_set::{Address, FilePath, Generation, ListenerSet};
+use listener_set::{Address, FilePath, Generation, ListenerSet, Numbers};
 use std::alloc::Global;
 use std::test::Fail;
 
@@ -16,18 +16,36 @@ const NEXT: Generation = Generation {
 
 const BY: Actor = Actor(1);
 
-fn quiet() -> Moment<'static> {
-    Moment {
-        exits: &[],
-        fate: None,
-    }
-}
+const SECOND: Actor = Actor(2);
+
+const QUIET: Moment<'static> = Moment {
+    exits: &[],
+    fate: None,
+};
 
 fn failing(fate: Fate) -> Moment<'static> {
     Moment {
         exits: &[],
         fate: Some(fate),
     }
+}
+
+/// Makes a call that is handed no text, if there is room for it.
+fn ask(kernel: &mut Kernel, by: Actor, call: &Call, moment: &Moment<'_>) -> Option<Answer> {
+    if kernel.room() == 0 {
+        return None;
+    }
+    Some(kernel.call(by, call, &[], moment))
+}
+
+/// Whether the first master's calls are answered so, one after another.
+fn are_answered(kernel: &mut Kernel, calls: &[(Call, Moment<'_>, Answer)]) -> bool {
+    for (call, moment, answer) in calls {
+        if ask(kernel, BY, call, moment) != Some(*answer) {
+            return false;
+        }
+    }
+    true
 }
 
 /// A kernel with the listener 0.0.0.0:8080 and a pid file.
@@ -50,14 +68,6 @@ fn worker(number: u32, generation: Generation, nr: u32, stance: Stance) -> Optio
         nr,
         stance,
     })
-}
-
-/// How many workers a census counts.
-fn count(answer: &Answer) -> Option<usize> {
-    match answer {
-        Answer::Counted(numbers) => Some(numbers.len()),
-        _ => None,
-    }
 }
 
 #[test]
@@ -125,18 +135,17 @@ fn refuses_limits_and_numbers(rt: HostRuntime) -> Result<(), Fail> {
 fn adds_a_worker(rt: HostRuntime) -> Result<(), Fail> {
     let mut kernel = started(rt.alloc(), 2, 65_535)?;
     kernel.reserve(3)?;
-    assert_eq!(rt; kernel.room(), 3);
-    assert_eq!(rt;
-        kernel.call(BY, &Call::Fork(FIRST, 2), &[], &quiet()),
-        Answer::Forked
-    );
+    let fork = [(Call::Fork(FIRST, 2), QUIET, Answer::Forked)];
+    assert!(rt; are_answered(&mut kernel, &fork));
     assert_eq!(rt; kernel.room(), 2);
     assert_eq!(rt; kernel.row(3), worker(103, FIRST, 2, Stance::Starting));
-    let ready = Call::AwaitReady(FIRST, 2);
-    assert_eq!(rt; kernel.call(BY, &ready, &[], &quiet()), Answer::IsReady);
-    assert_eq!(rt; kernel.room(), 1);
-    let counted = kernel.call(BY, &Call::Census(FIRST), &[], &quiet());
-    assert_eq!(rt; count(&counted), Some(3));
+    let counted = Answer::Counted(Numbers::below(3));
+    let calls = [
+        (Call::AwaitReady(FIRST, 2), QUIET, Answer::IsReady),
+        (Call::Census(FIRST), QUIET, counted),
+    ];
+    assert!(rt; are_answered(&mut kernel, &calls));
+    assert_eq!(rt; kernel.room(), 0);
     Ok(())
 }
 
@@ -144,26 +153,13 @@ fn adds_a_worker(rt: HostRuntime) -> Result<(), Fail> {
 fn starts_no_more_than_the_limit(rt: HostRuntime) -> Result<(), Fail> {
     let mut kernel = started(rt.alloc(), 2, 3)?;
     kernel.reserve(4)?;
-    assert_eq!(rt; kernel.room(), 4);
-    assert_eq!(rt;
-        kernel.call(BY, &Call::Fork(FIRST, 2), &[], &quiet()),
-        Answer::Again
-    );
-    assert_eq!(rt; kernel.room(), 3);
-    assert_eq!(rt;
-        kernel.call(BY, &Call::Kill(FIRST, 1), &[], &quiet()),
-        Answer::Fine
-    );
-    assert_eq!(rt; kernel.room(), 2);
-    assert_eq!(rt;
-        kernel.call(BY, &Call::Fork(FIRST, 0), &[], &quiet()),
-        Answer::Again
-    );
-    assert_eq!(rt; kernel.room(), 1);
-    assert_eq!(rt;
-        kernel.call(BY, &Call::Fork(FIRST, 1), &[], &quiet()),
-        Answer::Forked
-    );
+    let calls = [
+        (Call::Fork(FIRST, 2), QUIET, Answer::Again),
+        (Call::Kill(FIRST, 1), QUIET, Answer::Fine),
+        (Call::Fork(FIRST, 0), QUIET, Answer::Again),
+        (Call::Fork(FIRST, 1), QUIET, Answer::Forked),
+    ];
+    assert!(rt; are_answered(&mut kernel, &calls));
     assert_eq!(rt; kernel.row(2), worker(103, FIRST, 1, Stance::Starting));
     Ok(())
 }
@@ -172,25 +168,17 @@ fn starts_no_more_than_the_limit(rt: HostRuntime) -> Result<(), Fail> {
 fn opens_and_closes_sockets(rt: HostRuntime) -> Result<(), Fail> {
     let mut kernel = started(rt.alloc(), 1, 65_535)?;
     kernel.reserve(5)?;
+    let plain = Address::plain();
     let other = Address::read(b"127.0.0.1:9090")?;
-    let plain = Call::OpenAt(Address::plain());
-    assert_eq!(rt; kernel.room(), 5);
-    assert_eq!(rt; kernel.call(BY, &plain, &[], &quiet()), Answer::InUse);
-    assert_eq!(rt; kernel.room(), 4);
-    assert_eq!(rt;
-        kernel.call(BY, &Call::OpenAt(other), &[], &quiet()),
-        Answer::Opened(4)
-    );
-    assert_eq!(rt; kernel.room(), 3);
-    let third = Call::OpenAt(Address::read(b"/run/app")?);
-    assert_eq!(rt; kernel.call(BY, &third, &[], &quiet()), Answer::TooMany);
-    assert_eq!(rt; kernel.room(), 2);
-    assert_eq!(rt;
-        kernel.call(BY, &Call::CloseAt(Address::plain()), &[], &quiet()),
-        Answer::Fine
-    );
-    assert_eq!(rt; kernel.room(), 1);
-    assert_eq!(rt; kernel.call(BY, &plain, &[], &quiet()), Answer::Opened(3));
+    let third = Address::read(b"/run/app")?;
+    let calls = [
+        (Call::OpenAt(plain), QUIET, Answer::InUse),
+        (Call::OpenAt(other), QUIET, Answer::Opened(4)),
+        (Call::OpenAt(third), QUIET, Answer::TooMany),
+        (Call::CloseAt(plain), QUIET, Answer::Fine),
+        (Call::OpenAt(plain), QUIET, Answer::Opened(3)),
+    ];
+    assert!(rt; are_answered(&mut kernel, &calls));
     let first = kernel.hold(0).ok_or("the master's first hold")?;
     let second = kernel.hold(1).ok_or("the master's second hold")?;
     assert_eq!(rt; (first.descriptor, first.socket), (3, 3));
@@ -200,43 +188,39 @@ fn opens_and_closes_sockets(rt: HostRuntime) -> Result<(), Fail> {
 }
 
 #[test]
-fn ends_workers_and_masters(rt: HostRuntime) -> Result<(), Fail> {
+fn ends_workers(rt: HostRuntime) -> Result<(), Fail> {
     let mut kernel = started(rt.alloc(), 2, 65_535)?;
-    kernel.reserve(5)?;
-    assert_eq!(rt; kernel.room(), 5);
-    assert_eq!(rt;
-        kernel.call(BY, &Call::Quit(FIRST, 1), &[], &quiet()),
-        Answer::Fine
-    );
+    kernel.reserve(3)?;
+    let quit = [(Call::Quit(FIRST, 1), QUIET, Answer::Fine)];
+    assert!(rt; are_answered(&mut kernel, &quit));
     assert_eq!(rt; kernel.row(2), worker(102, FIRST, 1, Stance::Draining));
-    assert_eq!(rt; kernel.room(), 4);
-    let exits = [
-        Name::Draining(FIRST, 1),
-        Name::Worker(FIRST, 0),
-        Name::Worker(NEXT, 0),
-    ];
-    let moment = Moment {
-        exits: &exits,
+    let leaving = Moment {
+        exits: &[
+            Name::Draining(FIRST, 1),
+            Name::Worker(FIRST, 0),
+            Name::Worker(NEXT, 0),
+        ],
         fate: None,
     };
-    assert_eq!(rt;
-        kernel.call(BY, &Call::AwaitReady(FIRST, 0), &[], &moment),
-        Answer::Gone
-    );
+    let awaited = [(Call::AwaitReady(FIRST, 0), leaving, Answer::Gone)];
+    assert!(rt; are_answered(&mut kernel, &awaited));
     assert_eq!(rt; kernel.row(1), worker(102, FIRST, 1, Stance::Exited));
-    assert_eq!(rt; kernel.room(), 3);
-    let counted = kernel.call(BY, &Call::Census(NEXT), &[], &quiet());
-    assert_eq!(rt; count(&counted), Some(0));
+    let counted = [(Call::Census(NEXT), QUIET, Answer::Counted(Numbers::none()))];
+    assert!(rt; are_answered(&mut kernel, &counted));
     assert_eq!(rt; kernel.row(1), None);
-    assert_eq!(rt; kernel.room(), 2);
+    Ok(())
+}
+
+#[test]
+fn a_master_that_exits_is_gone_whatever_the_fate(rt: HostRuntime) -> Result<(), Fail> {
+    let mut kernel = started(rt.alloc(), 2, 65_535)?;
+    kernel.reserve(1)?;
     let gone = Moment {
         exits: &[Name::Master(1)],
         fate: Some(Fate::Again),
     };
-    assert_eq!(rt;
-        kernel.call(BY, &Call::Fork(NEXT, 0), &[], &gone),
-        Answer::MasterGone
-    );
+    let calls = [(Call::Fork(NEXT, 0), gone, Answer::MasterGone)];
+    assert!(rt; are_answered(&mut kernel, &calls));
     assert_eq!(rt; kernel.row(0), None);
     Ok(())
 }
@@ -245,80 +229,79 @@ fn ends_workers_and_masters(rt: HostRuntime) -> Result<(), Fail> {
 fn fails_by_a_fate_whose_condition_holds(rt: HostRuntime) -> Result<(), Fail> {
     let mut kernel = started(rt.alloc(), 1, 65_535)?;
     kernel.reserve(4)?;
-    assert_eq!(rt; kernel.room(), 4);
     let late = failing(Fate::Late);
+    let denied = failing(Fate::Denied);
+    let address = Address::read(b"127.0.0.1:80")?;
+    let calls = [
+        (Call::AwaitReady(FIRST, 0), late, Answer::IsReady),
+        (Call::Fork(FIRST, 1), late, Answer::Forked),
+        (Call::AwaitReady(FIRST, 1), late, Answer::Late),
+        (Call::OpenAt(address), denied, Answer::Denied),
+    ];
+    assert!(rt; are_answered(&mut kernel, &calls));
+    Ok(())
+}
+
+#[test]
+fn another_master_is_started_and_found(rt: HostRuntime) -> Result<(), Fail> {
+    let mut kernel = started(rt.alloc(), 1, 65_535)?;
+    kernel.reserve(5)?;
     assert_eq!(rt;
-        kernel.call(BY, &Call::AwaitReady(FIRST, 0), &[], &late),
-        Answer::IsReady
+        ask(&mut kernel, SECOND, &Call::Leave, &QUIET),
+        Some(Answer::MasterGone)
     );
-    assert_eq!(rt; kernel.room(), 3);
+    let calls = [
+        (
+            Call::SpawnMaster(2),
+            failing(Fate::NoImage),
+            Answer::NoImage,
+        ),
+        (Call::Alive(2), QUIET, Answer::Gone),
+        (Call::SpawnMaster(2), QUIET, Answer::Spawned),
+        (Call::Alive(2), QUIET, Answer::IsAlive),
+    ];
+    assert!(rt; are_answered(&mut kernel, &calls));
+    assert_eq!(rt; kernel.master(2), Some(102));
+    Ok(())
+}
+
+/// What a new master is told by the one that `started` gives.
+const HANDED: &[u8] =
+    b"handover 1\nold-pid 100\ngeneration 2 1\nlistener 3 0.0.0.0:8080\nwant 0.0.0.0:8080\nworkers 1\nend\n";
+
+#[test]
+fn another_master_adopts_its_own_handover(rt: HostRuntime) -> Result<(), Fail> {
+    let mut kernel = started(rt.alloc(), 1, 65_535)?;
+    kernel.reserve(3)?;
+    let spawned = [(Call::SpawnMaster(2), QUIET, Answer::Spawned)];
+    assert!(rt; are_answered(&mut kernel, &spawned));
     assert_eq!(rt;
-        kernel.call(BY, &Call::Fork(FIRST, 1), &[], &late),
-        Answer::Forked
+        ask(&mut kernel, SECOND, &Call::Adopt, &QUIET),
+        Some(Answer::Refused)
     );
-    assert_eq!(rt; kernel.room(), 2);
+    assert!(rt; kernel.room() == 1);
     assert_eq!(rt;
-        kernel.call(BY, &Call::AwaitReady(FIRST, 1), &[], &late),
-        Answer::Late
-    );
-    assert_eq!(rt; kernel.room(), 1);
-    let denied = Call::OpenAt(Address::read(b"127.0.0.1:80")?);
-    assert_eq!(rt;
-        kernel.call(BY, &denied, &[], &failing(Fate::Denied)),
-        Answer::Denied
+        kernel.call(SECOND, &Call::Adopt, HANDED, &QUIET),
+        Answer::Adopted
     );
     Ok(())
 }
 
 #[test]
-fn starts_and_ends_another_master(rt: HostRuntime) -> Result<(), Fail> {
+fn another_master_ends_the_first_and_leaves(rt: HostRuntime) -> Result<(), Fail> {
     let mut kernel = started(rt.alloc(), 1, 65_535)?;
-    let next = Actor(2);
-    let text =
-        b"handover 1\nold-pid 100\ngeneration 2 1\nlistener 3 0.0.0.0:8080\nwant 0.0.0.0:8080\nworkers 1\nend\n";
-    kernel.reserve(8)?;
-    assert_eq!(rt; kernel.room(), 8);
+    kernel.reserve(3)?;
+    let spawned = [(Call::SpawnMaster(2), QUIET, Answer::Spawned)];
+    assert!(rt; are_answered(&mut kernel, &spawned));
     assert_eq!(rt;
-        kernel.call(next, &Call::Adopt, text, &quiet()),
-        Answer::MasterGone
-    );
-    assert_eq!(rt; kernel.room(), 7);
-    assert_eq!(rt;
-        kernel.call(BY, &Call::SpawnMaster(2), &[], &failing(Fate::NoImage)),
-        Answer::NoImage
-    );
-    assert_eq!(rt; kernel.room(), 6);
-    assert_eq!(rt;
-        kernel.call(BY, &Call::SpawnMaster(2), &[], &quiet()),
-        Answer::Spawned
-    );
-    assert_eq!(rt; kernel.master(2), Some(102));
-    assert_eq!(rt; kernel.room(), 5);
-    assert_eq!(rt;
-        kernel.call(next, &Call::Adopt, &text[1..], &quiet()),
-        Answer::Refused
-    );
-    assert_eq!(rt; kernel.room(), 4);
-    assert_eq!(rt;
-        kernel.call(next, &Call::Adopt, text, &quiet()),
-        Answer::Adopted
-    );
-    assert_eq!(rt; kernel.room(), 3);
-    assert_eq!(rt;
-        kernel.call(BY, &Call::Alive(2), &[], &quiet()),
-        Answer::IsAlive
-    );
-    assert_eq!(rt; kernel.room(), 2);
-    assert_eq!(rt;
-        kernel.call(next, &Call::TermMaster(1), &[], &quiet()),
-        Answer::Fine
+        ask(&mut kernel, SECOND, &Call::TermMaster(1), &QUIET),
+        Some(Answer::Fine)
     );
     assert_eq!(rt; kernel.master(1), None);
     assert_eq!(rt; kernel.row(1), None);
-    assert_eq!(rt; kernel.room(), 1);
     assert_eq!(rt;
-        kernel.call(next, &Call::Leave, &[], &quiet()),
-        Answer::Fine
+        ask(&mut kernel, SECOND, &Call::Leave, &QUIET),
+        Some(Answer::Fine)
     );
     assert_eq!(rt; kernel.row(0), None);
     Ok(())
@@ -327,33 +310,22 @@ fn starts_and_ends_another_master(rt: HostRuntime) -> Result<(), Fail> {
 #[test]
 fn writes_moves_and_removes_files(rt: HostRuntime) -> Result<(), Fail> {
     let mut kernel = started(rt.alloc(), 0, 65_535)?;
+    kernel.reserve(4)?;
     let path = FilePath::read(b"/run/app.pid")?;
     let beside = FilePath::read(b"/run/app.pid.oldbin")?;
-    kernel.reserve(4)?;
-    assert_eq!(rt; kernel.room(), 4);
-    assert_eq!(rt;
-        kernel.call(BY, &Call::MovePid(beside, path), &[], &quiet()),
-        Answer::IoFault
-    );
-    assert_eq!(rt; kernel.room(), 3);
-    assert_eq!(rt;
-        kernel.call(BY, &Call::MovePid(path, beside), &[], &quiet()),
-        Answer::Fine
-    );
+    let moved = [
+        (Call::MovePid(beside, path), QUIET, Answer::IoFault),
+        (Call::MovePid(path, beside), QUIET, Answer::Fine),
+    ];
+    assert!(rt; are_answered(&mut kernel, &moved));
     let file = kernel.file(0).ok_or("the moved file")?;
     assert_eq!(rt; file.path.bytes(), b"/run/app.pid.oldbin".as_slice());
     assert_eq!(rt; file.owner, 100);
-    assert_eq!(rt; kernel.room(), 2);
-    assert_eq!(rt;
-        kernel.call(BY, &Call::WritePid(path), &[], &quiet()),
-        Answer::Fine
-    );
+    let written = [(Call::WritePid(path), QUIET, Answer::Fine)];
+    assert!(rt; are_answered(&mut kernel, &written));
     assert!(rt; kernel.file(1).is_some(), "the written file");
-    assert_eq!(rt; kernel.room(), 1);
-    assert_eq!(rt;
-        kernel.call(BY, &Call::RemovePid(beside), &[], &quiet()),
-        Answer::Fine
-    );
+    let removed = [(Call::RemovePid(beside), QUIET, Answer::Fine)];
+    assert!(rt; are_answered(&mut kernel, &removed));
     assert!(rt; kernel.file(1).is_none(), "one file is left");
     Ok(())
 }
@@ -373,11 +345,8 @@ fn leaves_an_address_to_somebody_else(rt: HostRuntime) -> Result<(), Fail> {
     assert_eq!(rt; (hold.process, hold.descriptor, hold.socket), (101, 3, 2));
     assert_eq!(rt; hold.address.bytes(), b"127.0.0.1:9090".as_slice());
     kernel.reserve(1)?;
-    assert_eq!(rt; kernel.room(), 1);
-    assert_eq!(rt;
-        kernel.call(BY, &Call::OpenAt(other), &[], &quiet()),
-        Answer::InUse
-    );
+    let open = [(Call::OpenAt(other), QUIET, Answer::InUse)];
+    assert!(rt; are_answered(&mut kernel, &open));
     Ok(())
 }
 
@@ -385,11 +354,8 @@ fn leaves_an_address_to_somebody_else(rt: HostRuntime) -> Result<(), Fail> {
 fn tells_the_table_as_text(rt: HostRuntime) -> Result<(), Fail> {
     let mut kernel = started(rt.alloc(), 2, 65_535)?;
     kernel.reserve(1)?;
-    assert_eq!(rt; kernel.room(), 1);
-    assert_eq!(rt;
-        kernel.call(BY, &Call::Quit(FIRST, 1), &[], &quiet()),
-        Answer::Fine
-    );
+    let quit = [(Call::Quit(FIRST, 1), QUIET, Answer::Fine)];
+    assert!(rt; are_answered(&mut kernel, &quit));
     let text = kernel.table_text()?;
     let lines =
         b"process 100 parent 1 m1 live fds 3=0.0.0.0:8080\nprocess 101 parent 100 w1.1.0 ready fds 3=0.0.0.0:8080\nprocess 102 parent 100 w1.1.1 draining fds none\nfile /run/app.pid 100\nservice 0.0.0.0:8080 1.1=1\n";
