@@ -80,7 +80,7 @@ impl ListenerSet {
         ensures most { length self.now ≤ MOST_LISTENERS }
         ensures distinct { AreDistinct self.now }
     {
-        self.as_slice().len()
+        self.len
     }
 
     /// Whether there is none.
