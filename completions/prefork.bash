@@ -26,7 +26,7 @@ _prefork() {
 
     case ${COMP_WORDS[1]} in
         enact) options='--from --to --workers --bare --held --state --help' ;;
-        plan) options='--from --to --workers --bare --help' ;;
+        plan) options='--from --to --workers --bare --dot --help' ;;
         *) return ;;
     esac
     local before=("${COMP_WORDS[@]:2:COMP_CWORD-2}")

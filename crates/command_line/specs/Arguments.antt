@@ -61,7 +61,7 @@ abbrev pub enact_app : App
 enact_app = with_rule (with_rule (with_rule (with_start (new_app (codes "enact"))) (option_rule (codes "held"))) (flag_rule (codes "state"))) words_rule
 
 abbrev pub plan_app : App
-plan_app = with_rule (with_start (new_app (codes "plan"))) word_rule
+plan_app = with_rule (with_rule (with_start (new_app (codes "plan"))) (flag_rule (codes "dot"))) word_rule
 
 abbrev pub prefork_app : App
 prefork_app = with_subcommand (with_subcommand (on_top (λ top. record top {
@@ -89,6 +89,7 @@ pub record Enactment : Type 0 where
 -- what `plan` is given
 pub record Planning : Type 0 where
   pub start : Start
+  pub dot : Bool
   pub word : Text
 
 abbrev pub start_of : StartOptions → Start
@@ -110,6 +111,7 @@ enactment_of options = record {
 abbrev pub planning_of : PlanOptions → Planning
 planning_of options = record {
   start = start_of options.start;
+  dot = options.dot;
   word = options.word.now;
 }
 
@@ -140,6 +142,7 @@ pub record FindsEnactment (rows : List Row) (values : Enactment) : Type 0 where
 
 pub record FindsPlanning (rows : List Row) (values : Planning) : Type 0 where
   pub start : FindsStart rows values.start
+  pub dot : values.dot ≡ is_given (first_of (codes "dot") rows)
   pub word : first_of (codes "word") rows ≡ Some values.word
 
 -- ---- what arguments ask for

@@ -5,8 +5,8 @@ ghost use Rattle.clap.specs.declared.builder.command.Command.TheViews.{out-Comma
 ghost use Rattle.command_line.specs.Arguments.{enact_app, flag_rule, option_rule, plan_app, prefork_app, with_start, word_rule, words_rule};
 
 use crate::help::{
-    BARE_HELP, ENACT_NOTES, FROM_HELP, HELD_HELP, PLAN_NOTES, PROGRAM_NOTES, STATE_HELP, TO_HELP,
-    WORD_HELP, WORDS_HELP, WORKERS_HELP,
+    BARE_HELP, DOT_HELP, ENACT_NOTES, FROM_HELP, HELD_HELP, PLAN_NOTES, PROGRAM_NOTES, STATE_HELP,
+    TO_HELP, WORD_HELP, WORDS_HELP, WORKERS_HELP,
 };
 use clap::{Arg, ArgAction, Command};
 use std::alloc::{AllocError, Global};
@@ -45,7 +45,9 @@ fn plan<'a>(alloc: Global) -> Result<Command<'a>, AllocError>
     let command = Command::new(alloc, "plan")
         .about("Print the plan of a control word: each step, and what follows each answer")
         .after_help(PLAN_NOTES);
-    with_start(alloc, command)?.arg(word(alloc))
+    with_start(alloc, command)?
+        .arg(flag(alloc, "dot", DOT_HELP))?
+        .arg(word(alloc))
 }
 
 /// The options of each subcommand that starts a master.

@@ -3,7 +3,7 @@
 /// Below the program's subcommands.
 pub(crate) const PROGRAM_NOTES: &str = "\
 Example: what a master with two workers does on TTIN:
-  prefork enact --workers 2 TTIN
+  prefork enact --workers 2 TTIN </dev/null
 
 Example: the plan of a reload, before anything is done:
   prefork plan --from a.toml --to b.toml HUP";
@@ -12,10 +12,11 @@ pub(crate) const FROM_HELP: &str = "\
 The configuration of the start, a TOML file [default: one worker, 0.0.0.0:8080]";
 
 pub(crate) const TO_HELP: &str = "\
-The configuration that HUP and USR2 read [default: that of the start]";
+The configuration that HUP reads [default: that of the start]";
 
 pub(crate) const WORKERS_HELP: &str = "\
-How many workers are wanted and run at the start, 0 to 1024
+How many workers are wanted and run at the start, 0 to 1024. HUP goes over to
+the count of its own configuration
 [default: the configuration's count]";
 
 pub(crate) const BARE_HELP: &str = "Start without workers, however many are wanted";
@@ -24,6 +25,8 @@ pub(crate) const HELD_HELP: &str = "An address that another program listens on";
 
 pub(crate) const STATE_HELP: &str = "Show the processes and the service at the end";
 
+pub(crate) const DOT_HELP: &str = "Draw the plan for Graphviz: the input of `dot`";
+
 pub(crate) const WORDS_HELP: &str = "\
 Control words, named after Unicorn's signals, carried out in this order:
 TTIN         one worker more
@@ -31,7 +34,7 @@ TTOU         one worker less, down to none
 WINCH        no workers
 HUP          go over to the configuration of --to
 USR1         reopen the logs
-USR2         go over to a new master with the configuration of --to
+USR2         go over to a new master (has no plan yet: refused)
 QUIT         stop, once requests in progress are finished
 INT, TERM    stop at once
 beat NR NOW  worker NR lives at the moment NOW (one argument, in quotes)
@@ -40,13 +43,14 @@ tick NOW     start workers without a beat in time, and missing ones, anew";
 pub(crate) const WORD_HELP: &str = "One control word, as those of `prefork enact --help`";
 
 pub(crate) const ENACT_NOTES: &str = "\
-Standard input says what goes wrong; empty input means that nothing does.
+Standard input says what goes wrong; empty input (</dev/null) means that
+nothing does.
 Each line names a moment, the number of a call from 1:
   2 fail late     call 2 is answered 'late', if it can be
   2 exit w1.1.0   worker 0 of generation 1.1 exits just before call 2
   next            what follows is for the next control word
 Faults: in-use, too-many, denied, no-memory, again, late, no-image, refused,
-io-fault. Moments ascend; a 'fail' comes after the exits of its moment.
+io-fault. Moments do not fall; a 'fail' comes after the exits of its moment.
 
 For each word the output has the calls in order, and then one line:
   done            the service that was asked for runs
@@ -72,4 +76,7 @@ Exit status: 0 a plan or nothing, 1 the word was refused or nothing could be
 planned, 2 usage.
 
 Example: what a master with two workers does on TTIN, whatever goes wrong:
-  prefork plan --workers 2 TTIN";
+  prefork plan --workers 2 TTIN
+
+Example: a picture of the plan of a reload:
+  prefork plan --from a.toml --to b.toml --dot HUP | dot -Tsvg >reload.svg";

@@ -40,6 +40,8 @@ pub struct EnactOptions<'a> {
 pub struct PlanOptions<'a> {
     /// How the master starts.
     pub start: StartOptions<'a>,
+    /// `--dot`: the plan is drawn for Graphviz.
+    pub dot: bool,
     /// The control word.
     pub word: &'a str,
 }
@@ -76,7 +78,11 @@ pub(crate) fn plan_options<'a>(found: &ArgMatches<'a>) -> Result<PlanOptions<'a>
 {
     let start = start_options(found)?;
     match text_of(found, "word") {
-        Some(word) => Ok(PlanOptions { start, word }),
+        Some(word) => Ok(PlanOptions {
+            start,
+            dot: has_flag(found, "dot"),
+            word,
+        }),
         None => Err(Refusal::Usage),
     }
 }

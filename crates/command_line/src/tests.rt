@@ -101,12 +101,20 @@ fn leaves_out_what_is_not_given(rt: HostRuntime) -> Result<(), Fail> {
 
 #[test]
 fn reads_one_word_to_plan(rt: HostRuntime) -> Result<(), Fail> {
-    let cases: [(&[&str], Option<u32>, Option<&str>, bool); 3] = [
-        (&["plan", "tick 5"], None, None, false),
+    let cases: [(&[&str], Option<u32>, Option<&str>, bool, bool); 4] = [
+        (&["plan", "tick 5"], None, None, false, false),
         (
             &["plan", "--workers", "7", "--bare", "tick 5"],
             Some(7),
             None,
+            true,
+            false,
+        ),
+        (
+            &["plan", "--dot", "--bare", "tick 5"],
+            None,
+            None,
+            true,
             true,
         ),
         (
@@ -114,9 +122,10 @@ fn reads_one_word_to_plan(rt: HostRuntime) -> Result<(), Fail> {
             None,
             Some("a.toml"),
             false,
+            false,
         ),
     ];
-    for (case, workers, from, bare) in cases {
+    for (case, workers, from, bare, dot) in cases {
         let all = args(rt.alloc(), case)?;
         match read(rt.alloc(), all.as_slice()) {
             Ok(Request::Plan(options)) => {
@@ -124,6 +133,7 @@ fn reads_one_word_to_plan(rt: HostRuntime) -> Result<(), Fail> {
                 assert_eq!(rt; options.start.workers, workers);
                 assert_eq!(rt; options.start.from, from);
                 assert_eq!(rt; options.start.bare, bare);
+                assert_eq!(rt; options.dot, dot);
                 assert!(rt; options.start.to.is_none());
             }
             _ => panic!(rt; "no plan"),
@@ -148,7 +158,7 @@ fn takes_empty_values_and_words_as_they_are(rt: HostRuntime) -> Result<(), Fail>
 
 #[test]
 fn refuses_other_arguments_as_usage(rt: HostRuntime) -> Result<(), Fail> {
-    let cases: [&[&str]; 33] = [
+    let cases: [&[&str]; 36] = [
         &[],
         &["nonsense"],
         &["TTIN"],
@@ -182,6 +192,9 @@ fn refuses_other_arguments_as_usage(rt: HostRuntime) -> Result<(), Fail> {
         &["plan", "--workers", "00", "TTIN"],
         &["plan", "--bare", "TTIN", "--bare"],
         &["enact", "TTIN", "plan", "--dot"],
+        &["enact", "--dot", "TTIN"],
+        &["plan", "--dot", "TTIN", "--dot"],
+        &["plan", "--dot=true", "TTIN"],
     ];
     for case in cases {
         let all = args(rt.alloc(), case)?;
@@ -206,6 +219,7 @@ fn takes_numbers_up_to_the_limit(rt: HostRuntime) -> Result<(), Fail> {
 #[test]
 fn shows_help_and_version(rt: HostRuntime) -> Result<(), Fail> {
     let enact_end = "| prefork enact --from a.toml --to b.toml HUP\n";
+    let plan_end = "--dot HUP | dot -Tsvg >reload.svg\n";
     let cases: [(&[&str], &str); 8] = [
         (&["--version"], "prefork 0.1.0\n"),
         (&["-V"], "prefork 0.1.0\n"),
@@ -213,8 +227,8 @@ fn shows_help_and_version(rt: HostRuntime) -> Result<(), Fail> {
         (&["enact", "--help"], enact_end),
         (&["enact", "-h"], enact_end),
         (&["enact", "--workers", "2", "--help"], enact_end),
-        (&["plan", "--help"], "prefork plan --workers 2 TTIN\n"),
-        (&["plan", "HUP", "-h"], "prefork plan --workers 2 TTIN\n"),
+        (&["plan", "--help"], plan_end),
+        (&["plan", "HUP", "-h"], plan_end),
     ];
     for (case, end) in cases {
         let all = args(rt.alloc(), case)?;

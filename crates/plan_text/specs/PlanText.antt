@@ -55,10 +55,10 @@ goes s e r = goes_by e (edge_for s.edges.items r)
 
 ---- Edges
 
--- the replies that go the way of an edge, each with a space behind it
-abbrev pub reply_words : Step → Edge → List Reply → List ℕ
-reply_words s e [] = []
-reply_words s e (r ∷ rs) = (if goes s e r then reply_text r ++ codes " " else []) ++ reply_words s e rs
+-- the replies that go the way of an edge, with the same text behind each
+abbrev pub reply_words : Step → Edge → List ℕ → List Reply → List ℕ
+reply_words s e behind [] = []
+reply_words s e behind (r ∷ rs) = (if goes s e r then reply_text r ++ behind else []) ++ reply_words s e behind rs
 
 abbrev pub place_text : Next → List ℕ
 place_text (To place) = decimal place.0
@@ -69,20 +69,24 @@ note_part None = []
 note_part (Some note) = codes " pid " ++ note_text note
 
 abbrev pub edge_text : Step → Edge → List Reply → List ℕ
-edge_text s e replies = codes " | " ++ reply_words s e replies ++ place_text e.next ++ note_part e.note
+edge_text s e replies = codes " | " ++ reply_words s e (codes " ") replies ++ place_text e.next ++ note_part e.note
+
+abbrev pub unless_gone : Step → List Reply → Option Edge → Option Edge
+unless_gone s earlier None = None
+unless_gone s earlier (Some e) = if list_any (goes s e) earlier then None else Some e
 
 -- the edge of a reply, unless an earlier reply goes the same way
-abbrev pub part_of : Step → List Reply → List Reply → Option Edge → List ℕ
-part_of s replies earlier None = []
-part_of s replies earlier (Some e) = if list_any (goes s e) earlier then [] else edge_text s e replies
+abbrev pub new_edge : Step → List Reply → Reply → Option Edge
+new_edge s earlier r = unless_gone s earlier (edge_for s.edges.items r)
 
-abbrev pub reply_part : Step → List Reply → List Reply → Reply → List ℕ
-reply_part s replies earlier r = part_of s replies earlier (edge_for s.edges.items r)
+abbrev pub edge_part : Step → List Reply → Option Edge → List ℕ
+edge_part s replies None = []
+edge_part s replies (Some e) = edge_text s e replies
 
 -- the edges of the replies behind the earlier ones
 abbrev pub edges_text : Step → List Reply → List Reply → List Reply → List ℕ
 edges_text s replies earlier [] = []
-edges_text s replies earlier (r ∷ rs) = reply_part s replies earlier r ++ edges_text s replies (earlier ++ r ∷ []) rs
+edges_text s replies earlier (r ∷ rs) = edge_part s replies (new_edge s earlier r) ++ edges_text s replies (earlier ++ r ∷ []) rs
 
 ---- Steps
 

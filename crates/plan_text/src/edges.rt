@@ -1,7 +1,7 @@
 //! Texts of a step's edges.
-ghost use Rattle.std.specs.Prelude.{◌≡◌, ◌++◌, [], IfOk};
+ghost use Rattle.std.specs.Prelude.{◌≡◌, ◌++◌, [], IfOk, codes};
 ghost use Rattle.std.specs.List.{list_any};
-ghost use Rattle.plan_text.specs.PlanText.{same_next, same_note, same_way, goes, reply_words, place_text, note_part, edge_text, reply_part, edges_text};
+ghost use Rattle.plan_text.specs.PlanText.{same_next, same_note, same_way, goes, new_edge, reply_words, place_text, note_part, edge_text, edges_text};
 
 use call_text::{end_text, note_text, reply_text, write_number};
 use definitions::{PidNote, Reply};
@@ -36,7 +36,7 @@ fn same_way(one: &Edge, other: &Edge) -> bool
 }
 
 /// Whether a reply to a step has the same note and the same rest as an edge.
-fn goes(step: &Step, edge: &Edge, reply: Reply) -> bool
+pub(crate) fn goes(step: &Step, edge: &Edge, reply: Reply) -> bool
     ensures { result ≡ goes step.now edge.now reply }
 {
     match step.edge(reply) {
@@ -51,25 +51,37 @@ fn any_goes(step: &Step, edge: &Edge, replies: &[Reply]) -> bool
     replies.iter().any(|reply| goes(step, edge, *reply))
 }
 
-/// The replies that go the way of an edge, each with a space behind it.
-fn write_replies(
+/// The edge of a reply, unless an earlier reply goes the same way.
+pub(crate) fn new_edge(step: &Step, earlier: &[Reply], reply: Reply) -> Option<Edge>
+    ensures { result ≡ new_edge step.now earlier.now reply }
+{
+    let edge = step.edge(reply)?;
+    if any_goes(step, &edge, earlier) {
+        return None;
+    }
+    Some(edge)
+}
+
+/// The replies that go the way of an edge, with the same bytes behind each.
+pub(crate) fn write_replies(
     out: &mut Vec<u8>,
     step: &Step,
     edge: &Edge,
     replies: &[Reply],
+    behind: &[u8],
 ) -> Result<(), AllocError>
-    ensures { IfOk result (λ _. out.new.items ≡ out.old.items ++ reply_words step.now edge.now replies.now) }
+    ensures { IfOk result (λ _. out.new.items ≡ out.old.items ++ reply_words step.now edge.now behind.now replies.now) }
 {
     for reply in replies {
         if goes(step, edge, *reply) {
             out.extend_from_slice(reply_text(*reply).as_bytes())?;
-            out.extend_from_slice(b" ")?;
+            out.extend_from_slice(behind)?;
         }
     }
     Ok(())
 }
 
-fn write_place(out: &mut Vec<u8>, next: Next) -> Result<(), AllocError>
+pub(crate) fn write_place(out: &mut Vec<u8>, next: Next) -> Result<(), AllocError>
     ensures { IfOk result (λ _. out.new.items ≡ out.old.items ++ place_text next) }
 {
     match next {
@@ -98,28 +110,9 @@ fn write_edge(
     ensures { IfOk result (λ _. out.new.items ≡ out.old.items ++ edge_text step.now edge.now replies.now) }
 {
     out.extend_from_slice(b" | ")?;
-    write_replies(out, step, edge, replies)?;
+    write_replies(out, step, edge, replies, b" ")?;
     write_place(out, edge.next)?;
     write_note(out, edge.note)
-}
-
-/// The edge of the reply at a place, unless an earlier reply goes the same way.
-fn write_reply(
-    out: &mut Vec<u8>,
-    step: &Step,
-    replies: &[Reply],
-    earlier: &[Reply],
-    reply: Reply,
-) -> Result<(), AllocError>
-    ensures { IfOk result (λ _. out.new.items ≡ out.old.items ++ reply_part step.now replies.now earlier.now reply) }
-{
-    let Some(edge) = step.edge(reply) else {
-        return Ok(());
-    };
-    if any_goes(step, &edge, earlier) {
-        return Ok(());
-    }
-    write_edge(out, step, &edge, replies)
 }
 
 /// The edges of a step, ordered by the first reply of each.
@@ -131,7 +124,9 @@ pub(crate) fn write_edges(
     ensures { IfOk result (λ _. out.new.items ≡ out.old.items ++ edges_text step.now replies.now [] replies.now) }
 {
     for (place, reply) in replies.iter().enumerate() {
-        write_reply(out, step, replies, &replies[..place], *reply)?;
+        if let Some(edge) = new_edge(step, &replies[..place], *reply) {
+            write_edge(out, step, &edge, replies)?;
+        }
     }
     Ok(())
 }

@@ -12,7 +12,11 @@ use rollback_plan::{Plan, Step};
 use std::alloc::{AllocError, Global};
 
 /// The set that a census must contain.
-fn write_wanted(out: &mut Vec<u8>, order: &Order, set: &Numbers) -> Result<(), AllocError>
+pub(crate) fn write_wanted(
+    out: &mut Vec<u8>,
+    order: &Order,
+    set: &Numbers,
+) -> Result<(), AllocError>
     ensures { IfOk result (λ _. out.new.items ≡ out.old.items ++ set_part order.now set.now) }
 {
     match order {

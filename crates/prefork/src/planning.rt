@@ -7,10 +7,20 @@ use crate::start::Start;
 use control_words::{Word, target_of};
 use definitions::Target;
 use listener_set::Numbers;
-use plan_text::write_plan;
+use plan_text::{write_graph, write_plan};
 use reload_planner::PlanRefusal;
+use rollback_plan::Plan;
 use service_state::Record;
-use std::alloc::Global;
+use std::alloc::{AllocError, Global};
+
+/// How a plan is shown.
+#[derive(Clone, Copy)]
+pub enum Form {
+    /// A line for each step.
+    Text,
+    /// The input of Graphviz.
+    Picture,
+}
 
 /// What there is to show of a word, and the exit status that goes with it.
 #[derive(Drop)]
@@ -20,10 +30,10 @@ pub struct Outlook {
 }
 
 /// The plan of a word for a master that has just started, `nothing`, or `refused` with its code.
-pub fn look_ahead(alloc: Global, start: &Start, word: Word) -> Result<Outlook, Fault> {
+pub fn look_ahead(alloc: Global, start: &Start, word: Word, form: Form) -> Result<Outlook, Fault> {
     let record = start.record()?;
     match asked(&record, start, word) {
-        Ok(Some(target)) => planned(alloc, &record, &target),
+        Ok(Some(target)) => planned(alloc, &record, &target, form),
         Ok(None) => said(alloc, "nothing\n", "", 0),
         Err(code) => said(alloc, "refused ", code, 1),
     }
@@ -44,18 +54,25 @@ fn asked(record: &Record, start: &Start, word: Word) -> Result<Option<Target>, &
     }
 }
 
-fn planned(alloc: Global, record: &Record, target: &Target) -> Result<Outlook, Fault>
+fn planned(alloc: Global, record: &Record, target: &Target, form: Form) -> Result<Outlook, Fault>
     requires { IsTarget target.now }
 {
     match reload_planner::plan(alloc, record, target) {
         Ok(plan) => Ok(Outlook {
-            text: write_plan(alloc, &plan)?,
+            text: shown(alloc, &plan, form)?,
             status: 0,
         }),
         Err(PlanRefusal::Memory) => Err(Fault::Memory),
         Err(PlanRefusal::TooLarge) => said(alloc, "refused ", "P1", 1),
         Err(PlanRefusal::Unplanned) => said(alloc, "refused ", "P2", 1),
         Err(PlanRefusal::NoGeneration) => said(alloc, "refused ", "P3", 1),
+    }
+}
+
+fn shown(alloc: Global, plan: &Plan, form: Form) -> Result<Vec<u8>, AllocError> {
+    match form {
+        Form::Text => write_plan(alloc, plan),
+        Form::Picture => write_graph(alloc, plan),
     }
 }
 

@@ -3,7 +3,7 @@ ghost use Rattle.std.specs.Prelude.{◌≡◌};
 ghost use Rattle.prefork.specs.Status.{graver, status_of};
 
 use crate::fault::Fault;
-use crate::planning;
+use crate::planning::{self, Form};
 use crate::rehearsal::Rehearsal;
 use crate::start::Start;
 use command_line::{EnactOptions, PlanOptions, Refusal, Request};
@@ -103,7 +103,12 @@ fn plan<R: AllocGlobal + Files, O: Write>(
         1, refusal,
     ))?;
     let start = Start::read(rt, &options.start)?;
-    let outlook = planning::look_ahead(alloc, &start, word)?;
+    let form = if options.dot {
+        Form::Picture
+    } else {
+        Form::Text
+    };
+    let outlook = planning::look_ahead(alloc, &start, word, form)?;
     write(output, outlook.text.as_slice())?;
     Ok(outlook.status)
 }
