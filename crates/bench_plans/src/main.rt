@@ -5,7 +5,7 @@
 ghost use Rattle.std.specs.Prelude.{◌≤◌};
 ghost use Rattle.definitions.specs.Target.{IsTarget};
 
-use definitions::{Settings, Target};
+use vocabulary::{Settings, Target};
 use listener_set::Numbers;
 use reload_planner::plan;
 use service_state::Record;

@@ -2,13 +2,13 @@
 use Rattle.std.proofs.Common.{◌≡◌, ℕ, Bool, true, false, cond, List, ◌∷◌, ◌++◌, Option, Some, None, refl, sym, ap, subst, ◌∙◌}
 use Rattle.std.specs.Prelude.{⊤, codes, bytes_eq, option_map, option_and_then}
 use Rattle.std.specs.Fmt.{decimal}
-use Rattle.definitions.specs.declared.plans.PidNote.{PidNote}
-use Rattle.definitions.specs.declared.plans.PidNote.TheVariants.{InPlace, AtOldbin, OldbinLeft, Left, NoFile}
-use Rattle.definitions.specs.declared.plans.Side.{Side}
-use Rattle.definitions.specs.declared.plans.Side.TheVariants as side
-use Rattle.definitions.specs.declared.reports.Report.{Report}
-use Rattle.definitions.specs.declared.reports.Outcome.{Outcome}
-use Rattle.definitions.specs.declared.reports.Outcome.TheVariants as outcome
+use Rattle.vocabulary.specs.declared.plans.PidNote.{PidNote}
+use Rattle.vocabulary.specs.declared.plans.PidNote.TheVariants.{InPlace, AtOldbin, OldbinLeft, Left, NoFile}
+use Rattle.vocabulary.specs.declared.plans.Side.{Side}
+use Rattle.vocabulary.specs.declared.plans.Side.TheVariants as side
+use Rattle.vocabulary.specs.declared.reports.Report.{Report}
+use Rattle.vocabulary.specs.declared.reports.Outcome.{Outcome}
+use Rattle.vocabulary.specs.declared.reports.Outcome.TheVariants as outcome
 use Rattle.listener_set.specs.NumberText.{number_of}
 use Rattle.call_text.specs.Words.{note_text, side_text}
 use Rattle.call_text.specs.ReportText.{outcome_text, cause_text, ending_text, report_text}

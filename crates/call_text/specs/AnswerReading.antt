@@ -1,9 +1,9 @@
 -- What reading an answer gives, part by part.
 use Rattle.std.specs.Prelude.{ℕ, Bool, false, List, [], ◌∷◌, ◌++◌, Option, Some, None, option_map, find, bytes_eq, codes, if◌then◌else◌}
-use Rattle.definitions.specs.declared.calls.Call.{Call}
-use Rattle.definitions.specs.declared.calls.Answer.{Answer}
-use Rattle.definitions.specs.declared.calls.Answer.TheVariants as answer
-use Rattle.definitions.specs.declared.calls.Reply.TheVariants.{MasterGone}
+use Rattle.vocabulary.specs.declared.calls.Call.{Call}
+use Rattle.vocabulary.specs.declared.calls.Answer.{Answer}
+use Rattle.vocabulary.specs.declared.calls.Answer.TheVariants as answer
+use Rattle.vocabulary.specs.declared.calls.Reply.TheVariants.{MasterGone}
 use Rattle.definitions.specs.Tree.{replies_to, reply_of, among}
 use Rattle.definitions.specs.Handover.{number_within}
 use Rattle.call_text.specs.CallText.{answer_word}

@@ -1,8 +1,8 @@
 -- What reading a call gives, part by part.
 use Rattle.std.specs.Prelude.{ℕ, ◌==◌, Bool, List, [], ◌∷◌, Option, Some, None, option_map, find, bytes_eq, codes, if◌then◌else◌}
 use Rattle.listener_set.specs.NumberText.{number_of}
-use Rattle.definitions.specs.declared.calls.Call.{Call}
-use Rattle.definitions.specs.declared.calls.Call.TheVariants as call
+use Rattle.vocabulary.specs.declared.calls.Call.{Call}
+use Rattle.vocabulary.specs.declared.calls.Call.TheVariants as call
 use Rattle.call_text.specs.declared.verbs.Verb.{Verb}
 use Rattle.call_text.specs.declared.verbs.Verb.TheVariants as verb
 use Rattle.call_text.specs.Reading.{◌>>=◌, cut, joined, generation_of, worker_of, address_of, path_of, paths_of}

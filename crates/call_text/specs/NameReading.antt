@@ -2,10 +2,10 @@
 use Rattle.std.specs.Prelude.{ℕ, ◌==◌, Bool, List, [], ◌∷◌, Option, None, option_map, find, bytes_eq, if◌then◌else◌}
 use Rattle.listener_set.specs.NumberText.{number_of}
 use Rattle.listener_set.specs.declared.generation.Generation.{Generation}
-use Rattle.definitions.specs.declared.names.Name.{Name}
-use Rattle.definitions.specs.declared.names.Name.TheVariants as name
-use Rattle.definitions.specs.declared.calls.Fate.{Fate}
-use Rattle.definitions.specs.declared.calls.Fate.TheVariants as fate
+use Rattle.vocabulary.specs.declared.names.Name.{Name}
+use Rattle.vocabulary.specs.declared.names.Name.TheVariants as name
+use Rattle.vocabulary.specs.declared.calls.Fate.{Fate}
+use Rattle.vocabulary.specs.declared.calls.Fate.TheVariants as fate
 use Rattle.call_text.specs.Words.{fate_text}
 use Rattle.call_text.specs.Reading.{joined, worker_number}
 

@@ -11,7 +11,7 @@ use crate::numbers::write_number;
 use crate::parts::read_within;
 use crate::replies::replies_to;
 use crate::sets::{read_numbers, write_set};
-use definitions::{Answer, Call, Reply};
+use vocabulary::{Answer, Call, Reply};
 use std::alloc::AllocError;
 
 /// The first word of an answer.

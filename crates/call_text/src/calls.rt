@@ -4,7 +4,7 @@ ghost use Rattle.std.specs.Fmt.{decimal};
 ghost use Rattle.call_text.specs.CallText.{worker_text, missing_text, master_text, call_text, call_line, order_line};
 
 use crate::numbers::{write_generation, write_number};
-use definitions::{Actor, Call, Order};
+use vocabulary::{Actor, Call, Order};
 use listener_set::Generation;
 use std::alloc::AllocError;
 

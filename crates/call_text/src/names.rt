@@ -10,7 +10,7 @@ use crate::cuts::cut;
 use crate::numbers::write_number;
 use crate::parts::read_worker_number;
 use crate::words::fate_text;
-use definitions::{Fate, Name};
+use vocabulary::{Fate, Name};
 use listener_set::{Generation, read_number};
 use std::alloc::AllocError;
 

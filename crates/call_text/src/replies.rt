@@ -1,9 +1,9 @@
 //! Which replies a call can have.
 ghost use Rattle.std.specs.Prelude.{◌≡◌, ◌++◌, ◌∷◌, []};
-ghost use Rattle.definitions.specs.declared.calls.Reply.TheVariants.{MasterGone};
+ghost use Rattle.vocabulary.specs.declared.calls.Reply.TheVariants.{MasterGone};
 ghost use Rattle.definitions.specs.Tree.{replies_to, order_replies};
 
-use definitions::{Call, Order, Reply};
+use vocabulary::{Call, Order, Reply};
 
 const OPENING: [Reply; 6] = [
     Reply::Opened,

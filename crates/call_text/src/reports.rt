@@ -6,7 +6,7 @@ use crate::answers::write_answer;
 use crate::calls::write_call;
 use crate::numbers::write_number;
 use crate::words::{note_text, side_text};
-use definitions::{Entry, Outcome, Report};
+use vocabulary::{Entry, Outcome, Report};
 use std::alloc::AllocError;
 
 fn write_outcome(out: &mut Vec<u8>, outcome: &Outcome) -> Result<(), AllocError>

@@ -2,7 +2,7 @@
 ghost use Rattle.std.specs.Prelude.{◌≡◌};
 ghost use Rattle.call_text.specs.Words.{fate_text, reply_text, end_text, note_text, side_text};
 
-use definitions::{End, Fate, PidNote, Reply, Side};
+use vocabulary::{End, Fate, PidNote, Reply, Side};
 
 /// The word of a fate.
 pub fn fate_text(fate: Fate) -> &'static str

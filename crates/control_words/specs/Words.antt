@@ -3,10 +3,10 @@ use Rattle.std.specs.Prelude.{⊤, ℕ, ◌+◌, ◌<◌, ◌^◌, ◌==◌, zer
 use Rattle.std.specs.Fmt.{decimal}
 use Rattle.std.specs.List.{before_first, after_first}
 use Rattle.listener_set.specs.NumberText.{number_of, number64_of}
-use Rattle.definitions.specs.Settings.{Settings}
+use Rattle.vocabulary.specs.Settings.{Settings}
 use Rattle.definitions.specs.Record.{Record}
-use Rattle.definitions.specs.declared.targets.Target.{Target}
-use Rattle.definitions.specs.declared.targets.Target.TheVariants as target
+use Rattle.vocabulary.specs.declared.targets.Target.{Target}
+use Rattle.vocabulary.specs.declared.targets.Target.TheVariants as target
 use Rattle.control_words.specs.declared.words.Word.{Word}
 use Rattle.control_words.specs.declared.words.Word.TheVariants.{Hup, Quit, Int, Term, Usr1, Usr2, Winch, Ttin, Ttou, Beat, Tick}
 use Rattle.control_words.specs.declared.refusal.WordRefusal.{WordRefusal}

@@ -5,7 +5,7 @@ ghost use Rattle.definitions.specs.Target.{IsTarget};
 ghost use Rattle.control_words.specs.Words.{target_of, settings_for};
 
 use crate::{Word, WordRefusal};
-use definitions::{Settings, Target};
+use vocabulary::{Settings, Target};
 use listener_set::{Numbers, WORKER_LIMIT};
 use service_state::Record;
 

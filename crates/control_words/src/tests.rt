@@ -1,6 +1,6 @@
 //! Words as they are read and written, and what they ask for.
 use super::*;
-use definitions::{Settings, Target};
+use vocabulary::{Settings, Target};
 use listener_set::{FilePath, Numbers};
 use service_state::Record;
 use std::test::Fail;

@@ -3,14 +3,14 @@ use Rattle.std.specs.Prelude.{ℕ, ◌+◌, ◌==◌, nat_lt, nat_le, Bool, true
 use Rattle.std.specs.List.{list_any}
 use Rattle.listener_set.specs.AddressList.{has}
 use Rattle.listener_set.specs.Numbers.{first_from}
-use Rattle.definitions.specs.Settings.{Settings}
+use Rattle.vocabulary.specs.Settings.{Settings}
 use Rattle.definitions.specs.Table.{Address, FilePath, Generation}
 use Rattle.definitions.specs.Tree.{Old, Target as TargetSide}
 use Rattle.definitions.specs.Record.{Listener, Record}
 use Rattle.definitions.specs.Path.{Report, Outcome}
-use Rattle.definitions.specs.declared.reports.Outcome.TheVariants as outcome
-pub use Rattle.definitions.specs.declared.targets.Target.{Target}
-use Rattle.definitions.specs.declared.targets.Target.TheVariants as target
+use Rattle.vocabulary.specs.declared.reports.Outcome.TheVariants as outcome
+pub use Rattle.vocabulary.specs.declared.targets.Target.{Target}
+use Rattle.vocabulary.specs.declared.targets.Target.TheVariants as target
 
 ---- Listeners that open and close
 

@@ -2,16 +2,16 @@
 use Rattle.std.specs.Prelude.{ℕ, ◌+◌, Bool, true, false, ◌&&◌, ◌==◌, nat_lt, not, List, [], ◌∷◌, ◌++◌, Option, Some, None, filter, count_by, length, if◌then◌else◌, zero, suc, bytes_eq, Result, Ok, Err}
 use Rattle.std.specs.List.{list_any, filter_map}
 use Rattle.listener_set.specs.Numbers.{numbers_below}
-use Rattle.definitions.specs.declared.table.Listener.{Listener}
+use Rattle.vocabulary.specs.declared.table.Listener.{Listener}
 use Rattle.definitions.specs.Handover.{Handover, HandoverRefusal, reading}
 use Rattle.definitions.specs.Table.{FilePath, File, owner_at, is_draining, Address, Generation, Hold, Starting, Ready, Draining, Process, Master, Worker, Foreign, Table, with_rows, is_starting, is_ready, is_active, is_exited, is_any, is_worker, is_own, is_at, is_held, Caller, live_master}
 use Rattle.definitions.specs.Exits.{change}
-pub use Rattle.definitions.specs.declared.calls.Call.{Call}
-pub use Rattle.definitions.specs.declared.calls.Call.TheVariants.{OpenAt, CloseAt, Fork, AwaitReady, Quit, Kill, Census, AwaitGone, SpawnMaster, Adopt, WritePid, MovePid, RemovePid, Alive, Leave, Usr1, TermMaster}
-pub use Rattle.definitions.specs.declared.calls.Answer.{Answer}
-pub use Rattle.definitions.specs.declared.calls.Answer.TheVariants as answer
-pub use Rattle.definitions.specs.declared.calls.Fate.{Fate}
-pub use Rattle.definitions.specs.declared.calls.Fate.TheVariants as fate
+pub use Rattle.vocabulary.specs.declared.calls.Call.{Call}
+pub use Rattle.vocabulary.specs.declared.calls.Call.TheVariants.{OpenAt, CloseAt, Fork, AwaitReady, Quit, Kill, Census, AwaitGone, SpawnMaster, Adopt, WritePid, MovePid, RemovePid, Alive, Leave, Usr1, TermMaster}
+pub use Rattle.vocabulary.specs.declared.calls.Answer.{Answer}
+pub use Rattle.vocabulary.specs.declared.calls.Answer.TheVariants as answer
+pub use Rattle.vocabulary.specs.declared.calls.Fate.{Fate}
+pub use Rattle.vocabulary.specs.declared.calls.Fate.TheVariants as fate
 
 -- What a call is answered, and the table then.
 pub record Stepped : Type 0 where

@@ -5,7 +5,7 @@ use Rattle.listener_set.specs.Numbers.{IsRising, RisesFrom, is_in}
 use Rattle.listener_set.specs.AddressList.{has}
 use Rattle.definitions.specs.Table.{FilePath, owner_at, is_own, Address, same_generation, Hold, Process, Master, Worker, Foreign, Table, Generation, is_ready, has_address}
 use Rattle.definitions.specs.Exits.{Name}
-use Rattle.definitions.specs.declared.names.Name.TheVariants as name
+use Rattle.vocabulary.specs.declared.names.Name.TheVariants as name
 use Rattle.definitions.specs.Formed.{IsFormed}
 use Rattle.definitions.specs.Service.{Service, is_live_with, service, IsSame}
 use Rattle.definitions.specs.Record.{Listener, Record, IsRecord, Agrees, PidNote, InPlace, AtOldbin, OldbinLeft, Left, NoFile, oldbin}
@@ -13,13 +13,13 @@ use Rattle.definitions.specs.Target.{Target, Workers, Mend, Reopen, Reload, Upgr
 use Rattle.definitions.specs.Tree.{Order, Make, ForkLacking, AwaitLacking, KillLacking, Reply, among, reply_of, Tree, Branches, Ends, Does, Nothing, Branch, height}
 use Rattle.definitions.specs.Plans.{plan_tree}
 use Rattle.definitions.specs.Path.{Report, Outcome, Entry}
-use Rattle.definitions.specs.declared.reports.Outcome.TheVariants as outcome
-use Rattle.definitions.specs.declared.plans.Side.TheVariants as side
+use Rattle.vocabulary.specs.declared.reports.Outcome.TheVariants as outcome
+use Rattle.vocabulary.specs.declared.plans.Side.TheVariants as side
 use Rattle.definitions.specs.After.{record_after, next_config, next_image}
 use Rattle.definitions.specs.Manner.{Manner, is_leave_call}
-use Rattle.definitions.specs.Settings.{Settings, IsInRange}
+use Rattle.vocabulary.specs.Settings.{Settings, IsInRange}
 use Rattle.definitions.specs.Calls.{Call, Answer, RemovePid}
-use Rattle.definitions.specs.declared.calls.Answer.TheVariants as answer
+use Rattle.vocabulary.specs.declared.calls.Answer.TheVariants as answer
 use Rattle.definitions.specs.Run.{report_of, run_with, Pattern, Progress, start_at, after_moment, after_call, noted, answered, Ran}
 
 ---- Where a run starts

@@ -2,8 +2,8 @@
 use Rattle.std.specs.Prelude.{ℕ, ◌-◌, Bool, true, false, ◌==◌, not, List, [], ◌∷◌, Option, Some, None, count_by, if◌then◌else◌}
 use Rattle.std.specs.List.{list_any, filter_map}
 use Rattle.definitions.specs.Table.{Generation, Exited, Process, Master, Worker, Foreign, Table, with_rows, is_active, is_draining, is_named, Caller, live_master, is_live_master}
-pub use Rattle.definitions.specs.declared.names.Name.{Name}
-pub use Rattle.definitions.specs.declared.names.Name.TheVariants as name
+pub use Rattle.vocabulary.specs.declared.names.Name.{Name}
+pub use Rattle.vocabulary.specs.declared.names.Name.TheVariants as name
 
 -- what becomes of a row that passes the test; the others stay
 abbrev pub change : (Process → Bool) → (Process → Process) → Process → Option Process

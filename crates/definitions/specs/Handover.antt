@@ -7,9 +7,9 @@ use Rattle.listener_set.specs.AddressText.{check}
 use Rattle.listener_set.specs.declared.address.AddressRefusal.{AddressRefusal}
 use Rattle.listener_set.specs.PathText.{is_path}
 use Rattle.definitions.specs.Table.{Address, FilePath, Generation}
-use Rattle.definitions.specs.declared.table.Listener.{Listener}
-pub use Rattle.definitions.specs.declared.handover.HandoverRefusal.{HandoverRefusal}
-pub use Rattle.definitions.specs.declared.handover.HandoverRefusal.TheVariants as refusal
+use Rattle.vocabulary.specs.declared.table.Listener.{Listener}
+pub use Rattle.vocabulary.specs.declared.handover.HandoverRefusal.{HandoverRefusal}
+pub use Rattle.vocabulary.specs.declared.handover.HandoverRefusal.TheVariants as refusal
 
 -- The old master's process number, the generation that is to run, the old master's listeners in ascending descriptors, the
 -- addresses that are wanted, how many workers, and the pid file.

@@ -2,10 +2,10 @@ pub mod Table
 pub mod Exits
 pub mod Handover
 pub mod Calls
-pub mod Settings
 pub mod Formed
 pub mod Service
 pub mod Record
+pub mod Start
 pub mod Target
 pub mod Tree
 pub mod Plans

@@ -4,12 +4,12 @@ use Rattle.std.specs.List.{list_any, AllByRecursion}
 use Rattle.listener_set.specs.Numbers.{is_in}
 use Rattle.definitions.specs.Table.{Generation, bears, Process, Master, Worker, Foreign, Table, number_of, is_ready, is_active}
 use Rattle.definitions.specs.Calls.{Call, Quit, Kill, AwaitGone, Leave, Usr1, Answer}
-use Rattle.definitions.specs.declared.calls.Answer.TheVariants as answer
+use Rattle.vocabulary.specs.declared.calls.Answer.TheVariants as answer
 use Rattle.definitions.specs.Record.{Record}
 use Rattle.definitions.specs.Target.{Target, Workers, Mend, Reopen, Reload, Upgrade, Stop}
 use Rattle.definitions.specs.Path.{Entry, Outcome}
-use Rattle.definitions.specs.declared.reports.Outcome.TheVariants as outcome
-use Rattle.definitions.specs.declared.plans.Side.TheVariants as side
+use Rattle.vocabulary.specs.declared.reports.Outcome.TheVariants as outcome
+use Rattle.vocabulary.specs.declared.plans.Side.TheVariants as side
 use Rattle.definitions.specs.Run.{Progress, Ran}
 
 ---- Processes

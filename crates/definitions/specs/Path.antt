@@ -2,12 +2,12 @@
 use Rattle.std.specs.Prelude.{ℕ, ◌+◌, ◌≡◌, Bool, true, false, not, List, [], ◌∷◌, ◌++◌, length, Option, Some, None, unwrap_or}
 use Rattle.listener_set.specs.Numbers.{lacks}
 use Rattle.definitions.specs.Calls.{Call, Answer}
-use Rattle.definitions.specs.declared.calls.Answer.TheVariants as answer
+use Rattle.vocabulary.specs.declared.calls.Answer.TheVariants as answer
 use Rattle.definitions.specs.Tree.{Reply, same_reply, reply_of, plain_reply, Old, Target, End, Done, RolledBack, ShortOld, ShortTarget, PidNote, call_of, Tree, Ends, Does, branch}
-pub use Rattle.definitions.specs.declared.reports.Entry.{Entry}
-pub use Rattle.definitions.specs.declared.reports.Report.{Report}
-pub use Rattle.definitions.specs.declared.reports.Outcome.{Outcome}
-use Rattle.definitions.specs.declared.reports.Outcome.TheVariants as outcome
+pub use Rattle.vocabulary.specs.declared.reports.Entry.{Entry}
+pub use Rattle.vocabulary.specs.declared.reports.Report.{Report}
+pub use Rattle.vocabulary.specs.declared.reports.Outcome.{Outcome}
+use Rattle.vocabulary.specs.declared.reports.Outcome.TheVariants as outcome
 
 -- How far a path has come: the rest of the tree, or nothing where the last answer had no edge; the last count and what it
 -- lacked of its set; the note; the first call that went wrong, counted from 1; and how many calls were made.

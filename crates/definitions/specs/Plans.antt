@@ -7,8 +7,8 @@ use Rattle.definitions.specs.Record.{Record, PidNote, InPlace, AtOldbin, OldbinL
 use Rattle.definitions.specs.Target.{Target, Workers, Mend, Reopen, Reload, Upgrade, Stop, only_in, reload_generation, upgrade_generation}
 use Rattle.definitions.specs.After.{next_config}
 use Rattle.definitions.specs.Tree.{Reply, plain_reply, replies_to, Side, End, Done, RolledBack, ShortOld, ShortTarget, Make, ForkLacking, AwaitLacking, KillLacking, Tree, Branches, Ends, Does, Nothing, Branch}
-use Rattle.definitions.specs.declared.plans.Side.TheVariants as side
-use Rattle.definitions.specs.declared.calls.Reply.TheVariants as reply
+use Rattle.vocabulary.specs.declared.plans.Side.TheVariants as side
+use Rattle.vocabulary.specs.declared.calls.Reply.TheVariants as reply
 
 ---- Edges
 

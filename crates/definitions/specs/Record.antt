@@ -2,11 +2,11 @@
 use Rattle.std.specs.Prelude.{ℕ, ◌≡◌, ◌≤◌, ◌<◌, ◌+◌, ◌++◌, true, List, [], ◌∷◌, Option, Some, None, map, length, count_by, is_some, codes, ⊤}
 use Rattle.std.specs.List.{list_any, AllByRecursion}
 use Rattle.listener_set.specs.Numbers.{is_in}
-pub use Rattle.definitions.specs.declared.table.Listener.{Listener}
-use Rattle.definitions.specs.Settings.{Settings, HasSuffixRoom}
+pub use Rattle.vocabulary.specs.declared.table.Listener.{Listener}
+use Rattle.vocabulary.specs.Settings.{Settings, HasSuffixRoom}
 use Rattle.definitions.specs.Table.{Address, FilePath, Generation, Hold, Starting, Ready, Draining, Exited, Process, Master, Worker, Foreign, File, Table, is_master, is_ready, is_worker, live_master, owner_at}
-pub use Rattle.definitions.specs.declared.plans.PidNote.{PidNote}
-pub use Rattle.definitions.specs.declared.plans.PidNote.TheVariants.{InPlace, AtOldbin, OldbinLeft, Left, NoFile}
+pub use Rattle.vocabulary.specs.declared.plans.PidNote.{PidNote}
+pub use Rattle.vocabulary.specs.declared.plans.PidNote.TheVariants.{InPlace, AtOldbin, OldbinLeft, Left, NoFile}
 
 pub record Record : Type 0 where
   -- in ascending descriptors

@@ -5,8 +5,8 @@ use Rattle.definitions.specs.Exits.{Name, after_exits, losses_of}
 use Rattle.definitions.specs.Calls.{Call, Answer, Fate, Stepped, step, step_with}
 use Rattle.definitions.specs.Tree.{Reply, among, reply_of, same_reply, plain_reply, End, PidNote, Order, call_of, Tree, Branches, Ends, Does, Nothing, Branch}
 use Rattle.definitions.specs.Path.{Report, Outcome, outcome_at, Entry, ready_after, lacking_after, went_wrong, first_cause}
-use Rattle.definitions.specs.declared.calls.Answer.TheVariants as answer
-use Rattle.definitions.specs.declared.reports.Outcome.TheVariants as outcome
+use Rattle.vocabulary.specs.declared.calls.Answer.TheVariants as answer
+use Rattle.vocabulary.specs.declared.reports.Outcome.TheVariants as outcome
 
 -- What happens at one call: who exits before it, and how it is made to fail.
 pub record Moment : Type 0 where

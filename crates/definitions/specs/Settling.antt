@@ -6,9 +6,9 @@ use Rattle.listener_set.specs.AddressList.{has}
 use Rattle.definitions.specs.Table.{Address, Generation, Hold, Process, Master, Worker, Foreign, Table, live_master, is_worker, is_ready}
 use Rattle.definitions.specs.Formed.{IsFormed}
 use Rattle.definitions.specs.Record.{IsRunning}
-use Rattle.definitions.specs.declared.table.Stance.TheVariants.{Starting, Ready, Draining, Exited}
+use Rattle.vocabulary.specs.declared.table.Stance.TheVariants.{Starting, Ready, Draining, Exited}
 use Rattle.definitions.specs.Tree.{Side, Tree}
-use Rattle.definitions.specs.declared.plans.Side.TheVariants as side
+use Rattle.vocabulary.specs.declared.plans.Side.TheVariants as side
 use Rattle.definitions.specs.Plans.{settle, starts, quits, closes, workers_tree, reload_back, full_end, short_end}
 use Rattle.definitions.specs.Target.{reload_generation}
 use Rattle.definitions.specs.Run.{Pattern, Progress, Ending, At, Ran, run_with}

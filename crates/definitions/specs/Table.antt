@@ -2,9 +2,9 @@
 use Rattle.std.specs.Prelude.{ℕ, Bool, true, false, ◌&&◌, ◌==◌, List, [], ◌∷◌, Option, Some, None, bytes_eq}
 use Rattle.std.specs.List.{list_any}
 pub use Rattle.listener_set.specs.declared.generation.Generation.{Generation}
-pub use Rattle.definitions.specs.declared.table.Stance.{Stance}
-pub use Rattle.definitions.specs.declared.table.Stance.TheVariants.{Starting, Ready, Draining, Exited}
-pub use Rattle.definitions.specs.declared.table.Limits.{Limits}
+pub use Rattle.vocabulary.specs.declared.table.Stance.{Stance}
+pub use Rattle.vocabulary.specs.declared.table.Stance.TheVariants.{Starting, Ready, Draining, Exited}
+pub use Rattle.vocabulary.specs.declared.table.Limits.{Limits}
 
 -- An address is its text, and so is a path.
 abbrev pub Address : Type 0

@@ -3,11 +3,11 @@ use Rattle.std.specs.Prelude.{⊤, ℕ, ◌≤◌, ◌+◌, not, List, [], lengt
 use Rattle.definitions.specs.Table.{Address, Generation}
 use Rattle.listener_set.specs.AddressList.{has}
 use Rattle.definitions.specs.Handover.{Handover, spelling}
-use Rattle.definitions.specs.Settings.{Settings}
+use Rattle.vocabulary.specs.Settings.{Settings}
 use Rattle.definitions.specs.Service.{Service, uniform}
 use Rattle.definitions.specs.Record.{Record, addresses_of}
-pub use Rattle.definitions.specs.declared.targets.Target.{Target}
-pub use Rattle.definitions.specs.declared.targets.Target.TheVariants.{Workers, Mend, Reopen, Reload, Upgrade, Stop}
+pub use Rattle.vocabulary.specs.declared.targets.Target.{Target}
+pub use Rattle.vocabulary.specs.declared.targets.Target.TheVariants.{Workers, Mend, Reopen, Reload, Upgrade, Stop}
 
 -- A number of workers that is wanted is at most 1024. What settings say is in range by itself.
 abbrev pub IsTarget : Target → Type 0

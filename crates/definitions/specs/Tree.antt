@@ -3,18 +3,18 @@ use Rattle.std.specs.Prelude.{ℕ, suc, max, Bool, true, false, ◌&&◌, ◌||�
 use Rattle.std.specs.List.{list_any, list_all}
 use Rattle.listener_set.specs.Numbers.{lacks}
 use Rattle.definitions.specs.Calls.{Call, OpenAt, CloseAt, Fork, AwaitReady, Quit, Kill, Census, AwaitGone, SpawnMaster, Adopt, WritePid, MovePid, RemovePid, Alive, Leave, Usr1, TermMaster, Answer}
-use Rattle.definitions.specs.declared.calls.Answer.TheVariants as answer
-pub use Rattle.definitions.specs.declared.calls.Reply.{Reply}
-pub use Rattle.definitions.specs.declared.calls.Reply.TheVariants as reply
-pub use Rattle.definitions.specs.declared.plans.Side.{Side}
-pub use Rattle.definitions.specs.declared.plans.Side.TheVariants.{Old, Target}
-pub use Rattle.definitions.specs.declared.plans.End.{End}
-pub use Rattle.definitions.specs.declared.plans.End.TheVariants.{Done, RolledBack, ShortOld, ShortTarget}
-pub use Rattle.definitions.specs.declared.plans.PidNote.{PidNote}
-pub use Rattle.definitions.specs.declared.plans.Order.{Order}
-pub use Rattle.definitions.specs.declared.plans.Order.TheVariants.{Make, ForkLacking, AwaitLacking, KillLacking}
+use Rattle.vocabulary.specs.declared.calls.Answer.TheVariants as answer
+pub use Rattle.vocabulary.specs.declared.calls.Reply.{Reply}
+pub use Rattle.vocabulary.specs.declared.calls.Reply.TheVariants as reply
+pub use Rattle.vocabulary.specs.declared.plans.Side.{Side}
+pub use Rattle.vocabulary.specs.declared.plans.Side.TheVariants.{Old, Target}
+pub use Rattle.vocabulary.specs.declared.plans.End.{End}
+pub use Rattle.vocabulary.specs.declared.plans.End.TheVariants.{Done, RolledBack, ShortOld, ShortTarget}
+pub use Rattle.vocabulary.specs.declared.plans.PidNote.{PidNote}
+pub use Rattle.vocabulary.specs.declared.plans.Order.{Order}
+pub use Rattle.vocabulary.specs.declared.plans.Order.TheVariants.{Make, ForkLacking, AwaitLacking, KillLacking}
 use denote.Enum.Bare.{sameb}
-use Rattle.definitions.specs.contracts.calls.Reply.{the_type}
+use Rattle.vocabulary.specs.contracts.calls.Reply.{the_type}
 
 -- An end; or a step: the master that makes it, by its image, what it asks for, the set that a census of it must contain, and
 -- what follows each reply.

@@ -4,8 +4,8 @@ use Rattle.std.specs.Prelude.{⊤}
 use Rattle.std.specs.List.{slice_split, onto_first, count_by}
 use Rattle.std.proofs.lemmas.Result.{IfOk-at_ok}
 use Rattle.std.proofs.lemmas.List.Splits.{length-slice_split}
-use Rattle.definitions.specs.declared.handover.HandoverRefusal.{HandoverRefusal}
-use Rattle.definitions.specs.declared.handover.HandoverRefusal.TheVariants as refusal
+use Rattle.vocabulary.specs.declared.handover.HandoverRefusal.{HandoverRefusal}
+use Rattle.vocabulary.specs.declared.handover.HandoverRefusal.TheVariants as refusal
 use Rattle.definitions.specs.Handover.{Handover, Place, AtVersion, AtOldPid, AtGeneration, AtFirstListener, AtListeners, AtWants, AtPidFile, AtEnd, Over, Read, nothing_read, read_line, then_read, read_rest, read_pieces, reading, spelling}
 use Rattle.handover_text.specs.Ranges.{IsHandover}
 use Rattle.handover_text.proofs.SoFar.{is_newline, reading_in_range}

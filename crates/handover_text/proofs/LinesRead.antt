@@ -11,7 +11,7 @@ use Rattle.listener_set.specs.AddressText.{reading, check, accepted}
 use Rattle.listener_set.specs.declared.address.AddressRefusal.{AddressRefusal}
 use Rattle.listener_set.specs.AddressList.{has}
 use Rattle.listener_set.proofs.NumberTextLemmas.{decimal-number_of}
-use Rattle.definitions.specs.declared.table.Listener.{Listener}
+use Rattle.vocabulary.specs.declared.table.Listener.{Listener}
 use Rattle.definitions.specs.After.{listens_on}
 use Rattle.definitions.specs.Handover.{Handover, AtListeners, AtWants, passes, number_if_within, number_within, is_space, is_address, is_above, listener_if, listener_read, with_listener, with_want}
 

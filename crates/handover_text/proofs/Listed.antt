@@ -10,7 +10,7 @@ use Rattle.std.proofs.lemmas.List.Elements.{filter_more}
 use Rattle.std.proofs.lemmas.List.Folds.{list_any_at, Any-from_list_any}
 use Rattle.std.proofs.lemmas.List.Sums.{length-filter, count_by-le-length}
 use Rattle.listener_set.specs.AddressList.{blank, has, AreDistinct}
-use Rattle.definitions.specs.declared.table.Listener.{Listener}
+use Rattle.vocabulary.specs.declared.table.Listener.{Listener}
 use Rattle.definitions.specs.Record.{listeners_from}
 use Rattle.definitions.specs.After.{listens_on, listener_at, opened_from, added, opened, all_opened}
 use Rattle.definitions.specs.Handover.{is_above}

@@ -13,11 +13,11 @@ use Rattle.listener_set.specs.NumberText.{number_of}
 use Rattle.listener_set.specs.PathText.{is_path, begins_with_slash}
 use Rattle.listener_set.specs.AddressList.{has}
 use Rattle.listener_set.proofs.AddressLists.{has_address}
-use Rattle.definitions.specs.declared.handover.HandoverRefusal.{HandoverRefusal}
-use Rattle.definitions.specs.declared.table.Listener.{Listener}
+use Rattle.vocabulary.specs.declared.handover.HandoverRefusal.{HandoverRefusal}
+use Rattle.vocabulary.specs.declared.table.Listener.{Listener}
 use Rattle.definitions.specs.After.{listens_on}
 use Rattle.definitions.specs.Handover.{Handover, Place, AtVersion, AtOldPid, AtGeneration, AtFirstListener, AtListeners, AtWants, AtPidFile, AtEnd, Over, Read, after_prefix, nothing_read, then_read, read_rest, read_pieces, reading, number_within, is_space, is_address, is_above, listener_read, with_old_pid, with_generation, with_listener, with_want, with_workers, with_pid_file, read_end, read_if, read_line}
-use Rattle.definitions.specs.Settings.{HasSuffixRoom}
+use Rattle.vocabulary.specs.Settings.{HasSuffixRoom}
 use Rattle.handover_text.specs.Reader.{read_to}
 use Rattle.handover_text.specs.Ranges.{IsHandover, AreParts, IsReadTo, lines_to, is_path_if}
 use Rattle.handover_text.proofs.Listed.{AreListedFrom-push, length-listed}

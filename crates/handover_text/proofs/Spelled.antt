@@ -14,8 +14,8 @@ use Rattle.listener_set.specs.NumberText.{number_of}
 use Rattle.listener_set.specs.PathText.{is_path}
 use Rattle.listener_set.specs.AddressList.{has}
 use Rattle.listener_set.proofs.NumberTextLemmas.{decimal-number_of}
-use Rattle.definitions.specs.declared.handover.HandoverRefusal.{HandoverRefusal}
-use Rattle.definitions.specs.declared.table.Listener.{Listener}
+use Rattle.vocabulary.specs.declared.handover.HandoverRefusal.{HandoverRefusal}
+use Rattle.vocabulary.specs.declared.table.Listener.{Listener}
 use Rattle.definitions.specs.After.{listens_on}
 use Rattle.definitions.specs.Handover.{Handover, Place, AtVersion, AtOldPid, AtGeneration, AtFirstListener, AtListeners, AtWants, AtPidFile, AtEnd, Over, Read, nothing_read, line_of, listener_line, want_line, pid_file_line, spelling, after_prefix, is_space, is_address, is_above, number_if_within, number_within, listener_if, listener_read, with_old_pid, with_generation, with_listener, with_want, with_workers, with_pid_file, read_version, read_end, read_if, read_line, then_read, read_rest, read_pieces, reading}
 use Rattle.handover_text.proofs.SoFar.{IfRead}

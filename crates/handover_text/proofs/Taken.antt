@@ -19,8 +19,8 @@ use Rattle.listener_set.specs.PathText.{is_path, begins_with_slash}
 use Rattle.listener_set.specs.AddressList.{AreDistinct, has}
 use Rattle.listener_set.proofs.NumberTextLemmas.{number_of-decimal}
 use Rattle.listener_set.proofs.AddressGrammar.{graphic_from_reading, digit_apart, decimal_all, before_first-at, after_first-at}
-use Rattle.definitions.specs.declared.handover.HandoverRefusal.TheVariants as refusal
-use Rattle.definitions.specs.declared.table.Listener.{Listener}
+use Rattle.vocabulary.specs.declared.handover.HandoverRefusal.TheVariants as refusal
+use Rattle.vocabulary.specs.declared.table.Listener.{Listener}
 use Rattle.definitions.specs.After.{listens_on}
 use Rattle.definitions.specs.Handover.{Handover, Place, AtVersion, AtOldPid, AtGeneration, AtFirstListener, AtListeners, AtWants, AtPidFile, AtEnd, Over, nothing_read, line_of, listener_line, want_line, pid_file_line, spelling, passes, is_space, is_address, is_above, number_if_within, number_within, listener_if, listener_read, with_old_pid, with_generation, with_listener, with_want, with_workers, read_line, then_read, read_pieces, reading}
 use Rattle.handover_text.specs.Listeners.{AreListedFrom}

@@ -1,7 +1,7 @@
 -- The listeners of a running master.
 use Rattle.std.specs.Prelude.{◌≡◌, ℕ, ◌+◌, ◌-◌, ◌<◌, ◌≤◌, false, List, [], ◌∷◌, length, take, drop, replicate}
 use Rattle.listener_set.specs.AddressList.{blank}
-use Rattle.definitions.specs.declared.table.Listener.{Listener}
+use Rattle.vocabulary.specs.declared.table.Listener.{Listener}
 use Rattle.definitions.specs.After.{listens_on}
 
 -- Descriptors rise, from a first one on, and stay below 67, and no address comes twice.

@@ -1,6 +1,6 @@
 -- The kept listeners are given back by their list.
 use Rattle.std.proofs.Common.{◌≡◌, ℕ, ◌-◌, List, ◌++◌, length, take, replicate, arith, take-append-drop, length-take-le}
-use Rattle.definitions.specs.declared.table.Listener.{Listener}
+use Rattle.vocabulary.specs.declared.table.Listener.{Listener}
 use Rattle.handover_text.specs.Listeners.{AreKept, blank_listener}
 
 pub length-kept : (items : List Listener) (len : ℕ) → AreKept items len → length (take len items) ≡ len

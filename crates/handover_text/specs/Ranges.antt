@@ -3,7 +3,7 @@ use Rattle.std.specs.Prelude.{ℕ, ◌≡◌, ◌+◌, ◌≤◌, true, Bool, Op
 use Rattle.std.specs.List.{list_all}
 use Rattle.listener_set.specs.AddressList.{AreDistinct}
 use Rattle.listener_set.specs.PathText.{is_path}
-use Rattle.definitions.specs.Settings.{HasSuffixRoom}
+use Rattle.vocabulary.specs.Settings.{HasSuffixRoom}
 use Rattle.definitions.specs.Table.{FilePath}
 use Rattle.definitions.specs.Handover.{Handover, Place, AtVersion, AtOldPid, AtGeneration, AtFirstListener, AtListeners, AtWants, AtPidFile, AtEnd, Over, is_address}
 use Rattle.handover_text.specs.Listeners.{AreListed}

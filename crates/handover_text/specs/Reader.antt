@@ -1,7 +1,7 @@
 -- What a reader of a handover knows: which lines can come next, and what was read so far.
 use Rattle.std.specs.Prelude.{Result, Ok, Err}
 use Rattle.definitions.specs.Handover.{Place, Handover, Read, AtVersion, AtOldPid, AtGeneration, AtFirstListener, AtListeners, AtWants, AtPidFile, AtEnd, Over}
-use Rattle.definitions.specs.declared.handover.HandoverRefusal.{HandoverRefusal}
+use Rattle.vocabulary.specs.declared.handover.HandoverRefusal.{HandoverRefusal}
 use Rattle.handover_text.specs.declared.reader.Next.{Next}
 use Rattle.handover_text.specs.declared.reader.Next.TheVariants as next
 

@@ -1,7 +1,7 @@
 //! What holds of the texts of handovers.
 ghost use Rattle.std.specs.Prelude.{◌≡◌, ◌++◌, ◌∷◌, [], ℕ, List, Ok, Err, IfOk};
 ghost use Rattle.definitions.specs.Handover.{Handover as Told, reading, spelling};
-ghost use Rattle.definitions.specs.declared.handover.HandoverRefusal.{HandoverRefusal};
+ghost use Rattle.vocabulary.specs.declared.handover.HandoverRefusal.{HandoverRefusal};
 ghost use Rattle.handover_text.specs.Ranges.{IsHandover};
 
 /// A handover has one text, and no such text begins another one.

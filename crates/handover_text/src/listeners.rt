@@ -6,7 +6,7 @@ ghost use Rattle.definitions.specs.After.{listener_at, listens_on, opened_from, 
 ghost use Rattle.definitions.specs.Handover.{is_above};
 ghost use Rattle.handover_text.specs.Listeners.{AreListed};
 
-use definitions::Listener;
+use vocabulary::Listener;
 use listener_set::{Address, FIRST_DESCRIPTOR, ListenerSet, MOST_DESCRIPTORS};
 use std::marker::Model;
 
@@ -19,7 +19,7 @@ pub struct Listeners {
 
 impl Model for Listeners {
     ghost use Rattle.std.specs.Prelude.{◌-◌, ◌++◌, List, take, length, replicate};
-    ghost use Rattle.definitions.specs.declared.table.Listener.{Listener as Listed};
+    ghost use Rattle.vocabulary.specs.declared.table.Listener.{Listener as Listed};
     ghost use Rattle.handover_text.specs.Listeners.{AreKept, blank_listener};
     ghost use Rattle.handover_text.specs.ListenersLemmas.{kept_again, length-kept};
 

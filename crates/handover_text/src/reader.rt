@@ -6,7 +6,7 @@ ghost use Rattle.handover_text.specs.Reader.{read_to};
 
 use crate::fields::{after_prefix, around_space, number_within, read_listener};
 use crate::{Handover, Listeners};
-use definitions::HandoverRefusal;
+use vocabulary::HandoverRefusal;
 use listener_set::{Address, FilePath, Generation, ListenerSet, MOST_LISTENERS, read_number};
 use std::marker::Model;
 

@@ -6,7 +6,7 @@ ghost use Rattle.handover_text.specs.Ranges.{IsHandover};
 use crate::Handover;
 use crate::fields::first_place;
 use crate::reader::Reader;
-use definitions::HandoverRefusal;
+use vocabulary::HandoverRefusal;
 
 /// Reads a handover. Each line ends in a newline, and has single spaces: `handover 1`; `old-pid` and a process number
 /// from 1 to 4,294,967,295; `generation` and two numbers from 0 to 4,294,967,295; from 1 to 64 lines of `listener`, a

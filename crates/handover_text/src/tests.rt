@@ -1,6 +1,6 @@
 //! What no clause says: the texts themselves.
 use crate::{Handover, Listeners, handovers_have_one_text, read, write};
-use definitions::HandoverRefusal;
+use vocabulary::HandoverRefusal;
 use listener_set::{Address, FilePath, Generation, ListenerSet};
 use std::process::Abort;
 use std::test::Fail;

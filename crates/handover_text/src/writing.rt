@@ -3,13 +3,13 @@ ghost use Rattle.std.specs.Prelude.{◌≡◌, ◌≤◌, ◌++◌, ◌∷◌, t
 ghost use Rattle.std.specs.Fmt.{decimal};
 ghost use Rattle.std.specs.List.{flat_map, list_all};
 ghost use Rattle.listener_set.specs.AddressList.{AreDistinct};
-ghost use Rattle.definitions.specs.Settings.{HasSuffixRoom};
+ghost use Rattle.vocabulary.specs.Settings.{HasSuffixRoom};
 ghost use Rattle.definitions.specs.Handover.{line_of, listener_line, want_line, pid_file_line, spelling, reading, is_address};
 ghost use Rattle.handover_text.specs.Listeners.{AreListed};
 ghost use Rattle.handover_text.specs.Ranges.{is_path_if};
 
 use crate::{Handover, Listeners};
-use definitions::Listener;
+use vocabulary::Listener;
 use itoa::Buffer;
 use listener_set::{Address, FilePath, Generation, ListenerSet};
 use std::alloc::{AllocError, Global};

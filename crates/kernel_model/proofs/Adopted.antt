@@ -4,7 +4,7 @@ use Rattle.std.specs.Prelude.{bytes_eq}
 use Rattle.std.proofs.lemmas.Bool.{false≢true}
 use Rattle.std.proofs.lemmas.Bool.Decides.{nat_tests}
 use Rattle.std.proofs.lemmas.Slice.Eq.{bytes_eq-Decides}
-use Rattle.definitions.specs.declared.table.Listener.{Listener}
+use Rattle.vocabulary.specs.declared.table.Listener.{Listener}
 use Rattle.definitions.specs.Table.{Hold}
 use Rattle.definitions.specs.Record.{listener_of}
 use Rattle.definitions.specs.Handover.{Handover}

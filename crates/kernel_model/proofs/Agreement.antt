@@ -9,7 +9,7 @@ use Rattle.listener_set.specs.Numbers.{is_in, first_from, without_number, RisesF
 use Rattle.listener_set.specs.Descriptors.{descriptors_of, socket_of}
 use Rattle.listener_set.proofs.Rising.{is_in-below}
 use Rattle.definitions.specs.Table.{Address, Hold, Process, Caller, Table, live_master}
-use Rattle.definitions.specs.declared.table.Listener.{Listener}
+use Rattle.vocabulary.specs.declared.table.Listener.{Listener}
 use Rattle.definitions.specs.Record.{Agrees, listener_of}
 use Rattle.kernel_model.specs.declared.process.Holder.{Holder}
 use Rattle.kernel_model.specs.Holds.{seen_hold, seen_holds}

@@ -9,7 +9,7 @@ use Rattle.std.proofs.lemmas.List.Sums.{sum_by-cons}
 use Rattle.std.proofs.lemmas.List.Folds.{list_any-append}
 use Rattle.listener_set.specs.Numbers.{numbers_below, is_in}
 use Rattle.listener_set.specs.Descriptors as pairs
-use Rattle.definitions.specs.declared.table.Limits.{Limits}
+use Rattle.vocabulary.specs.declared.table.Limits.{Limits}
 use Rattle.definitions.specs.Table.{Address, FilePath, Generation, same_generation, Hold, Process, Master, is_active, is_worker}
 use Rattle.definitions.specs.Record.{first_generation}
 use Rattle.definitions.specs.Calls.{is_image}
@@ -18,7 +18,8 @@ use Rattle.kernel_model.specs.Holds.{address_of, seen_hold, seen_holds}
 use Rattle.kernel_model.specs.declared.store.Store.{Store}
 use Rattle.kernel_model.specs.Seen.{seen_rows, seen_file, seen}
 use Rattle.kernel_model.specs.Room.{HasSockets, IsKept, IsSound}
-use Rattle.kernel_model.specs.Boot.{first_pairs, holds_from, first_worker, first_rows, first_files, booted}
+use Rattle.definitions.specs.Start.{holds_from, first_worker, first_rows, first_files, booted}
+use Rattle.kernel_model.specs.Boot.{first_pairs}
 use Rattle.kernel_model.proofs.Lists.{list_any-map, map-push}
 use Rattle.kernel_model.proofs.CallSteps.{all-append, ascending-append, count-append, and-both}
 

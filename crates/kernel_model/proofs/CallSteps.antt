@@ -5,7 +5,7 @@ use Rattle.std.proofs.lemmas.Bool.{true≢false, false≢true}
 use Rattle.std.proofs.lemmas.Bool.Decides.{nat_tests}
 use Rattle.std.proofs.lemmas.List.Sums.{sum_by-cons}
 use Rattle.std.proofs.lemmas.List.Folds.{list_any-append}
-use Rattle.definitions.specs.declared.table.Stance.TheVariants.{Starting}
+use Rattle.vocabulary.specs.declared.table.Stance.TheVariants.{Starting}
 use Rattle.definitions.specs.Table.{Generation, same_generation, Hold, Process, Master, Worker, Foreign, number_of, holds_of, is_active, is_worker, is_live_master, Caller, live_master, caller_if}
 use Rattle.definitions.specs.Exits.{change}
 use Rattle.definitions.specs.Calls.{is_image, with_holds, put_hold, is_row}

@@ -1,12 +1,12 @@
 -- Calls keep what every table keeps.
 use Rattle.std.proofs.Common.{◌≡◌, ℕ, ◌≤◌, Bool, true, false, cond, nat_lt, List, length, Option, Some, None, refl, arith}
 use Rattle.std.specs.List.{list_any}
-use Rattle.definitions.specs.declared.table.Stance.TheVariants.{Starting}
-use Rattle.definitions.specs.declared.calls.Call.{Call}
-use Rattle.definitions.specs.declared.calls.Call.TheVariants.{OpenAt, CloseAt, Fork, AwaitReady, Quit, Kill, Census, AwaitGone, SpawnMaster, Adopt, WritePid, MovePid, RemovePid, Alive, Leave, Usr1, TermMaster}
-use Rattle.definitions.specs.declared.calls.Answer.{Answer}
-use Rattle.definitions.specs.declared.calls.Fate.{Fate}
-use Rattle.definitions.specs.declared.names.Name.{Name}
+use Rattle.vocabulary.specs.declared.table.Stance.TheVariants.{Starting}
+use Rattle.vocabulary.specs.declared.calls.Call.{Call}
+use Rattle.vocabulary.specs.declared.calls.Call.TheVariants.{OpenAt, CloseAt, Fork, AwaitReady, Quit, Kill, Census, AwaitGone, SpawnMaster, Adopt, WritePid, MovePid, RemovePid, Alive, Leave, Usr1, TermMaster}
+use Rattle.vocabulary.specs.declared.calls.Answer.{Answer}
+use Rattle.vocabulary.specs.declared.calls.Fate.{Fate}
+use Rattle.vocabulary.specs.declared.names.Name.{Name}
 use Rattle.definitions.specs.Table.{Address, FilePath, File, owner_at, Generation, Hold, Process, Master, Worker, Table, with_rows, is_active, is_starting, is_exited, is_any, is_worker, is_held, Caller, live_master}
 use Rattle.definitions.specs.Exits.{after_exits}
 use Rattle.definitions.specs.Calls.{is_image, opened, forked, spawned, awaited, killed, moved_if, asked_alive, suits, with_files, Stepped, made_ready, made_draining, with_holds, lacks_address, lowest_free, is_of, is_exited_of, has_process_room, with_new_row, with_new_socket, own_step, fault_at, fault_or_own, step_by, step_with}

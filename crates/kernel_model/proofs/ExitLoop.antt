@@ -1,7 +1,7 @@
 -- Exits, one after another.
 use Rattle.std.proofs.Common.{◌≡◌, ℕ, ◌+◌, ◌<◌, List, [], ◌∷◌, length, get_or, drop, sym, ap, subst, ◌∙◌, arith}
 use Rattle.std.proofs.lemmas.List.{drop_more}
-use Rattle.definitions.specs.declared.names.Name.{Name}
+use Rattle.vocabulary.specs.declared.names.Name.{Name}
 use Rattle.definitions.specs.Table.{Table, with_rows}
 use Rattle.definitions.specs.Exits.{exited, after_exits}
 use Rattle.kernel_model.specs.declared.store.Store.{Store}

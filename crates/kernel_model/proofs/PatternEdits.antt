@@ -3,8 +3,8 @@ use Rattle.std.proofs.Common.{◌≡◌, ℕ, ◌<◌, ◌≤◌, cond, nat_eq, 
 use Rattle.std.specs.List.{insert}
 use Rattle.std.proofs.Math.Seq.{map-set_same}
 use Rattle.std.proofs.lemmas.List.{get_or_default}
-use Rattle.definitions.specs.declared.names.Name.{Name}
-use Rattle.definitions.specs.declared.calls.Fate.{Fate}
+use Rattle.vocabulary.specs.declared.names.Name.{Name}
+use Rattle.vocabulary.specs.declared.calls.Fate.{Fate}
 use Rattle.definitions.specs.Run.{Moment, quiet}
 use Rattle.kernel_model.specs.declared.pattern.Event.{Event}
 use Rattle.kernel_model.specs.Pattern.{moment_at, with_exit, with_fate, IsNameWithin, AreNamesWithin, IsEvent, IsPattern}

@@ -4,10 +4,10 @@ use Rattle.std.specs.List.{AllByRecursion, filter_map, cons_option, list_any}
 use Rattle.std.specs.Prelude.{IfSome}
 use Rattle.std.proofs.lemmas.Bool.{false≢true}
 use Rattle.std.proofs.lemmas.Bool.Decides.{nat_tests}
-use Rattle.definitions.specs.declared.table.Stance.{Stance}
-use Rattle.definitions.specs.declared.table.Stance.TheVariants.{Starting, Ready, Draining, Exited}
-use Rattle.definitions.specs.declared.names.Name.{Name}
-use Rattle.definitions.specs.declared.names.Name.TheVariants as name
+use Rattle.vocabulary.specs.declared.table.Stance.{Stance}
+use Rattle.vocabulary.specs.declared.table.Stance.TheVariants.{Starting, Ready, Draining, Exited}
+use Rattle.vocabulary.specs.declared.names.Name.{Name}
+use Rattle.vocabulary.specs.declared.names.Name.TheVariants as name
 use Rattle.definitions.specs.Table.{Address, Generation, Hold, Process, Master, Worker, Foreign, is_active, is_starting, is_draining, is_named, is_worker, is_live_master, is_at, Caller, live_master}
 use Rattle.definitions.specs.Exits.{change, made_exited, worker_exits, draining_exits, kept_if, without_exited, caller_exits, exited, all_exited, first_changed}
 use Rattle.definitions.specs.Calls.{dropped, made_ready, made_draining, with_holds, lacks_address, is_exited_of}

@@ -1,8 +1,8 @@
 -- Patterns by the moments that are not quiet.
 use Rattle.std.specs.Prelude.{ℕ, ◌≡◌, ◌≤◌, ◌<◌, ◌+◌, ◌==◌, List, [], ◌∷◌, ◌++◌, Some, if◌then◌else◌}
-use Rattle.definitions.specs.declared.names.Name.{Name}
-use Rattle.definitions.specs.declared.names.Name.TheVariants.{Worker, Draining, Master}
-use Rattle.definitions.specs.declared.calls.Fate.{Fate}
+use Rattle.vocabulary.specs.declared.names.Name.{Name}
+use Rattle.vocabulary.specs.declared.names.Name.TheVariants.{Worker, Draining, Master}
+use Rattle.vocabulary.specs.declared.calls.Fate.{Fate}
 use Rattle.definitions.specs.Run.{Moment, quiet, Pattern}
 use Rattle.kernel_model.specs.declared.moments.Moment.{Moment as Lent}
 

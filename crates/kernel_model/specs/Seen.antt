@@ -1,6 +1,6 @@
 -- What the kernel's rows stand for: the table of the definitions.
 use Rattle.std.specs.Prelude.{ℕ, ◌+◌, ◌==◌, Bool, true, false, List, map, length, Option, Some, None}
-use Rattle.definitions.specs.declared.table.Stance.{Stance}
+use Rattle.vocabulary.specs.declared.table.Stance.{Stance}
 use Rattle.definitions.specs.Table.{Address, Hold, Process, Master, Worker, Foreign, Caller, File, Table, is_starting, is_ready, is_active, is_draining, is_exited, is_any}
 use Rattle.kernel_model.specs.Holds.{seen_holds}
 use Rattle.kernel_model.specs.declared.process.Row.{Row}

@@ -4,12 +4,13 @@ ghost use Rattle.definitions.specs.Table.{Hold};
 ghost use Rattle.kernel_model.specs.Holds.{seen_holds};
 ghost use Rattle.kernel_model.specs.Seen.{process_of, seen, seen_rows, seen_file};
 ghost use Rattle.kernel_model.specs.Room.{IsSound};
-ghost use Rattle.kernel_model.specs.Boot.{booted, first_pairs, first_worker, first_rows, first_files, AreBadLimits};
+ghost use Rattle.definitions.specs.Start.{booted, first_worker, first_rows, first_files};
+ghost use Rattle.kernel_model.specs.Boot.{first_pairs, AreBadLimits};
 
 use crate::process::{Holder, Row};
 use crate::readers::FileRow;
 use crate::store::Store;
-use definitions::{Limits, Stance};
+use vocabulary::{Limits, Stance};
 use listener_set::{DescriptorTable, FilePath, Generation, ListenerSet};
 use std::alloc::{AllocError, Global};
 use thiserror::Error;

@@ -11,7 +11,7 @@ use crate::edits::Edit;
 use crate::process::{Caller, Stances, WorkerName};
 use crate::store::Store;
 use crate::{files, master_calls};
-use definitions::{Answer, Call, Fate};
+use vocabulary::{Answer, Call, Fate};
 use listener_set::{Address, FilePath, Generation};
 
 /// A new socket at the caller's lowest free descriptor, unless somebody holds the address or the caller has as many

@@ -5,7 +5,7 @@ ghost use Rattle.definitions.specs.Calls.{made_ready, made_draining};
 
 use crate::holds;
 use crate::process::{Holder, Row, Stances, WorkerName};
-use definitions::Stance;
+use vocabulary::Stance;
 use listener_set::{Address, DescriptorTable, Generation};
 
 /// A change of the rows: each process changes or leaves by it alone.

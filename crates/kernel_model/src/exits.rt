@@ -7,7 +7,7 @@ ghost use Rattle.kernel_model.specs.Room.{EditsRows, IsKept};
 
 use crate::edits::Edit;
 use crate::store::Store;
-use definitions::Name;
+use vocabulary::Name;
 
 /// The live master of the image exits, with its workers. Its row stays, exited, where its parent is a live master.
 fn exit_master(store: &mut Store, image: u32)

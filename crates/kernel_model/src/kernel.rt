@@ -5,7 +5,8 @@ ghost use Rattle.definitions.specs.Table.{is_held, live_master};
 ghost use Rattle.definitions.specs.Exits.{after_exits};
 ghost use Rattle.definitions.specs.Calls.{step_with};
 ghost use Rattle.definitions.specs.Formed.{IsFormed};
-ghost use Rattle.kernel_model.specs.Boot.{booted, AreBadLimits};
+ghost use Rattle.definitions.specs.Start.{booted};
+ghost use Rattle.kernel_model.specs.Boot.{AreBadLimits};
 ghost use Rattle.kernel_model.specs.Room.{LacksNumbers};
 ghost use Rattle.kernel_model.specs.Foreign.{with_foreign};
 
@@ -13,7 +14,7 @@ use crate::boot::{self, BootRefusal};
 use crate::moments::Moment;
 use crate::store::Store;
 use crate::{calls, exits};
-use definitions::{Actor, Answer, Call, Limits};
+use vocabulary::{Actor, Answer, Call, Limits};
 use listener_set::{Address, FilePath, ListenerSet};
 use std::alloc::{AllocError, Global};
 use std::marker::Model;

@@ -11,7 +11,7 @@ use crate::edits::Edit;
 use crate::process::Caller;
 use crate::running::are_listeners;
 use crate::store::Store;
-use definitions::Answer;
+use vocabulary::Answer;
 
 /// A new master with the caller's holds, unless a master of the image is there or the process limit is reached.
 pub fn spawn(store: &mut Store, caller: &Caller, image: u32) -> Answer

@@ -1,5 +1,5 @@
 //! What happens at one call.
-use definitions::{Fate, Name};
+use vocabulary::{Fate, Name};
 
 /// What happens at one call: who exits before it, in this order, and how the call is made to fail.
 #[derive(Clone, Copy, Debug)]

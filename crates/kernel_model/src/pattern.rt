@@ -6,7 +6,7 @@ ghost use Rattle.std.specs.List.Sorted.{IsNonDecreasingBy};
 ghost use Rattle.kernel_model.specs.Pattern.{moment_at, with_exit, with_fate, seen_entry, seen_moment, IsPattern, IsNameWithin};
 
 use crate::moments::Moment;
-use definitions::{Fate, Name};
+use vocabulary::{Fate, Name};
 use std::alloc::{AllocError, Global};
 use std::marker::Model;
 

@@ -2,7 +2,7 @@
 ghost use Rattle.std.specs.Prelude.{ℕ, List, ◌≡◌, ◌↔◌, IsTrue, bytes_eq, map, count_by, ◌<◌};
 ghost use Rattle.std.specs.Bool.{OnTrue};
 ghost use Rattle.listener_set.specs.Numbers.{is_in};
-ghost use Rattle.definitions.specs.Settings.{HasSuffixRoom};
+ghost use Rattle.vocabulary.specs.Settings.{HasSuffixRoom};
 ghost use Rattle.definitions.specs.Table.{is_master};
 ghost use Rattle.definitions.specs.Record.{Agrees, FilesAre, IsRunning, listener_of};
 ghost use Rattle.kernel_model.specs.Holds.{address_of, seen_holds};
@@ -14,7 +14,7 @@ use crate::files::owner_at;
 use crate::process::{Caller, Holder, Row};
 use crate::readers::FileRow;
 use crate::store::Store;
-use definitions::{Listener, PidNote, Stance};
+use vocabulary::{Listener, PidNote, Stance};
 use listener_set::{
     Address, DescriptorTable, FIRST_DESCRIPTOR, FilePath, Generation, MOST_DESCRIPTORS, Numbers,
     WORKER_LIMIT,

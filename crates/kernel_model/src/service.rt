@@ -12,7 +12,7 @@ ghost use Rattle.kernel_model.specs.Served.{seen_count, seen_served};
 
 use crate::process::{Holder, Row};
 use crate::{Kernel, holds};
-use definitions::Stance;
+use vocabulary::Stance;
 use listener_set::{Address, Generation};
 use std::alloc::{AllocError, Global};
 use std::marker::Model;

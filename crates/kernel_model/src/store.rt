@@ -12,7 +12,7 @@ use crate::edits::Edit;
 use crate::holds;
 use crate::process::{Caller, Holder, Row, Stances, WorkerName};
 use crate::readers::FileRow;
-use definitions::{Limits, Stance};
+use vocabulary::{Limits, Stance};
 use listener_set::{Address, DescriptorTable, Generation, Numbers, WORKER_LIMIT};
 use std::alloc::AllocError;
 

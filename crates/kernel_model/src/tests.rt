@@ -1,5 +1,5 @@
 use super::*;
-use definitions::{Actor, Answer, Call, Fate, Limits, Name, Stance};
+use vocabulary::{Actor, Answer, Call, Fate, Limits, Name, Stance};
 use listener_set::{Address, FilePath, Generation, ListenerSet, Numbers};
 use std::alloc::Global;
 use std::test::Fail;

@@ -1,6 +1,6 @@
 //! Lines that are written and read back.
 use crate::PatternLine;
-use definitions::{Fate, Name};
+use vocabulary::{Fate, Name};
 use listener_set::Generation;
 use std::test::Fail;
 

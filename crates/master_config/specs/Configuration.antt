@@ -7,7 +7,7 @@ use Rattle.listener_set.specs.AddressList.{has}
 use Rattle.listener_set.specs.PathText.{path_reading}
 use Rattle.listener_set.specs.declared.address.AddressRefusal.{AddressRefusal}
 use Rattle.listener_set.specs.declared.file_path.BadFile.{BadFile}
-use Rattle.definitions.specs.Settings.{Settings, plain_settings}
+use Rattle.vocabulary.specs.Settings.{Settings, plain_settings}
 use Rattle.toml.specs.Data.{Data, Members, as_str}
 use Rattle.toml.specs.Parse.{parse_document}
 use Rattle.master_config.specs.Values.{◌>>=◌, value_at, has_only_known, number_at, texts_read, texts_of}

@@ -1,6 +1,6 @@
 //! The configuration of a text.
 ghost use Rattle.std.specs.Prelude.{◌≡◌, ◌≢◌, IfOk, Err};
-ghost use Rattle.definitions.specs.Settings.{HasSuffixRoom};
+ghost use Rattle.vocabulary.specs.Settings.{HasSuffixRoom};
 ghost use Rattle.toml.specs.View.{view, table_view};
 ghost use Rattle.toml.specs.Data.{as_str};
 ghost use Rattle.master_config.specs.Values.{value_at};
@@ -10,7 +10,7 @@ use crate::command::{command_at, copied};
 use crate::listening::listeners_at;
 use crate::values::{has_only_known, number_at, value_at};
 use crate::{ConfigRefusal, Key};
-use definitions::Settings;
+use vocabulary::Settings;
 use listener_set::FilePath;
 use std::alloc::Global;
 use std::marker::Model;

@@ -6,7 +6,7 @@ ghost use Rattle.master_config.specs.Configuration.{listener_read, listeners_aft
 
 use crate::values::{text_of, texts_in, value_at};
 use crate::{ConfigRefusal, Key};
-use definitions::Settings;
+use vocabulary::Settings;
 use listener_set::{Address, ListenerSet, MOST_LISTENERS};
 use toml::value::{Array, Table, Value};
 

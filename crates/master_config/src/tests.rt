@@ -1,5 +1,5 @@
 use crate::{Config, ConfigRefusal, Key, read};
-use definitions::Settings;
+use vocabulary::Settings;
 use listener_set::AddressRefusal;
 use std::process::Abort;
 use std::test::Fail;

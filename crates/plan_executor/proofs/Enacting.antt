@@ -5,15 +5,15 @@ use Rattle.std.proofs.lemmas.Option.{none-some, same_Some}
 use Rattle.definitions.specs.Table.{Table, Generation}
 use Rattle.definitions.specs.Record.{Record, Agrees}
 use Rattle.definitions.specs.Target.{IsTarget}
-use Rattle.definitions.specs.declared.targets.Target.{Target}
-use Rattle.definitions.specs.declared.targets.Target.TheVariants.{Workers, Mend, Reopen, Reload, Upgrade, Stop}
+use Rattle.vocabulary.specs.declared.targets.Target.{Target}
+use Rattle.vocabulary.specs.declared.targets.Target.TheVariants.{Workers, Mend, Reopen, Reload, Upgrade, Stop}
 use Rattle.definitions.specs.Tree.{Tree, height}
-use Rattle.definitions.specs.declared.reports.Entry.{Entry}
-use Rattle.definitions.specs.declared.reports.Report.{Report}
+use Rattle.vocabulary.specs.declared.reports.Entry.{Entry}
+use Rattle.vocabulary.specs.declared.reports.Report.{Report}
 use Rattle.kernel_model.specs.Room.{LacksNumbers}
 use Rattle.kernel_model.specs.State.{State}
 use Rattle.definitions.specs.Plans.{planned, plan_tree}
-use Rattle.definitions.specs.declared.plans.PidNote.{PidNote}
+use Rattle.vocabulary.specs.declared.plans.PidNote.{PidNote}
 use Rattle.definitions.specs.Run.{Pattern, run, start_at, report_of, Replays}
 use Rattle.definitions.specs.Path.{KeepsPathLaw}
 use Rattle.definitions.specs.After.{record_after, next_config}
@@ -26,7 +26,7 @@ use Rattle.plan_executor.proofs.Reporting.{whole-run}
 use Rattle.plan_executor.proofs.Refused.{refused-is}
 use Rattle.definitions.specs.Claims.{IsStart, IsAccepted, HasDescriptors, refused_moment, Keeps, InManner, WorkersHeadline, MendHeadline, ReopenHeadline, ReopenFloor, ReloadHeadline, StopHeadline}
 use Rattle.definitions.specs.Manner.{Manner}
-use Rattle.definitions.specs.Settings.{Settings}
+use Rattle.vocabulary.specs.Settings.{Settings}
 
 -- what the theorems say of each target of one master
 pub record Headlines : Type 0 where

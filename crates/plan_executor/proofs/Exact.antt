@@ -5,7 +5,7 @@ use Rattle.std.specs.Result.{IsErrOf}
 use Rattle.std.proofs.lemmas.Option.{none-some, same_Some}
 use Rattle.definitions.specs.Table.{Table}
 use Rattle.definitions.specs.Record.{Record, Agrees}
-use Rattle.definitions.specs.declared.targets.Target.{Target}
+use Rattle.vocabulary.specs.declared.targets.Target.{Target}
 use Rattle.definitions.specs.Tree.{Tree, height}
 use Rattle.definitions.specs.Plans.{planned, plan_tree}
 use Rattle.definitions.specs.After.{next_config}
@@ -13,7 +13,7 @@ use Rattle.definitions.specs.Table.{Generation}
 use Rattle.std.proofs.lemmas.Bool.{false≢true}
 use Rattle.std.specs.Prelude.{is_none, option_map, true}
 use Rattle.reload_planner.specs.Planning.{is_upgrade, lacks_generation}
-use Rattle.definitions.specs.declared.targets.Target.TheVariants.{Workers, Mend, Reopen, Reload, Upgrade, Stop}
+use Rattle.vocabulary.specs.declared.targets.Target.TheVariants.{Workers, Mend, Reopen, Reload, Upgrade, Stop}
 use Rattle.definitions.specs.Run.{Pattern, start_at}
 use Rattle.definitions.specs.Claims.{refused_moment}
 use Rattle.kernel_model.specs.Room.{LacksNumbers}

@@ -1,9 +1,9 @@
 -- What the path law and the kernel's answers say together: the entries are the run, and the report is the run's.
 use Rattle.std.proofs.Common.{◌≡◌, ℕ, List, Option, Some, None, sym, ◌∙◌, ap}
-use Rattle.definitions.specs.declared.reports.Entry.{Entry}
-use Rattle.definitions.specs.declared.reports.Report.{Report}
-use Rattle.definitions.specs.declared.reports.Outcome.{Outcome}
-use Rattle.definitions.specs.declared.plans.PidNote.{PidNote}
+use Rattle.vocabulary.specs.declared.reports.Entry.{Entry}
+use Rattle.vocabulary.specs.declared.reports.Report.{Report}
+use Rattle.vocabulary.specs.declared.reports.Outcome.{Outcome}
+use Rattle.vocabulary.specs.declared.plans.PidNote.{PidNote}
 use Rattle.definitions.specs.Table.{Table}
 use Rattle.definitions.specs.Tree.{Tree, Ends, Does}
 use Rattle.definitions.specs.Path.{Trail, begin, after, IsOver, IsOutcome, Reports, KeepsPathLaw}

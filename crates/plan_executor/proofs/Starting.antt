@@ -4,7 +4,7 @@ use Rattle.std.proofs.lemmas.Bool.Decides.{nat_tests}
 use Rattle.std.specs.List.{cons_option}
 use Rattle.std.proofs.lemmas.List.{at_drop_more, drop_all}
 use Rattle.definitions.specs.Table.{Generation}
-use Rattle.definitions.specs.declared.reports.Entry.{Entry}
+use Rattle.vocabulary.specs.declared.reports.Entry.{Entry}
 use Rattle.listener_set.specs.Numbers.{is_in, with_number, AreBelow}
 use Rattle.listener_set.proofs.Rising.{is_in-with_number}
 use Rattle.worker_table.specs.Beats.{Workers, followed, last_beat}

@@ -1,14 +1,14 @@
 -- Words one after another.
 use Rattle.std.proofs.Common.{◌≡◌, inl, inr, ℕ, suc, List, [], ◌∷◌, ◌++◌, ◌<◌, length, get_or, Option, Some, None, Result, Ok, Err, slice_get, refl, sym, ◌∙◌, ap, subst}
 use Rattle.std.proofs.lemmas.Option.{none-some, same_Some, slice_get-get_or}
-use Rattle.definitions.specs.Settings.{Settings}
+use Rattle.vocabulary.specs.Settings.{Settings}
 use Rattle.definitions.specs.Table.{Table}
 use Rattle.definitions.specs.Record.{Record, Agrees}
-use Rattle.definitions.specs.declared.targets.Target.{Target}
+use Rattle.vocabulary.specs.declared.targets.Target.{Target}
 use Rattle.definitions.specs.Run.{Pattern, Ran as TheRun, run, start_at, report_of}
 use Rattle.definitions.specs.After.{record_after}
-use Rattle.definitions.specs.declared.targets.Target.TheVariants.{Workers, Mend, Reopen, Reload, Upgrade, Stop}
-use Rattle.definitions.specs.declared.reports.Report.{Report}
+use Rattle.vocabulary.specs.declared.targets.Target.TheVariants.{Workers, Mend, Reopen, Reload, Upgrade, Stop}
+use Rattle.vocabulary.specs.declared.reports.Report.{Report}
 use Rattle.definitions.specs.Claims.{AgreesAfter, IsLeft}
 use Rattle.worker_table.specs.Calls.{beating}
 use Rattle.worker_table.specs.declared.refusal.TableRefusal.{TableRefusal}

@@ -2,10 +2,10 @@
 use Rattle.std.specs.Prelude.{◌≡◌, Option, Some, None, List}
 use Rattle.definitions.specs.Table.{Table}
 use Rattle.definitions.specs.Tree.{Tree, Ends, Does}
-use Rattle.definitions.specs.declared.reports.Entry.{Entry}
+use Rattle.vocabulary.specs.declared.reports.Entry.{Entry}
 use Rattle.definitions.specs.Path.{Trail}
-use Rattle.definitions.specs.declared.reports.Report.{Report}
-use Rattle.definitions.specs.declared.plans.PidNote.{PidNote}
+use Rattle.vocabulary.specs.declared.reports.Report.{Report}
+use Rattle.vocabulary.specs.declared.plans.PidNote.{PidNote}
 use Rattle.definitions.specs.Run.{Pattern, Progress, Ending, At, Lost, Ran, run, start_at, report_of}
 
 -- the trail of a run that has come so far

@@ -1,8 +1,8 @@
 -- Which moment of a run names an executing master.
 use Rattle.std.specs.Prelude.{ℕ, ◌+◌, ◌==◌, Bool, false, List, [], ◌∷◌, ◌++◌, Option, Some, None, if◌then◌else◌}
-use Rattle.definitions.specs.declared.names.Name.{Name}
-use Rattle.definitions.specs.declared.names.Name.TheVariants as name
-use Rattle.definitions.specs.declared.reports.Entry.{Entry}
+use Rattle.vocabulary.specs.declared.names.Name.{Name}
+use Rattle.vocabulary.specs.declared.names.Name.TheVariants as name
+use Rattle.vocabulary.specs.declared.reports.Entry.{Entry}
 use Rattle.definitions.specs.Manner.{is_leave_call}
 use Rattle.definitions.specs.Claims.{names_any}
 use Rattle.definitions.specs.Run.{Pattern}

@@ -1,7 +1,7 @@
 -- The modelled kernel, called under a pattern.
 use Rattle.std.specs.Prelude.{◌≡◌, ◌+◌, List, [], length}
 use Rattle.std.proofs.Common.{refl, arith}
-use Rattle.definitions.specs.declared.reports.Entry.{Entry}
+use Rattle.vocabulary.specs.declared.reports.Entry.{Entry}
 use Rattle.definitions.specs.Run.{Replays}
 use Rattle.kernel_model.specs.Pattern.{moment_at}
 use Rattle.plan_executor.specs.declared.patterned.Patterned.{Patterned}

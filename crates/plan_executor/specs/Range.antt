@@ -1,8 +1,8 @@
 -- What settings keep by themselves.
 use Rattle.std.specs.Prelude.{⊤}
-use Rattle.definitions.specs.Settings.{IsInRange}
-use Rattle.definitions.specs.declared.targets.Target.{Target}
-use Rattle.definitions.specs.declared.targets.Target.TheVariants.{Workers, Mend, Reopen, Reload, Upgrade, Stop}
+use Rattle.vocabulary.specs.Settings.{IsInRange}
+use Rattle.vocabulary.specs.declared.targets.Target.{Target}
+use Rattle.vocabulary.specs.declared.targets.Target.TheVariants.{Workers, Mend, Reopen, Reload, Upgrade, Stop}
 
 -- what a target's settings say is in range
 abbrev pub HasRange : Target → Type 0

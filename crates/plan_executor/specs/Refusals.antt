@@ -2,7 +2,7 @@
 use Rattle.std.specs.Prelude.{ℕ, ◌≡◌, true, Some, None}
 use Rattle.definitions.specs.Table.{Table}
 use Rattle.definitions.specs.Record.{Record, Agrees}
-use Rattle.definitions.specs.declared.targets.Target.{Target}
+use Rattle.vocabulary.specs.declared.targets.Target.{Target}
 use Rattle.definitions.specs.Tree.{Tree, height}
 use Rattle.definitions.specs.Plans.{planned}
 use Rattle.definitions.specs.Run.{Pattern, start_at}

@@ -1,6 +1,6 @@
 -- What a contract sees of a transcript.
 use Rattle.std.specs.Prelude.{List, ℕ}
-use Rattle.definitions.specs.declared.reports.Entry.{Entry}
+use Rattle.vocabulary.specs.declared.reports.Entry.{Entry}
 
 -- the entries, and for how many more there is room
 pub record Told : Type 0 where

@@ -1,8 +1,8 @@
 -- What a contract sees of a walk.
 use Rattle.std.specs.Prelude.{ℕ}
 use Rattle.std.specs.Option.{option_map}
-use Rattle.definitions.specs.declared.calls.Call.{Call}
-use Rattle.definitions.specs.declared.calls.Answer.{Answer}
+use Rattle.vocabulary.specs.declared.calls.Call.{Call}
+use Rattle.vocabulary.specs.declared.calls.Answer.{Answer}
 use Rattle.definitions.specs.Path.{Trail, Asks}
 use Rattle.rollback_plan.specs.Cursors.{rest_of}
 use Rattle.plan_executor.specs.declared.walk.Walk.{Walk}

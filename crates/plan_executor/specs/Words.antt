@@ -1,10 +1,10 @@
 -- What control words come to, one after another.
 use Rattle.std.specs.Prelude.{ℕ, ◌≡◌, List, [], ◌∷◌, Option, Some, None, Result, Ok, Err, unwrap_or, slice_get, ⊤}
-use Rattle.definitions.specs.Settings.{Settings}
+use Rattle.vocabulary.specs.Settings.{Settings}
 use Rattle.definitions.specs.Table.{Table}
 use Rattle.definitions.specs.Record.{Record, Agrees}
-use Rattle.definitions.specs.declared.targets.Target.{Target}
-use Rattle.definitions.specs.declared.reports.Report.{Report}
+use Rattle.vocabulary.specs.declared.targets.Target.{Target}
+use Rattle.vocabulary.specs.declared.reports.Report.{Report}
 use Rattle.definitions.specs.Run.{Moment, Pattern}
 use Rattle.kernel_model.specs.State.{State}
 use Rattle.kernel_model.specs.Pattern.{moment_at}

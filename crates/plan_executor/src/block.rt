@@ -5,7 +5,7 @@ ghost use Rattle.plan_executor.specs.Codes.{plan_code, stopped_code};
 use crate::{EnactRefusal, Transcript};
 use arrayvec::ArrayString;
 use control_words::{Word, WordRefusal};
-use definitions::Report;
+use vocabulary::Report;
 use itoa::Buffer;
 use reload_planner::PlanRefusal;
 use std::marker::Model;

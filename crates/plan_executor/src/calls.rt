@@ -1,9 +1,9 @@
 //! What makes the calls of a plan.
 ghost use Rattle.std.specs.Prelude.{◌≡◌, ℕ, ◌+◌, ◌≤◌, List, [], ◌∷◌, ◌++◌, IsTrue};
 ghost use Rattle.definitions.specs.Tree.{is_listed};
-ghost use Rattle.definitions.specs.declared.reports.Entry.{Entry};
+ghost use Rattle.vocabulary.specs.declared.reports.Entry.{Entry};
 
-use definitions::{Actor, Answer, Call};
+use vocabulary::{Actor, Answer, Call};
 
 /// Makes calls, and keeps a list of those that it made.
 ///

@@ -3,7 +3,7 @@ ghost use Rattle.std.specs.Prelude.{◌≡◌, ◌≤◌, ◌↔◌, ◌⊎◌, 
 ghost use Rattle.definitions.specs.Formed.{IsFormed};
 ghost use Rattle.definitions.specs.Record.{Agrees};
 ghost use Rattle.definitions.specs.Plans.{planned};
-ghost use Rattle.definitions.specs.Settings.{IsInRange};
+ghost use Rattle.vocabulary.specs.Settings.{IsInRange};
 ghost use Rattle.definitions.specs.Target.{IsTarget};
 ghost use Rattle.kernel_model.specs.Pattern.{moment_at};
 ghost use Rattle.kernel_model.specs.Room.{LacksNumbers};
@@ -17,7 +17,7 @@ ghost use Rattle.plan_executor.specs.declared.enactment.EnactRefusal.{EnactRefus
 use crate::naming::first_naming;
 use crate::patterned::Patterned;
 use crate::{Transcript, execute};
-use definitions::{Report, Settings, Target};
+use vocabulary::{Report, Settings, Target};
 use kernel_model::{Kernel, Pattern, ReserveRefusal};
 use reload_planner::PlanRefusal;
 use rollback_plan::Plan;

@@ -6,7 +6,7 @@ ghost use Rattle.rollback_plan.specs.Plans.{tree_of, note_of};
 
 use crate::walk::Walk;
 use crate::{Calls, Transcript};
-use definitions::{Entry, Report};
+use vocabulary::{Entry, Report};
 use rollback_plan::Plan;
 
 /// Makes the calls of a plan one after another, as their answers lead, and writes them down.

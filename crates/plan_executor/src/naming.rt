@@ -5,7 +5,7 @@ ghost use Rattle.definitions.specs.Manner.{is_leave_call};
 ghost use Rattle.kernel_model.specs.Pattern.{moment_at};
 ghost use Rattle.plan_executor.specs.Naming.{first_naming, is_master};
 
-use definitions::{Call, Entry, Name};
+use vocabulary::{Call, Entry, Name};
 use kernel_model::Pattern;
 
 /// The first moment of these calls in which the master of the image exits, up to its Leave. After

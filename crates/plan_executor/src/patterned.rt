@@ -2,7 +2,7 @@
 ghost use Rattle.std.specs.Prelude.{◌≡◌, ◌+◌, ◌<◌, ◌≤◌, ◌^◌, []};
 
 use crate::{Calls, Transcript};
-use definitions::{Actor, Answer, Call, Entry};
+use vocabulary::{Actor, Answer, Call, Entry};
 use kernel_model::{Kernel, Pattern};
 
 /// A plan of one master hands nothing over.

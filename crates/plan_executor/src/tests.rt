@@ -1,7 +1,7 @@
 //! Targets and words on the modelled kernel.
 use crate::{Body, CodeText, EnactRefusal, Enacted, enact, run_words};
 use control_words::{Word, WordRefusal};
-use definitions::{Fate, Limits, Name, Outcome, Report, Settings, Side, Target};
+use vocabulary::{Fate, Limits, Name, Outcome, Report, Settings, Side, Target};
 use kernel_model::{Kernel, Pattern};
 use listener_set::{Generation, Numbers};
 use reload_planner::PlanRefusal;

@@ -1,7 +1,7 @@
 //! The calls that were made, with their answers.
 ghost use Rattle.std.specs.Prelude.{◌≡◌, ◌+◌, ◌≤◌, ◌<◌, ◌++◌, ◌∷◌, [], IfOk, IsTrue, ◌↔◌, length, slice_get};
 
-use definitions::{Answer, Call, Entry};
+use vocabulary::{Answer, Call, Entry};
 use std::alloc::{AllocError, Global};
 use std::marker::Model;
 

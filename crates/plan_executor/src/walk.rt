@@ -1,14 +1,14 @@
 //! How far the execution of a plan has come.
 ghost use Rattle.std.specs.Prelude.{◌≡◌, ◌+◌, ◌<◌, ◌≤◌, ◌^◌, IsTrue, IfSome, IfNone, None, length};
 ghost use Rattle.std.specs.Option.{option_map};
-ghost use Rattle.definitions.specs.declared.calls.Answer.TheVariants.{MasterGone};
+ghost use Rattle.vocabulary.specs.declared.calls.Answer.TheVariants.{MasterGone};
 ghost use Rattle.definitions.specs.Path.{first_cause};
 ghost use Rattle.rollback_plan.specs.Bounds.{is_short};
 ghost use Rattle.rollback_plan.specs.Cursors.{rest_of};
 ghost use Rattle.rollback_plan.specs.Plans.{tree_of, note_of};
 ghost use Rattle.plan_executor.specs.Fit.{is_fit_next, height_next};
 
-use definitions::{Actor, Call, End, Entry, Outcome, PidNote, Report, Side};
+use vocabulary::{Actor, Call, End, Entry, Outcome, PidNote, Report, Side};
 use rollback_plan::{Bound, Cursor, Plan, plain_reply, reply_to};
 
 /// A call that is due, and the master that makes it.

@@ -14,7 +14,7 @@ ghost use Rattle.plan_executor.specs.declared.block.Block.{Block as Done};
 
 use crate::{Block, Body, CodeText, EnactRefusal, enact};
 use control_words::{Word, target_of};
-use definitions::{Answer, Call, Entry, Settings, Target};
+use vocabulary::{Answer, Call, Entry, Settings, Target};
 use kernel_model::{Kernel, Pattern};
 use listener_set::{Generation, Numbers, WORKER_LIMIT};
 use service_state::Record;

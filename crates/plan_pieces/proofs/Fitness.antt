@@ -3,9 +3,9 @@
 use Rattle.std.proofs.Common.{◌≡◌, ℕ, zero, suc, Bool, true, false, List, [], ◌∷◌, Option, refl}
 use Rattle.listener_set.specs.declared.generation.Generation.{Generation}
 use Rattle.definitions.specs.Table.{Address, FilePath}
-use Rattle.definitions.specs.declared.plans.PidNote.{PidNote}
-use Rattle.definitions.specs.declared.plans.Side.{Side}
-use Rattle.definitions.specs.declared.calls.Call.TheVariants.{RemovePid}
+use Rattle.vocabulary.specs.declared.plans.PidNote.{PidNote}
+use Rattle.vocabulary.specs.declared.plans.Side.{Side}
+use Rattle.vocabulary.specs.declared.calls.Call.TheVariants.{RemovePid}
 use Rattle.definitions.specs.Tree.{Tree, is_fit}
 use Rattle.definitions.specs.Plans.{does, note_edges, settle, quits, awaits, forks, awaits_any, forks_any, starts_any, kills, usr1s, awaits_gone, opens, closes}
 

@@ -2,7 +2,7 @@
 use Rattle.std.proofs.Common.{◌≡◌, ℕ, ◌+◌, ◌<◌, List, [], ◌∷◌, length, get_or, take, drop, reverse, sym, ◌∙◌, ap}
 use Rattle.std.proofs.lemmas.List.{take_more, drop_more, reverse-append}
 use Rattle.definitions.specs.Table.{Address}
-use Rattle.definitions.specs.declared.calls.Call.TheVariants.{OpenAt, CloseAt}
+use Rattle.vocabulary.specs.declared.calls.Call.TheVariants.{OpenAt, CloseAt}
 use Rattle.definitions.specs.Tree.{Tree}
 use Rattle.definitions.specs.Plans.{does, then_edge, open_edges, opens, closes}
 

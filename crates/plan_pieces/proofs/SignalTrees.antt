@@ -2,7 +2,7 @@
 use Rattle.std.proofs.Common.{◌≡◌, ℕ, ◌+◌, ◌<◌, List, [], ◌∷◌, length, get_or, take, drop, reverse, sym, ◌∙◌, ap}
 use Rattle.std.proofs.lemmas.List.{take_more, drop_more, reverse-append}
 use Rattle.listener_set.specs.declared.generation.Generation.{Generation}
-use Rattle.definitions.specs.declared.calls.Call.TheVariants.{Kill, Usr1, AwaitGone}
+use Rattle.vocabulary.specs.declared.calls.Call.TheVariants.{Kill, Usr1, AwaitGone}
 use Rattle.definitions.specs.Tree.{Tree}
 use Rattle.definitions.specs.Plans.{does, then_edge, kills, usr1s, gone_edges, awaits_gone}
 

@@ -2,7 +2,7 @@
 use Rattle.std.proofs.Common.{◌≡◌, ℕ, ◌+◌, ◌<◌, List, [], ◌∷◌, length, get_or, take, drop, reverse, sym, ◌∙◌, ap}
 use Rattle.std.proofs.lemmas.List.{take_more, drop_more, reverse-append}
 use Rattle.listener_set.specs.declared.generation.Generation.{Generation}
-use Rattle.definitions.specs.declared.calls.Call.TheVariants.{Fork, AwaitReady, Kill}
+use Rattle.vocabulary.specs.declared.calls.Call.TheVariants.{Fork, AwaitReady, Kill}
 use Rattle.definitions.specs.Tree.{Tree}
 use Rattle.definitions.specs.Plans.{does, then_edge, fork_edges, await_edges, forks, awaits, await_any_edges, awaits_any, fork_any_edges, forks_any}
 

@@ -2,11 +2,11 @@
 ghost use Rattle.std.specs.Prelude.{◌≡◌, ◌+◌, ◌<◌, length, IfOk, IsErrOf, OnOk};
 ghost use Rattle.rollback_plan.specs.declared.draft.DraftRefusal.TheVariants.{TooLarge};
 ghost use Rattle.rollback_plan.specs.declared.draft.TheConstants.{MOST_STEPS};
-ghost use Rattle.definitions.specs.declared.calls.Call.TheVariants as call;
+ghost use Rattle.vocabulary.specs.declared.calls.Call.TheVariants as call;
 ghost use Rattle.definitions.specs.Plans as plans;
 ghost use Rattle.rollback_plan.specs.Drafts.{trees_of, tree_at, IsMade, Keeps};
 
-use definitions::{Actor, Call, Order, PidNote, Reply};
+use vocabulary::{Actor, Call, Order, PidNote, Reply};
 use listener_set::{FilePath, Numbers};
 use rollback_plan::{Draft, DraftRefusal, Edge, Next, Place};
 

@@ -5,7 +5,7 @@ ghost use Rattle.rollback_plan.specs.declared.draft.TheConstants.{MOST_STEPS};
 ghost use Rattle.definitions.specs.Plans as plans;
 ghost use Rattle.rollback_plan.specs.Drafts.{trees_of, tree_at, IsMade, Keeps};
 
-use definitions::{Actor, Call};
+use vocabulary::{Actor, Call};
 use listener_set::Generation;
 use rollback_plan::{Draft, DraftRefusal, Place};
 

@@ -2,13 +2,13 @@
 ghost use Rattle.std.specs.Prelude.{◌≡◌, ◌+◌, ◌*◌, ◌<◌, List, ℕ, [], length, reverse, take, IfOk, IsErrOf, IsTrue, OnOk};
 ghost use Rattle.rollback_plan.specs.declared.draft.DraftRefusal.TheVariants.{TooLarge};
 ghost use Rattle.rollback_plan.specs.declared.draft.TheConstants.{MOST_STEPS};
-ghost use Rattle.definitions.specs.declared.calls.Call.TheVariants as call;
+ghost use Rattle.vocabulary.specs.declared.calls.Call.TheVariants as call;
 ghost use Rattle.definitions.specs.Tree.{Tree};
 ghost use Rattle.definitions.specs.Plans as plans;
 ghost use Rattle.rollback_plan.specs.Drafts.{trees_of, tree_at, are_places, IsMade, Keeps};
 ghost use Rattle.rollback_plan.specs.Back.{AreMade};
 
-use definitions::{Actor, Call, Order, Reply};
+use vocabulary::{Actor, Call, Order, Reply};
 use listener_set::{Generation, Numbers};
 use rollback_plan::{Draft, DraftRefusal, Edge, Place};
 

@@ -1,9 +1,9 @@
 -- The picture of a plan, in the language of Graphviz.
 use Rattle.std.specs.Prelude.{ℕ, ◌+◌, ◌==◌, Bool, true, false, ◌||◌, List, [], ◌∷◌, ◌++◌, Option, Some, None, codes, if◌then◌else◌}
 use Rattle.std.specs.Fmt.{decimal}
-use Rattle.definitions.specs.declared.plans.PidNote.{PidNote}
-use Rattle.definitions.specs.declared.plans.Order.{Order}
-use Rattle.definitions.specs.declared.calls.Reply.{Reply}
+use Rattle.vocabulary.specs.declared.plans.PidNote.{PidNote}
+use Rattle.vocabulary.specs.declared.plans.Order.{Order}
+use Rattle.vocabulary.specs.declared.calls.Reply.{Reply}
 use Rattle.rollback_plan.specs.declared.step.Edge.{Edge}
 use Rattle.rollback_plan.specs.declared.step.Step.{Step}
 use Rattle.call_text.specs.CallText.{order_line}

@@ -2,14 +2,14 @@
 use Rattle.std.specs.Prelude.{ℕ, ◌+◌, ◌==◌, Bool, true, false, ◌&&◌, List, [], ◌∷◌, ◌++◌, length, Option, Some, None, codes, if◌then◌else◌}
 use Rattle.std.specs.List.{list_any}
 use Rattle.std.specs.Fmt.{decimal}
-use Rattle.definitions.specs.declared.calls.Call.{Call}
-use Rattle.definitions.specs.declared.calls.Call.TheVariants.{Census}
-use Rattle.definitions.specs.declared.calls.Reply.{Reply}
-use Rattle.definitions.specs.declared.calls.Reply.TheVariants.{MasterGone}
-use Rattle.definitions.specs.declared.plans.End.{End}
-use Rattle.definitions.specs.declared.plans.PidNote.{PidNote}
-use Rattle.definitions.specs.declared.plans.Order.{Order}
-use Rattle.definitions.specs.declared.plans.Order.TheVariants.{Make}
+use Rattle.vocabulary.specs.declared.calls.Call.{Call}
+use Rattle.vocabulary.specs.declared.calls.Call.TheVariants.{Census}
+use Rattle.vocabulary.specs.declared.calls.Reply.{Reply}
+use Rattle.vocabulary.specs.declared.calls.Reply.TheVariants.{MasterGone}
+use Rattle.vocabulary.specs.declared.plans.End.{End}
+use Rattle.vocabulary.specs.declared.plans.PidNote.{PidNote}
+use Rattle.vocabulary.specs.declared.plans.Order.{Order}
+use Rattle.vocabulary.specs.declared.plans.Order.TheVariants.{Make}
 use Rattle.definitions.specs.Tree.{order_replies}
 use Rattle.rollback_plan.specs.declared.step.Next.{Next}
 use Rattle.rollback_plan.specs.declared.step.Next.TheVariants.{To, Over}
@@ -20,8 +20,8 @@ use Rattle.call_text.specs.NumberText.{set_text}
 use Rattle.call_text.specs.CallText.{order_line}
 use Rattle.call_text.specs.Words.{reply_text, end_text, note_text}
 use denote.Enum.Bare.{sameb}
-use Rattle.definitions.specs.contracts.plans.End.{the_type as end_type}
-use Rattle.definitions.specs.contracts.plans.PidNote.{the_type as note_type}
+use Rattle.vocabulary.specs.contracts.plans.End.{the_type as end_type}
+use Rattle.vocabulary.specs.contracts.plans.PidNote.{the_type as note_type}
 
 -- the replies that a step can have, the plain one first and that the master is gone last
 abbrev pub replies_of : Order → List Reply

@@ -6,7 +6,7 @@ ghost use Rattle.plan_text.specs.PlanText.{set_part, step_text, steps_text, plan
 
 use crate::edges::write_edges;
 use call_text::{replies_of, write_number, write_order, write_set};
-use definitions::{Call, Order};
+use vocabulary::{Call, Order};
 use listener_set::Numbers;
 use rollback_plan::{Plan, Step};
 use std::alloc::{AllocError, Global};

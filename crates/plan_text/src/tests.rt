@@ -1,6 +1,6 @@
 //! Texts of worked plans.
 use crate::{write_graph, write_plan};
-use definitions::{Actor, Call, End, Order, PidNote, Reply};
+use vocabulary::{Actor, Call, End, Order, PidNote, Reply};
 use listener_set::{Address, Generation, Numbers};
 use rollback_plan::{Draft, Edge, Next, Plan};
 use std::alloc::Global;

@@ -5,7 +5,7 @@ ghost use Rattle.definitions.specs.Target.{IsTarget};
 use crate::fault::Fault;
 use crate::start::Start;
 use control_words::{Word, target_of};
-use definitions::Target;
+use vocabulary::Target;
 use listener_set::Numbers;
 use plan_text::{write_graph, write_plan};
 use reload_planner::PlanRefusal;

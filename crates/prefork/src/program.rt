@@ -8,7 +8,7 @@ use crate::rehearsal::Rehearsal;
 use crate::start::Start;
 use command_line::{EnactOptions, PlanOptions, Refusal, Request};
 use control_words::Word;
-use definitions::Outcome;
+use vocabulary::Outcome;
 use kernel_model::Pattern;
 use plan_executor::Body;
 use std::alloc::{AllocError, Global};

@@ -2,7 +2,7 @@
 use crate::fault::Fault;
 use crate::start::Start;
 use control_words::Word;
-use definitions::{Limits, Settings};
+use vocabulary::{Limits, Settings};
 use kernel_model::{BootRefusal, ForeignRefusal, Kernel, Pattern};
 use listener_set::{Address, Numbers};
 use plan_executor::{Block, run_words};

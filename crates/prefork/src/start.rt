@@ -1,7 +1,7 @@
 //! How a master starts: its configuration, and the one that a reload is to take up.
 use crate::fault::Fault;
 use command_line::StartOptions;
-use definitions::Settings;
+use vocabulary::Settings;
 use listener_set::{Numbers, WORKER_LIMIT};
 use master_config::ConfigRefusal;
 use service_state::Record;

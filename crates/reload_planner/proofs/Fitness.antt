@@ -2,9 +2,9 @@
 use Rattle.std.proofs.Common.{◌≡◌, ℕ, Bool, true, false, List, [], ◌∷◌, Option, Some, None, reverse, refl}
 use Rattle.listener_set.specs.declared.generation.Generation.{Generation}
 use Rattle.definitions.specs.Table.{Address, FilePath}
-use Rattle.definitions.specs.declared.plans.Side.TheVariants.{Old, Target}
-use Rattle.definitions.specs.declared.plans.PidNote.{PidNote}
-use Rattle.definitions.specs.declared.plans.PidNote.TheVariants.{InPlace, AtOldbin, OldbinLeft, Left, NoFile}
+use Rattle.vocabulary.specs.declared.plans.Side.TheVariants.{Old, Target}
+use Rattle.vocabulary.specs.declared.plans.PidNote.{PidNote}
+use Rattle.vocabulary.specs.declared.plans.PidNote.TheVariants.{InPlace, AtOldbin, OldbinLeft, Left, NoFile}
 use Rattle.definitions.specs.Record.{oldbin}
 use Rattle.definitions.specs.Tree.{Tree, is_fit}
 use Rattle.definitions.specs.Plans.{settle, starts, census, census_edges, usr1s, removes, stopped, stop_tree, remove_oldbin_too, has_oldbin}

@@ -7,8 +7,8 @@ use Rattle.definitions.specs.Table.{Address}
 use Rattle.definitions.specs.Target.{only_in, reload_generation}
 use Rattle.definitions.specs.After.{next_config, numbered}
 use Rattle.definitions.specs.Record.{Record}
-use Rattle.definitions.specs.Settings.{Settings}
-use Rattle.definitions.specs.declared.targets.Target.TheVariants.{Reload}
+use Rattle.vocabulary.specs.Settings.{Settings}
+use Rattle.vocabulary.specs.declared.targets.Target.TheVariants.{Reload}
 use Rattle.definitions.specs.Plans.{reload_tree, plan_tree, planned}
 use Rattle.rollback_plan.specs.declared.plan.Plan.{Plan}
 use Rattle.rollback_plan.specs.Plans.{tree_of}

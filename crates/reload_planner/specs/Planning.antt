@@ -1,8 +1,8 @@
 -- What a planner promises of a plan's size, and when there is none.
 use Rattle.std.specs.Prelude.{ℕ, ◌+◌, ◌*◌, Bool, true, false, length, is_none}
 use Rattle.definitions.specs.Record.{Record}
-use Rattle.definitions.specs.declared.targets.Target.{Target}
-use Rattle.definitions.specs.declared.targets.Target.TheVariants.{Workers, Mend, Reopen, Reload, Upgrade, Stop}
+use Rattle.vocabulary.specs.declared.targets.Target.{Target}
+use Rattle.vocabulary.specs.declared.targets.Target.TheVariants.{Workers, Mend, Reopen, Reload, Upgrade, Stop}
 use Rattle.definitions.specs.Target.{count_wanted, addresses_wanted}
 use Rattle.definitions.specs.After.{next_config}
 

@@ -10,7 +10,7 @@ ghost use Rattle.reload_planner.specs.Changes.{repair_tree};
 
 use crate::scene::listed;
 use crate::{PlanRefusal, Scene};
-use definitions::{PidNote, Side};
+use vocabulary::{PidNote, Side};
 use listener_set::{Numbers, WORKER_LIMIT};
 use plan_pieces::{add_kills, add_starts_any};
 use rollback_plan::{Draft, DraftRefusal, Place, Plan};

@@ -1,7 +1,7 @@
 //! The plan that has each worker open its logs anew.
 ghost use Rattle.std.specs.Prelude.{◌≡◌, ◌≤◌, ◌<◌, ◌+◌, ◌*◌, [], length, IfOk, IsErrOf, IsOkUnless, OnOk};
 ghost use Rattle.definitions.specs.Plans.{reopen_tree, settle, usr1s};
-ghost use Rattle.definitions.specs.declared.plans.Side.TheVariants as side;
+ghost use Rattle.vocabulary.specs.declared.plans.Side.TheVariants as side;
 ghost use Rattle.rollback_plan.specs.declared.draft.DraftRefusal.TheVariants.{TooLarge};
 ghost use Rattle.rollback_plan.specs.declared.draft.TheConstants.{MOST_STEPS};
 ghost use Rattle.rollback_plan.specs.Drafts.{trees_of, IsMade};
@@ -9,7 +9,7 @@ ghost use Rattle.rollback_plan.specs.Plans.{tree_of, note_of, text_of, trees_in}
 
 use crate::scene::listed;
 use crate::{PlanRefusal, Scene};
-use definitions::{PidNote, Side};
+use vocabulary::{PidNote, Side};
 use plan_pieces::add_usr1s;
 use rollback_plan::{Draft, DraftRefusal, Place, Plan};
 use std::alloc::Global;

@@ -2,7 +2,7 @@
 ghost use Rattle.std.specs.Prelude.{◌≡◌, ◌≤◌, length, IfOk};
 ghost use Rattle.listener_set.specs.Numbers.{AreNumbers};
 
-use definitions::Actor;
+use vocabulary::Actor;
 use listener_set::{Generation, Numbers, WORKER_LIMIT};
 use std::alloc::{AllocError, Global};
 

@@ -1,6 +1,6 @@
 //! The plan that ends all workers and the master.
 ghost use Rattle.std.specs.Prelude.{◌≡◌, ◌≤◌, ◌<◌, ◌+◌, ◌*◌, [], length, IfOk, IsErrOf, IsOkUnless, OnOk};
-ghost use Rattle.definitions.specs.Settings.{HasSuffixRoom};
+ghost use Rattle.vocabulary.specs.Settings.{HasSuffixRoom};
 ghost use Rattle.definitions.specs.Plans as plans;
 ghost use Rattle.definitions.specs.Plans.{stop_tree, stopped, removes};
 ghost use Rattle.rollback_plan.specs.declared.draft.DraftRefusal.TheVariants.{TooLarge};
@@ -11,7 +11,7 @@ ghost use Rattle.reload_planner.specs.Changes.{ends_tree};
 
 use crate::scene::listed;
 use crate::{PlanRefusal, Scene};
-use definitions::{Actor, Call, End, Order, PidNote, Reply};
+use vocabulary::{Actor, Call, End, Order, PidNote, Reply};
 use listener_set::{FilePath, Numbers};
 use plan_pieces::{add_awaits_gone, add_kills, add_quits, add_remove};
 use rollback_plan::{Draft, DraftRefusal, Edge, Place, Plan};

@@ -9,7 +9,7 @@ ghost use Rattle.reload_planner.specs.Changes.{change_tree};
 
 use crate::scene::listed;
 use crate::{PlanRefusal, Scene};
-use definitions::{PidNote, Side};
+use vocabulary::{PidNote, Side};
 use listener_set::{Numbers, WORKER_LIMIT};
 use plan_pieces::{add_quits, add_starts};
 use rollback_plan::{Draft, DraftRefusal, Place, Plan, Undone};

@@ -5,7 +5,7 @@ use Rattle.std.proofs.lemmas.Bool.{cases_order}
 use Rattle.std.proofs.lemmas.Option.{slice_get_read}
 use Rattle.listener_set.specs.declared.generation.Generation.{Generation}
 use Rattle.definitions.specs.Table.{Address}
-use Rattle.definitions.specs.declared.calls.Call.TheVariants.{Quit, CloseAt}
+use Rattle.vocabulary.specs.declared.calls.Call.TheVariants.{Quit, CloseAt}
 use Rattle.definitions.specs.Tree.{Tree}
 use Rattle.definitions.specs.Plans.{does, then_edge, quits, closes}
 use Rattle.rollback_plan.specs.declared.draft.Draft.{Draft}

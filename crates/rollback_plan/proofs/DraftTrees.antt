@@ -1,7 +1,7 @@
 -- Trees that stand in a draft.
 use Rattle.std.proofs.Common.{◌≡◌, ℕ, zero, suc, ◌-◌, ◌<◌, ◌≤◌, true, List, [], ◌∷◌, ◌++◌, length, refl, ◌∙◌, ap, arith, length-append, append_assoc, Some, slice_get, unwrap_or}
 use Rattle.std.proofs.lemmas.Bool.{ltb-true, lt-ltb}
-use Rattle.definitions.specs.declared.plans.End.TheVariants.{Done}
+use Rattle.vocabulary.specs.declared.plans.End.TheVariants.{Done}
 use Rattle.definitions.specs.Tree.{Tree, Ends}
 use Rattle.rollback_plan.specs.declared.draft.Draft.{Draft}
 use Rattle.rollback_plan.specs.declared.step.Place.{Place}

@@ -3,7 +3,7 @@ use Rattle.std.proofs.Common.{◌≡◌, ℕ, zero, suc, ◌+◌, ◌-◌, ◌<�
 use Rattle.std.proofs.lemmas.Bool.{cases_lt, and_from, and_parts, ltb-true, lt-ltb, eq-eqb, or_left, or_right}
 use Rattle.std.specs.List.{list_all}
 use Rattle.listener_set.specs.Numbers.{is_in}
-use Rattle.definitions.specs.declared.plans.End.TheVariants.{Done}
+use Rattle.vocabulary.specs.declared.plans.End.TheVariants.{Done}
 use Rattle.definitions.specs.Tree.{Tree, Ends, height}
 use Rattle.rollback_plan.specs.declared.step.Next.{Next}
 use Rattle.rollback_plan.specs.declared.step.Next.TheVariants.{To, Over}

@@ -1,6 +1,6 @@
 -- What a contract sees of what is bound.
 use Rattle.std.specs.Prelude.{ℕ, Bool, true, false, ◌||◌, not, List, [], ◌∷◌}
-use Rattle.definitions.specs.declared.plans.Order.{Order}
+use Rattle.vocabulary.specs.declared.plans.Order.{Order}
 use Rattle.definitions.specs.Tree.{names_lacking}
 
 -- some number is lacking

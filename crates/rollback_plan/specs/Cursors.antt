@@ -1,7 +1,7 @@
 -- What a contract sees of a cursor.
 use Rattle.std.specs.Prelude.{Bool, Option, None, Some}
 use Rattle.std.specs.List.{list_all}
-use Rattle.definitions.specs.declared.plans.End.{End}
+use Rattle.vocabulary.specs.declared.plans.End.{End}
 use Rattle.definitions.specs.Tree.{Tree, Ends, Does}
 use Rattle.rollback_plan.specs.declared.cursor.Cursor.{Cursor}
 use Rattle.rollback_plan.specs.declared.step.Step.{Step}

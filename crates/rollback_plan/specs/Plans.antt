@@ -1,7 +1,7 @@
 -- What a contract sees of a plan.
 use Rattle.std.specs.Prelude.{ℕ, List}
 use Rattle.definitions.specs.Tree.{Tree}
-use Rattle.definitions.specs.declared.plans.PidNote.{PidNote}
+use Rattle.vocabulary.specs.declared.plans.PidNote.{PidNote}
 use Rattle.rollback_plan.specs.declared.plan.Plan.{Plan}
 use Rattle.rollback_plan.specs.declared.step.Step.{Step}
 use Rattle.rollback_plan.specs.Steps.{first_tree, trees_from}

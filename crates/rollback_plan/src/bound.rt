@@ -6,7 +6,7 @@ ghost use Rattle.definitions.specs.Path.{ready_after, lacking_after};
 ghost use Rattle.rollback_plan.specs.Bounds.{can_name};
 
 use crate::Step;
-use definitions::{Answer, Call, Order};
+use vocabulary::{Answer, Call, Order};
 use listener_set::Numbers;
 
 /// The last census, and what it lacked of its step's set.

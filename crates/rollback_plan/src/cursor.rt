@@ -6,7 +6,7 @@ ghost use Rattle.definitions.specs.Path.{follow};
 ghost use Rattle.rollback_plan.specs.Steps.{is_within};
 
 use crate::{Bound, Edge, Next, Place, Plan, Step, reply_to};
-use definitions::{Answer, End};
+use vocabulary::{Answer, End};
 
 /// A place in a plan, or one of its ends. Contracts see the rest of the plan's tree.
 #[derive(Clone, Copy)]

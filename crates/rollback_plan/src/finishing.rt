@@ -9,7 +9,7 @@ use crate::layers::by_depth;
 use crate::numbering::{depths_from, heights_of};
 use crate::walking::walk;
 use crate::{Draft, Edge, Next, Place, Plan, Step};
-use definitions::PidNote;
+use vocabulary::PidNote;
 use std::alloc::{AllocError, Global};
 
 impl Draft {

@@ -5,7 +5,7 @@ ghost use Rattle.definitions.specs.Tree.{is_fit, height};
 ghost use Rattle.rollback_plan.specs.Steps.{all_lead_on, first_tree};
 
 use crate::Step;
-use definitions::PidNote;
+use vocabulary::PidNote;
 
 /// Steps whose edges lead to later ones or to ends. Contracts see the tree of the first step.
 ///

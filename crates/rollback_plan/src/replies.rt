@@ -2,7 +2,7 @@
 ghost use Rattle.std.specs.Prelude.{◌≡◌};
 ghost use Rattle.definitions.specs.Tree as tree;
 
-use definitions::{Answer, Call, Reply};
+use vocabulary::{Answer, Call, Reply};
 use listener_set::Numbers;
 
 /// The reply that an answer is to a step whose census must contain the set.

@@ -1,6 +1,6 @@
 //! How plans end: a settle, and the ways back to one.
 ghost use Rattle.std.specs.Prelude.{◌≡◌, ◌+◌, ◌*◌, ◌<◌, length, IfOk, IsErrOf, IsTrue, OnOk, OnErr};
-ghost use Rattle.definitions.specs.declared.plans.Side.TheVariants.{Old};
+ghost use Rattle.vocabulary.specs.declared.plans.Side.TheVariants.{Old};
 ghost use Rattle.definitions.specs.Tree.{Ends};
 ghost use Rattle.definitions.specs.Plans as plans;
 ghost use Rattle.rollback_plan.specs.declared.draft.TheConstants.{MOST_STEPS};
@@ -8,7 +8,7 @@ ghost use Rattle.rollback_plan.specs.Steps.{is_below, tree_among};
 ghost use Rattle.rollback_plan.specs.Back.{quits_back, closes_back, AreMade};
 
 use crate::{Draft, DraftRefusal, Edge, Next, Place};
-use definitions::{Actor, Call, End, Order, Reply, Side};
+use vocabulary::{Actor, Call, End, Order, Reply, Side};
 use listener_set::{Address, Generation, Numbers};
 
 /// How a plan ends where nothing of the side is lacking.

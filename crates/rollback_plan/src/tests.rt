@@ -2,7 +2,7 @@
 use crate::{
     Bound, Draft, DraftRefusal, Edge, MOST_STEPS, Next, Place, Undone, plain_reply, reply_to,
 };
-use definitions::{Actor, Answer, Call, End, Order, PidNote, Reply, Side};
+use vocabulary::{Actor, Answer, Call, End, Order, PidNote, Reply, Side};
 use listener_set::{Address, Generation, Numbers};
 use std::test::Fail;
 

@@ -5,11 +5,11 @@ use Rattle.std.specs.List.{AllByRecursion}
 use Rattle.std.proofs.lemmas.Bool.{false≢true, and_parts, leb-true}
 use Rattle.std.proofs.lemmas.Bool.Decides.{leb_tells}
 use Rattle.listener_set.specs.Numbers.{first_from, RisesFrom}
-use Rattle.definitions.specs.Settings.{HasSuffixRoom}
+use Rattle.vocabulary.specs.Settings.{HasSuffixRoom}
 use Rattle.definitions.specs.Record.{IsRecord}
-use Rattle.definitions.specs.declared.reports.Report.{Report}
+use Rattle.vocabulary.specs.declared.reports.Report.{Report}
 use Rattle.definitions.specs.After.{Setup, recorded, keeps_rules}
-use Rattle.definitions.specs.declared.table.Listener.{Listener}
+use Rattle.vocabulary.specs.declared.table.Listener.{Listener}
 use Rattle.handover_text.specs.Listeners.{AreListedFrom}
 use Rattle.service_state.specs.Setups.{IsSetup}
 

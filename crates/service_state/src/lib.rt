@@ -5,7 +5,7 @@ mod agreement;
 mod record;
 mod setup;
 
-pub use definitions::{Outcome, PidNote, Report, Settings, Side, Target};
+pub use vocabulary::{Outcome, PidNote, Report, Settings, Side, Target};
 pub use handover_text::Listeners;
 pub use record::Record;
 

@@ -6,7 +6,7 @@ ghost use Rattle.definitions.specs.Record.{started};
 ghost use Rattle.definitions.specs.After.{setup_of, target_setup, old_setup, setup_after, recorded, keeps_rules, record_from, record_after};
 
 use crate::setup::{Setup, next_config, next_image};
-use definitions::{Outcome, PidNote, Report, Settings, Side, Target};
+use vocabulary::{Outcome, PidNote, Report, Settings, Side, Target};
 use handover_text::Listeners;
 use listener_set::{FilePath, Generation, Numbers, WORKER_LIMIT};
 use std::marker::Model;

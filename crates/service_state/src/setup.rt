@@ -2,7 +2,7 @@
 ghost use Rattle.std.specs.Prelude.{◌≡◌};
 ghost use Rattle.definitions.specs.After.{next_number, next_config, next_image, renewed};
 
-use definitions::Settings;
+use vocabulary::Settings;
 use handover_text::Listeners;
 use listener_set::Generation;
 use std::marker::Model;

@@ -1,6 +1,6 @@
 //! Records after plans, and listeners through reloads and upgrades.
 use crate::{Listeners, Outcome, PidNote, Record, Report, Settings, Side, Target};
-use definitions::Limits;
+use vocabulary::Limits;
 use kernel_model::Kernel;
 use listener_set::{Address, FilePath, ListenerSet, Numbers};
 use std::test::Fail;

@@ -3,7 +3,7 @@ use Rattle.std.proofs.Common.{inl, ◌+◌, ◌≡◌, ℕ, ◌<◌, ◌≤◌, 
 use Rattle.std.specs.Prelude.{◌||◌, ◌&&◌, ◌==◌, ⊤}
 use Rattle.std.specs.List.{AllByRecursion, list_any}
 use Rattle.definitions.specs.Table.{same_generation, Hold, Process, Master, Worker, Foreign, Table, Caller, live_master, caller_if, is_ready, is_active, is_worker, is_live_master, is_master}
-use Rattle.definitions.specs.declared.table.Stance.TheVariants.{Starting, Ready, Draining, Exited}
+use Rattle.vocabulary.specs.declared.table.Stance.TheVariants.{Starting, Ready, Draining, Exited}
 use Rattle.listener_set.specs.Numbers.{is_in, lacks, IsRising, RisesFrom}
 use Rattle.definitions.specs.Record.{Record, IsRunning}
 use Rattle.definitions.specs.Claims.{IsStart}

@@ -4,10 +4,10 @@ use Rattle.std.specs.Prelude.{⊤}
 use Rattle.listener_set.specs.Numbers.{is_in}
 use Rattle.listener_set.specs.declared.generation.Generation.{Generation}
 use Rattle.definitions.specs.Table.{Address}
-use Rattle.definitions.specs.declared.calls.Call.TheVariants.{OpenAt, CloseAt, Quit, Kill, Usr1}
-use Rattle.definitions.specs.declared.calls.Reply.{Reply}
-use Rattle.definitions.specs.declared.plans.End.{End}
-use Rattle.definitions.specs.declared.plans.Side.{Side}
+use Rattle.vocabulary.specs.declared.calls.Call.TheVariants.{OpenAt, CloseAt, Quit, Kill, Usr1}
+use Rattle.vocabulary.specs.declared.calls.Reply.{Reply}
+use Rattle.vocabulary.specs.declared.plans.End.{End}
+use Rattle.vocabulary.specs.declared.plans.Side.{Side}
 use Rattle.definitions.specs.Tree.{Tree, Branches, Ends, Does, Nothing, Branch, among}
 use Rattle.definitions.specs.Plans.{settle, forks, awaits, starts, quits, kills, forks_any, awaits_any, starts_any, usr1s, opens, closes, census, census_edges, full_end, short_end}
 use Rattle.definitions.specs.Run.{Progress, Ending, At, Lost, noted}

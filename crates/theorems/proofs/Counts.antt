@@ -4,7 +4,7 @@ use Rattle.std.specs.List.{filter_map, filter, AllByRecursion, list_any}
 use Rattle.std.specs.Prelude.{◌&&◌, ◌||◌, ◌==◌, nat_lt, ⊤}
 use Rattle.std.proofs.lemmas.Bool.Decides.{nat_tests}
 use Rattle.definitions.specs.Table.{same_generation, Process, Master, Worker, Foreign, is_worker, is_ready}
-use Rattle.definitions.specs.declared.table.Stance.TheVariants.{Starting, Ready, Draining, Exited}
+use Rattle.vocabulary.specs.declared.table.Stance.TheVariants.{Starting, Ready, Draining, Exited}
 use Rattle.listener_set.specs.declared.generation.Generation.{Generation}
 use Rattle.definitions.specs.Calls.{is_exited_of, dropped, census_below, census_of}
 use Rattle.listener_set.specs.Numbers.{numbers_below, is_in, lacks}

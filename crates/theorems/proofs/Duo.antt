@@ -3,9 +3,9 @@ use Rattle.std.proofs.Common.{◌≡◌, ◌≢◌, ℕ, ◌+◌, ◌≤◌, ◌
 use Rattle.std.specs.Prelude.{◌&&◌, ◌||◌, ◌==◌, ⊤, if◌then◌else◌}
 use Rattle.std.specs.List.{filter_map, AllByRecursion, list_any}
 use Rattle.listener_set.specs.declared.generation.Generation.{Generation}
-use Rattle.definitions.specs.declared.table.Stance.TheVariants.{Starting, Ready, Draining, Exited}
-use Rattle.definitions.specs.declared.names.Name.{Name}
-use Rattle.definitions.specs.declared.names.Name.TheVariants as name
+use Rattle.vocabulary.specs.declared.table.Stance.TheVariants.{Starting, Ready, Draining, Exited}
+use Rattle.vocabulary.specs.declared.names.Name.{Name}
+use Rattle.vocabulary.specs.declared.names.Name.TheVariants as name
 use Rattle.definitions.specs.Table.{Hold, Process, Master, Worker, Foreign, Caller, number_of, bears, live_master, caller_if, is_live_master, is_active, is_ready, is_named, is_draining}
 use Rattle.definitions.specs.Formed.{IsAscending}
 use Rattle.definitions.specs.Exits.{change, made_exited, first_changed, caller_exits, without_exited, kept_if, exited, all_exited}

@@ -3,8 +3,8 @@ use Rattle.std.proofs.Common.{◌≢◌, inr, inl, ⊎_elim, ◌≡◌, ℕ, ◌
 use Rattle.std.specs.List.{filter_map, AllByRecursion, list_any}
 use Rattle.std.specs.Prelude.{◌&&◌, ◌||◌, ◌==◌, ⊤, if◌then◌else◌}
 use Rattle.definitions.specs.Table.{same_generation, Hold, Process, Master, Worker, Foreign, bears, is_worker, is_active, is_starting, is_exited, is_any, Address, is_ready, is_at, holds_of}
-use Rattle.definitions.specs.declared.table.Stance.{Stance}
-use Rattle.definitions.specs.declared.table.Stance.TheVariants.{Starting, Ready, Draining, Exited}
+use Rattle.vocabulary.specs.declared.table.Stance.{Stance}
+use Rattle.vocabulary.specs.declared.table.Stance.TheVariants.{Starting, Ready, Draining, Exited}
 use Rattle.listener_set.specs.declared.generation.Generation.{Generation}
 use Rattle.definitions.specs.Calls.{is_exited_of, dropped, made_ready, made_draining, is_of, is_row, put_hold, with_holds, lacks_address}
 use Rattle.definitions.specs.Exits.{change}

@@ -5,19 +5,19 @@ use Rattle.std.specs.List.{AllByRecursion, list_any}
 use Rattle.std.proofs.lemmas.Bool.Decides.{nat_tests}
 use Rattle.listener_set.specs.Numbers.{is_in, first_from}
 use Rattle.listener_set.specs.declared.generation.Generation.{Generation}
-use Rattle.definitions.specs.declared.table.Limits.{Limits}
+use Rattle.vocabulary.specs.declared.table.Limits.{Limits}
 use Rattle.definitions.specs.Table.{Address, same_generation, Hold, Process, Master, Worker, Foreign, Table, File, FilePath, is_worker, is_ready, has_address}
 use Rattle.definitions.specs.Service.{is_live_with, is_serving, service, uniform, IsSame}
-use Rattle.definitions.specs.declared.table.Stance.TheVariants.{Starting, Ready, Draining, Exited}
-use Rattle.definitions.specs.declared.plans.PidNote.{PidNote}
-use Rattle.definitions.specs.declared.table.Listener.{Listener}
+use Rattle.vocabulary.specs.declared.table.Stance.TheVariants.{Starting, Ready, Draining, Exited}
+use Rattle.vocabulary.specs.declared.plans.PidNote.{PidNote}
+use Rattle.vocabulary.specs.declared.table.Listener.{Listener}
 use Rattle.definitions.specs.Record.{Record, IsRecord, Agrees, FilesAre, addresses_of}
-use Rattle.definitions.specs.declared.targets.Target.{Target}
+use Rattle.vocabulary.specs.declared.targets.Target.{Target}
 use Rattle.listener_set.specs.AddressList.{has}
 use Rattle.definitions.specs.Target.{reload_generation, upgrade_generation}
 use Rattle.definitions.specs.After.{next_config, next_image, numbered, Setup, setup_after, recorded, record_from, record_if, keeps_rules}
 use Rattle.definitions.specs.Run.{Ending, Progress, outcome_of}
-use Rattle.definitions.specs.declared.reports.Report.{Report}
+use Rattle.vocabulary.specs.declared.reports.Report.{Report}
 use Rattle.definitions.specs.Claims.{IsStart, IsFewer, AgreesAfter, is_ready_with, ready_with}
 use Rattle.theorems.proofs.Rows.{one, one-le, weigh, weigh-le, count-weigh, both-true, and-left, and-right}
 use Rattle.theorems.proofs.Views.{Names, named, View, Fine, Looks, ready_in, eqb-refl}

@@ -4,14 +4,14 @@ use Rattle.listener_set.specs.Numbers.{is_in}
 use Rattle.definitions.specs.Claims.{names_any}
 use Rattle.std.specs.Prelude.{◌&&◌, ◌||◌, ◌==◌, ⊤, if◌then◌else◌}
 use Rattle.std.specs.List.{AllByRecursion, list_any}
-use Rattle.definitions.specs.declared.table.Stance.TheVariants.{Starting, Ready, Draining, Exited}
+use Rattle.vocabulary.specs.declared.table.Stance.TheVariants.{Starting, Ready, Draining, Exited}
 use Rattle.definitions.specs.Table.{Process, Master, Worker, Foreign, Caller, live_master, is_active, is_draining, is_named, is_live_master}
 use Rattle.listener_set.specs.declared.generation.Generation.{Generation}
 use Rattle.definitions.specs.Exits.{change, made_exited, first_changed, worker_exits, draining_exits, without_exited, kept_if, exited, all_exited, caller_exits}
-use Rattle.definitions.specs.declared.names.Name.{Name}
+use Rattle.vocabulary.specs.declared.names.Name.{Name}
 use Rattle.theorems.proofs.Rows.{one, FitsIn, worth, one-le, weigh, change-le, change-same, change-falls, every-filter_map, every-any, pick}
 use Rattle.theorems.proofs.Views.{Names, View, Other, Row, Looks, live_named, ready_in, live_any, master_of, finds-other, eqb-off, eqb-is}
-use Rattle.definitions.specs.declared.names.Name.TheVariants as name
+use Rattle.vocabulary.specs.declared.names.Name.TheVariants as name
 
 -- one row that exits
 exited-row : (v : View) (p : Process) → Row v p → Row v (made_exited p)

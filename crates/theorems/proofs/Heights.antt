@@ -2,7 +2,7 @@
 use Rattle.std.proofs.Common.{◌+◌, ◌≤◌, true, false, length, arith, List, ℕ}
 use Rattle.std.specs.Prelude.{max}
 use Rattle.definitions.specs.Tree.{Tree, Branches, Ends, Does, Nothing, Branch, height, highest, among, reply_of}
-use Rattle.definitions.specs.declared.calls.Reply.{Reply}
+use Rattle.vocabulary.specs.declared.calls.Reply.{Reply}
 use Rattle.definitions.specs.Run.{Pattern, Progress, Ran, run_with, goes_with, after_moment, after_call, answered, noted}
 
 mutual

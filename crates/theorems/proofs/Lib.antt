@@ -42,6 +42,7 @@ pub mod Notes
 pub mod Lights
 pub mod Processes
 pub mod Taken
+pub mod Starts
 pub mod Staying
 pub mod Firsts
 pub mod Calms

@@ -3,24 +3,24 @@ use Rattle.std.proofs.Common.{[], ◌∷◌, ◌≡◌, List, ℕ, ◌+◌, Bool
 use Rattle.std.specs.Prelude.{⊤, if◌then◌else◌}
 use Rattle.std.specs.List.{AllByRecursion, list_any}
 use Rattle.definitions.specs.Table.{is_any, is_draining, FilePath, owner_at, Process, Master, Worker, Table, Caller, is_worker, is_active, is_starting, is_exited, Address, is_held}
-use Rattle.definitions.specs.declared.table.Stance.TheVariants.{Starting}
+use Rattle.vocabulary.specs.declared.table.Stance.TheVariants.{Starting}
 use Rattle.listener_set.specs.declared.generation.Generation.{Generation}
 use Rattle.definitions.specs.Calls.{suits, is_image, with_file, moved_if, with_files, without_file, Stepped, gives, step_by, fault_if, fault_or_own, own_step, with_new_row, each_row, has_process_room, dropped, made_ready, lowest_free, with_new_socket}
-use Rattle.definitions.specs.declared.calls.Fate.{Fate}
+use Rattle.vocabulary.specs.declared.calls.Fate.{Fate}
 use Rattle.definitions.specs.Handover.{reading}
 use Rattle.definitions.specs.Exits.{change}
-use Rattle.definitions.specs.declared.calls.Call.TheVariants.{SpawnMaster, Adopt, WritePid, MovePid, Alive, TermMaster, AwaitGone, RemovePid, Usr1, Leave, CloseAt, Fork, AwaitReady, Quit, Kill, Census, OpenAt}
-use Rattle.definitions.specs.declared.calls.Answer.TheVariants.{Spawned, NoImage, Adopted, Refused, Fine, IoFault, Forked, IsReady, Again, NoMemory, Gone, Late, InUse, TooMany, Denied, Opened}
-use Rattle.definitions.specs.declared.calls.Call.{Call}
+use Rattle.vocabulary.specs.declared.calls.Call.TheVariants.{SpawnMaster, Adopt, WritePid, MovePid, Alive, TermMaster, AwaitGone, RemovePid, Usr1, Leave, CloseAt, Fork, AwaitReady, Quit, Kill, Census, OpenAt}
+use Rattle.vocabulary.specs.declared.calls.Answer.TheVariants.{Spawned, NoImage, Adopted, Refused, Fine, IoFault, Forked, IsReady, Again, NoMemory, Gone, Late, InUse, TooMany, Denied, Opened}
+use Rattle.vocabulary.specs.declared.calls.Call.{Call}
 use Rattle.definitions.specs.Tree.{call_of, Tree, Branches, Ends, Does, Nothing, Branch, among, reply_of}
-use Rattle.definitions.specs.declared.plans.Order.{Order}
-use Rattle.definitions.specs.declared.reports.Entry.{Entry}
-use Rattle.definitions.specs.declared.calls.Reply.{Reply}
+use Rattle.vocabulary.specs.declared.plans.Order.{Order}
+use Rattle.vocabulary.specs.declared.reports.Entry.{Entry}
+use Rattle.vocabulary.specs.declared.calls.Reply.{Reply}
 use Rattle.definitions.specs.Claims.{names_any, executing_at, executing_after, refused_from, refused_behind}
-use Rattle.definitions.specs.declared.names.Name.{Name}
+use Rattle.vocabulary.specs.declared.names.Name.{Name}
 use Rattle.definitions.specs.Run.{Pattern, Progress, Ran, after_moment, after_call, noted, answered, Ending, At, Lost, run_with, goes_with}
 use Rattle.theorems.proofs.Rows.{pick}
-use Rattle.definitions.specs.declared.calls.Fate.TheVariants as fate
+use Rattle.vocabulary.specs.declared.calls.Fate.TheVariants as fate
 
 ---- What holds along a run
 

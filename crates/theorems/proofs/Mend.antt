@@ -12,8 +12,8 @@ use Rattle.listener_set.specs.Numbers.{numbers_below, is_in}
 use Rattle.listener_set.specs.declared.generation.Generation.{Generation}
 use Rattle.definitions.specs.Table.{Process, same_generation, Table, bears}
 use Rattle.definitions.specs.Record.{Record}
-use Rattle.definitions.specs.declared.targets.Target.TheVariants.{Mend}
-use Rattle.definitions.specs.declared.plans.Side.TheVariants.{Target}
+use Rattle.vocabulary.specs.declared.targets.Target.TheVariants.{Mend}
+use Rattle.vocabulary.specs.declared.plans.Side.TheVariants.{Target}
 use Rattle.definitions.specs.Tree.{Tree}
 use Rattle.definitions.specs.Plans.{plan_tree, mend_tree, forks_any, awaits_any, settle}
 use Rattle.definitions.specs.Run.{Pattern, Progress, Ending, start_at}

@@ -4,13 +4,13 @@ use Rattle.std.specs.Prelude.{⊤, ◌||◌, ◌==◌, filter}
 use Rattle.std.specs.List.{AllByRecursion, list_any}
 use Rattle.listener_set.specs.Numbers.{is_in, numbers_below}
 use Rattle.listener_set.specs.declared.generation.Generation.{Generation}
-use Rattle.definitions.specs.declared.targets.Target.TheVariants.{Mend}
-use Rattle.definitions.specs.declared.plans.Side.TheVariants.{Target}
-use Rattle.definitions.specs.declared.plans.Order.TheVariants.{Make}
-use Rattle.definitions.specs.declared.calls.Call.TheVariants.{Kill}
-use Rattle.definitions.specs.declared.calls.Fate.{Fate}
-use Rattle.definitions.specs.declared.calls.Reply.TheVariants as reply
-use Rattle.definitions.specs.declared.calls.Answer.TheVariants as answer
+use Rattle.vocabulary.specs.declared.targets.Target.TheVariants.{Mend}
+use Rattle.vocabulary.specs.declared.plans.Side.TheVariants.{Target}
+use Rattle.vocabulary.specs.declared.plans.Order.TheVariants.{Make}
+use Rattle.vocabulary.specs.declared.calls.Call.TheVariants.{Kill}
+use Rattle.vocabulary.specs.declared.calls.Fate.{Fate}
+use Rattle.vocabulary.specs.declared.calls.Reply.TheVariants as reply
+use Rattle.vocabulary.specs.declared.calls.Answer.TheVariants as answer
 use Rattle.definitions.specs.Table.{Process, Table, Caller, number_of, bears, is_worker, is_any}
 use Rattle.definitions.specs.Calls.{gives, each_row, dropped, step_by, step_with}
 use Rattle.definitions.specs.Record.{Record}

@@ -4,17 +4,17 @@ use Rattle.std.specs.Prelude.{◌||◌, ⊤}
 use Rattle.std.specs.List.{list_any}
 use Rattle.listener_set.specs.AddressList.{has}
 use Rattle.listener_set.specs.Numbers.{lacks}
-use Rattle.definitions.specs.declared.plans.PidNote.{PidNote}
-use Rattle.definitions.specs.declared.plans.PidNote.TheVariants.{Left}
-use Rattle.definitions.specs.declared.plans.Order.{Order}
-use Rattle.definitions.specs.declared.plans.Order.TheVariants.{Make, ForkLacking, AwaitLacking, KillLacking}
-use Rattle.definitions.specs.declared.calls.Call.{Call}
-use Rattle.definitions.specs.declared.calls.Call.TheVariants.{RemovePid}
-use Rattle.definitions.specs.declared.calls.Answer.{Answer}
-use Rattle.definitions.specs.declared.calls.Answer.TheVariants as answer
-use Rattle.definitions.specs.declared.calls.Reply.{Reply}
-use Rattle.definitions.specs.declared.calls.Reply.TheVariants as reply
-use Rattle.definitions.specs.declared.reports.Entry.{Entry}
+use Rattle.vocabulary.specs.declared.plans.PidNote.{PidNote}
+use Rattle.vocabulary.specs.declared.plans.PidNote.TheVariants.{Left}
+use Rattle.vocabulary.specs.declared.plans.Order.{Order}
+use Rattle.vocabulary.specs.declared.plans.Order.TheVariants.{Make, ForkLacking, AwaitLacking, KillLacking}
+use Rattle.vocabulary.specs.declared.calls.Call.{Call}
+use Rattle.vocabulary.specs.declared.calls.Call.TheVariants.{RemovePid}
+use Rattle.vocabulary.specs.declared.calls.Answer.{Answer}
+use Rattle.vocabulary.specs.declared.calls.Answer.TheVariants as answer
+use Rattle.vocabulary.specs.declared.calls.Reply.{Reply}
+use Rattle.vocabulary.specs.declared.calls.Reply.TheVariants as reply
+use Rattle.vocabulary.specs.declared.reports.Entry.{Entry}
 use Rattle.definitions.specs.Tree.{Tree, Branches, Ends, Does, Nothing, Branch, among, reply_of, full_or_short, call_of}
 use Rattle.definitions.specs.Run.{Pattern, Progress, Ran, run_with, goes_with, noted, after_call, after_moment, answered}
 use Rattle.definitions.specs.Table.{FilePath}

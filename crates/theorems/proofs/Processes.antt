@@ -3,15 +3,15 @@ use Rattle.std.proofs.Common.{◌≡◌, ◌≢◌, ℕ, ◌+◌, ◌<◌, ◌�
 use Rattle.std.specs.Prelude.{filter_map, ⊤, ◌&&◌, ◌==◌, nat_lt, length, if◌then◌else◌}
 use Rattle.std.specs.List.{AllByRecursion, list_any}
 use Rattle.listener_set.specs.declared.generation.Generation.{Generation}
-use Rattle.definitions.specs.declared.names.Name.{Name}
-use Rattle.definitions.specs.declared.names.Name.TheVariants as name
-use Rattle.definitions.specs.declared.table.Stance.{Stance}
-use Rattle.definitions.specs.declared.table.Stance.TheVariants.{Starting}
-use Rattle.definitions.specs.declared.calls.Call.{Call}
-use Rattle.definitions.specs.declared.calls.Call.TheVariants.{Adopt, WritePid, MovePid, SpawnMaster, TermMaster, OpenAt, CloseAt, Fork, AwaitReady, Quit, Kill, Census, Usr1}
-use Rattle.definitions.specs.declared.calls.Answer.{Answer}
-use Rattle.definitions.specs.declared.calls.Answer.TheVariants as answer
-use Rattle.definitions.specs.declared.calls.Fate.{Fate}
+use Rattle.vocabulary.specs.declared.names.Name.{Name}
+use Rattle.vocabulary.specs.declared.names.Name.TheVariants as name
+use Rattle.vocabulary.specs.declared.table.Stance.{Stance}
+use Rattle.vocabulary.specs.declared.table.Stance.TheVariants.{Starting}
+use Rattle.vocabulary.specs.declared.calls.Call.{Call}
+use Rattle.vocabulary.specs.declared.calls.Call.TheVariants.{Adopt, WritePid, MovePid, SpawnMaster, TermMaster, OpenAt, CloseAt, Fork, AwaitReady, Quit, Kill, Census, Usr1}
+use Rattle.vocabulary.specs.declared.calls.Answer.{Answer}
+use Rattle.vocabulary.specs.declared.calls.Answer.TheVariants as answer
+use Rattle.vocabulary.specs.declared.calls.Fate.{Fate}
 use Rattle.definitions.specs.Table.{Hold, Process, Master, Worker, Foreign, Table, Caller, owner_at, live_master, caller_if, is_live_master, is_worker, is_named, is_active, is_starting, is_draining, is_exited, is_any, is_held}
 use Rattle.definitions.specs.Exits.{without_exited, kept_if, change, made_exited, first_changed, caller_exits, exited, all_exited, after_exits}
 use Rattle.definitions.specs.Handover.{reading}

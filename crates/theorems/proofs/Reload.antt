@@ -10,18 +10,18 @@ use Rattle.listener_set.specs.Numbers.{RisesFrom, is_in, numbers_below}
 use Rattle.definitions.specs.Plans.{plan_tree, reload_on, reload_tree, starts, settle, opens, closes, reload_back, census, census_edges}
 use Rattle.listener_set.specs.AddressList.{has}
 use Rattle.definitions.specs.Target.{only_in, reload_generation, want}
-use Rattle.definitions.specs.declared.targets.Target.TheVariants.{Reload}
-use Rattle.definitions.specs.Settings.{Settings, IsInRange}
+use Rattle.vocabulary.specs.declared.targets.Target.TheVariants.{Reload}
+use Rattle.vocabulary.specs.Settings.{Settings, IsInRange}
 use Rattle.definitions.specs.After.{Setup, setup_after, recorded, renewed, reloaded, opened, all_opened, kept, next_config}
 use Rattle.theorems.proofs.Listeners.{fds, opens-on, all_closed, closed-kept, added-is, fds-listed, some-held}
 use Rattle.theorems.proofs.Ends.{next-is, moved-after, resized, report_at, service-of, service-short, first-keys, first-service, first-held, first-few, census-within, files-still, kept-after}
-use Rattle.definitions.specs.declared.plans.Side.TheVariants.{Old, Target}
-use Rattle.definitions.specs.declared.plans.End.TheVariants.{Done, RolledBack, ShortOld, ShortTarget}
+use Rattle.vocabulary.specs.declared.plans.Side.TheVariants.{Old, Target}
+use Rattle.vocabulary.specs.declared.plans.End.TheVariants.{Done, RolledBack, ShortOld, ShortTarget}
 use Rattle.definitions.specs.Run.{Pattern, Progress, Ending, At, start_at, outcome_of}
 use Rattle.definitions.specs.Claims.{AgreesAfter, IsStart, has_socket, Says, IsPaid, Kept, Floor, IsCommon, IsBlamed, HasCause, HasDescriptors, ready_with, run_of, ReloadHeadline}
 use Rattle.definitions.specs.Record.{Record, Agrees, addresses_of, listener_of}
 use Rattle.definitions.specs.Service.{Service, service}
-use Rattle.definitions.specs.declared.table.Listener.{Listener}
+use Rattle.vocabulary.specs.declared.table.Listener.{Listener}
 use Rattle.theorems.proofs.Rows.{weigh, every-more, and-left, and-right, both-true}
 use Rattle.theorems.proofs.Views.{Names, named, View, Looks, ready_in, eqb-off}
 use Rattle.theorems.proofs.Effects.{none, after_open, after_close, same-is, same-refl, bears-is, looks-allows}

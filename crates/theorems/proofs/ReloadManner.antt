@@ -3,9 +3,9 @@ use Rattle.std.proofs.Common.{◌≡◌, ℕ, ◌<◌, Bool, true, false, List, 
 use Rattle.std.specs.Prelude.{⊤, ◌&&◌, ◌==◌, reverse}
 use Rattle.listener_set.specs.Numbers.{numbers_below}
 use Rattle.listener_set.specs.declared.generation.Generation.{Generation}
-use Rattle.definitions.specs.declared.targets.Target.TheVariants.{Reload}
-use Rattle.definitions.specs.declared.plans.Side.TheVariants.{Old, Target}
-use Rattle.definitions.specs.Settings.{Settings}
+use Rattle.vocabulary.specs.declared.targets.Target.TheVariants.{Reload}
+use Rattle.vocabulary.specs.declared.plans.Side.TheVariants.{Old, Target}
+use Rattle.vocabulary.specs.Settings.{Settings}
 use Rattle.definitions.specs.Table.{Address, Table, bears, same_generation}
 use Rattle.definitions.specs.Record.{Record, addresses_of}
 use Rattle.definitions.specs.Target.{only_in, reload_generation}

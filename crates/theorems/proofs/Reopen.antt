@@ -9,8 +9,8 @@ use Rattle.listener_set.specs.Numbers.{is_in}
 use Rattle.listener_set.specs.declared.generation.Generation.{Generation}
 use Rattle.definitions.specs.Table.{same_generation, Table}
 use Rattle.definitions.specs.Record.{Record}
-use Rattle.definitions.specs.declared.targets.Target.TheVariants.{Reopen}
-use Rattle.definitions.specs.declared.plans.Side.TheVariants.{Target}
+use Rattle.vocabulary.specs.declared.targets.Target.TheVariants.{Reopen}
+use Rattle.vocabulary.specs.declared.plans.Side.TheVariants.{Target}
 use Rattle.definitions.specs.Plans.{plan_tree, reopen_tree, settle}
 use Rattle.definitions.specs.Run.{Pattern, start_at}
 use Rattle.definitions.specs.Claims.{IsStart, Floor, ReopenHeadline, ReopenFloor, run_of}

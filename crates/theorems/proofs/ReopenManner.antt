@@ -3,11 +3,11 @@ use Rattle.std.proofs.Common.{◌≡◌, ℕ, ◌+◌, ◌<◌, Bool, true, fals
 use Rattle.std.specs.Prelude.{⊤, ◌||◌}
 use Rattle.std.specs.List.{AllByRecursion, list_any}
 use Rattle.listener_set.specs.declared.generation.Generation.{Generation}
-use Rattle.definitions.specs.declared.targets.Target.TheVariants.{Reopen}
-use Rattle.definitions.specs.declared.plans.Side.TheVariants.{Target}
-use Rattle.definitions.specs.declared.plans.Order.TheVariants.{Make}
-use Rattle.definitions.specs.declared.calls.Call.TheVariants.{Usr1}
-use Rattle.definitions.specs.declared.calls.Reply.TheVariants as reply
+use Rattle.vocabulary.specs.declared.targets.Target.TheVariants.{Reopen}
+use Rattle.vocabulary.specs.declared.plans.Side.TheVariants.{Target}
+use Rattle.vocabulary.specs.declared.plans.Order.TheVariants.{Make}
+use Rattle.vocabulary.specs.declared.calls.Call.TheVariants.{Usr1}
+use Rattle.vocabulary.specs.declared.calls.Reply.TheVariants as reply
 use Rattle.definitions.specs.Table.{Table}
 use Rattle.definitions.specs.Service.{Service}
 use Rattle.definitions.specs.Record.{Record}

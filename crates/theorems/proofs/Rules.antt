@@ -2,27 +2,27 @@
 use Rattle.std.proofs.Common.{◌≡◌, ℕ, zero, suc, ◌+◌, ◌<◌, ◌≤◌, Bool, true, false, cond, not, List, [], ◌∷◌, ◌++◌, length, Option, Some, None, refl, sym, ap, ◌∙◌, subst, arith, ◌⊎◌, inl, inr, ⊎_elim, nat_lt}
 use Rattle.std.specs.List.{filter_map, list_any}
 use Rattle.std.specs.Prelude.{if◌then◌else◌, filter, ◌&&◌, ◌||◌, ◌==◌, ⊤, is_some}
-use Rattle.definitions.specs.declared.table.Limits.{Limits}
+use Rattle.vocabulary.specs.declared.table.Limits.{Limits}
 use Rattle.definitions.specs.Table.{same_generation, Hold, Process, Master, Worker, Foreign, File, Table, bears, Caller, with_rows, is_worker, is_active, is_ready, is_starting, is_exited, is_any, Address, is_at}
-use Rattle.definitions.specs.declared.table.Stance.TheVariants.{Starting}
+use Rattle.vocabulary.specs.declared.table.Stance.TheVariants.{Starting}
 use Rattle.listener_set.specs.declared.generation.Generation.{Generation}
 use Rattle.definitions.specs.Calls.{Stepped, gives, step_by, own_step, with_new_row, each_row, is_exited_of, dropped, made_ready, made_draining, census_of, is_of, with_holds, lacks_address, lowest_free, with_new_socket, is_row, put_hold}
-use Rattle.definitions.specs.declared.calls.Fate.{Fate}
-use Rattle.definitions.specs.declared.names.Name.{Name}
+use Rattle.vocabulary.specs.declared.calls.Fate.{Fate}
+use Rattle.vocabulary.specs.declared.names.Name.{Name}
 use Rattle.definitions.specs.Exits.{is_active_worker, change, losses_of, all_exited, after_exits}
-use Rattle.definitions.specs.declared.calls.Call.TheVariants.{AwaitGone, Fork, AwaitReady, Quit, Kill, Census, CloseAt, OpenAt, Usr1}
-use Rattle.definitions.specs.declared.calls.Answer.TheVariants.{Forked, IsReady, Again, NoMemory, Gone, Late, InUse, TooMany, Denied, Opened}
+use Rattle.vocabulary.specs.declared.calls.Call.TheVariants.{AwaitGone, Fork, AwaitReady, Quit, Kill, Census, CloseAt, OpenAt, Usr1}
+use Rattle.vocabulary.specs.declared.calls.Answer.TheVariants.{Forked, IsReady, Again, NoMemory, Gone, Late, InUse, TooMany, Denied, Opened}
 use Rattle.definitions.specs.Tree.{Tree, Branches, Ends, Does, full_or_short, lowest, call_of, reply_of}
 use Rattle.listener_set.specs.Numbers.{is_in, lacks}
 use Rattle.definitions.specs.Plans.{awaits_gone, gone_edges, usr1s, open_edges, fork_any_edges, kills, forks_any, awaits_any, fork_edges, await_edges, then_edge, census_edges, does, census, forks, awaits, starts, quits, settle, round, full_end, short_end, await_any_edges}
-use Rattle.definitions.specs.declared.plans.Side.{Side}
-use Rattle.definitions.specs.declared.plans.Order.{Order}
-use Rattle.definitions.specs.declared.plans.Order.TheVariants.{Make, ForkLacking, AwaitLacking, KillLacking}
-use Rattle.definitions.specs.declared.calls.Reply.{Reply}
-use Rattle.definitions.specs.declared.plans.PidNote.{PidNote}
+use Rattle.vocabulary.specs.declared.plans.Side.{Side}
+use Rattle.vocabulary.specs.declared.plans.Order.{Order}
+use Rattle.vocabulary.specs.declared.plans.Order.TheVariants.{Make, ForkLacking, AwaitLacking, KillLacking}
+use Rattle.vocabulary.specs.declared.calls.Reply.{Reply}
+use Rattle.vocabulary.specs.declared.plans.PidNote.{PidNote}
 use Rattle.definitions.specs.Claims.{names_any, is_leave}
-use Rattle.definitions.specs.declared.calls.Reply.TheVariants as reply
-use Rattle.definitions.specs.declared.calls.Answer.TheVariants as answer
+use Rattle.vocabulary.specs.declared.calls.Reply.TheVariants as reply
+use Rattle.vocabulary.specs.declared.calls.Answer.TheVariants as answer
 use Rattle.definitions.specs.Run.{Progress, after_moment, after_call, Ending, At, answered}
 use Rattle.definitions.specs.Path.{went_wrong, first_cause}
 use Rattle.theorems.proofs.Rows.{one, weigh, weigh-le-all, count-weigh, and-left, and-right, both-true, or-left, or-right}

@@ -7,11 +7,11 @@ use Rattle.listener_set.specs.declared.generation.Generation.{Generation}
 use Rattle.definitions.specs.Table.{Address, Table, is_worker, is_ready}
 use Rattle.definitions.specs.Service.{Service, service, uniform}
 use Rattle.definitions.specs.Record.{Record, Agrees, addresses_of}
-use Rattle.definitions.specs.declared.targets.Target.{Target}
+use Rattle.vocabulary.specs.declared.targets.Target.{Target}
 use Rattle.definitions.specs.Target.{want}
-use Rattle.definitions.specs.declared.reports.Outcome.TheVariants as outcome
-use Rattle.definitions.specs.declared.plans.Side.TheVariants.{Old, Target as New}
-use Rattle.definitions.specs.declared.plans.End.TheVariants.{Done, RolledBack, ShortOld, ShortTarget}
+use Rattle.vocabulary.specs.declared.reports.Outcome.TheVariants as outcome
+use Rattle.vocabulary.specs.declared.plans.Side.TheVariants.{Old, Target as New}
+use Rattle.vocabulary.specs.declared.plans.End.TheVariants.{Done, RolledBack, ShortOld, ShortTarget}
 use Rattle.definitions.specs.Tree.{Tree}
 use Rattle.definitions.specs.After.{setup_after, recorded}
 use Rattle.definitions.specs.Run.{Pattern, Progress, Ending, At, Ran, start_at, outcome_of, report_of}

@@ -4,21 +4,21 @@ use Rattle.std.specs.Prelude.{bytes_eq, ⊤, ◌&&◌, ◌||◌, ◌==◌, filte
 use Rattle.std.specs.List.{AllByRecursion, list_any}
 use Rattle.listener_set.specs.Numbers.{is_in, lacks}
 use Rattle.listener_set.specs.declared.generation.Generation.{Generation}
-use Rattle.definitions.specs.declared.table.Stance.TheVariants.{Starting, Ready, Draining, Exited}
-use Rattle.definitions.specs.declared.table.Stance.{Stance}
-use Rattle.definitions.specs.declared.plans.End.{End}
-use Rattle.definitions.specs.declared.plans.Side.{Side}
-use Rattle.definitions.specs.declared.plans.Order.{Order}
-use Rattle.definitions.specs.declared.plans.PidNote.{PidNote}
-use Rattle.definitions.specs.declared.calls.Reply.{Reply}
+use Rattle.vocabulary.specs.declared.table.Stance.TheVariants.{Starting, Ready, Draining, Exited}
+use Rattle.vocabulary.specs.declared.table.Stance.{Stance}
+use Rattle.vocabulary.specs.declared.plans.End.{End}
+use Rattle.vocabulary.specs.declared.plans.Side.{Side}
+use Rattle.vocabulary.specs.declared.plans.Order.{Order}
+use Rattle.vocabulary.specs.declared.plans.PidNote.{PidNote}
+use Rattle.vocabulary.specs.declared.calls.Reply.{Reply}
 use Rattle.definitions.specs.Table.{Address, has_address, Hold, Process, Master, Worker, Foreign, Table, Caller, live_master, caller_if, is_worker, is_active, is_ready, same_generation}
 use Rattle.definitions.specs.Formed.{IsFormed, IsQuiet, IsAscending}
 use Rattle.definitions.specs.Record.{IsRunning}
 use Rattle.definitions.specs.Tree.{Tree, Branches, Ends, Does, Nothing, Branch, among, reply_of, full_or_short, call_of}
-use Rattle.definitions.specs.declared.plans.Order.TheVariants.{Make, ForkLacking, AwaitLacking, KillLacking}
-use Rattle.definitions.specs.declared.calls.Call.TheVariants.{Census, CloseAt, Quit}
-use Rattle.definitions.specs.declared.calls.Answer.{Answer}
-use Rattle.definitions.specs.declared.calls.Answer.TheVariants as answer
+use Rattle.vocabulary.specs.declared.plans.Order.TheVariants.{Make, ForkLacking, AwaitLacking, KillLacking}
+use Rattle.vocabulary.specs.declared.calls.Call.TheVariants.{Census, CloseAt, Quit}
+use Rattle.vocabulary.specs.declared.calls.Answer.{Answer}
+use Rattle.vocabulary.specs.declared.calls.Answer.TheVariants as answer
 use Rattle.definitions.specs.Plans.{settle, round, census, quits, closes, census_edges, fork_edges, await_any_edges, then_edge, full_end, short_end}
 use Rattle.definitions.specs.Run.{Pattern, Progress, Ending, At, Ran, run_with, goes_with, noted, after_call, after_moment, answered, is_plain}
 use Rattle.definitions.specs.Path.{first_cause, went_wrong}
@@ -37,7 +37,7 @@ use Rattle.theorems.proofs.Addresses.{same-address, address-refl, lacks-none}
 use Rattle.theorems.proofs.Listeners.{all_closed, all-closed-is}
 use Rattle.definitions.specs.Calls.{gives, lacks_address}
 use Rattle.listener_set.specs.AddressList.{has}
-use Rattle.definitions.specs.declared.plans.Side.TheVariants.{Old}
+use Rattle.vocabulary.specs.declared.plans.Side.TheVariants.{Old}
 
 ---- The first table
 

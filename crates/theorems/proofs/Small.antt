@@ -6,7 +6,7 @@ use Rattle.std.proofs.lemmas.List.{reverse-append}
 use Rattle.definitions.specs.Table.{Hold}
 use Rattle.listener_set.specs.Numbers.{is_in}
 use Rattle.definitions.specs.Record.{listener_of}
-use Rattle.definitions.specs.declared.table.Listener.{Listener}
+use Rattle.vocabulary.specs.declared.table.Listener.{Listener}
 use Rattle.theorems.proofs.Counts.{Distinct, is_in-append}
 use Rattle.theorems.proofs.Sets.{in-cases, in-filter-of}
 

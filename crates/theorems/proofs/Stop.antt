@@ -4,13 +4,13 @@ use Rattle.std.specs.Prelude.{filter_map, reverse, unwrap_or, ⊤, ◌==◌, byt
 use Rattle.std.specs.List.{AllByRecursion, list_any, cons_option}
 use Rattle.listener_set.specs.Numbers.{is_in}
 use Rattle.listener_set.specs.declared.generation.Generation.{Generation}
-use Rattle.definitions.specs.declared.plans.PidNote.{PidNote}
-use Rattle.definitions.specs.declared.plans.PidNote.TheVariants.{InPlace, AtOldbin, OldbinLeft, Left, NoFile}
-use Rattle.definitions.specs.declared.plans.End.TheVariants.{Done, RolledBack, ShortOld, ShortTarget}
-use Rattle.definitions.specs.declared.plans.Order.TheVariants.{Make}
-use Rattle.definitions.specs.declared.calls.Call.TheVariants.{RemovePid, Leave}
-use Rattle.definitions.specs.declared.calls.Answer.TheVariants as answer
-use Rattle.definitions.specs.declared.targets.Target.TheVariants.{Stop}
+use Rattle.vocabulary.specs.declared.plans.PidNote.{PidNote}
+use Rattle.vocabulary.specs.declared.plans.PidNote.TheVariants.{InPlace, AtOldbin, OldbinLeft, Left, NoFile}
+use Rattle.vocabulary.specs.declared.plans.End.TheVariants.{Done, RolledBack, ShortOld, ShortTarget}
+use Rattle.vocabulary.specs.declared.plans.Order.TheVariants.{Make}
+use Rattle.vocabulary.specs.declared.calls.Call.TheVariants.{RemovePid, Leave}
+use Rattle.vocabulary.specs.declared.calls.Answer.TheVariants as answer
+use Rattle.vocabulary.specs.declared.targets.Target.TheVariants.{Stop}
 use Rattle.definitions.specs.Table.{is_own, FilePath, File, Process, Master, Worker, Foreign, Table, Hold, Caller, owner_at, owner_if, has_address}
 use Rattle.definitions.specs.Calls.{Stepped, gives, step_by, each_row, with_files, without_file, without_master}
 use Rattle.definitions.specs.Service.{is_live_with, service, IsSame}
@@ -33,7 +33,7 @@ use Rattle.theorems.proofs.Services.{sole-fine}
 use Rattle.theorems.proofs.Notes.{LeftByFault, SaidBy, left-by}
 use Rattle.theorems.proofs.Ends.{report_at}
 use Rattle.definitions.specs.After.{record_after}
-use Rattle.definitions.specs.declared.calls.Reply.{Reply}
+use Rattle.vocabulary.specs.declared.calls.Reply.{Reply}
 use Rattle.theorems.proofs.Begins.{first_view, begin}
 use Rattle.theorems.proofs.Logic.{Unasked, course_after, Behind, Course, Anyhow, Along, from-along, are-mild-anyhow, remove-cases, unfailing}
 use Rattle.theorems.proofs.Rules.{rule-waits, band-anew, Scene, plain_scene, Marks, Band, view, any, ready_of, Answers, marks-plain, marks-wrong, rule-step, rule-quits, rule-kills, band-exits, band-inv}

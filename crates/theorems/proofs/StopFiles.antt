@@ -4,24 +4,24 @@ use Rattle.std.specs.Prelude.{⊤, ◌||◌, reverse, bytes_eq, if◌then◌else
 use Rattle.std.specs.List.{list_any}
 use Rattle.listener_set.specs.AddressList.{has}
 use Rattle.listener_set.specs.declared.generation.Generation.{Generation}
-use Rattle.definitions.specs.declared.plans.PidNote.{PidNote}
-use Rattle.definitions.specs.declared.plans.PidNote.TheVariants.{InPlace, AtOldbin, OldbinLeft, Left, NoFile}
-use Rattle.definitions.specs.declared.plans.End.TheVariants.{Done}
-use Rattle.definitions.specs.declared.plans.Order.TheVariants.{Make}
-use Rattle.definitions.specs.declared.names.Name.{Name}
-use Rattle.definitions.specs.declared.calls.Call.{Call}
-use Rattle.definitions.specs.declared.calls.Call.TheVariants.{Quit, Kill, AwaitGone, RemovePid, Leave}
-use Rattle.definitions.specs.declared.calls.Answer.{Answer}
-use Rattle.definitions.specs.declared.calls.Answer.TheVariants as answer
-use Rattle.definitions.specs.declared.calls.Fate.{Fate}
-use Rattle.definitions.specs.declared.reports.Entry.{Entry}
+use Rattle.vocabulary.specs.declared.plans.PidNote.{PidNote}
+use Rattle.vocabulary.specs.declared.plans.PidNote.TheVariants.{InPlace, AtOldbin, OldbinLeft, Left, NoFile}
+use Rattle.vocabulary.specs.declared.plans.End.TheVariants.{Done}
+use Rattle.vocabulary.specs.declared.plans.Order.TheVariants.{Make}
+use Rattle.vocabulary.specs.declared.names.Name.{Name}
+use Rattle.vocabulary.specs.declared.calls.Call.{Call}
+use Rattle.vocabulary.specs.declared.calls.Call.TheVariants.{Quit, Kill, AwaitGone, RemovePid, Leave}
+use Rattle.vocabulary.specs.declared.calls.Answer.{Answer}
+use Rattle.vocabulary.specs.declared.calls.Answer.TheVariants as answer
+use Rattle.vocabulary.specs.declared.calls.Fate.{Fate}
+use Rattle.vocabulary.specs.declared.reports.Entry.{Entry}
 use Rattle.definitions.specs.Table.{FilePath, File, Table, Caller, owner_at, live_master}
 use Rattle.definitions.specs.Exits.{after_exits}
 use Rattle.definitions.specs.Calls.{Stepped, gives, step_by, step_with, with_files, without_file}
 use Rattle.definitions.specs.Record.{Record, FilesAre, oldbin}
 use Rattle.definitions.specs.Tree.{Tree, Branches, Ends, Does, reply_of}
 use Rattle.definitions.specs.Plans.{does, then_edge, gone_edges, note_edges, quits, kills, awaits_gone, removes, remove_oldbin_too, has_oldbin, stopped, stop_tree, plan_tree}
-use Rattle.definitions.specs.declared.targets.Target.TheVariants.{Stop}
+use Rattle.vocabulary.specs.declared.targets.Target.TheVariants.{Stop}
 use Rattle.definitions.specs.Run.{Pattern, Progress, Ending, At, Lost, start_at, run_with, after_call, after_moment, answered}
 use Rattle.definitions.specs.Claims.{names_any, is_failed_removal, was_failed, first_owner, IsRemoved, run_of, refusal_of}
 use Rattle.definitions.specs.Manner.{is_leave_call}

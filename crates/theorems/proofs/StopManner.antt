@@ -4,13 +4,13 @@ use Rattle.std.specs.Prelude.{⊤, reverse}
 use Rattle.std.specs.List.{list_any}
 use Rattle.listener_set.specs.Numbers.{is_in}
 use Rattle.listener_set.specs.declared.generation.Generation.{Generation}
-use Rattle.definitions.specs.declared.plans.PidNote.{PidNote}
-use Rattle.definitions.specs.declared.plans.Order.TheVariants.{Make, ForkLacking, AwaitLacking, KillLacking}
-use Rattle.definitions.specs.declared.targets.Target.TheVariants.{Stop}
-use Rattle.definitions.specs.declared.calls.Call.{Call}
-use Rattle.definitions.specs.declared.calls.Call.TheVariants.{Kill, RemovePid, Leave}
-use Rattle.definitions.specs.declared.calls.Reply.{Reply}
-use Rattle.definitions.specs.declared.reports.Entry.{Entry}
+use Rattle.vocabulary.specs.declared.plans.PidNote.{PidNote}
+use Rattle.vocabulary.specs.declared.plans.Order.TheVariants.{Make, ForkLacking, AwaitLacking, KillLacking}
+use Rattle.vocabulary.specs.declared.targets.Target.TheVariants.{Stop}
+use Rattle.vocabulary.specs.declared.calls.Call.{Call}
+use Rattle.vocabulary.specs.declared.calls.Call.TheVariants.{Kill, RemovePid, Leave}
+use Rattle.vocabulary.specs.declared.calls.Reply.{Reply}
+use Rattle.vocabulary.specs.declared.reports.Entry.{Entry}
 use Rattle.definitions.specs.Table.{FilePath, Table}
 use Rattle.definitions.specs.Record.{Record, oldbin}
 use Rattle.definitions.specs.Tree.{Tree, Branches, Ends, Does, Nothing, Branch, among, reply_of}
@@ -20,9 +20,9 @@ use Rattle.definitions.specs.Manner.{is_quit_call, is_leave_call, was_late, IsKi
 use Rattle.definitions.specs.Claims.{names_any, InManner}
 use Rattle.theorems.proofs.Small.{in-reverse}
 use Rattle.theorems.proofs.Logic.{Course, course_after, Anyhow, are-mild-anyhow}
-use Rattle.definitions.specs.declared.names.Name.{Name}
-use Rattle.definitions.specs.declared.plans.PidNote.TheVariants.{NoFile, Left}
-use Rattle.definitions.specs.declared.plans.End.TheVariants.{Done}
+use Rattle.vocabulary.specs.declared.names.Name.{Name}
+use Rattle.vocabulary.specs.declared.plans.PidNote.TheVariants.{NoFile, Left}
+use Rattle.vocabulary.specs.declared.plans.End.TheVariants.{Done}
 use Rattle.definitions.specs.Exits.{after_exits}
 use Rattle.theorems.proofs.Traces.{entry_of, Asking, Finally, Traced, Good, AllGood, all-good, good-call, from-traced}
 use Rattle.theorems.proofs.Waits.{Told, AllWaited, told-on, all-waited-on, quits-told, waits-told, kills-traced, leaves-traced}

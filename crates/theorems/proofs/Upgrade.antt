@@ -1,14 +1,14 @@
 -- The headline for an upgrade.
 use Rattle.std.proofs.Common.{◌≡◌, ◌≢◌, ℕ, ◌+◌, ◌<◌, true, false, List, [], ◌∷◌, length, Option, Some, None, refl, sym, ap, ◌∙◌, subst, arith, inl}
 use Rattle.listener_set.specs.Numbers.{is_in, numbers_below}
-use Rattle.definitions.specs.declared.plans.PidNote.{PidNote}
-use Rattle.definitions.specs.declared.plans.PidNote.TheVariants.{InPlace, AtOldbin, OldbinLeft, Left, NoFile}
-use Rattle.definitions.specs.declared.plans.Order.TheVariants.{Make}
-use Rattle.definitions.specs.declared.plans.Side.TheVariants.{Old}
-use Rattle.definitions.specs.declared.calls.Call.TheVariants.{MovePid, SpawnMaster, Census}
-use Rattle.definitions.specs.declared.calls.Answer.TheVariants as answer
-use Rattle.definitions.specs.declared.calls.Reply.TheVariants as reply
-use Rattle.definitions.specs.declared.targets.Target.TheVariants.{Upgrade}
+use Rattle.vocabulary.specs.declared.plans.PidNote.{PidNote}
+use Rattle.vocabulary.specs.declared.plans.PidNote.TheVariants.{InPlace, AtOldbin, OldbinLeft, Left, NoFile}
+use Rattle.vocabulary.specs.declared.plans.Order.TheVariants.{Make}
+use Rattle.vocabulary.specs.declared.plans.Side.TheVariants.{Old}
+use Rattle.vocabulary.specs.declared.calls.Call.TheVariants.{MovePid, SpawnMaster, Census}
+use Rattle.vocabulary.specs.declared.calls.Answer.TheVariants as answer
+use Rattle.vocabulary.specs.declared.calls.Reply.TheVariants as reply
+use Rattle.vocabulary.specs.declared.targets.Target.TheVariants.{Upgrade}
 use Rattle.definitions.specs.Table.{FilePath, File, Master, Caller, same_generation, owner_at}
 use Rattle.definitions.specs.Calls.{gives, with_files, with_file, without_file, with_new_row}
 use Rattle.definitions.specs.Record.{FilesAre, oldbin}

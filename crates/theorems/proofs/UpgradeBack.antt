@@ -3,12 +3,12 @@ use Rattle.std.proofs.Common.{◌≡◌, ◌≢◌, ℕ, ◌+◌, ◌≤◌, Boo
 use Rattle.std.specs.Prelude.{◌&&◌, ◌==◌}
 use Rattle.listener_set.specs.Numbers.{is_in}
 use Rattle.listener_set.specs.declared.generation.Generation.{Generation}
-use Rattle.definitions.specs.declared.plans.PidNote.{PidNote}
-use Rattle.definitions.specs.declared.plans.PidNote.TheVariants.{InPlace, AtOldbin}
-use Rattle.definitions.specs.declared.plans.Order.TheVariants.{Make}
-use Rattle.definitions.specs.declared.plans.Side.TheVariants.{Old}
-use Rattle.definitions.specs.declared.calls.Call.TheVariants.{MovePid, TermMaster}
-use Rattle.definitions.specs.declared.calls.Answer.TheVariants as answer
+use Rattle.vocabulary.specs.declared.plans.PidNote.{PidNote}
+use Rattle.vocabulary.specs.declared.plans.PidNote.TheVariants.{InPlace, AtOldbin}
+use Rattle.vocabulary.specs.declared.plans.Order.TheVariants.{Make}
+use Rattle.vocabulary.specs.declared.plans.Side.TheVariants.{Old}
+use Rattle.vocabulary.specs.declared.calls.Call.TheVariants.{MovePid, TermMaster}
+use Rattle.vocabulary.specs.declared.calls.Answer.TheVariants as answer
 use Rattle.definitions.specs.Table.{FilePath, File, Hold, Process, Master, Worker, Foreign, Caller, is_ready, bears, same_generation, owner_at}
 use Rattle.definitions.specs.Calls.{gives, with_files, with_file, without_file, own_step}
 use Rattle.definitions.specs.Record.{FilesAre, oldbin}

@@ -5,9 +5,9 @@ use Rattle.std.specs.List.{AllByRecursion, list_any}
 use Rattle.listener_set.specs.Numbers.{is_in, numbers_below, lacks, RisesFrom}
 use Rattle.listener_set.specs.AddressList.{has}
 use Rattle.listener_set.specs.declared.generation.Generation.{Generation}
-use Rattle.definitions.specs.declared.table.Listener.{Listener}
-use Rattle.definitions.specs.declared.calls.Call.{Call}
-use Rattle.definitions.specs.declared.calls.Call.TheVariants.{Adopt, CloseAt, OpenAt, Fork, AwaitReady, WritePid, Census}
+use Rattle.vocabulary.specs.declared.table.Listener.{Listener}
+use Rattle.vocabulary.specs.declared.calls.Call.{Call}
+use Rattle.vocabulary.specs.declared.calls.Call.TheVariants.{Adopt, CloseAt, OpenAt, Fork, AwaitReady, WritePid, Census}
 use Rattle.definitions.specs.Table.{Address, FilePath, File, Hold, bears, same_generation, owner_at, is_at, has_address, is_worker, is_ready}
 use Rattle.definitions.specs.Calls.{each_row, dropped, with_file, put_hold, lacks_address, is_exited_of, census_of}
 use Rattle.definitions.specs.Record.{FilesAre, oldbin, listener_of}

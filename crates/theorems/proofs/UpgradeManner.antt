@@ -4,24 +4,24 @@ use Rattle.std.specs.Prelude.{⊤, ◌&&◌, reverse}
 use Rattle.std.specs.List.{list_any}
 use Rattle.listener_set.specs.Numbers.{is_in}
 use Rattle.listener_set.specs.declared.generation.Generation.{Generation}
-use Rattle.definitions.specs.declared.names.Name.{Name}
-use Rattle.definitions.specs.declared.calls.Call.{Call}
-use Rattle.definitions.specs.declared.calls.Call.TheVariants.{OpenAt, CloseAt, Fork, AwaitReady, Census, Adopt, WritePid, MovePid, SpawnMaster, TermMaster, Quit, Kill, AwaitGone, Leave, Alive}
-use Rattle.definitions.specs.declared.calls.Answer.TheVariants as answer
-use Rattle.definitions.specs.declared.calls.Fate.{Fate}
-use Rattle.definitions.specs.declared.targets.Target.TheVariants.{Upgrade}
-use Rattle.definitions.specs.declared.plans.Side.{Side}
-use Rattle.definitions.specs.declared.plans.Side.TheVariants.{Old}
-use Rattle.definitions.specs.declared.plans.Order.{Order}
-use Rattle.definitions.specs.declared.plans.Order.TheVariants.{Make, ForkLacking, AwaitLacking, KillLacking}
-use Rattle.definitions.specs.declared.reports.Entry.{Entry}
-use Rattle.definitions.specs.declared.calls.Reply.{Reply}
-use Rattle.definitions.specs.Settings.{Settings}
+use Rattle.vocabulary.specs.declared.names.Name.{Name}
+use Rattle.vocabulary.specs.declared.calls.Call.{Call}
+use Rattle.vocabulary.specs.declared.calls.Call.TheVariants.{OpenAt, CloseAt, Fork, AwaitReady, Census, Adopt, WritePid, MovePid, SpawnMaster, TermMaster, Quit, Kill, AwaitGone, Leave, Alive}
+use Rattle.vocabulary.specs.declared.calls.Answer.TheVariants as answer
+use Rattle.vocabulary.specs.declared.calls.Fate.{Fate}
+use Rattle.vocabulary.specs.declared.targets.Target.TheVariants.{Upgrade}
+use Rattle.vocabulary.specs.declared.plans.Side.{Side}
+use Rattle.vocabulary.specs.declared.plans.Side.TheVariants.{Old}
+use Rattle.vocabulary.specs.declared.plans.Order.{Order}
+use Rattle.vocabulary.specs.declared.plans.Order.TheVariants.{Make, ForkLacking, AwaitLacking, KillLacking}
+use Rattle.vocabulary.specs.declared.reports.Entry.{Entry}
+use Rattle.vocabulary.specs.declared.calls.Reply.{Reply}
+use Rattle.vocabulary.specs.Settings.{Settings}
 use Rattle.definitions.specs.Table.{Table, Caller, bears, is_worker, is_any}
 use Rattle.definitions.specs.Exits.{after_exits}
 use Rattle.definitions.specs.Calls.{Stepped, gives, each_row, dropped, step_by, step_with}
 use Rattle.definitions.specs.Tree.{Tree, Branches, Ends, Does, Nothing, Branch, among, reply_of, call_of}
-use Rattle.definitions.specs.declared.calls.Reply.TheVariants as reply
+use Rattle.vocabulary.specs.declared.calls.Reply.TheVariants as reply
 use Rattle.definitions.specs.Plans.{on, hand_over, back_late, plan_tree, settle, quits, awaits_gone, gone_edges, then_edge, does}
 use Rattle.definitions.specs.Run.{Progress, Lost, start_at, outcome_of, noted, after_call}
 use Rattle.definitions.specs.Manner.{has_ready, is_lost, is_old_side, is_process_of, is_quit_of, is_wait_of, is_wait_call, is_late, is_leave_call, was_late, IsKillDue, KillsAreDue}

@@ -3,14 +3,14 @@ use Rattle.std.proofs.Common.{◌≡◌, ◌≢◌, ℕ, ◌+◌, ◌≤◌, Boo
 use Rattle.std.specs.Prelude.{◌&&◌, if◌then◌else◌}
 use Rattle.listener_set.specs.Numbers.{is_in}
 use Rattle.listener_set.specs.declared.generation.Generation.{Generation}
-use Rattle.definitions.specs.declared.table.Limits.{Limits}
-use Rattle.definitions.specs.declared.table.Stance.TheVariants.{Starting}
-use Rattle.definitions.specs.declared.calls.Call.{Call}
-use Rattle.definitions.specs.declared.calls.Call.TheVariants.{Adopt, CloseAt, OpenAt, Fork, AwaitReady, WritePid}
-use Rattle.definitions.specs.declared.calls.Fate.{Fate}
-use Rattle.definitions.specs.declared.calls.Answer.TheVariants as answer
-use Rattle.definitions.specs.declared.calls.Reply.TheVariants as reply
-use Rattle.definitions.specs.declared.plans.Order.TheVariants.{Make}
+use Rattle.vocabulary.specs.declared.table.Limits.{Limits}
+use Rattle.vocabulary.specs.declared.table.Stance.TheVariants.{Starting}
+use Rattle.vocabulary.specs.declared.calls.Call.{Call}
+use Rattle.vocabulary.specs.declared.calls.Call.TheVariants.{Adopt, CloseAt, OpenAt, Fork, AwaitReady, WritePid}
+use Rattle.vocabulary.specs.declared.calls.Fate.{Fate}
+use Rattle.vocabulary.specs.declared.calls.Answer.TheVariants as answer
+use Rattle.vocabulary.specs.declared.calls.Reply.TheVariants as reply
+use Rattle.vocabulary.specs.declared.plans.Order.TheVariants.{Make}
 use Rattle.definitions.specs.Table.{Address, FilePath, File, Hold, Worker, Table, Caller, bears, same_generation, is_worker, is_starting, is_exited}
 use Rattle.definitions.specs.Calls.{Stepped, gives, step_by, own_step, each_row, dropped, with_files, with_file, with_new_row, with_new_socket, with_holds, put_hold, lacks_address, lowest_free, is_of, is_row, made_ready}
 use Rattle.definitions.specs.Exits.{change}

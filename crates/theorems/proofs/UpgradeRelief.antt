@@ -4,13 +4,13 @@ use Rattle.std.specs.Prelude.{reverse, is_some}
 use Rattle.listener_set.specs.Numbers.{is_in, numbers_below}
 use Rattle.listener_set.specs.AddressList.{has}
 use Rattle.listener_set.specs.declared.generation.Generation.{Generation}
-use Rattle.definitions.specs.declared.plans.PidNote.{PidNote}
-use Rattle.definitions.specs.declared.plans.PidNote.TheVariants.{InPlace, OldbinLeft}
-use Rattle.definitions.specs.declared.plans.Side.TheVariants.{Target}
-use Rattle.definitions.specs.declared.plans.Order.TheVariants.{Make}
-use Rattle.definitions.specs.declared.calls.Call.TheVariants.{Alive, Leave, RemovePid}
-use Rattle.definitions.specs.declared.calls.Answer.TheVariants as answer
-use Rattle.definitions.specs.declared.calls.Reply.TheVariants as reply
+use Rattle.vocabulary.specs.declared.plans.PidNote.{PidNote}
+use Rattle.vocabulary.specs.declared.plans.PidNote.TheVariants.{InPlace, OldbinLeft}
+use Rattle.vocabulary.specs.declared.plans.Side.TheVariants.{Target}
+use Rattle.vocabulary.specs.declared.plans.Order.TheVariants.{Make}
+use Rattle.vocabulary.specs.declared.calls.Call.TheVariants.{Alive, Leave, RemovePid}
+use Rattle.vocabulary.specs.declared.calls.Answer.TheVariants as answer
+use Rattle.vocabulary.specs.declared.calls.Reply.TheVariants as reply
 use Rattle.definitions.specs.Table.{Address, FilePath, File, Hold, Caller, has_address, owner_at}
 use Rattle.definitions.specs.Calls.{Stepped, gives, step_by, each_row, dropped, is_image, asked_alive, with_files, without_file, without_master}
 use Rattle.definitions.specs.Record.{FilesAre, oldbin}

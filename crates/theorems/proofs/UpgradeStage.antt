@@ -5,10 +5,10 @@ use Rattle.std.specs.List.{list_any}
 use Rattle.listener_set.specs.Numbers.{is_in, numbers_below}
 use Rattle.listener_set.specs.AddressList.{has}
 use Rattle.listener_set.specs.declared.generation.Generation.{Generation}
-use Rattle.definitions.specs.declared.targets.Target.TheVariants.{Upgrade}
-use Rattle.definitions.specs.declared.plans.PidNote.{PidNote}
-use Rattle.definitions.specs.declared.plans.End.TheVariants.{Done, RolledBack, ShortOld, ShortTarget}
-use Rattle.definitions.specs.Settings.{Settings, IsInRange}
+use Rattle.vocabulary.specs.declared.targets.Target.TheVariants.{Upgrade}
+use Rattle.vocabulary.specs.declared.plans.PidNote.{PidNote}
+use Rattle.vocabulary.specs.declared.plans.End.TheVariants.{Done, RolledBack, ShortOld, ShortTarget}
+use Rattle.vocabulary.specs.Settings.{Settings, IsInRange}
 use Rattle.definitions.specs.Table.{Address, File, Hold, Process, Table, same_generation, has_address, is_worker, is_ready}
 use Rattle.definitions.specs.Service.{Service, service}
 use Rattle.definitions.specs.Record.{Record, Agrees, FilesAre, addresses_of, listener_of}

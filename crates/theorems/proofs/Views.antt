@@ -4,8 +4,8 @@ use Rattle.std.specs.Prelude.{◌&&◌, ◌==◌, ⊤}
 use Rattle.std.specs.List.{AllByRecursion}
 use Rattle.std.proofs.lemmas.Bool.Decides.{nat_tests}
 use Rattle.definitions.specs.Table.{same_generation, Hold, Process, Master, Worker, Foreign, Caller, live_master, caller_if, is_worker, is_active, is_ready, is_master}
-use Rattle.definitions.specs.declared.table.Stance.{Stance}
-use Rattle.definitions.specs.declared.table.Stance.TheVariants.{Starting, Ready, Draining, Exited}
+use Rattle.vocabulary.specs.declared.table.Stance.{Stance}
+use Rattle.vocabulary.specs.declared.table.Stance.TheVariants.{Starting, Ready, Draining, Exited}
 use Rattle.listener_set.specs.declared.generation.Generation.{Generation}
 use Rattle.definitions.specs.Exits.{is_active_worker}
 use Rattle.theorems.proofs.Rows.{one, weigh}

@@ -8,8 +8,8 @@ use Rattle.std.proofs.lemmas.Bool.Decides.{nat_tests}
 use Rattle.listener_set.specs.declared.generation.Generation.{Generation}
 use Rattle.listener_set.specs.Numbers.{is_in, numbers_below}
 use Rattle.definitions.specs.Plans.{workers_tree, quits, settle}
-use Rattle.definitions.specs.declared.plans.Side.TheVariants.{Old, Target}
-use Rattle.definitions.specs.declared.targets.Target.TheVariants.{Workers}
+use Rattle.vocabulary.specs.declared.plans.Side.TheVariants.{Old, Target}
+use Rattle.vocabulary.specs.declared.targets.Target.TheVariants.{Workers}
 use Rattle.definitions.specs.Target.{want}
 use Rattle.definitions.specs.Run.{Pattern, Progress, Ending, start_at}
 use Rattle.definitions.specs.Plans.{plan_tree}

@@ -4,8 +4,8 @@ use Rattle.std.specs.Prelude.{⊤, ◌&&◌, ◌==◌, nat_lt, filter, reverse}
 use Rattle.std.proofs.lemmas.Bool.Decides.{nat_tests}
 use Rattle.listener_set.specs.Numbers.{is_in, numbers_below}
 use Rattle.listener_set.specs.declared.generation.Generation.{Generation}
-use Rattle.definitions.specs.declared.targets.Target.TheVariants.{Workers}
-use Rattle.definitions.specs.declared.plans.Side.TheVariants.{Old, Target}
+use Rattle.vocabulary.specs.declared.targets.Target.TheVariants.{Workers}
+use Rattle.vocabulary.specs.declared.plans.Side.TheVariants.{Old, Target}
 use Rattle.definitions.specs.Table.{Table, bears, same_generation}
 use Rattle.definitions.specs.Record.{Record}
 use Rattle.definitions.specs.Tree.{Tree}

@@ -1,15 +1,15 @@
 -- Tables and runs that break a claim, one for each.
 use Rattle.std.specs.Prelude.{ℕ, true, [], ◌∷◌, ◌++◌, Option, Some, None}
 use Rattle.listener_set.specs.Numbers.{is_in}
-use Rattle.definitions.specs.declared.table.Stance.TheVariants.{Starting, Ready}
-use Rattle.definitions.specs.declared.calls.Call.TheVariants.{Kill, RemovePid, Leave}
-use Rattle.definitions.specs.declared.calls.Answer.TheVariants as answer
-use Rattle.definitions.specs.declared.plans.End.TheVariants as end
-use Rattle.definitions.specs.declared.plans.PidNote.TheVariants.{InPlace, Left, NoFile}
-use Rattle.definitions.specs.declared.plans.Side.TheVariants as side
-use Rattle.definitions.specs.declared.reports.Entry.{Entry}
-use Rattle.definitions.specs.declared.reports.Outcome.TheVariants.{Done, RolledBack, Degraded, Lost}
-use Rattle.definitions.specs.declared.targets.Target.TheVariants.{Workers, Stop}
+use Rattle.vocabulary.specs.declared.table.Stance.TheVariants.{Starting, Ready}
+use Rattle.vocabulary.specs.declared.calls.Call.TheVariants.{Kill, RemovePid, Leave}
+use Rattle.vocabulary.specs.declared.calls.Answer.TheVariants as answer
+use Rattle.vocabulary.specs.declared.plans.End.TheVariants as end
+use Rattle.vocabulary.specs.declared.plans.PidNote.TheVariants.{InPlace, Left, NoFile}
+use Rattle.vocabulary.specs.declared.plans.Side.TheVariants as side
+use Rattle.vocabulary.specs.declared.reports.Entry.{Entry}
+use Rattle.vocabulary.specs.declared.reports.Outcome.TheVariants.{Done, RolledBack, Degraded, Lost}
+use Rattle.vocabulary.specs.declared.targets.Target.TheVariants.{Workers, Stop}
 use Rattle.definitions.specs.Table.{Master, Worker, Table}
 use Rattle.definitions.specs.Service.{service}
 use Rattle.definitions.specs.Record.{Agrees, FilesAre}

@@ -3,8 +3,9 @@
 #![tactic(auto)]
 
 ghost use Rattle.std.specs.Prelude.{ℕ, List, Bool};
-ghost use Rattle.definitions.specs.Settings.{Settings};
-ghost use Rattle.definitions.specs.declared.targets.Target.TheVariants.{Workers, Mend, Reopen, Reload, Upgrade, Stop};
+ghost use Rattle.vocabulary.specs.Settings.{Settings};
+ghost use Rattle.vocabulary.specs.declared.targets.Target.TheVariants.{Workers, Mend, Reopen, Reload, Upgrade, Stop};
+ghost use Rattle.definitions.specs.Start.{StartsAgree};
 ghost use Rattle.definitions.specs.Claims.{InManner, MendHeadline, ReloadHeadline, ReopenFloor, ReopenHeadline, RunsWithin, StopHeadline, UpgradeHeadline, WorkersHeadline};
 ghost use Rattle.definitions.specs.Settling.{PlansGoBack, ReturnsAlways, SettlesAlways};
 ghost use Rattle.theorems.specs.Examples.{HasStart};
@@ -70,6 +71,11 @@ pub fn worked_runs_hold()
 /// Tables and runs that break a claim, one for each.
 pub fn wrong_tables_are_refuted()
     ensures { WrongTables }
+{}
+
+/// A kernel that starts with some settings agrees with the record of a master that starts with them.
+pub fn starts_agree()
+    ensures { StartsAgree }
 {}
 
 /// A table that meets the premises of the theorems.

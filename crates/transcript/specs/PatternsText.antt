@@ -1,7 +1,7 @@
 -- Texts of several patterns: a section of lines for each.
 use Rattle.std.specs.Prelude.{ℕ, ◌+◌, ◌==◌, nat_lt, Bool, true, false, ◌&&◌, ◌||◌, not, List, [], ◌∷◌, ◌++◌, Option, Some, None, Result, Ok, Err, if◌then◌else◌}
-use Rattle.definitions.specs.declared.names.Name.{Name}
-use Rattle.definitions.specs.declared.calls.Fate.{Fate}
+use Rattle.vocabulary.specs.declared.names.Name.{Name}
+use Rattle.vocabulary.specs.declared.calls.Fate.{Fate}
 use Rattle.definitions.specs.Run.{quiet, Pattern}
 use Rattle.kernel_model.specs.Pattern.{with_exit, with_fate}
 use Rattle.line_text.specs.declared.pattern_line.PatternLine.{PatternLine}

@@ -6,7 +6,7 @@ ghost use Rattle.transcript.specs.PatternsText.{lines_of, may_follow, begun, wit
 
 use crate::TextRefusal;
 use call_text::cut;
-use definitions::{Fate, Name};
+use vocabulary::{Fate, Name};
 use kernel_model::Pattern;
 use line_text::PatternLine;
 use std::alloc::{AllocError, Global};

@@ -1,7 +1,7 @@
 //! Claims that are true of a kernel, and such as are not.
 use super::*;
 use crate::Moment;
-use definitions::{Actor, Answer, Call, Fate, Limits};
+use vocabulary::{Actor, Answer, Call, Fate, Limits};
 use listener_set::ListenerSet;
 use std::alloc::Global;
 use std::test::Fail;

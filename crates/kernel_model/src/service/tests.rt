@@ -1,5 +1,5 @@
 use super::*;
-use definitions::Limits;
+use vocabulary::Limits;
 use listener_set::ListenerSet;
 use std::test::Fail;
 

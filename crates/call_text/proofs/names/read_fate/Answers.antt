@@ -1,6 +1,6 @@
 use Rattle.std.proofs.Common.{subst, sym}
 use Rattle.std.specs.Prelude.{⊤}
-use Rattle.definitions.specs.declared.calls.Fate.{Fate}
+use Rattle.vocabulary.specs.declared.calls.Fate.{Fate}
 use Rattle.call_text.specs.Reads.{Reads}
 use Rattle.call_text.specs.Words.{fate_text}
 use Rattle.call_text.proofs.NameTexts.{Reads-fate}

@@ -1,5 +1,5 @@
 use Rattle.std.proofs.Common.{ℕ, subst, sym}
-use Rattle.definitions.specs.declared.calls.Call.{Call}
+use Rattle.vocabulary.specs.declared.calls.Call.{Call}
 use Rattle.call_text.specs.Reads.{Reads}
 use Rattle.call_text.specs.Ranges.{IsCallLine}
 use Rattle.call_text.specs.CallText.{call_line}

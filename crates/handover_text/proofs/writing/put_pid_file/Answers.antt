@@ -1,6 +1,6 @@
 use Rattle.std.proofs.Common.{◌≤◌, length, Result, Ok, Err, ap, subst, ◌∙◌}
 use Rattle.std.specs.Prelude.{IfOk}
-use Rattle.definitions.specs.Settings.{HasSuffixRoom}
+use Rattle.vocabulary.specs.Settings.{HasSuffixRoom}
 use Rattle.handover_text.specs.Ranges.{is_path_if}
 use Rattle.handover_text.proofs.LinesRead.{file_path_is}
 use Rattle.handover_text.proofs.writing.put_pid_file.Goals as goal

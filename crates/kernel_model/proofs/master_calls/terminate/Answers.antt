@@ -1,6 +1,6 @@
 use Rattle.std.proofs.Common.{ap, ◌∙◌}
 use Rattle.std.specs.List.{filter_map}
-use Rattle.definitions.specs.declared.calls.Answer.TheVariants as answer
+use Rattle.vocabulary.specs.declared.calls.Answer.TheVariants as answer
 use Rattle.definitions.specs.Table.{with_rows}
 use Rattle.definitions.specs.Calls.{dropped, gives}
 use Rattle.kernel_model.specs.Edits.{is_of_either}

@@ -6,7 +6,7 @@ use Rattle.definitions.specs.Tree.{height}
 use Rattle.definitions.specs.Run.{Pattern, Replays}
 use Rattle.definitions.specs.After.{record_after}
 use Rattle.definitions.specs.Record.{Record, Agrees}
-use Rattle.definitions.specs.declared.targets.Target.{Target}
+use Rattle.vocabulary.specs.declared.targets.Target.{Target}
 use Rattle.kernel_model.specs.Pattern.{moment_at}
 use Rattle.kernel_model.specs.Room.{LacksNumbers}
 use Rattle.kernel_model.specs.State.{State}

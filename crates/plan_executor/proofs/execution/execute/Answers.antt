@@ -1,6 +1,6 @@
 use Rattle.std.proofs.Common.{◌++◌, ◌∷◌, [], List, length, arith, sym, ◌∙◌, ap, subst, append_assoc, length-append}
-use Rattle.definitions.specs.declared.calls.Answer.TheVariants.{MasterGone}
-use Rattle.definitions.specs.declared.reports.Entry.{Entry}
+use Rattle.vocabulary.specs.declared.calls.Answer.TheVariants.{MasterGone}
+use Rattle.vocabulary.specs.declared.reports.Entry.{Entry}
 use Rattle.definitions.specs.Path.{Trail, begin, after, advance, Asks, Follows}
 use Rattle.rollback_plan.specs.Plans.{tree_of, note_of}
 use Rattle.plan_executor.specs.Walk.{trail_of}

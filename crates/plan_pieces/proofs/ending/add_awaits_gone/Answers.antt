@@ -1,6 +1,6 @@
 use Rattle.std.proofs.Common.{◌≡◌, ◌+◌, ℕ, length, get_or, take, reverse, ◌∙◌, ap, subst, arith}
 use Rattle.std.proofs.lemmas.List.{take_all}
-use Rattle.definitions.specs.declared.calls.Call.TheVariants.{AwaitGone, Kill}
+use Rattle.vocabulary.specs.declared.calls.Call.TheVariants.{AwaitGone, Kill}
 use Rattle.definitions.specs.Plans.{does, then_edge, gone_edges, awaits_gone}
 use Rattle.rollback_plan.specs.Drafts.{IsMade, tree_at}
 use Rattle.rollback_plan.proofs.DraftTrees.{keeps_on}

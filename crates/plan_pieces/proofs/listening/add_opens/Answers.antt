@@ -1,5 +1,5 @@
 use Rattle.std.proofs.Common.{◌≡◌, ◌-◌, ◌+◌, ℕ, get_or, drop, take, reverse, sym, ◌∙◌, ap, subst, arith}
-use Rattle.definitions.specs.declared.calls.Call.TheVariants.{OpenAt}
+use Rattle.vocabulary.specs.declared.calls.Call.TheVariants.{OpenAt}
 use Rattle.definitions.specs.Plans.{does, open_edges, opens}
 use Rattle.rollback_plan.specs.declared.step.Place.{Place}
 use Rattle.rollback_plan.specs.Drafts.{IsMade, tree_at}

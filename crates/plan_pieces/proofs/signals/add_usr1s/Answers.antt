@@ -1,5 +1,5 @@
 use Rattle.std.proofs.Common.{◌≡◌, ◌-◌, ◌+◌, ℕ, get_or, drop, sym, ◌∙◌, ap, subst, arith}
-use Rattle.definitions.specs.declared.calls.Call.TheVariants.{Usr1}
+use Rattle.vocabulary.specs.declared.calls.Call.TheVariants.{Usr1}
 use Rattle.definitions.specs.Plans.{does, then_edge, usr1s}
 use Rattle.rollback_plan.specs.Drafts.{IsMade, tree_at}
 use Rattle.rollback_plan.proofs.DraftTrees.{keeps_on}

@@ -1,5 +1,5 @@
 use Rattle.std.proofs.Common.{◌≡◌, ◌-◌, ◌+◌, ℕ, get_or, drop, sym, ◌∙◌, ap, subst, arith}
-use Rattle.definitions.specs.declared.calls.Call.TheVariants.{AwaitReady, Kill}
+use Rattle.vocabulary.specs.declared.calls.Call.TheVariants.{AwaitReady, Kill}
 use Rattle.definitions.specs.Plans.{does, then_edge, await_edges, awaits}
 use Rattle.rollback_plan.specs.Drafts.{IsMade, tree_at}
 use Rattle.rollback_plan.proofs.DraftTrees.{keeps_on, at_kept}

@@ -2,7 +2,7 @@ use Rattle.std.proofs.Common.{◌≡◌, Some, sym, ◌∙◌, ap, subst}
 use Rattle.std.specs.Prelude.{IfOk}
 use Rattle.std.proofs.lemmas.Result.{IfOk-weaker}
 use Rattle.definitions.specs.Record.{Record}
-use Rattle.definitions.specs.declared.targets.Target.{Target}
+use Rattle.vocabulary.specs.declared.targets.Target.{Target}
 use Rattle.definitions.specs.Plans.{planned, reload_tree}
 use Rattle.rollback_plan.specs.Plans.{tree_of}
 use Rattle.reload_planner.proofs.Reloads.{planned_is}

@@ -2,7 +2,7 @@ use Rattle.std.proofs.Common.{◌≡◌, ℕ, List, length, reverse, take, true,
 use Rattle.std.proofs.lemmas.List.{take_all}
 use Rattle.std.proofs.lemmas.Result.{IfOk-weaker}
 use Rattle.definitions.specs.Table.{Address}
-use Rattle.definitions.specs.declared.plans.Side.TheVariants.{Old}
+use Rattle.vocabulary.specs.declared.plans.Side.TheVariants.{Old}
 use Rattle.definitions.specs.Plans.{quits, closes, settle}
 use Rattle.rollback_plan.specs.declared.step.Place.{Place}
 use Rattle.rollback_plan.specs.Drafts.{IsMade, are_places}

@@ -1,6 +1,6 @@
 use Rattle.std.proofs.Common.{◌≡◌, ℕ, List, length, reverse, take, true, sym, ◌∙◌, ap, subst}
 use Rattle.std.proofs.lemmas.Result.{IfOk-weaker}
-use Rattle.definitions.specs.declared.plans.Side.TheVariants.{Old}
+use Rattle.vocabulary.specs.declared.plans.Side.TheVariants.{Old}
 use Rattle.definitions.specs.Tree.{Tree}
 use Rattle.definitions.specs.Plans.{quits, settle, starts}
 use Rattle.rollback_plan.specs.declared.step.Place.{Place}

@@ -1,7 +1,7 @@
 use Rattle.std.proofs.Common.{◌≡◌, ◌++◌, ◌∷◌, [], ◌≤◌, length, map, take, get_or, ap, sym, subst, ◌∙◌, arith}
 use Rattle.std.specs.Prelude.{Contains}
 use Rattle.std.proofs.lemmas.List.{length-take-le, length-map, map_more}
-use Rattle.definitions.specs.declared.table.Listener.{Listener}
+use Rattle.vocabulary.specs.declared.table.Listener.{Listener}
 use Rattle.handover_text.specs.Listeners.{AreListed}
 use Rattle.handover_text.proofs.Additions.{added}
 use Rattle.handover_text.proofs.Listed.{absent_before}

@@ -1,5 +1,5 @@
 use Rattle.std.proofs.Common.{◌≡◌, map, take}
-use Rattle.definitions.specs.declared.table.Listener.{Listener}
+use Rattle.vocabulary.specs.declared.table.Listener.{Listener}
 use Rattle.handover_text.proofs.listeners.Listeners.addresses.Given as goal
 
 abbrev pub invariant-loop-listener : goal.invariant-loop-listener

@@ -1,5 +1,5 @@
 use Rattle.std.proofs.Common.{◌+◌, ◌++◌, ◌∷◌, [], ◌≤◌, length, take, ap, sym, subst, ◌∙◌, arith}
-use Rattle.definitions.specs.declared.table.Listener.{Listener}
+use Rattle.vocabulary.specs.declared.table.Listener.{Listener}
 use Rattle.listener_set.specs.AddressList.{has}
 use Rattle.handover_text.specs.Listeners.{AreListed}
 use Rattle.handover_text.proofs.Listed.{AreListedFrom-take, AreListedFrom-filter, filter-room, filter_more_kept}

@@ -1,5 +1,5 @@
 use Rattle.std.proofs.Common.{◌≡◌, ◌+◌, ◌<◌, ◌≤◌, ◌^◌, ℕ, Option, IfSome, option_map, true, refl, sym, ap, subst, List}
-use Rattle.definitions.specs.declared.plans.PidNote.{PidNote}
+use Rattle.vocabulary.specs.declared.plans.PidNote.{PidNote}
 use Rattle.definitions.specs.Tree.{Tree, is_fit, height, reply_of, plain_reply}
 use Rattle.definitions.specs.Path.{lacking_after}
 use Rattle.rollback_plan.specs.Bounds.{is_short}

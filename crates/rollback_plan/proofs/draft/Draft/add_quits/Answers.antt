@@ -1,5 +1,5 @@
 use Rattle.std.proofs.Common.{arith, subst, ap, ◌∙◌, ◌+◌, get_or}
-use Rattle.definitions.specs.declared.calls.Call.TheVariants.{Quit}
+use Rattle.vocabulary.specs.declared.calls.Call.TheVariants.{Quit}
 use Rattle.definitions.specs.Plans.{does, then_edge}
 use Rattle.rollback_plan.specs.Back.{quits_back}
 use Rattle.rollback_plan.specs.Drafts.{IsMade, tree_at}

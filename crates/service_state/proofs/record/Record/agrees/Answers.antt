@@ -2,7 +2,7 @@ use Rattle.std.proofs.Common.{◌≡◌, ◌∙◌, subst, map, IsTrue}
 use Rattle.std.specs.Prelude.{◌↔◌}
 use Rattle.definitions.specs.Record.{Record, Agrees}
 use Rattle.listener_set.specs.Numbers.{RisesFrom}
-use Rattle.definitions.specs.declared.table.Listener.{Listener}
+use Rattle.vocabulary.specs.declared.table.Listener.{Listener}
 use Rattle.service_state.proofs.Rules.{rises}
 use Rattle.service_state.proofs.record.Record.agrees.Goals as goal
 

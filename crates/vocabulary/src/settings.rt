@@ -1,6 +1,6 @@
 //! What a configuration says.
 ghost use Rattle.std.specs.Prelude.{◌≡◌};
-ghost use Rattle.definitions.specs.Settings.{plain_settings};
+ghost use Rattle.vocabulary.specs.Settings.{plain_settings};
 
 use listener_set::{Address, FilePath, ListenerSet};
 use std::marker::Model;
@@ -21,7 +21,7 @@ pub struct Settings {
 }
 
 impl Model for Settings {
-    ghost use Rattle.definitions.specs.Settings.{Settings as Said, IsInRange};
+    ghost use Rattle.vocabulary.specs.Settings.{Settings as Said, IsInRange};
 
     ghost Value = { Said };
 
