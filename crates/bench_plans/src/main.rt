@@ -5,11 +5,11 @@
 ghost use Rattle.std.specs.Prelude.{◌≤◌};
 ghost use Rattle.definitions.specs.Target.{IsTarget};
 
-use vocabulary::{Settings, Target};
 use listener_set::Numbers;
 use reload_planner::plan;
 use service_state::Record;
 use std::time::{Duration, Instant};
+use vocabulary::{Settings, Target};
 
 const RUNS: u32 = 50;
 

@@ -11,8 +11,8 @@ use crate::numbers::write_number;
 use crate::parts::read_within;
 use crate::replies::replies_to;
 use crate::sets::{read_numbers, write_set};
-use vocabulary::{Answer, Call, Reply};
 use std::alloc::AllocError;
+use vocabulary::{Answer, Call, Reply};
 
 /// The first word of an answer.
 fn answer_word(answer: &Answer) -> &'static str

@@ -4,9 +4,9 @@ ghost use Rattle.std.specs.Fmt.{decimal};
 ghost use Rattle.call_text.specs.CallText.{worker_text, missing_text, master_text, call_text, call_line, order_line};
 
 use crate::numbers::{write_generation, write_number};
-use vocabulary::{Actor, Call, Order};
 use listener_set::Generation;
 use std::alloc::AllocError;
+use vocabulary::{Actor, Call, Order};
 
 /// A verb and a text that it is about.
 fn write_about(out: &mut Vec<u8>, verb: &str, text: &[u8]) -> Result<(), AllocError>

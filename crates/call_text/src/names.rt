@@ -10,9 +10,9 @@ use crate::cuts::cut;
 use crate::numbers::write_number;
 use crate::parts::read_worker_number;
 use crate::words::fate_text;
-use vocabulary::{Fate, Name};
 use listener_set::{Generation, read_number};
 use std::alloc::AllocError;
+use vocabulary::{Fate, Name};
 
 /// A kind of worker, and its name.
 fn write_worker(

@@ -6,8 +6,8 @@ use crate::answers::write_answer;
 use crate::calls::write_call;
 use crate::numbers::write_number;
 use crate::words::{note_text, side_text};
-use vocabulary::{Entry, Outcome, Report};
 use std::alloc::AllocError;
+use vocabulary::{Entry, Outcome, Report};
 
 fn write_outcome(out: &mut Vec<u8>, outcome: &Outcome) -> Result<(), AllocError>
     ensures { IfOk result (λ _. out.new.items ≡ out.old.items ++ outcome_text outcome.now) }

@@ -4,12 +4,12 @@ use crate::{
     reply_text, write_answer, write_call, write_entries, write_name, write_order, write_report,
     write_set,
 };
-use vocabulary::{
-    Actor, Answer, Call, End, Entry, Fate, Name, Order, Outcome, PidNote, Reply, Report, Side,
-};
 use listener_set::{Address, FilePath, Generation, Numbers};
 use std::alloc::Global;
 use std::test::Fail;
+use vocabulary::{
+    Actor, Answer, Call, End, Entry, Fate, Name, Order, Outcome, PidNote, Reply, Report, Side,
+};
 
 const FIRST: Generation = Generation {
     image: 1,

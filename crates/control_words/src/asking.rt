@@ -5,9 +5,9 @@ ghost use Rattle.definitions.specs.Target.{IsTarget};
 ghost use Rattle.control_words.specs.Words.{target_of, settings_for};
 
 use crate::{Word, WordRefusal};
-use vocabulary::{Settings, Target};
 use listener_set::{Numbers, WORKER_LIMIT};
 use service_state::Record;
+use vocabulary::{Settings, Target};
 
 /// The settings that a master with this record can take up.
 fn settings_for<'a>(state: &Record, settings: Option<&'a Settings>) -> Result<Settings, WordRefusal>

@@ -1,9 +1,9 @@
 //! Words as they are read and written, and what they ask for.
 use super::*;
-use vocabulary::{Settings, Target};
 use listener_set::{FilePath, Numbers};
 use service_state::Record;
 use std::test::Fail;
+use vocabulary::{Settings, Target};
 
 const NAMES: [&str; 9] = [
     "HUP", "QUIT", "INT", "TERM", "USR1", "USR2", "WINCH", "TTIN", "TTOU",

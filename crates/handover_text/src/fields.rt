@@ -3,8 +3,8 @@ ghost use Rattle.std.specs.Prelude.{◌≡◌, ◌≤◌, ◌==◌, length, None
 ghost use Rattle.std.specs.List.{position_or_len, before_first, after_first};
 ghost use Rattle.definitions.specs.Handover.{after_prefix, number_within, listener_read, is_space};
 
-use vocabulary::Listener;
 use listener_set::{Address, read_number};
+use vocabulary::Listener;
 
 /// Where a byte stands first, or the length.
 pub(crate) fn first_place(text: &[u8], wanted: u8) -> usize

@@ -6,9 +6,9 @@ ghost use Rattle.definitions.specs.After.{listener_at, listens_on, opened_from, 
 ghost use Rattle.definitions.specs.Handover.{is_above};
 ghost use Rattle.handover_text.specs.Listeners.{AreListed};
 
-use vocabulary::Listener;
 use listener_set::{Address, FIRST_DESCRIPTOR, ListenerSet, MOST_DESCRIPTORS};
 use std::marker::Model;
+use vocabulary::Listener;
 
 /// The listeners of a running master: at most 64, with distinct addresses, in ascending descriptors from 3 to 66.
 #[derive(Clone, Copy, Debug)]

@@ -6,9 +6,9 @@ ghost use Rattle.handover_text.specs.Reader.{read_to};
 
 use crate::fields::{after_prefix, around_space, number_within, read_listener};
 use crate::{Handover, Listeners};
-use vocabulary::HandoverRefusal;
 use listener_set::{Address, FilePath, Generation, ListenerSet, MOST_LISTENERS, read_number};
 use std::marker::Model;
+use vocabulary::HandoverRefusal;
 
 /// Which lines can come next.
 #[derive(Clone, Copy, Debug)]

@@ -1,9 +1,9 @@
 //! What no clause says: the texts themselves.
 use crate::{Handover, Listeners, handovers_have_one_text, read, write};
-use vocabulary::HandoverRefusal;
 use listener_set::{Address, FilePath, Generation, ListenerSet};
 use std::process::Abort;
 use std::test::Fail;
+use vocabulary::HandoverRefusal;
 
 const TEXT: &[u8; 114] =
     b"handover 1\nold-pid 100\ngeneration 2 2\nlistener 3 0.0.0.0:8080\nwant 0.0.0.0:8080\nworkers 2\npid-file /run/a.pid\nend\n";

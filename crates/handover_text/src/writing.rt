@@ -9,10 +9,10 @@ ghost use Rattle.handover_text.specs.Listeners.{AreListed};
 ghost use Rattle.handover_text.specs.Ranges.{is_path_if};
 
 use crate::{Handover, Listeners};
-use vocabulary::Listener;
 use itoa::Buffer;
 use listener_set::{Address, FilePath, Generation, ListenerSet};
 use std::alloc::{AllocError, Global};
+use vocabulary::Listener;
 
 fn put_number(text: &mut Vec<u8>, number: u32) -> Result<(), AllocError>
     ensures { IfOk result (λ _. text.new.items ≡ text.old.items ++ decimal number) }

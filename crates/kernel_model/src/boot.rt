@@ -10,10 +10,10 @@ ghost use Rattle.kernel_model.specs.Boot.{first_pairs, AreBadLimits};
 use crate::process::{Holder, Row};
 use crate::readers::FileRow;
 use crate::store::Store;
-use vocabulary::{Limits, Stance};
 use listener_set::{DescriptorTable, FilePath, Generation, ListenerSet};
 use std::alloc::{AllocError, Global};
 use thiserror::Error;
+use vocabulary::{Limits, Stance};
 
 /// Why no kernel is started.
 #[derive(Clone, Copy, Debug, PartialEq, Eq, Error)]

@@ -11,8 +11,8 @@ use crate::edits::Edit;
 use crate::process::{Caller, Stances, WorkerName};
 use crate::store::Store;
 use crate::{files, master_calls};
-use vocabulary::{Answer, Call, Fate};
 use listener_set::{Address, FilePath, Generation};
+use vocabulary::{Answer, Call, Fate};
 
 /// A new socket at the caller's lowest free descriptor, unless somebody holds the address or the caller has as many
 /// descriptors as it may.

@@ -5,8 +5,8 @@ ghost use Rattle.definitions.specs.Calls.{made_ready, made_draining};
 
 use crate::holds;
 use crate::process::{Holder, Row, Stances, WorkerName};
-use vocabulary::Stance;
 use listener_set::{Address, DescriptorTable, Generation};
+use vocabulary::Stance;
 
 /// A change of the rows: each process changes or leaves by it alone.
 #[derive(Clone, Copy)]

@@ -14,11 +14,11 @@ use crate::boot::{self, BootRefusal};
 use crate::moments::Moment;
 use crate::store::Store;
 use crate::{calls, exits};
-use vocabulary::{Actor, Answer, Call, Limits};
 use listener_set::{Address, FilePath, ListenerSet};
 use std::alloc::{AllocError, Global};
 use std::marker::Model;
 use thiserror::Error;
+use vocabulary::{Actor, Answer, Call, Limits};
 
 /// Why no room is made.
 #[derive(Clone, Copy, Debug, PartialEq, Eq, Error)]

@@ -6,9 +6,9 @@ ghost use Rattle.std.specs.List.Sorted.{IsNonDecreasingBy};
 ghost use Rattle.kernel_model.specs.Pattern.{moment_at, with_exit, with_fate, seen_entry, seen_moment, IsPattern, IsNameWithin};
 
 use crate::moments::Moment;
-use vocabulary::{Fate, Name};
 use std::alloc::{AllocError, Global};
 use std::marker::Model;
+use vocabulary::{Fate, Name};
 
 /// A moment that is not quiet.
 #[derive(Drop)]

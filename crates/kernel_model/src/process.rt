@@ -4,8 +4,8 @@ ghost use Rattle.std.specs.Option.{option_map};
 ghost use Rattle.definitions.specs.Table.{Hold, number_of, is_own, is_master, is_named, is_worker, is_live_master, live_master, is_starting, is_ready, is_active, is_draining, is_exited};
 ghost use Rattle.definitions.specs.Calls.{is_of, is_row, is_exited_of, is_image};
 
-use vocabulary::Stance;
 use listener_set::{DescriptorTable, Generation};
+use vocabulary::Stance;
 
 /// What a process is. A foreign one is somebody else's.
 #[derive(Clone, Copy, Debug, PartialEq, Eq)]

@@ -14,11 +14,11 @@ use crate::files::owner_at;
 use crate::process::{Caller, Holder, Row};
 use crate::readers::FileRow;
 use crate::store::Store;
-use vocabulary::{Listener, PidNote, Stance};
 use listener_set::{
     Address, DescriptorTable, FIRST_DESCRIPTOR, FilePath, Generation, MOST_DESCRIPTORS, Numbers,
     WORKER_LIMIT,
 };
+use vocabulary::{Listener, PidNote, Stance};
 
 /// What a master's record says of the table.
 #[derive(Clone, Copy, Debug)]

@@ -12,10 +12,10 @@ ghost use Rattle.kernel_model.specs.Served.{seen_count, seen_served};
 
 use crate::process::{Holder, Row};
 use crate::{Kernel, holds};
-use vocabulary::Stance;
 use listener_set::{Address, Generation};
 use std::alloc::{AllocError, Global};
 use std::marker::Model;
+use vocabulary::Stance;
 
 /// How many workers of a generation serve.
 #[derive(Clone, Copy)]

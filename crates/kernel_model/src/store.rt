@@ -12,9 +12,9 @@ use crate::edits::Edit;
 use crate::holds;
 use crate::process::{Caller, Holder, Row, Stances, WorkerName};
 use crate::readers::FileRow;
-use vocabulary::{Limits, Stance};
 use listener_set::{Address, DescriptorTable, Generation, Numbers, WORKER_LIMIT};
 use std::alloc::AllocError;
+use vocabulary::{Limits, Stance};
 
 /// The rows in ascending process numbers, the addresses of sockets 1, 2 and so on, the files, and the next process number.
 #[derive(Drop)]

@@ -1,8 +1,8 @@
 use super::*;
-use vocabulary::{Actor, Answer, Call, Fate, Limits, Name, Stance};
 use listener_set::{Address, FilePath, Generation, ListenerSet, Numbers};
 use std::alloc::Global;
 use std::test::Fail;
+use vocabulary::{Actor, Answer, Call, Fate, Limits, Name, Stance};
 
 const FIRST: Generation = Generation {
     image: 1,

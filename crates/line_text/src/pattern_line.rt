@@ -4,9 +4,9 @@ ghost use Rattle.call_text.specs.Reads.{Reads};
 ghost use Rattle.line_text.specs.PatternReading.{moment_of, event_of, numbered_of, line_of};
 
 use call_text::{cut, fate_text, read_fate, read_name, write_name, write_number};
-use vocabulary::{Fate, Name};
 use listener_set::read_number;
 use std::alloc::AllocError;
+use vocabulary::{Fate, Name};
 
 /// A line of a patterns text. Calls are numbered from 1.
 #[derive(Clone, Copy, Debug, PartialEq, Eq)]

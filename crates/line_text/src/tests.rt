@@ -1,8 +1,8 @@
 //! Lines that are written and read back.
 use crate::PatternLine;
-use vocabulary::{Fate, Name};
 use listener_set::Generation;
 use std::test::Fail;
+use vocabulary::{Fate, Name};
 
 #[test]
 fn lines_of_patterns_are_read_as_they_are_written(rt: HostRuntime) -> Result<(), Fail> {

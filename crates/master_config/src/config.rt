@@ -10,11 +10,11 @@ use crate::command::{command_at, copied};
 use crate::listening::listeners_at;
 use crate::values::{has_only_known, number_at, value_at};
 use crate::{ConfigRefusal, Key};
-use vocabulary::Settings;
 use listener_set::FilePath;
 use std::alloc::Global;
 use std::marker::Model;
 use toml::value::{Table, Value};
+use vocabulary::Settings;
 
 /// What a configuration says.
 #[derive(Debug, Drop)]

@@ -6,9 +6,9 @@ ghost use Rattle.master_config.specs.Configuration.{listener_read, listeners_aft
 
 use crate::values::{text_of, texts_in, value_at};
 use crate::{ConfigRefusal, Key};
-use vocabulary::Settings;
 use listener_set::{Address, ListenerSet, MOST_LISTENERS};
 use toml::value::{Array, Table, Value};
+use vocabulary::Settings;
 
 /// Puts the address of a text at the end. The index is the text's.
 fn add(listeners: &mut ListenerSet, index: usize, text: &[u8]) -> Result<(), ConfigRefusal>

@@ -1,8 +1,8 @@
 use crate::{Config, ConfigRefusal, Key, read};
-use vocabulary::Settings;
 use listener_set::AddressRefusal;
 use std::process::Abort;
 use std::test::Fail;
+use vocabulary::Settings;
 
 /// A configuration with every key.
 const WHOLE: &str = "# a master

@@ -5,10 +5,10 @@ ghost use Rattle.plan_executor.specs.Codes.{plan_code, stopped_code};
 use crate::{EnactRefusal, Transcript};
 use arrayvec::ArrayString;
 use control_words::{Word, WordRefusal};
-use vocabulary::Report;
 use itoa::Buffer;
 use reload_planner::PlanRefusal;
 use std::marker::Model;
+use vocabulary::Report;
 use worker_table::TableRefusal;
 
 /// A refusal's code as it is printed: a capital letter with a number, and then, separated by

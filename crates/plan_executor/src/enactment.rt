@@ -17,13 +17,13 @@ ghost use Rattle.plan_executor.specs.declared.enactment.EnactRefusal.{EnactRefus
 use crate::naming::first_naming;
 use crate::patterned::Patterned;
 use crate::{Transcript, execute};
-use vocabulary::{Report, Settings, Target};
 use kernel_model::{Kernel, Pattern, ReserveRefusal};
 use reload_planner::PlanRefusal;
 use rollback_plan::Plan;
 use service_state::Record;
 use std::alloc::{AllocError, Global};
 use thiserror::Error;
+use vocabulary::{Report, Settings, Target};
 
 /// Why a target is not carried out.
 #[derive(Clone, Copy, Debug, PartialEq, Eq, Error)]

@@ -6,8 +6,8 @@ ghost use Rattle.rollback_plan.specs.Plans.{tree_of, note_of};
 
 use crate::walk::Walk;
 use crate::{Calls, Transcript};
-use vocabulary::{Entry, Report};
 use rollback_plan::Plan;
+use vocabulary::{Entry, Report};
 
 /// Makes the calls of a plan one after another, as their answers lead, and writes them down.
 ///

@@ -5,8 +5,8 @@ ghost use Rattle.definitions.specs.Manner.{is_leave_call};
 ghost use Rattle.kernel_model.specs.Pattern.{moment_at};
 ghost use Rattle.plan_executor.specs.Naming.{first_naming, is_master};
 
-use vocabulary::{Call, Entry, Name};
 use kernel_model::Pattern;
+use vocabulary::{Call, Entry, Name};
 
 /// The first moment of these calls in which the master of the image exits, up to its Leave. After
 /// that nobody executes.

@@ -2,8 +2,8 @@
 ghost use Rattle.std.specs.Prelude.{◌≡◌, ◌+◌, ◌<◌, ◌≤◌, ◌^◌, []};
 
 use crate::{Calls, Transcript};
-use vocabulary::{Actor, Answer, Call, Entry};
 use kernel_model::{Kernel, Pattern};
+use vocabulary::{Actor, Answer, Call, Entry};
 
 /// A plan of one master hands nothing over.
 const NO_TEXT: &[u8] = &[];

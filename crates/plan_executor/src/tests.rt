@@ -1,13 +1,13 @@
 //! Targets and words on the modelled kernel.
 use crate::{Body, CodeText, EnactRefusal, Enacted, enact, run_words};
 use control_words::{Word, WordRefusal};
-use vocabulary::{Fate, Limits, Name, Outcome, Report, Settings, Side, Target};
 use kernel_model::{Kernel, Pattern};
 use listener_set::{Generation, Numbers};
 use reload_planner::PlanRefusal;
 use service_state::Record;
 use std::alloc::Global;
 use std::test::Fail;
+use vocabulary::{Fate, Limits, Name, Outcome, Report, Settings, Side, Target};
 use worker_table::WorkerTable;
 
 /// A kernel that runs the plain settings with two workers.

@@ -1,9 +1,9 @@
 //! The calls that were made, with their answers.
 ghost use Rattle.std.specs.Prelude.{◌≡◌, ◌+◌, ◌≤◌, ◌<◌, ◌++◌, ◌∷◌, [], IfOk, IsTrue, ◌↔◌, length, slice_get};
 
-use vocabulary::{Answer, Call, Entry};
 use std::alloc::{AllocError, Global};
 use std::marker::Model;
+use vocabulary::{Answer, Call, Entry};
 
 /// Entries, with room for more that was found beforehand.
 ///

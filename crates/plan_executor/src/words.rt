@@ -14,11 +14,11 @@ ghost use Rattle.plan_executor.specs.declared.block.Block.{Block as Done};
 
 use crate::{Block, Body, CodeText, EnactRefusal, enact};
 use control_words::{Word, target_of};
-use vocabulary::{Answer, Call, Entry, Settings, Target};
 use kernel_model::{Kernel, Pattern};
 use listener_set::{Generation, Numbers, WORKER_LIMIT};
 use service_state::Record;
 use std::alloc::{AllocError, Global};
+use vocabulary::{Answer, Call, Entry, Settings, Target};
 use worker_table::WorkerTable;
 
 /// Carries control words out one after another on the modelled kernel, the i-th under the i-th

@@ -6,9 +6,9 @@ ghost use Rattle.vocabulary.specs.declared.calls.Call.TheVariants as call;
 ghost use Rattle.definitions.specs.Plans as plans;
 ghost use Rattle.rollback_plan.specs.Drafts.{trees_of, tree_at, IsMade, Keeps};
 
-use vocabulary::{Actor, Call, Order, PidNote, Reply};
 use listener_set::{FilePath, Numbers};
 use rollback_plan::{Draft, DraftRefusal, Edge, Next, Place};
+use vocabulary::{Actor, Call, Order, PidNote, Reply};
 
 /// Adds the removal of a file before the rest, which follows whether or not it goes: the pid file
 /// then stands as `fine` says, or as `fault` says where the file stays. `TooLarge` only where the

@@ -6,9 +6,9 @@ ghost use Rattle.vocabulary.specs.declared.calls.Call.TheVariants as call;
 ghost use Rattle.definitions.specs.Plans as plans;
 ghost use Rattle.rollback_plan.specs.Drafts.{trees_of, tree_at, IsMade, Keeps};
 
-use vocabulary::{Actor, Call, Order, Reply};
 use listener_set::{Generation, Numbers};
 use rollback_plan::{Draft, DraftRefusal, Edge, Place};
+use vocabulary::{Actor, Call, Order, Reply};
 
 /// Adds the forks of these numbers and then a wait for each, upwards, before the rest, which
 /// follows whatever is answered; a worker that is late is killed. `TooLarge` only where the draft

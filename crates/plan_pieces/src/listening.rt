@@ -9,9 +9,9 @@ ghost use Rattle.definitions.specs.Plans as plans;
 ghost use Rattle.rollback_plan.specs.Drafts.{trees_of, tree_at, are_places, IsMade, Keeps};
 ghost use Rattle.rollback_plan.specs.Back.{AreMade};
 
-use vocabulary::{Actor, Call, Order, Reply};
 use listener_set::{Address, Numbers};
 use rollback_plan::{Draft, DraftRefusal, Edge, Place};
+use vocabulary::{Actor, Call, Order, Reply};
 
 /// Adds the opens of these addresses, in their order, before the rest. The i-th of the ways back
 /// is taken where the first i addresses were opened and the next one cannot be. `TooLarge` only

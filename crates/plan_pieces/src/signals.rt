@@ -5,9 +5,9 @@ ghost use Rattle.rollback_plan.specs.declared.draft.TheConstants.{MOST_STEPS};
 ghost use Rattle.definitions.specs.Plans as plans;
 ghost use Rattle.rollback_plan.specs.Drafts.{trees_of, tree_at, IsMade, Keeps};
 
-use vocabulary::{Actor, Call};
 use listener_set::Generation;
 use rollback_plan::{Draft, DraftRefusal, Place};
+use vocabulary::{Actor, Call};
 
 /// Adds the kills of these numbers, upwards, before the rest. `TooLarge` only where the draft
 /// would pass its most steps. A refused call may leave some of the steps.

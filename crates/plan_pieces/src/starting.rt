@@ -8,9 +8,9 @@ ghost use Rattle.definitions.specs.Plans as plans;
 ghost use Rattle.rollback_plan.specs.Drafts.{trees_of, tree_at, are_places, IsMade, Keeps};
 ghost use Rattle.rollback_plan.specs.Back.{AreMade};
 
-use vocabulary::{Actor, Call, Order, Reply};
 use listener_set::{Generation, Numbers};
 use rollback_plan::{Draft, DraftRefusal, Edge, Place};
+use vocabulary::{Actor, Call, Order, Reply};
 
 /// Adds the forks of these numbers and then a wait for each, upwards, before the rest. The i-th of
 /// the ways back is taken where the first i numbers were forked and a start fails; a worker that is

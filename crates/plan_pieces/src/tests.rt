@@ -3,10 +3,10 @@
 use crate::{
     add_awaits_gone, add_closes, add_kills, add_quits, add_remove, add_starts_any, add_usr1s,
 };
-use vocabulary::{Actor, PidNote, Side};
 use listener_set::{Address, FilePath, Generation, Numbers};
 use rollback_plan::Draft;
 use std::test::Fail;
+use vocabulary::{Actor, PidNote, Side};
 
 const ME: Actor = Actor(1);
 

@@ -6,9 +6,9 @@ ghost use Rattle.plan_text.specs.Graph.{quoted, is_plain, note_line, style_part,
 use crate::edges::{goes, new_edge, write_place, write_replies};
 use crate::plans::write_wanted;
 use call_text::{note_text, replies_of, write_number, write_order};
-use vocabulary::{PidNote, Reply};
 use rollback_plan::{Edge, Plan, Step};
 use std::alloc::{AllocError, Global};
+use vocabulary::{PidNote, Reply};
 
 /// A text within quotes.
 fn write_quoted(out: &mut Vec<u8>, text: &[u8]) -> Result<(), AllocError>

@@ -6,10 +6,10 @@ ghost use Rattle.plan_text.specs.PlanText.{set_part, step_text, steps_text, plan
 
 use crate::edges::write_edges;
 use call_text::{replies_of, write_number, write_order, write_set};
-use vocabulary::{Call, Order};
 use listener_set::Numbers;
 use rollback_plan::{Plan, Step};
 use std::alloc::{AllocError, Global};
+use vocabulary::{Call, Order};
 
 /// The set that a census must contain.
 pub(crate) fn write_wanted(

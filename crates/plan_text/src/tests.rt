@@ -1,10 +1,10 @@
 //! Texts of worked plans.
 use crate::{write_graph, write_plan};
-use vocabulary::{Actor, Call, End, Order, PidNote, Reply};
 use listener_set::{Address, Generation, Numbers};
 use rollback_plan::{Draft, Edge, Next, Plan};
 use std::alloc::Global;
 use std::test::Fail;
+use vocabulary::{Actor, Call, End, Order, PidNote, Reply};
 
 const FIRST: Generation = Generation {
     image: 1,

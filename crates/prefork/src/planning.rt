@@ -5,13 +5,13 @@ ghost use Rattle.definitions.specs.Target.{IsTarget};
 use crate::fault::Fault;
 use crate::start::Start;
 use control_words::{Word, target_of};
-use vocabulary::Target;
 use listener_set::Numbers;
 use plan_text::{write_graph, write_plan};
 use reload_planner::PlanRefusal;
 use rollback_plan::Plan;
 use service_state::Record;
 use std::alloc::{AllocError, Global};
+use vocabulary::Target;
 
 /// How a plan is shown.
 #[derive(Clone, Copy)]

@@ -8,13 +8,13 @@ use crate::rehearsal::Rehearsal;
 use crate::start::Start;
 use command_line::{EnactOptions, PlanOptions, Refusal, Request};
 use control_words::Word;
-use vocabulary::Outcome;
 use kernel_model::Pattern;
 use plan_executor::Body;
 use std::alloc::{AllocError, Global};
 use std::io::{Read, Write};
 use std::rt::Files;
 use transcript::TextRefusal;
+use vocabulary::Outcome;
 
 /// Runs the program, and gives its exit status.
 ///

@@ -2,12 +2,12 @@
 use crate::fault::Fault;
 use crate::start::Start;
 use control_words::Word;
-use vocabulary::{Limits, Settings};
 use kernel_model::{BootRefusal, ForeignRefusal, Kernel, Pattern};
 use listener_set::{Address, Numbers};
 use plan_executor::{Block, run_words};
 use service_state::Record;
 use std::alloc::Global;
+use vocabulary::{Limits, Settings};
 use worker_table::WorkerTable;
 
 /// What the modelled kernel of a rehearsal allows.

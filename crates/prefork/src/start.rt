@@ -1,12 +1,12 @@
 //! How a master starts: its configuration, and the one that a reload is to take up.
 use crate::fault::Fault;
 use command_line::StartOptions;
-use vocabulary::Settings;
 use listener_set::{Numbers, WORKER_LIMIT};
 use master_config::ConfigRefusal;
 use service_state::Record;
 use std::fs;
 use std::rt::Files;
+use vocabulary::Settings;
 
 /// What the files and options of a start say.
 #[derive(Clone, Copy)]

@@ -10,11 +10,11 @@ ghost use Rattle.reload_planner.specs.Changes.{repair_tree};
 
 use crate::scene::listed;
 use crate::{PlanRefusal, Scene};
-use vocabulary::{PidNote, Side};
 use listener_set::{Numbers, WORKER_LIMIT};
 use plan_pieces::{add_kills, add_starts_any};
 use rollback_plan::{Draft, DraftRefusal, Place, Plan};
 use std::alloc::Global;
+use vocabulary::{PidNote, Side};
 
 /// Adds the kills of some numbers, then the starts of others, which go on after a failure, and the
 /// settle.

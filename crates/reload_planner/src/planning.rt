@@ -6,10 +6,10 @@ ghost use Rattle.rollback_plan.specs.Plans.{tree_of, note_of, text_of, trees_in}
 ghost use Rattle.reload_planner.specs.Planning.{most_steps, is_upgrade, lacks_generation};
 
 use crate::{PlanRefusal, Scene, plan_mend, plan_reload, plan_reopen, plan_stop, plan_workers};
-use vocabulary::{Actor, Target};
 use rollback_plan::Plan;
 use service_state::Record;
 use std::alloc::Global;
+use vocabulary::{Actor, Target};
 
 /// Plans a target for a running master: what it does, and what it does instead where a call fails.
 ///

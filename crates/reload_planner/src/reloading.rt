@@ -13,11 +13,11 @@ ghost use Rattle.reload_planner.specs.Changes.{on_tree, trial_tree, renewal_tree
 
 use crate::scene::listed;
 use crate::{PlanRefusal, Scene};
-use vocabulary::{Actor, Call, Order, PidNote, Reply, Settings, Side};
 use listener_set::{Address, Generation, ListenerSet, Numbers};
 use plan_pieces::{add_closes, add_opens, add_quits, add_starts};
 use rollback_plan::{Draft, DraftRefusal, Edge, Place, Plan, Undone};
 use std::alloc::Global;
+use vocabulary::{Actor, Call, Order, PidNote, Reply, Settings, Side};
 
 /// What a reload brings.
 #[derive(Clone, Copy)]

@@ -9,10 +9,10 @@ ghost use Rattle.rollback_plan.specs.Plans.{tree_of, note_of, text_of, trees_in}
 
 use crate::scene::listed;
 use crate::{PlanRefusal, Scene};
-use vocabulary::{PidNote, Side};
 use plan_pieces::add_usr1s;
 use rollback_plan::{Draft, DraftRefusal, Place, Plan};
 use std::alloc::Global;
+use vocabulary::{PidNote, Side};
 
 /// Adds that these numbers are told to open their logs anew, and the settle.
 fn add_reopening(draft: &mut Draft, scene: &Scene, ready: &[u32]) -> Result<Place, DraftRefusal>

@@ -2,9 +2,9 @@
 ghost use Rattle.std.specs.Prelude.{◌≡◌, ◌≤◌, length, IfOk};
 ghost use Rattle.listener_set.specs.Numbers.{AreNumbers};
 
-use vocabulary::Actor;
 use listener_set::{Generation, Numbers, WORKER_LIMIT};
 use std::alloc::{AllocError, Global};
+use vocabulary::Actor;
 
 /// What a plan needs to know of the master that it is for.
 #[derive(Clone, Copy, Debug)]

@@ -11,11 +11,11 @@ ghost use Rattle.reload_planner.specs.Changes.{ends_tree};
 
 use crate::scene::listed;
 use crate::{PlanRefusal, Scene};
-use vocabulary::{Actor, Call, End, Order, PidNote, Reply};
 use listener_set::{FilePath, Numbers};
 use plan_pieces::{add_awaits_gone, add_kills, add_quits, add_remove};
 use rollback_plan::{Draft, DraftRefusal, Edge, Place, Plan};
 use std::alloc::Global;
+use vocabulary::{Actor, Call, End, Order, PidNote, Reply};
 
 /// Whether a file stands at the path with the suffix.
 fn has_oldbin(note: PidNote) -> bool

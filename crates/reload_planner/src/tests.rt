@@ -3,12 +3,12 @@ ghost use Rattle.std.specs.Prelude.{◌≡◌, ◌≤◌};
 ghost use Rattle.definitions.specs.Target.{IsTarget};
 
 use crate::{PlanRefusal, Scene, plan, plan_reload, plan_reopen, plan_stop, plan_workers};
-use vocabulary::{Actor, Call, End, Order, PidNote, Reply, Settings, Target};
 use listener_set::{Address, FilePath, Generation, ListenerSet, Numbers};
 use rollback_plan::{Edge, MOST_STEPS, Next, Place, Plan, Step};
 use service_state::Record;
 use std::alloc::Global;
 use std::test::Fail;
+use vocabulary::{Actor, Call, End, Order, PidNote, Reply, Settings, Target};
 
 const GENERATION: Generation = Generation {
     image: 1,

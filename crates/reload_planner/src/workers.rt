@@ -9,11 +9,11 @@ ghost use Rattle.reload_planner.specs.Changes.{change_tree};
 
 use crate::scene::listed;
 use crate::{PlanRefusal, Scene};
-use vocabulary::{PidNote, Side};
 use listener_set::{Numbers, WORKER_LIMIT};
 use plan_pieces::{add_quits, add_starts};
 use rollback_plan::{Draft, DraftRefusal, Place, Plan, Undone};
 use std::alloc::Global;
+use vocabulary::{PidNote, Side};
 
 /// Adds the starts of some numbers, then the quits of others, the last first, and the settle.
 fn add_workers(

@@ -6,8 +6,8 @@ ghost use Rattle.definitions.specs.Path.{ready_after, lacking_after};
 ghost use Rattle.rollback_plan.specs.Bounds.{can_name};
 
 use crate::Step;
-use vocabulary::{Answer, Call, Order};
 use listener_set::Numbers;
+use vocabulary::{Answer, Call, Order};
 
 /// The last census, and what it lacked of its step's set.
 #[derive(Clone, Copy, Debug)]

@@ -4,10 +4,10 @@ ghost use Rattle.definitions.specs.Tree.{Does};
 ghost use Rattle.rollback_plan.specs.Steps.{step_tree, leads_back, all_lead_back, all_below};
 
 use crate::{Edge, Place, Step};
-use vocabulary::{Actor, Order};
 use listener_set::Numbers;
 use std::alloc::{AllocError, AllocFailed, Global};
 use thiserror::Error;
+use vocabulary::{Actor, Order};
 
 /// The most steps that a draft can have.
 pub const MOST_STEPS: usize = 65_536;

@@ -9,8 +9,8 @@ use crate::layers::by_depth;
 use crate::numbering::{depths_from, heights_of};
 use crate::walking::walk;
 use crate::{Draft, Edge, Next, Place, Plan, Step};
-use vocabulary::PidNote;
 use std::alloc::{AllocError, Global};
+use vocabulary::PidNote;
 
 impl Draft {
     ghost use Rattle.rollback_plan.specs.Drafts.{trees_of, tree_at};

@@ -2,8 +2,8 @@
 ghost use Rattle.std.specs.Prelude.{◌≡◌};
 ghost use Rattle.definitions.specs.Tree as tree;
 
-use vocabulary::{Answer, Call, Reply};
 use listener_set::Numbers;
+use vocabulary::{Answer, Call, Reply};
 
 /// The reply that an answer is to a step whose census must contain the set.
 pub fn reply_to(answer: &Answer, set: &Numbers) -> Reply

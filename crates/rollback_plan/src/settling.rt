@@ -8,8 +8,8 @@ ghost use Rattle.rollback_plan.specs.Steps.{is_below, tree_among};
 ghost use Rattle.rollback_plan.specs.Back.{quits_back, closes_back, AreMade};
 
 use crate::{Draft, DraftRefusal, Edge, Next, Place};
-use vocabulary::{Actor, Call, End, Order, Reply, Side};
 use listener_set::{Address, Generation, Numbers};
+use vocabulary::{Actor, Call, End, Order, Reply, Side};
 
 /// How a plan ends where nothing of the side is lacking.
 fn full_end(side: Side) -> End

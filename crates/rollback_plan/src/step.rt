@@ -3,8 +3,8 @@ ghost use Rattle.std.specs.Prelude.{◌≡◌};
 ghost use Rattle.rollback_plan.specs.declared.step.Next.TheVariants.{To, Over};
 ghost use Rattle.rollback_plan.specs.Steps.{edge_for, IsEdge};
 
-use vocabulary::{Actor, End, Order, PidNote, Reply};
 use listener_set::Numbers;
+use vocabulary::{Actor, End, Order, PidNote, Reply};
 
 /// The place of a step: in a draft counted from 0, in a plan from 1.
 #[derive(Clone, Copy, Debug, PartialEq, Eq)]

@@ -2,9 +2,9 @@
 use crate::{
     Bound, Draft, DraftRefusal, Edge, MOST_STEPS, Next, Place, Undone, plain_reply, reply_to,
 };
-use vocabulary::{Actor, Answer, Call, End, Order, PidNote, Reply, Side};
 use listener_set::{Address, Generation, Numbers};
 use std::test::Fail;
+use vocabulary::{Actor, Answer, Call, End, Order, PidNote, Reply, Side};
 
 const GENERATION: Generation = Generation {
     image: 1,

@@ -5,9 +5,9 @@ mod agreement;
 mod record;
 mod setup;
 
-pub use vocabulary::{Outcome, PidNote, Report, Settings, Side, Target};
 pub use handover_text::Listeners;
 pub use record::Record;
+pub use vocabulary::{Outcome, PidNote, Report, Settings, Side, Target};
 
 #[cfg(test)]
 mod tests;

@@ -2,10 +2,10 @@
 ghost use Rattle.std.specs.Prelude.{◌≡◌};
 ghost use Rattle.definitions.specs.After.{next_number, next_config, next_image, renewed};
 
-use vocabulary::Settings;
 use handover_text::Listeners;
 use listener_set::Generation;
 use std::marker::Model;
+use vocabulary::Settings;
 
 /// What a service stands on: who listens where, in which generation, with how many workers.
 #[derive(Clone, Copy, Debug)]

@@ -1,9 +1,9 @@
 //! Records after plans, and listeners through reloads and upgrades.
 use crate::{Listeners, Outcome, PidNote, Record, Report, Settings, Side, Target};
-use vocabulary::Limits;
 use kernel_model::Kernel;
 use listener_set::{Address, FilePath, ListenerSet, Numbers};
 use std::test::Fail;
+use vocabulary::Limits;
 
 /// The settings with these addresses, a pid file, two workers, and values of their own for the rest.
 fn settings(addresses: &[&str]) -> Result<Settings, Fail> {

@@ -6,11 +6,11 @@ ghost use Rattle.transcript.specs.PatternsText.{lines_of, may_follow, begun, wit
 
 use crate::TextRefusal;
 use call_text::cut;
-use vocabulary::{Fate, Name};
 use kernel_model::Pattern;
 use line_text::PatternLine;
 use std::alloc::{AllocError, Global};
 use std::mem;
+use vocabulary::{Fate, Name};
 
 /// What was read of a text: the patterns before this section, and this section's.
 #[derive(Drop)]

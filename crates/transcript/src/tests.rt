@@ -1,11 +1,11 @@
 //! Texts of blocks, and texts that are read or refused.
 use crate::{TextRefusal, read_patterns, write_transcript};
 use control_words::Word;
-use vocabulary::{Actor, Answer, Call, Entry, Fate, Name, Outcome, PidNote, Report, Side};
 use listener_set::{Address, Generation, Numbers};
 use plan_executor::{Block, Body, CodeText, Transcript};
 use std::alloc::Global;
 use std::test::Fail;
+use vocabulary::{Actor, Answer, Call, Entry, Fate, Name, Outcome, PidNote, Report, Side};
 
 const FIRST: Generation = Generation {
     image: 1,

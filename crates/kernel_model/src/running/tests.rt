@@ -1,10 +1,10 @@
 //! Claims that are true of a kernel, and such as are not.
 use super::*;
 use crate::Moment;
-use vocabulary::{Actor, Answer, Call, Fate, Limits};
 use listener_set::ListenerSet;
 use std::alloc::Global;
 use std::test::Fail;
+use vocabulary::{Actor, Answer, Call, Fate, Limits};
 
 const FIRST: Generation = Generation {
     image: 1,

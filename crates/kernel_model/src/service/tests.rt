@@ -1,7 +1,7 @@
 use super::*;
-use vocabulary::Limits;
 use listener_set::ListenerSet;
 use std::test::Fail;
+use vocabulary::Limits;
 
 const FIRST: Generation = Generation {
     image: 1,
