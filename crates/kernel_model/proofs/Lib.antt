@@ -12,6 +12,7 @@ pub mod Foreigners
 pub mod WrittenFiles
 pub mod Census
 pub mod First
+pub mod Lone
 pub mod Opening
 pub mod ExitLoop
 pub mod Room

@@ -1,10 +1,11 @@
 -- What an edit does to each process.
-use Rattle.std.specs.Prelude.{ℕ, Bool, false, ◌==◌, List, Option}
+use Rattle.std.specs.Prelude.{ℕ, ◌≡◌, ◌⊎◌, Bool, false, ◌==◌, List, Option}
 use Rattle.definitions.specs.Table.{Address, Process, Master, Worker, Foreign, is_starting, is_active, is_exited, is_any, is_named, is_worker}
 use Rattle.definitions.specs.Exits.{change, made_exited, without_exited}
 use Rattle.definitions.specs.Calls.{dropped, with_holds, is_row, is_image, is_of, lacks_address, made_ready, made_draining, is_exited_of}
 use Rattle.kernel_model.specs.declared.edits.Edit.{Edit}
 use Rattle.kernel_model.specs.declared.edits.Edit.TheVariants.{ExitWorker, ExitMaster, MakeReady, Drain, Reap, Kill, ReapAll, Hold, Close, ReapMaster, Terminate}
+use Rattle.kernel_model.specs.declared.process.WorkerName.{WorkerName}
 use Rattle.kernel_model.specs.Holds.{seen_holds}
 use Rattle.kernel_model.specs.Seen.{is_number}
 
@@ -26,3 +27,7 @@ edited addresses (Hold n holds) = change (is_row n) (with_holds (λ hs. seen_hol
 edited addresses (Close n a) = change (is_of n) (with_holds (lacks_address a))
 edited addresses (ReapMaster image) = dropped (is_image image)
 edited addresses (Terminate image master) = dropped (is_of_either image master)
+
+-- an edit that changes at most the Starting or Ready worker of the name
+abbrev pub ChangesActive : WorkerName → Edit → Type 0
+ChangesActive name edit = (edit ≡ MakeReady name) ⊎ (edit ≡ Drain name)

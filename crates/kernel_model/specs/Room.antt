@@ -7,9 +7,9 @@ use Rattle.definitions.specs.Formed.{IsFormed}
 use Rattle.kernel_model.specs.declared.store.Store.{Store}
 use Rattle.kernel_model.specs.Seen.{seen}
 
--- only rows change, and their number does not grow
+-- only rows change, and where one was found last; their number does not grow
 pub record EditsRows (old new : Store) : Type 0 where
-  pub others : new ≡ record old { holders = new.holders }
+  pub others : new ≡ record old { holders = new.holders; last = new.last }
   pub len : vec_len new.holders ≤ vec_len old.holders
   pub capacity : vec_capacity new.holders ≡ vec_capacity old.holders
 

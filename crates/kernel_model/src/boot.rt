@@ -118,6 +118,7 @@ fn allowed(
         files: files(alloc, pid_file)?,
         next_process: 101 + u64::from(workers),
         limits,
+        last: 0,
     })
 }
 

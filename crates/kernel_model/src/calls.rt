@@ -65,6 +65,7 @@ fn fork(store: &mut Store, caller: &Caller, generation: Generation, nr: u32) -> 
 
 /// A Starting worker is Ready from then on; where none is active, the Exited ones of the name leave.
 fn await_ready(store: &mut Store, caller: &Caller, generation: Generation, nr: u32) -> Answer
+    requires { IsKept (seen store.old) }
     ensures outcome { record { answer = result; table = seen store.new } ≡ awaited (seen_caller store.old.addresses.items caller.now) generation nr (seen store.old) }
     ensures grows { GrowsByOne store.old store.new }
 {
@@ -73,8 +74,7 @@ fn await_ready(store: &mut Store, caller: &Caller, generation: Generation, nr: u
         generation,
         nr,
     };
-    if store.has_worker(Stances::Active, name) {
-        store.edit(&Edit::MakeReady(name));
+    if store.edit_active(name, &Edit::MakeReady(name)) {
         Answer::IsReady
     } else {
         store.edit(&Edit::Reap(name));
@@ -84,6 +84,7 @@ fn await_ready(store: &mut Store, caller: &Caller, generation: Generation, nr: u
 
 /// The Starting or Ready worker of the name drains.
 fn quit(store: &mut Store, caller: &Caller, generation: Generation, nr: u32) -> Answer
+    requires { IsKept (seen store.old) }
     ensures outcome { record { answer = result; table = seen store.new } ≡ quitted (seen_caller store.old.addresses.items caller.now) generation nr (seen store.old) }
     ensures grows { GrowsByOne store.old store.new }
 {
@@ -92,7 +93,7 @@ fn quit(store: &mut Store, caller: &Caller, generation: Generation, nr: u32) -> 
         generation,
         nr,
     };
-    store.edit(&Edit::Drain(name));
+    let _ = store.edit_active(name, &Edit::Drain(name));
     Answer::Fine
 }
 

@@ -1,12 +1,13 @@
 //! The rows of the table, and the few ways to read and change them.
-ghost use Rattle.std.specs.Prelude.{true, ◌≡◌, ◌<◌, ◌≤◌, ◌+◌, ◌^◌, ◌↔◌, ℕ, List, length, count_by, Contains, IsTrue, IfOk, IfSome, OnOk, vec_len, vec_capacity};
+ghost use Rattle.std.specs.Prelude.{true, false, ◌≡◌, ◌<◌, ◌≤◌, ◌+◌, ◌^◌, ◌↔◌, ℕ, List, length, count_by, Contains, IsTrue, IsFalse, IfOk, IfSome, None, OnOk, vec_len, vec_capacity};
 ghost use Rattle.std.specs.List.{list_any, filter_map};
 ghost use Rattle.std.specs.Option.{option_map};
-ghost use Rattle.definitions.specs.Table.{Master, Worker, is_worker, is_own, is_live_master, is_held, live_master, with_rows};
+ghost use Rattle.definitions.specs.Table.{Master, Worker, is_active, is_worker, is_own, is_live_master, is_held, live_master, with_rows};
 ghost use Rattle.definitions.specs.Calls.{is_image, has_process_room, lowest_free, with_new_row, with_new_socket, each_row, census_of};
 ghost use Rattle.definitions.specs.Exits.{kept_if, draining_exits};
 ghost use Rattle.kernel_model.specs.Seen.{seen_rows, seen_holder};
-ghost use Rattle.kernel_model.specs.Edits.{edited};
+ghost use Rattle.kernel_model.specs.Edits.{edited, ChangesActive};
+ghost use Rattle.kernel_model.specs.Places.{IsActiveAt};
 
 use crate::edits::Edit;
 use crate::holds;
@@ -24,6 +25,8 @@ pub struct Store {
     pub files: Vec<FileRow>,
     pub next_process: u64,
     pub limits: Limits,
+    /// Where a worker was found by its name last. Calls tend to go on with the row beside it.
+    pub last: usize,
 }
 
 fn edit_all(holders: &mut Vec<Holder>, addresses: &[Address], edit: &Edit)
@@ -47,6 +50,49 @@ fn exit_first_draining(holders: &mut [Holder], generation: Generation, nr: u32)
         let holder = &mut holders[place];
         holder.exit();
     }
+}
+
+/// Whether the worker of the name is at the place, Starting or Ready.
+fn is_active_at(holders: &[Holder], name: WorkerName, place: usize) -> bool
+    ensures { IsTrue result → IsActiveAt holders.now name place }
+{
+    place < holders.len() && holders[place].row.is_worker(Stances::Active, name)
+}
+
+/// The place of the Starting or Ready worker of the name. It is looked for beside the one that was found last, and then
+/// everywhere.
+fn active_place(holders: &[Holder], name: WorkerName, last: usize) -> Option<usize>
+    ensures found { IfSome result (IsActiveAt holders.now name) }
+    ensures none { result ≡ None → (addresses : List (List ℕ)) → list_any (is_worker is_active name.parent name.generation name.nr) (seen_rows addresses holders.now) ≡ false }
+{
+    let next = last.saturating_add(1);
+    if is_active_at(holders, name, next) {
+        return Some(next);
+    }
+    let before = last.saturating_sub(1);
+    if is_active_at(holders, name, before) {
+        return Some(before);
+    }
+    holders
+        .iter()
+        .position(|holder| holder.row.is_worker(Stances::Active, name))
+}
+
+/// Changes the only Starting or Ready worker of the name.
+fn change_at(
+    holders: &mut [Holder],
+    addresses: &[Address],
+    name: WorkerName,
+    place: usize,
+    edit: &Edit,
+)
+    requires there { IsActiveAt holders.old name place }
+    requires alone { count_by (is_worker is_active name.parent name.generation name.nr) (seen_rows addresses.now holders.old) ≤ 1 }
+    requires edit { ChangesActive name edit.now }
+    ensures { seen_rows addresses.now holders.new ≡ filter_map (edited addresses.now edit.now) (seen_rows addresses.now holders.old) }
+{
+    let holder = &mut holders[place];
+    let _ = holder.edit(addresses, edit);
 }
 
 fn own_count(holders: &[Holder]) -> usize
@@ -136,7 +182,8 @@ impl Store {
     pub fn has_process_room(&self) -> bool
         ensures { result ≡ has_process_room (seen self.now) }
     {
-        own_count(&self.holders) < self.limits.processes as usize
+        let limit = self.limits.processes as usize;
+        self.holders.len() < limit || own_count(&self.holders) < limit
     }
 
     /// Whether somebody holds the address.
@@ -159,6 +206,23 @@ impl Store {
         ensures room { EditsRows self.old self.new }
     {
         edit_all(&mut self.holders, &self.addresses, edit);
+    }
+
+    /// Changes the Starting or Ready worker of the name, of which there is one at most; whether there is one.
+    pub fn edit_active(&mut self, name: WorkerName, edit: &Edit) -> bool
+        requires kept { IsKept (seen self.old) }
+        requires edit { ChangesActive name edit.now }
+        ensures found { result ≡ list_any (is_worker is_active name.parent name.generation name.nr) (seen self.old).rows }
+        ensures table { seen self.new ≡ each_row (edited self.old.addresses.items edit.now) (seen self.old) }
+        ensures same { IsFalse result → seen self.new ≡ seen self.old }
+        ensures room { EditsRows self.old self.new }
+    {
+        let Some(place) = active_place(&self.holders, name, self.last) else {
+            return false;
+        };
+        change_at(&mut self.holders, &self.addresses, name, place, edit);
+        self.last = place;
+        true
     }
 
     /// The Draining worker of the name with the lowest process number exits.
@@ -276,6 +340,7 @@ impl Store {
             files: self.files.clone()?,
             next_process: self.next_process,
             limits: self.limits,
+            last: self.last,
         })
     }
 }
