@@ -1,0 +1,121 @@
+//! How long the modelled kernel takes for the calls of a reload, at 128 and at 1,024 workers. It
+//! writes how many calls that are and how the last one is answered, and to the error output the least
+//! time of all runs.
+#![tactic(auto)]
+
+use anyhow::Context;
+use kernel_model::{Kernel, Moment};
+use listener_set::{Address, Generation, ListenerSet};
+use std::time::{Duration, Instant};
+use vocabulary::{Actor, Answer, Call, Limits};
+
+const RUNS: u32 = 50;
+
+const OLD: Generation = Generation {
+    image: 1,
+    config: 1,
+};
+
+const NEW: Generation = Generation {
+    image: 1,
+    config: 2,
+};
+
+/// Makes a call of the first master at a quiet moment.
+fn ask(kernel: &mut Kernel, call: &Call) -> anyhow::Result<Answer> {
+    let quiet = Moment {
+        exits: &[],
+        fate: None,
+    };
+    if kernel.room() == 0 {
+        return Err(anyhow::anyhow!("no room is left"));
+    }
+    Ok(kernel.call(Actor(1), call, &[], &quiet))
+}
+
+/// New workers are forked, waited for and counted; the old ones quit, the last first; and the new ones
+/// are counted again.
+fn calls_of_reload(rt: &HostRuntime, workers: u32) -> anyhow::Result<Vec<Call>> {
+    let mut calls = Vec::new(rt.alloc());
+    for nr in 0..workers {
+        calls.push(Call::Fork(NEW, nr))?;
+    }
+    for nr in 0..workers {
+        calls.push(Call::AwaitReady(NEW, nr))?;
+    }
+    calls.push(Call::Census(NEW))?;
+    for nr in (0..workers).rev() {
+        calls.push(Call::Quit(OLD, nr))?;
+    }
+    calls.push(Call::Census(NEW))?;
+    Ok(calls)
+}
+
+/// A kernel with a master and that many workers, and room for so many calls.
+fn started(rt: &HostRuntime, workers: u32, calls: u32) -> anyhow::Result<Kernel> {
+    let mut listeners = ListenerSet::new();
+    listeners.add(&Address::plain())?;
+    let limits = Limits {
+        processes: 65_535,
+        descriptors: 64,
+    };
+    let mut kernel = Kernel::boot(rt.alloc(), &listeners, workers, None, limits)?;
+    kernel.reserve(calls)?;
+    Ok(kernel)
+}
+
+/// The answer to the last of the calls, and how long they took.
+fn timed(
+    rt: &HostRuntime,
+    kernel: &mut Kernel,
+    calls: &[Call],
+) -> anyhow::Result<(Option<Answer>, Duration)> {
+    let start = Instant::now(rt)?;
+    let mut last = None;
+    for call in calls {
+        last = Some(ask(kernel, call)?);
+    }
+    Ok((last, start.elapsed(rt)?))
+}
+
+/// The answer to the last of the calls, and the least time of all runs.
+fn measured(
+    rt: &HostRuntime,
+    workers: u32,
+    calls: &[Call],
+) -> anyhow::Result<(Option<Answer>, Duration)> {
+    let room = u32::try_from(calls.len()).context("too many calls")?;
+    let mut least = Duration::MAX;
+    let mut last = None;
+    for _run in 0..RUNS {
+        let mut kernel = started(rt, workers, room)?;
+        let (answer, time) = timed(rt, &mut kernel, calls)?;
+        least = least.min(time);
+        last = answer;
+    }
+    Ok((last, least))
+}
+
+/// A reload with that many workers before and after.
+fn reload(rt: &HostRuntime, workers: u32) -> anyhow::Result<()> {
+    let calls = calls_of_reload(rt, workers)?;
+    let (last, least) = measured(rt, workers, &calls)?;
+    let ready = match last {
+        Some(Answer::Counted(numbers)) => numbers.len(),
+        _ => 0,
+    };
+    println!(rt;
+        "HUP {workers} to {workers}: {} calls, {ready} ready",
+        calls.len()
+    )?;
+    eprintln!(rt;
+        "HUP {workers} to {workers}: {} microseconds",
+        least.as_micros()
+    )?;
+    Ok(())
+}
+
+fn main(rt: HostRuntime) -> anyhow::Result<()> {
+    reload(&rt, 128)?;
+    reload(&rt, 1024)
+}
