@@ -11,7 +11,6 @@ use Rattle.definitions.specs.Calls.{made_draining, made_ready}
 use Rattle.kernel_model.specs.declared.process.Holder.{Holder}
 use Rattle.kernel_model.specs.declared.process.WorkerName.{WorkerName}
 use Rattle.kernel_model.specs.declared.edits.Edit.{Edit}
-use Rattle.kernel_model.specs.declared.edits.Edit.TheVariants.{MakeReady, Drain}
 use Rattle.kernel_model.specs.Seen.{seen_holder}
 use Rattle.kernel_model.specs.Edits.{edited, ChangesActive}
 use Rattle.kernel_model.proofs.First.{past}
