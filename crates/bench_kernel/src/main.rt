@@ -5,7 +5,7 @@
 
 use anyhow::Context;
 use kernel_model::{Kernel, Moment};
-use listener_set::{Address, Generation, ListenerSet};
+use listener_set::{Address, Generation, ListenerSet, Numbers};
 use std::time::{Duration, Instant};
 use vocabulary::{Actor, Answer, Call, Limits};
 
@@ -96,14 +96,19 @@ fn measured(
     Ok((last, least))
 }
 
+/// The workers that a census counted; none where it was no census.
+fn ready_of(answer: &Option<Answer>) -> Numbers {
+    match answer {
+        Some(Answer::Counted(numbers)) => *numbers,
+        _ => Numbers::none(),
+    }
+}
+
 /// A reload with that many workers before and after.
 fn reload(rt: &HostRuntime, workers: u32) -> anyhow::Result<()> {
     let calls = calls_of_reload(rt, workers)?;
     let (last, least) = measured(rt, workers, &calls)?;
-    let ready = match last {
-        Some(Answer::Counted(numbers)) => numbers.len(),
-        _ => 0,
-    };
+    let ready = ready_of(&last).len();
     println!(rt;
         "HUP {workers} to {workers}: {} calls, {ready} ready",
         calls.len()

@@ -2,7 +2,6 @@
 use Rattle.std.specs.Prelude.{ℕ, ◌+◌, ◌==◌, Bool, true, false, ◌||◌, List, [], ◌∷◌, ◌++◌, Option, Some, None, codes, if◌then◌else◌}
 use Rattle.std.specs.Fmt.{decimal}
 use Rattle.vocabulary.specs.declared.plans.PidNote.{PidNote}
-use Rattle.vocabulary.specs.declared.plans.Order.{Order}
 use Rattle.vocabulary.specs.declared.calls.Reply.{Reply}
 use Rattle.rollback_plan.specs.declared.step.Edge.{Edge}
 use Rattle.rollback_plan.specs.declared.step.Step.{Step}
@@ -34,11 +33,17 @@ abbrev pub style_part : Bool → List ℕ
 style_part true = codes ", weight=9, style=bold"
 style_part false = []
 
--- an arrow from the n-th step, with the replies that go its way, each in a line of the label
+-- from the n-th step to the place that an edge leads to
+abbrev pub way_text : ℕ → Edge → List ℕ
+way_text n e = codes "  " ++ decimal n ++ codes " -> \"" ++ place_text e.next ++ codes "\""
+
+-- the replies that go the way of an edge, and its note, each in a line
+abbrev pub label_text : Step → Edge → List Reply → List ℕ
+label_text s e replies = codes " [label=\"" ++ reply_words s e (codes "\\l") replies ++ note_line e.note ++ codes "\""
+
+-- the arrow of an edge from the n-th step
 abbrev pub arrow_text : ℕ → Step → List Reply → Edge → List ℕ
-arrow_text n s replies e =
-    codes "  " ++ decimal n ++ codes " -> \"" ++ place_text e.next ++ codes "\" [label=\"" ++ reply_words s e (codes "\\l") replies
-    ++ note_line e.note ++ codes "\"" ++ style_part (is_plain s e replies) ++ codes "];\n"
+arrow_text n s replies e = way_text n e ++ label_text s e replies ++ style_part (is_plain s e replies) ++ codes "];\n"
 
 abbrev pub arrow_part : ℕ → Step → List Reply → Option Edge → List ℕ
 arrow_part n s replies None = []
@@ -51,12 +56,19 @@ arrows_text n s replies earlier (r ∷ rs) = arrow_part n s replies (new_edge s 
 
 ---- Steps
 
--- a box with the number of a step and its call
-abbrev pub box_text : ℕ → Step → List ℕ
-box_text n s = codes "  " ++ decimal n ++ codes " [shape=box, label=\"" ++ decimal n ++ codes " " ++ quoted (order_line s.by s.order ++ set_part s.order s.set) ++ codes "\"];\n"
+-- what opens the box of a number
+abbrev pub opening : ℕ → List ℕ
+opening n = codes "  " ++ decimal n ++ codes " [shape=box, label=\""
+
+-- a box with a number and a line behind it
+abbrev pub box_text : ℕ → List ℕ → List ℕ
+box_text n line = opening n ++ decimal n ++ codes " " ++ quoted line ++ codes "\"];\n"
+
+abbrev pub step_line : Step → List ℕ
+step_line s = order_line s.by s.order ++ set_part s.order s.set
 
 abbrev pub drawn_step : ℕ → Step → List ℕ
-drawn_step n s = box_text n s ++ arrows_text n s (replies_of s.order) [] (replies_of s.order)
+drawn_step n s = box_text n (step_line s) ++ arrows_text n s (replies_of s.order) [] (replies_of s.order)
 
 -- steps in order, the first of them the n-th
 abbrev pub drawn_steps : ℕ → List Step → List ℕ

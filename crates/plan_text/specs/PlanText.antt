@@ -6,7 +6,6 @@ use Rattle.vocabulary.specs.declared.calls.Call.{Call}
 use Rattle.vocabulary.specs.declared.calls.Call.TheVariants.{Census}
 use Rattle.vocabulary.specs.declared.calls.Reply.{Reply}
 use Rattle.vocabulary.specs.declared.calls.Reply.TheVariants.{MasterGone}
-use Rattle.vocabulary.specs.declared.plans.End.{End}
 use Rattle.vocabulary.specs.declared.plans.PidNote.{PidNote}
 use Rattle.vocabulary.specs.declared.plans.Order.{Order}
 use Rattle.vocabulary.specs.declared.plans.Order.TheVariants.{Make}

@@ -1,7 +1,8 @@
 //! Pictures of plans.
 ghost use Rattle.std.specs.Prelude.{◌≡◌, ◌++◌, [], IfOk};
+ghost use Rattle.std.specs.Fmt.{decimal};
 ghost use Rattle.rollback_plan.specs.Plans.{steps_of};
-ghost use Rattle.plan_text.specs.Graph.{quoted, is_plain, note_line, style_part, arrow_text, arrows_text, box_text, drawn_step, drawn_steps, graph_text};
+ghost use Rattle.plan_text.specs.Graph.{quoted, is_plain, note_line, style_part, way_text, label_text, arrow_text, arrows_text, opening, box_text, step_line, drawn_step, drawn_steps, graph_text};
 
 use crate::edges::{goes, new_edge, write_place, write_replies};
 use crate::plans::write_wanted;
@@ -53,7 +54,33 @@ fn write_style(out: &mut Vec<u8>, is_plain: bool) -> Result<(), AllocError>
     Ok(())
 }
 
-/// The arrow of an edge, with a line for each reply that goes its way.
+/// From the n-th step to the place that an edge leads to.
+fn write_way(out: &mut Vec<u8>, number: u64, edge: &Edge) -> Result<(), AllocError>
+    ensures { IfOk result (λ _. out.new.items ≡ out.old.items ++ way_text number edge.now) }
+{
+    out.extend_from_slice(b"  ")?;
+    write_number(out, number)?;
+    out.extend_from_slice(b" -> \"")?;
+    write_place(out, edge.next)?;
+    out.extend_from_slice(b"\"")
+}
+
+/// A line for each reply that goes the way of an edge, and one for its note.
+fn write_label(
+    out: &mut Vec<u8>,
+    step: &Step,
+    edge: &Edge,
+    replies: &[Reply],
+) -> Result<(), AllocError>
+    ensures { IfOk result (λ _. out.new.items ≡ out.old.items ++ label_text step.now edge.now replies.now) }
+{
+    out.extend_from_slice(b" [label=\"")?;
+    write_replies(out, step, edge, replies, b"\\l")?;
+    write_note(out, edge.note)?;
+    out.extend_from_slice(b"\"")
+}
+
+/// The arrow of an edge.
 fn write_arrow(
     out: &mut Vec<u8>,
     number: u64,
@@ -63,14 +90,8 @@ fn write_arrow(
 ) -> Result<(), AllocError>
     ensures { IfOk result (λ _. out.new.items ≡ out.old.items ++ arrow_text number step.now replies.now edge.now) }
 {
-    out.extend_from_slice(b"  ")?;
-    write_number(out, number)?;
-    out.extend_from_slice(b" -> \"")?;
-    write_place(out, edge.next)?;
-    out.extend_from_slice(b"\" [label=\"")?;
-    write_replies(out, step, edge, replies, b"\\l")?;
-    write_note(out, edge.note)?;
-    out.extend_from_slice(b"\"")?;
+    write_way(out, number, edge)?;
+    write_label(out, step, edge, replies)?;
     write_style(out, is_plain(step, edge, replies))?;
     out.extend_from_slice(b"];\n")
 }
@@ -92,26 +113,52 @@ fn write_arrows(
     Ok(())
 }
 
-/// The box of the n-th step.
-fn write_box(alloc: Global, out: &mut Vec<u8>, number: u64, step: &Step) -> Result<(), AllocError>
-    ensures { IfOk result (λ _. out.new.items ≡ out.old.items ++ box_text number step.now) }
+/// A number between two texts.
+fn write_between(
+    out: &mut Vec<u8>,
+    before: &[u8],
+    number: u64,
+    behind: &[u8],
+) -> Result<(), AllocError>
+    ensures { IfOk result (λ _. out.new.items ≡ out.old.items ++ before.now ++ decimal number ++ behind.now) }
+{
+    out.extend_from_slice(before)?;
+    write_number(out, number)?;
+    out.extend_from_slice(behind)
+}
+
+fn open_box(out: &mut Vec<u8>, number: u64) -> Result<(), AllocError>
+    ensures { IfOk result (λ _. out.new.items ≡ out.old.items ++ opening number) }
+{
+    write_between(out, b"  ", number, b" [shape=box, label=\"")
+}
+
+/// A box with a number and a line behind it.
+fn write_box(out: &mut Vec<u8>, number: u64, line: &[u8]) -> Result<(), AllocError>
+    ensures { IfOk result (λ _. out.new.items ≡ out.old.items ++ box_text number line.now) }
+{
+    open_box(out, number)?;
+    write_number(out, number)?;
+    out.extend_from_slice(b" ")?;
+    write_quoted(out, line)?;
+    out.extend_from_slice(b"\"];\n")
+}
+
+/// The call of a step, and the set of a census.
+fn step_line(alloc: Global, step: &Step) -> Result<Vec<u8>, AllocError>
+    ensures { IfOk result (λ line. line.items ≡ step_line step.now) }
 {
     let mut line = Vec::new(alloc);
     write_order(&mut line, step.by, &step.order)?;
     write_wanted(&mut line, &step.order, &step.set)?;
-    out.extend_from_slice(b"  ")?;
-    write_number(out, number)?;
-    out.extend_from_slice(b" [shape=box, label=\"")?;
-    write_number(out, number)?;
-    out.extend_from_slice(b" ")?;
-    write_quoted(out, &line)?;
-    out.extend_from_slice(b"\"];\n")
+    Ok(line)
 }
 
 fn draw_step(alloc: Global, out: &mut Vec<u8>, number: u64, step: &Step) -> Result<(), AllocError>
     ensures { IfOk result (λ _. out.new.items ≡ out.old.items ++ drawn_step number step.now) }
 {
-    write_box(alloc, out, number, step)?;
+    let line = step_line(alloc, step)?;
+    write_box(out, number, &line)?;
     write_arrows(out, number, step, replies_of(&step.order))
 }
 
