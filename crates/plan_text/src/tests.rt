@@ -136,7 +136,11 @@ fn a_picture_escapes_quotes(rt: HostRuntime) -> Result<(), Fail> {
         panic!(rt; "no address");
     };
     let mut draft = Draft::new(rt.alloc());
-    let edges = [Edge::over(&[Reply::Opened], End::Done)];
+    let faults: &'static [Reply] = &[Reply::InUse, Reply::TooMany, Reply::Denied, Reply::NoMemory];
+    let edges = [
+        Edge::over(&[Reply::Opened], End::Done),
+        Edge::over(faults, End::RolledBack),
+    ];
     let order = Order::Make(Call::OpenAt(address));
     let opened = draft.add(Actor(1), order, &Numbers::none(), &edges)?;
     let plan = draft.finish(opened, PidNote::NoFile, Vec::new(rt.alloc()))?;
@@ -145,6 +149,7 @@ fn a_picture_escapes_quotes(rt: HostRuntime) -> Result<(), Fail> {
         \x20 edge [fontname=monospace];\n\
         \x20 1 [shape=box, label=\"1 m1 open /a\\\"b\\\\c\"];\n\
         \x20 1 -> \"done\" [label=\"opened\\l\", weight=9, style=bold];\n\
+        \x20 1 -> \"rolled-back\" [label=\"in-use\\ltoo-many\\ldenied\\lno-memory\\l\"];\n\
         }\n";
     assert!(rt; write_graph(rt.alloc(), &plan)?.as_slice() == text.as_slice());
     Ok(())
