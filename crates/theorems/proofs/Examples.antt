@@ -5,12 +5,13 @@ use Rattle.std.proofs.lemmas.Bool.Decides.{nat_tests}
 use Rattle.listener_set.specs.declared.generation.Generation.{Generation}
 use Rattle.definitions.specs.Table.{same_generation, is_worker, is_active, is_ready}
 use Rattle.std.specs.List.{list_any}
-use Rattle.std.specs.Prelude.{[], ◌∷◌}
+use Rattle.std.specs.Prelude.{Some, [], ◌∷◌}
+use Rattle.vocabulary.specs.declared.plans.PidNote.TheVariants.{AtOldbin}
 use Rattle.listener_set.specs.Numbers.{is_in}
 use Rattle.definitions.specs.Formed.{IsFormed}
 use Rattle.definitions.specs.Settling.{HasSide}
 use Rattle.definitions.specs.Claims.{IsStart}
-use Rattle.theorems.specs.Examples.{two_ready, two_workers, two_masters, first, holds, HasStart}
+use Rattle.theorems.specs.Examples.{two_ready, two_workers, two_with_stale_file, two_masters, record_with, pid_file, first, holds, HasStart}
 use Rattle.theorems.proofs.Rows.{one, count-weigh}
 
 at-most : (x s a b : Bool) → (a ≡ true → b ≡ false) → one (x && (s && a)) + (one (x && (s && b)) + 0) ≤ 1
@@ -57,6 +58,37 @@ start = record {
   rising = (omega arith, (omega arith, tt));
 }
 
+-- With a stale file at the path too.
+stale : IsStart two_with_stale_file (record_with (0 ∷ 1 ∷ []) 2 3 (Some pid_file) AtOldbin)
+stale = record {
+  formed = record {
+    once = once;
+    quiet = (tt, (tt, (tt, tt)));
+    parents = (tt, (refl, (refl, tt)));
+    ascending = (omega arith, (omega arith, (omega arith, omega arith)));
+  };
+  agrees = record {
+    holds = holds;
+    lives = refl;
+    alone = refl;
+    listeners = refl;
+    running = (tt, ((λ e. (refl, refl)), ((λ e. (refl, refl)), tt)));
+    ready = λ k. refl;
+    files = refl;
+  };
+  record_in_range = record {
+    listens = omega arith;
+    wanted = omega arith;
+    ready = (omega arith, (omega arith, tt));
+    retries = omega arith;
+    timeout_least = omega arith;
+    timeout_most = omega arith;
+    pid_path = omega arith;
+    pid = omega arith;
+  };
+  rising = (omega arith, (omega arith, tt));
+}
+
 -- Beside another master too.
 once_beside : (q : ℕ) (h : Generation) (k : ℕ) → count_by (is_worker is_active q h k) two_masters.rows ≤ 1
 once_beside q h k = subst (λ n. n ≤ 1) (sym (count-weigh (is_worker is_active q h k) two_masters.rows)) (omega (arith, at-most (100 == q) (same_generation first h) (0 == k) (1 == k) (apart k)))
@@ -81,4 +113,4 @@ has_side = record {
 }
 
 pub has_start : HasStart
-has_start = (start, record { descriptors = (omega arith, tt); limit = omega arith }, formed_beside, has_side)
+has_start = (start, record { descriptors = (omega arith, tt); limit = omega arith }, formed_beside, has_side, stale)

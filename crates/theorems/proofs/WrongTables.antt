@@ -5,7 +5,7 @@ use Rattle.listener_set.specs.declared.generation.Generation.{Generation}
 use Rattle.definitions.specs.Table.{Table, same_generation}
 use Rattle.definitions.specs.Service.{service, is_serving}
 use Rattle.definitions.specs.Claims.{IsFewerAt}
-use Rattle.theorems.specs.Examples.{first, port, other_port, two_workers, count_if}
+use Rattle.theorems.specs.Examples.{first, port, other_port, holds, two_workers, count_if}
 use Rattle.theorems.specs.WrongTables.{none_left, WrongTables}
 use Rattle.theorems.proofs.Effects.{same-is}
 
@@ -34,6 +34,18 @@ wrong_tables = record {
   kept = λ h. no (sym (h port 1 (refl, refl) refl));
   floor = λ h. absurd (omega (arith, h port (refl, refl)));
   agrees = λ h. h.running.1.1.1.0 refl;
+  orphan = (
+    record {
+      holds = holds;
+      lives = refl;
+      alone = refl;
+      listeners = refl;
+      running = (tt, ((λ e. (refl, refl)), ((λ e. (refl, refl)), ((λ e. absurd (omega (arith, e))), tt))));
+      ready = λ k. refl;
+      files = (refl, refl);
+    },
+    λ h. no (sym h.parents.1.1.1.0),
+  );
   files = λ h. absurd (cc (h.0));
   stop_note = λ h. absurd (cc (h.0));
   file_gone = λ h. absurd (cc (h.1));

@@ -7,7 +7,7 @@ use Rattle.vocabulary.specs.declared.calls.Call.{Call}
 use Rattle.vocabulary.specs.declared.calls.Answer.{Answer}
 use Rattle.vocabulary.specs.declared.calls.Fate.{Fate}
 use Rattle.vocabulary.specs.declared.plans.PidNote.{PidNote}
-use Rattle.vocabulary.specs.declared.plans.PidNote.TheVariants.{InPlace, NoFile}
+use Rattle.vocabulary.specs.declared.plans.PidNote.TheVariants.{InPlace, AtOldbin, NoFile}
 use Rattle.vocabulary.specs.declared.reports.Entry.{Entry}
 use Rattle.vocabulary.specs.declared.reports.Report.{Report}
 use Rattle.vocabulary.specs.declared.reports.Outcome.{Outcome}
@@ -16,7 +16,7 @@ use Rattle.vocabulary.specs.Settings.{Settings}
 use Rattle.definitions.specs.Formed.{IsFormed}
 use Rattle.definitions.specs.Settling.{HasSide}
 use Rattle.definitions.specs.Service.{service}
-use Rattle.definitions.specs.Record.{Record}
+use Rattle.definitions.specs.Record.{Record, oldbin}
 use Rattle.definitions.specs.Claims.{IsStart, HasDescriptors}
 use Rattle.definitions.specs.Run.{quiet, Pattern, Ran, report_of}
 
@@ -54,6 +54,10 @@ pid_files = record { path = pid_file; owner = 100 } ∷ []
 
 abbrev pub two_workers : Table
 two_workers = table_with own_rows pid_files 65535
+
+-- The file stands at the path with the suffix, and a new master that is gone has left its number at the path.
+abbrev pub two_with_stale_file : Table
+two_with_stale_file = table_with own_rows (record { path = pid_file; owner = 99 } ∷ record { path = oldbin pid_file; owner = 100 } ∷ []) 65535
 
 abbrev pub two_without_file : Table
 two_without_file = table_with own_rows [] 65535
@@ -149,3 +153,4 @@ abbrev pub HasStart : Type 0
 HasStart =
     IsStart two_workers (two_ready 3) × HasDescriptors two_workers (two_ready 3)
     × IsFormed two_masters × HasSide two_masters 1 100 holds first (0 ∷ 1 ∷ [])
+    × IsStart two_with_stale_file (record_with (0 ∷ 1 ∷ []) 2 3 (Some pid_file) AtOldbin)

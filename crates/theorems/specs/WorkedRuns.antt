@@ -112,6 +112,11 @@ pub record WorkedRuns : Type 0 where
       Gives (run_of (two_ready 3) (Workers 1) no_fault two_workers) (m1 (Quit first 1) answer.Fine ∷ m1 (Census first) (answer.Counted (0 ∷ [])) ∷ []) (report Done None InPlace (0 ∷ []))
   pub none_left :
       Gives (run_of (record_with (0 ∷ []) 1 3 (Some pid_file) InPlace) (Workers 0) no_fault (run_of (two_ready 3) (Workers 1) no_fault two_workers).last.table) (m1 (Quit first 0) answer.Fine ∷ m1 (Census first) (answer.Counted []) ∷ []) (report Done None InPlace [])
+  -- All workers quit, and then there is one again.
+  pub all_quit :
+      Gives (run_of (two_ready 3) (Workers 0) no_fault two_workers) (m1 (Quit first 1) answer.Fine ∷ m1 (Quit first 0) answer.Fine ∷ m1 (Census first) (answer.Counted []) ∷ []) (report Done None InPlace [])
+  pub one_again :
+      Gives (run_of (record_with [] 0 3 (Some pid_file) InPlace) (Workers 1) no_fault (run_of (two_ready 3) (Workers 0) no_fault two_workers).last.table) (m1 (Fork first 0) answer.Forked ∷ m1 (AwaitReady first 0) answer.IsReady ∷ m1 (Census first) (answer.Counted (0 ∷ [])) ∷ []) (report Done None InPlace (0 ∷ []))
   -- The same settings again.
   pub reloads :
       Gives (run_of (two_ready 3) (Reload (settings_of (port ∷ []) 2)) no_fault two_workers) (m1 (Fork reloaded 0) answer.Forked ∷ m1 (Fork reloaded 1) answer.Forked ∷ m1 (AwaitReady reloaded 0) answer.IsReady ∷ m1 (AwaitReady reloaded 1) answer.IsReady ∷ m1 (Census reloaded) (answer.Counted (0 ∷ 1 ∷ [])) ∷ m1 (Quit first 1) answer.Fine ∷ m1 (Quit first 0) answer.Fine ∷ m1 (Census reloaded) (answer.Counted (0 ∷ 1 ∷ [])) ∷ []) (report Done None InPlace (0 ∷ 1 ∷ []))

@@ -12,6 +12,7 @@ use Rattle.vocabulary.specs.declared.reports.Outcome.TheVariants.{Done, RolledBa
 use Rattle.vocabulary.specs.declared.targets.Target.TheVariants.{Workers, Stop}
 use Rattle.definitions.specs.Table.{Master, Worker, Table}
 use Rattle.definitions.specs.Service.{service}
+use Rattle.definitions.specs.Formed.{IsFormed}
 use Rattle.definitions.specs.Record.{Agrees, FilesAre}
 use Rattle.definitions.specs.Target.{want}
 use Rattle.definitions.specs.Run.{Progress, Ran, At, start_at}
@@ -38,6 +39,16 @@ left_open = table_with (Master 100 1 1 true (record { fd = 3; socket = 1; addres
 -- the address on another socket
 abbrev pub opened_anew : Table
 opened_anew = table_with (Master 100 1 1 true (record { fd = 3; socket = 2; address = port } ∷ []) ∷ []) pid_files 65535
+
+-- a worker is Ready whose parent is no live master
+abbrev pub orphaned : Table
+orphaned = record {
+  rows = own_rows ++ Worker 103 77 first 0 Ready holds ∷ [];
+  files = pid_files;
+  next_process = 104;
+  next_socket = 2;
+  limits = record { processes = 65535; descriptors = 64 };
+}
 
 ---- Runs
 
@@ -74,6 +85,8 @@ pub record WrongTables : Type 0 where
   pub floor : Refuted (Floor (service two_workers) (want (two_ready 3) (Workers 2)) two_workers 2 (progress one_left 0 0 None))
   -- A worker is left Starting.
   pub agrees : Refuted (Agrees one_starts (two_ready 3))
+  -- A worker is Ready that no master has, which the record does not see.
+  pub orphan : Agrees orphaned (two_ready 3) × Refuted (IsFormed orphaned)
   -- The note says that the file is in its place.
   pub files : Refuted (FilesAre InPlace (Some pid_file) 100 [])
   pub stop_note : Refuted (StopNote NoFile (Some pid_file) (ran_from two_workers (m1 Leave answer.Fine) two_workers))
