@@ -13,6 +13,7 @@ pub mod WrittenFiles
 pub mod Census
 pub mod First
 pub mod Lone
+pub mod Free
 pub mod Opening
 pub mod ExitLoop
 pub mod Room

@@ -30,6 +30,23 @@ module _ (a b : Store) (e : EditsRows a b) where
         socket_numbers = rw same h.socket_numbers;
       }
 
+  -- a change of rows grows nothing
+  pub GrowsByOne-edits : GrowsByOne a b
+  GrowsByOne-edits =
+      let addresses = addresses-same in
+      let files = files-same in
+      record {
+        holders = (let len = e.len in omega arith);
+        holder_room = (let capacity = e.capacity in omega arith);
+        addresses = rw addresses (omega arith);
+        address_room = rw addresses (omega arith);
+        process_numbers = (let next = next-same in omega arith);
+        socket_numbers = rw addresses (omega arith);
+        files = rw files (omega arith);
+        file_room = rw files (omega arith);
+        free = e.free;
+      }
+
 -- a call needs room for one
 pub HasRoomFor-call : (room : ℕ) (b c : Store) → 1 ≤ room → HasRoomFor room b → GrowsByOne b c → HasRoomFor (room - 1) c
 HasRoomFor-call room b c least h g = record {

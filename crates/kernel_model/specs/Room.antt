@@ -6,14 +6,16 @@ use Rattle.definitions.specs.Calls.{is_image}
 use Rattle.definitions.specs.Formed.{IsFormed}
 use Rattle.kernel_model.specs.declared.store.Store.{Store}
 use Rattle.kernel_model.specs.Seen.{seen}
+use Rattle.kernel_model.specs.Free.{KnowsFree}
 
--- only rows change, and where one was found last; their number does not grow
+-- only rows change, and where one was found last; their number does not grow, and names that were free stay so
 pub record EditsRows (old new : Store) : Type 0 where
   pub others : new ≡ record old { holders = new.holders; last = new.last }
   pub len : vec_len new.holders ≤ vec_len old.holders
   pub capacity : vec_capacity new.holders ≡ vec_capacity old.holders
+  pub free : KnowsFree old → KnowsFree new
 
--- at most one row, one socket, one file and one number more, and no less memory
+-- at most one row, one socket, one file and one number more, and no less memory; what names are free is known as before
 pub record GrowsByOne (old new : Store) : Type 0 where
   pub holders : vec_len new.holders ≤ vec_len old.holders + 1
   pub holder_room : vec_capacity old.holders ≤ vec_capacity new.holders
@@ -23,6 +25,7 @@ pub record GrowsByOne (old new : Store) : Type 0 where
   pub socket_numbers : length new.addresses.items ≤ length old.addresses.items + 1
   pub files : vec_len new.files ≤ vec_len old.files + 1
   pub file_room : vec_capacity old.files ≤ vec_capacity new.files
+  pub free : KnowsFree old → KnowsFree new
 
 -- Memory for that many rows, sockets and files more.
 pub record HasMemoryFor (calls : ℕ) (s : Store) : Type 0 where
@@ -57,3 +60,4 @@ pub record IsKept (t : Table) : Type 0 where
 pub record IsSound (calls : ℕ) (s : Store) : Type 0 where
   pub room : HasRoomFor calls s
   pub kept : IsKept (seen s)
+  pub free : KnowsFree s

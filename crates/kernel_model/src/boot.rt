@@ -7,6 +7,7 @@ ghost use Rattle.kernel_model.specs.Room.{IsSound};
 ghost use Rattle.definitions.specs.Start.{booted, first_worker, first_rows, first_files};
 ghost use Rattle.kernel_model.specs.Boot.{first_pairs, AreBadLimits};
 
+use crate::free_names::FreeNames;
 use crate::process::{Holder, Row};
 use crate::readers::FileRow;
 use crate::store::Store;
@@ -112,13 +113,23 @@ fn allowed(
     ensures sound { IfOk result (λ s. IsSound 0 s) }
 {
     let holds = first_holds(listeners.len() as u32);
+    let holders = holders(alloc, &holds, workers)?;
+    let free = FreeNames::among(
+        &holders,
+        100,
+        Generation {
+            image: 1,
+            config: 1,
+        },
+    );
     Ok(Store {
-        holders: holders(alloc, &holds, workers)?,
+        holders,
         addresses: Vec::from_slice(alloc, listeners.as_slice())?,
         files: files(alloc, pid_file)?,
         next_process: 101 + u64::from(workers),
         limits,
         last: 0,
+        free,
     })
 }
 

@@ -6,6 +6,7 @@ ghost use Rattle.definitions.specs.Calls.{opened, closed, forked, awaited, quitt
 ghost use Rattle.kernel_model.specs.Seen.{seen, seen_caller, has_stance};
 ghost use Rattle.kernel_model.specs.Room.{GrowsByOne, HasRoomFor, IsKept};
 ghost use Rattle.kernel_model.specs.Rows.{IsOwn};
+ghost use Rattle.kernel_model.specs.Free.{KnowsFree};
 
 use crate::edits::Edit;
 use crate::process::{Caller, Stances, WorkerName};
@@ -44,7 +45,8 @@ fn close(store: &mut Store, caller: &Caller, address: &Address) -> Answer
 
 /// A new Starting worker with the caller's holds, unless the name is borne or the process limit is reached.
 fn fork(store: &mut Store, caller: &Caller, generation: Generation, nr: u32) -> Answer
-    requires { HasRoomFor 1 store.old }
+    requires room { HasRoomFor 1 store.old }
+    requires free { KnowsFree store.old }
     ensures outcome { record { answer = result; table = seen store.new } ≡ forked (seen_caller store.old.addresses.items caller.now) generation nr (seen store.old) }
     ensures grows { GrowsByOne store.old store.new }
 {
@@ -53,7 +55,7 @@ fn fork(store: &mut Store, caller: &Caller, generation: Generation, nr: u32) -> 
         generation,
         nr,
     };
-    if store.has_worker(Stances::Active, name) {
+    if store.is_borne(name) {
         return Answer::Again;
     }
     if !store.has_process_room() {
@@ -175,6 +177,7 @@ fn remove_pid(store: &mut Store, path: &FilePath) -> Answer
 fn own_answer(store: &mut Store, image: u32, caller: &Caller, call: &Call, text: &[u8]) -> Answer
     requires room { HasRoomFor 1 store.old }
     requires kept { IsKept (seen store.old) }
+    requires free { KnowsFree store.old }
     requires own { IsOwn store.old caller.now }
     ensures outcome { record { answer = result; table = seen store.new } ≡ own_step text.now image (seen_caller store.old.addresses.items caller.now) call.now (seen store.old) }
     ensures grows { GrowsByOne store.old store.new }
@@ -297,6 +300,7 @@ pub fn answered(
 ) -> Answer
     requires room { HasRoomFor 1 store.old }
     requires kept { IsKept (seen store.old) }
+    requires free { KnowsFree store.old }
     ensures outcome { record { answer = result; table = seen store.new } ≡ step_with text.now image call.now fate (seen store.old) }
     ensures grows { GrowsByOne store.old store.new }
 {

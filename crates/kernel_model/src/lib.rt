@@ -9,6 +9,7 @@ mod calls;
 mod edits;
 mod exits;
 mod files;
+mod free_names;
 mod holds;
 mod kernel;
 mod master_calls;

@@ -204,9 +204,14 @@ impl Row {
         }
     }
 
-    /// The number of a Ready worker of the master in the generation.
-    pub fn ready_number(&self, caller: u32, generation: Generation) -> Option<u32>
-        ensures { (hs : List Hold) (k : ℕ) → is_worker is_ready caller generation k (process_of self.now hs) ≡ is_number result k }
+    /// The number of a worker of the master in the generation, in one of the stances.
+    pub fn worker_number(
+        &self,
+        stances: Stances,
+        caller: u32,
+        generation: Generation,
+    ) -> Option<u32>
+        ensures { (hs : List Hold) (k : ℕ) → is_worker (has_stance stances) caller generation k (process_of self.now hs) ≡ is_number result k }
     {
         match *self {
             Row::Worker {
@@ -215,7 +220,7 @@ impl Row {
                 nr,
                 stance,
                 ..
-            } if is_ready(stance)
+            } if stances.has(stance)
                 && parent == caller
                 && own.image == generation.image
                 && own.config == generation.config => { Some(nr) }

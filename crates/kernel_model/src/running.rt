@@ -11,7 +11,7 @@ ghost use Rattle.kernel_model.specs.Running.{running, AreRunning, AreReady, Mast
 
 use crate::Kernel;
 use crate::files::owner_at;
-use crate::process::{Caller, Holder, Row};
+use crate::process::{Caller, Holder, Row, Stances};
 use crate::readers::FileRow;
 use crate::store::Store;
 use listener_set::{
@@ -134,7 +134,7 @@ fn are_ready(holders: &[Holder], pid: u32, generation: Generation, ready: &Numbe
 {
     let mut missing = *ready;
     for holder in holders {
-        if let Some(nr) = holder.row.ready_number(pid, generation) {
+        if let Some(nr) = holder.row.worker_number(Stances::Ready, pid, generation) {
             if !has_number(ready, nr) {
                 return false;
             }

@@ -10,6 +10,7 @@ ghost use Rattle.kernel_model.specs.Edits.{edited, ChangesActive};
 ghost use Rattle.kernel_model.specs.Places.{IsActiveAt};
 
 use crate::edits::Edit;
+use crate::free_names::FreeNames;
 use crate::holds;
 use crate::process::{Caller, Holder, Row, Stances, WorkerName};
 use crate::readers::FileRow;
@@ -27,6 +28,8 @@ pub struct Store {
     pub limits: Limits,
     /// Where a worker was found by its name last. Calls tend to go on with the row beside it.
     pub last: usize,
+    /// Names that no Starting or Ready worker bears. A fork of one of them looks at no row.
+    pub free: FreeNames,
 }
 
 fn edit_all(holders: &mut Vec<Holder>, addresses: &[Address], edit: &Edit)
@@ -112,7 +115,7 @@ fn ready_numbers(holders: &[Holder], caller: u32, generation: Generation) -> Num
 {
     let mut numbers = Numbers::none();
     for holder in holders {
-        if let Some(nr) = holder.row.ready_number(caller, generation) {
+        if let Some(nr) = holder.row.worker_number(Stances::Ready, caller, generation) {
             if nr < WORKER_LIMIT {
                 numbers.add(nr);
             }
@@ -126,6 +129,7 @@ impl Store {
     ghost use Rattle.kernel_model.specs.Seen.{has_stance, seen_caller, caller_row, seen};
     ghost use Rattle.kernel_model.specs.Room.{EditsRows, GrowsByOne, HasMemoryFor, LacksNumbers, IsKept};
     ghost use Rattle.kernel_model.specs.Rows.{IsOwn, master_number};
+    ghost use Rattle.kernel_model.specs.Free.{KnowsFree};
     ghost use Rattle.kernel_model.specs.Foreign.{with_foreign};
 
     /// The live master of an image.
@@ -176,6 +180,14 @@ impl Store {
         self.holders
             .iter()
             .any(|holder| holder.row.is_worker(stances, name))
+    }
+
+    /// Whether a Starting or Ready worker bears the name.
+    pub fn is_borne(&self, name: WorkerName) -> bool
+        requires { KnowsFree self.now }
+        ensures { result ≡ list_any (is_worker is_active name.parent name.generation name.nr) (seen self.now).rows }
+    {
+        !self.free.have(name) && self.has_worker(Stances::Active, name)
     }
 
     /// Whether the process limit allows one more.
@@ -249,6 +261,7 @@ impl Store {
         };
         self.holders.push(Holder { row, holds }).unwrap();
         self.next_process += 1;
+        self.free = self.free.without(&self.holders, name);
     }
 
     /// Adds a live master of the image with these holds.
@@ -321,6 +334,7 @@ impl Store {
     /// Takes memory for that many rows, sockets and files more.
     pub fn grow(&mut self, calls: u32) -> Result<(), AllocError>
         ensures same { seen self.new ≡ seen self.old }
+        ensures free { self.new.free ≡ self.old.free }
         ensures more { OnOk result (HasMemoryFor calls self.new) }
         ensures kept { (n : ℕ) → HasMemoryFor n self.old → HasMemoryFor n self.new }
     {
@@ -332,7 +346,8 @@ impl Store {
 
     /// The same rows in memory of their own.
     pub fn copy(&self) -> Result<Self, AllocError>
-        ensures { IfOk result (λ s. seen s ≡ seen self.now) }
+        ensures same { IfOk result (λ s. seen s ≡ seen self.now) }
+        ensures free { IfOk result (λ s. s.free ≡ self.now.free) }
     {
         Ok(Store {
             holders: self.holders.clone()?,
@@ -341,6 +356,7 @@ impl Store {
             next_process: self.next_process,
             limits: self.limits,
             last: self.last,
+            free: self.free,
         })
     }
 }

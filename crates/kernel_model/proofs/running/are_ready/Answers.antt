@@ -35,9 +35,9 @@ loop-holder-preserved c =
     let ready = c.args.ready.now in
     let next : (addresses : List (List ℕ)) (k : ℕ) → list_any (is_worker is_ready c.args.pid c.args.generation k) (seen_rows addresses c.args.holders.now) ≡ ((is_worker is_ready c.args.pid c.args.generation k (seen_holder addresses h) || list_any (is_worker is_ready c.args.pid c.args.generation k) (seen_rows addresses (drop (loop.holder-index + 1) c.args.holders.now))) || (is_in ready k && not (is_in loop.missing k))) = λ addresses k.
     loop.invariant.found addresses k ∙ ap (λ b. b || (is_in ready k && not (is_in loop.missing k))) (any_next (is_worker is_ready c.args.pid c.args.generation k) addresses c.args.holders.now loop.holder-index h c.loop-holder-test.true c.holder-item.is) in
-    elim c.match-ready_number.branch [
+    elim c.match-worker_number.branch [
       | in-Some+else-not-has_number w ↦
-          let left : (k : ℕ) → is_in c.match-ready_number.missing k ≡ (is_in loop.missing k && not (nat_eq w.in-Some.nr k)) = λ k.
+          let left : (k : ℕ) → is_in c.match-worker_number.missing k ≡ (is_in loop.missing k && not (nat_eq w.in-Some.nr k)) = λ k.
           ap (λ ns. is_in ns k) (w.missing-is ∙ w.remove.ensures) ∙ is_in-without loop.missing w.in-Some.nr k in
           record {
             within = λ k e. loop.invariant.within k (and_parts (is_in loop.missing k) (not (nat_eq w.in-Some.nr k)) (sym (left k) ∙ e)).0;

@@ -20,10 +20,10 @@ loop-holder-preserved c =
     let before = c.loop-holder.invariant in
     let caller = c.args.caller in
     let g = c.args.generation in
-    elim c.match-ready_number.branch [
+    elim c.match-worker_number.branch [
       | in-Some+then-nr-lt-WORKER_LIMIT w ↦
           let nr = w.in-Some.nr in
-          let e : c.match-ready_number.numbers ≡ with_number numbers nr = w.numbers-is ∙ w.add.ensures in
+          let e : c.match-worker_number.numbers ≡ with_number numbers nr = w.numbers-is ∙ w.add.ensures in
           record {
             rising = subst IsRising (sym e) (RisesFrom-with_number numbers nr 0 (omega arith) before.rising);
             same = λ addresses k.
@@ -32,7 +32,7 @@ loop-holder-preserved c =
           }
       | in-Some+else-nr-lt-WORKER_LIMIT w ↦
           let nr = w.in-Some.nr in
-          let e : c.match-ready_number.numbers ≡ numbers = w.numbers-is in
+          let e : c.match-worker_number.numbers ≡ numbers = w.numbers-is in
           record {
             rising = subst IsRising (sym e) before.rising;
             same = λ addresses k.
@@ -40,11 +40,11 @@ loop-holder-preserved c =
                 ap (λ ns. is_in ns k) e ∙ none-more addresses caller g k holders i item c.loop-holder-test.true numbers (before.same addresses k) (Some nr) here w.if-nr-lt-WORKER_LIMIT.false;
           }
       | in_default w ↦
-          let e : c.match-ready_number.numbers ≡ numbers = w.numbers-is in
+          let e : c.match-worker_number.numbers ≡ numbers = w.numbers-is in
           record {
             rising = subst IsRising (sym e) before.rising;
             same = λ addresses k.
-                let none = c.ready_number.ensures (seen_holds addresses item.holds) k ∙ ap (λ o. is_number o k) w.in_default.is in
+                let none = c.worker_number.ensures (seen_holds addresses item.holds) k ∙ ap (λ o. is_number o k) w.in_default.is in
                 let here = subst (λ (h : Holder). is_worker is_ready caller g k (seen_holder addresses h) ≡ is_number None k) c.holder-item.is none in
                 ap (λ ns. is_in ns k) e ∙ none-more addresses caller g k holders i item c.loop-holder-test.true numbers (before.same addresses k) None here tt;
           }

@@ -15,9 +15,13 @@ invariant_of-self c =
     record {
       room = HasRoomFor-call c.self.inside.room middle c.answered.new.store (omega (arith, c.requires, same)) (HasRoomFor-exits old middle c.exit_all.ensures.room c.self.inside.room c.self.invariant.room) c.answered.ensures.grows;
       kept = kept-after old middle c.args.moment.now.exits.now c.exit_all.ensures.table c.self.invariant.kept c.args.text.now c.by.inside.0 c.args.call.now c.args.moment.now.fate _ c.answered.ensures.outcome;
+      free = c.answered.ensures.grows.free (c.exit_all.ensures.room.free c.self.invariant.free);
     }
 
 pub returns-clause-formed : goal.returns-clause-formed
 returns-clause-formed c =
     let kept = kept-after c.self.inside.store c.exit_all.new.store c.args.moment.now.exits.now c.exit_all.ensures.table c.self.invariant.kept c.args.text.now c.by.inside.0 c.args.call.now c.args.moment.now.fate _ c.answered.ensures.outcome in
     kept.formed
+
+pub answered-requires-clause-free : goal.answered-requires-clause-free
+answered-requires-clause-free c = c.exit_all.ensures.room.free c.self.invariant.free

@@ -3,6 +3,7 @@ use Rattle.std.proofs.lemmas.Bool.{false≢true}
 use Rattle.definitions.specs.Table.{Table}
 use Rattle.kernel_model.specs.Room.{HasMemoryFor, IsKept}
 use Rattle.kernel_model.proofs.Foreigners.{IsKept-foreign, sound-foreign}
+use Rattle.kernel_model.proofs.Free.{KnowsFree-same}
 use Rattle.kernel_model.specs.Seen.{seen}
 use Rattle.kernel_model.proofs.kernel.Kernel.foreign.Goals as goal
 
@@ -14,6 +15,7 @@ invariant_of-self c =
     record {
       room = record { memory = c.grow.ensures.kept c.self.inside.room before.room.memory; process_numbers = omega (arith, before.room.process_numbers); socket_numbers = omega (arith, before.room.socket_numbers) };
       kept = subst IsKept (sym c.grow.ensures.same) before.kept;
+      free = KnowsFree-same c.self.inside.store c.grow.new.self c.grow.ensures.same c.grow.ensures.free before.free;
     }
 
 pub invariant_of-self-2 : goal.invariant_of-self-2
@@ -22,7 +24,7 @@ invariant_of-self-2 c =
     let memory : HasMemoryFor c.in-Some.needed c.grow.new.self = search rules in
     sound-foreign c.self.inside.store c.grow.new.self c.add_foreign.new.self c.self.inside.room c.in-Some.needed c.args.address.now needed c.grow.ensures.same memory
     (λ lacks. false≢true (sym c.if-lacks_numbers.false ∙ c.lacks_numbers.ensures.1 lacks))
-    c.self.invariant.kept c.add_foreign.ensures.table c.add_foreign.ensures.grows
+    c.self.invariant.kept c.add_foreign.ensures.table c.add_foreign.ensures.grows c.grow.ensures.free c.self.invariant.free
 
 pub returns-clause-formed : goal.returns-clause-formed
 returns-clause-formed c =

@@ -1,6 +1,7 @@
-use Rattle.std.proofs.Common.{sym, ap, subst, arith}
+use Rattle.std.proofs.Common.{sym, ap, subst, arith, rules}
 use Rattle.definitions.specs.Table.{Table}
 use Rattle.kernel_model.specs.Room.{IsKept}
+use Rattle.kernel_model.proofs.Free.{KnowsFree-same}
 use Rattle.kernel_model.proofs.kernel.Kernel.reserve.Goals as goal
 
 pub invariant_of-self : goal.invariant_of-self
@@ -11,4 +12,14 @@ invariant_of-self c =
     record {
       room = record { memory = c.grow.ensures.kept c.self.inside.room before.room.memory; process_numbers = omega (arith, before.room.process_numbers); socket_numbers = omega (arith, before.room.socket_numbers) };
       kept = subst IsKept (sym c.grow.ensures.same) before.kept;
+      free = KnowsFree-same c.self.inside.store c.grow.new.self c.grow.ensures.same c.grow.ensures.free before.free;
+    }
+
+pub invariant_of-self-2 : goal.invariant_of-self-2
+invariant_of-self-2 c =
+    let before = c.self.invariant in
+    record {
+      room = search rules;
+      kept = subst IsKept (sym c.grow.ensures.same) before.kept;
+      free = KnowsFree-same c.self.inside.store c.grow.new.self c.grow.ensures.same c.grow.ensures.free before.free;
     }

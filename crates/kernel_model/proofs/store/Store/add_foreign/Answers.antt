@@ -1,8 +1,9 @@
-use Rattle.std.proofs.Common.{◌≡◌, ℕ, ◌+◌, List, [], ◌∷◌, ◌++◌, length, ap, ◌∙◌, arith}
+use Rattle.std.proofs.Common.{◌≡◌, ℕ, ◌+◌, List, [], ◌∷◌, ◌++◌, length, refl, ap, ◌∙◌, arith, rules}
 use Rattle.listener_set.specs.Descriptors.{descriptors_of, lowest_free, put_pair}
 use Rattle.kernel_model.specs.declared.process.Row.TheVariants as row
 use Rattle.kernel_model.specs.declared.process.Holder.{Holder}
 use Rattle.kernel_model.proofs.Foreigners.{foreign-table}
+use Rattle.kernel_model.proofs.Free.{AreFree-pushed}
 use Rattle.kernel_model.proofs.store.Store.add_foreign.Goals as goal
 
 pub returns-clause-table : goal.returns-clause-table
@@ -19,3 +20,19 @@ returns-clause-table c =
     let all : c.push-2.new.self.items ≡ s.holders.items ++ (record { row = row.Foreign s.next_process; holds = (fd, socket) ∷ [] }) ∷ [] =
     pushed ∙ ap (λ (hs : List (ℕ × ℕ)). let h : Holder = record { row = row.Foreign s.next_process; holds = hs } in s.holders.items ++ h ∷ []) holds in
     foreign-table s c.args.address.now c.push.new.self.items c.push-2.new.self.items fd socket more all (low ∙ ap (λ (ps : List (ℕ × ℕ)). lowest_free (descriptors_of ps)) c.new-holds.ensures) (ap (λ n. n + 1) count) c.requires.kept
+
+pub returns-clause-grows : goal.returns-clause-grows
+returns-clause-grows c =
+    let s = c.args.self.now in
+    let pushed = rw c.unwrap-3.ensures at c.push-2.ensures.items in
+    record {
+      holders = search rules;
+      holder_room = search rules;
+      addresses = search rules;
+      address_room = search rules;
+      process_numbers = search rules;
+      socket_numbers = search rules;
+      files = search rules;
+      file_room = search rules;
+      free = λ known. AreFree-pushed s.free s.addresses.items c.push.new.self.items s.holders.items _ _ pushed (λ k. refl) known;
+    }

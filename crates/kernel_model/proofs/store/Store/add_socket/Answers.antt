@@ -1,6 +1,7 @@
-use Rattle.std.proofs.Common.{◌≡◌, ◌+◌, length, ap, ◌∙◌, arith}
+use Rattle.std.proofs.Common.{◌≡◌, ◌+◌, length, ap, ◌∙◌, arith, rules}
 use Rattle.listener_set.specs.Descriptors.{put_pair}
 use Rattle.kernel_model.proofs.Opening.{lowest_free-seen, opened-table}
+use Rattle.kernel_model.proofs.Free.{AreFree-addresses}
 use Rattle.kernel_model.proofs.store.Store.add_socket.Goals as goal
 
 pub returns-clause-descriptor : goal.returns-clause-descriptor
@@ -18,3 +19,18 @@ returns-clause-table c =
     let more = rw c.unwrap.ensures at c.push.ensures.items in
     c.edit.ensures.table
     ∙ opened-table s c.args.address.now c.args.caller.now fd c.push.new.self.items c.put.new.self more (put ∙ ap (λ n. put_pair c.args.caller.now.holds fd (n + 1)) count) c.requires.kept c.requires.own
+
+pub returns-clause-grows : goal.returns-clause-grows
+returns-clause-grows c =
+    let s = c.args.self.now in
+    record {
+      holders = search rules;
+      holder_room = search rules;
+      addresses = search rules;
+      address_room = search rules;
+      process_numbers = search rules;
+      socket_numbers = search rules;
+      files = search rules;
+      file_room = search rules;
+      free = λ known. c.edit.ensures.room.free (AreFree-addresses s.free s.addresses.items c.push.new.self.items s.holders.items known);
+    }

@@ -1,0 +1,7 @@
+use Rattle.kernel_model.proofs.ExitLoop.{EditsRows-then}
+use Rattle.kernel_model.proofs.Room.{GrowsByOne-edits}
+use Rattle.kernel_model.proofs.calls.await_ready.Goals as goal
+
+pub returns-else-edit_active-clause-grows : goal.returns-else-edit_active-clause-grows
+returns-else-edit_active-clause-grows c =
+    GrowsByOne-edits c.args.store.now c.edit.new.self (EditsRows-then c.args.store.now c.edit_active.new.self c.edit.new.self c.edit_active.ensures.room c.edit.ensures.room)
