@@ -14,13 +14,14 @@ use Rattle.kernel_model.specs.declared.edits.Edit.TheVariants.{ExitWorker, ExitM
 use Rattle.kernel_model.specs.declared.free_names.FreeNames.{FreeNames}
 use Rattle.kernel_model.specs.declared.store.Store.{Store}
 use Rattle.kernel_model.specs.declared.process.Holder.{Holder}
+use Rattle.kernel_model.specs.declared.process.WorkerName.{WorkerName}
 use Rattle.kernel_model.specs.declared.process.Row.{Row}
 use Rattle.kernel_model.specs.declared.process.Row.TheVariants as row
 use Rattle.kernel_model.specs.Holds.{seen_holds}
 use Rattle.kernel_model.specs.Edits.{edited, is_of_either}
 use Rattle.kernel_model.specs.Seen.{seen, is_number, process_of, seen_holder, seen_rows}
 use Rattle.kernel_model.proofs.Lists.{map-push}
-use Rattle.kernel_model.specs.Free.{AreFree, KnowsFree}
+use Rattle.kernel_model.specs.Free.{AreFree, IsAmong, KnowsFree}
 use Rattle.kernel_model.proofs.Census.{any-more}
 use Rattle.kernel_model.proofs.Keeping.{Becomes, Becomes-filter_map, Becomes-first_changed, says-change, says-dropped}
 
@@ -117,8 +118,11 @@ module _ (free : FreeNames) (rows : List Process) (known : AreFree free rows) wh
       let test = is_worker is_active free.parent free.generation k in
       list_any-append test rows (p ∷ []) ∙ ap (λ b. b || (test p || false)) (known k le) ∙ ap (λ b. b || false) (other k le)
 
-pub AreFree-at : (free : FreeNames) (q : ℕ) (g : Generation) (k : ℕ) (rows : List Process) → free.parent ≡ q → free.generation ≡ g → free.first ≤ k → AreFree free rows → list_any (is_worker is_active q g k) rows ≡ false
-AreFree-at free q g k rows parent generation le known = ap (λ p. list_any (is_worker is_active p g k) rows) (sym parent) ∙ ap (λ h. list_any (is_worker is_active free.parent h k) rows) (sym generation) ∙ known k le
+pub unborne-among : (free : FreeNames) (name : WorkerName) (rows : List Process) → AreFree free rows → IsAmong name free → list_any (is_worker is_active name.parent name.generation name.nr) rows ≡ false
+unborne-among free name rows known is =
+    ap (λ q. list_any (is_worker is_active q name.generation name.nr) rows) (sym is.0)
+    ∙ ap (λ g. list_any (is_worker is_active free.parent g name.nr) rows) (sym is.1)
+    ∙ known name.nr is.2
 
 -- ---- one row more of a table that is looked through
 module _ (q : ℕ) (g : Generation) (addresses : List Address) (holders : List Holder) (i : ℕ) (d : Holder) (lt : i < length holders) (before : ℕ) (known : (k : ℕ) → before ≤ k → list_any (is_worker is_active q g k) (seen_rows addresses (take i holders)) ≡ false) where

@@ -215,6 +215,7 @@ impl Store {
     /// Changes the rows by an edit.
     pub fn edit(&mut self, edit: &Edit)
         ensures table { seen self.new ≡ each_row (edited self.old.addresses.items edit.now) (seen self.old) }
+        ensures last { self.new.last ≡ self.old.last }
         ensures room { EditsRows self.old self.new }
     {
         edit_all(&mut self.holders, &self.addresses, edit);
@@ -226,7 +227,8 @@ impl Store {
         requires edit { ChangesActive name edit.now }
         ensures found { result ≡ list_any (is_worker is_active name.parent name.generation name.nr) (seen self.old).rows }
         ensures table { seen self.new ≡ each_row (edited self.old.addresses.items edit.now) (seen self.old) }
-        ensures same { IsFalse result → seen self.new ≡ seen self.old }
+        ensures last { IsTrue result → IsActiveAt self.old.holders.items name self.new.last }
+        ensures same { IsFalse result → self.new ≡ self.old }
         ensures room { EditsRows self.old self.new }
     {
         let Some(place) = active_place(&self.holders, name, self.last) else {
@@ -240,6 +242,7 @@ impl Store {
     /// The Draining worker of the name with the lowest process number exits.
     pub fn exit_draining(&mut self, generation: Generation, nr: u32)
         ensures table { seen self.new ≡ with_rows (seen self.old) (draining_exits generation nr (seen self.old).rows) }
+        ensures last { self.new.last ≡ self.old.last }
         ensures room { EditsRows self.old self.new }
     {
         exit_first_draining(&mut self.holders, generation, nr);
@@ -250,6 +253,7 @@ impl Store {
         requires room { vec_len self.old.holders < vec_capacity self.old.holders }
         requires number { self.old.next_process < 2 ^ 32 }
         ensures table { seen self.new ≡ with_new_row (seen self.old) (λ n. Worker n name.parent name.generation name.nr Stance.Starting (seen_holds self.old.addresses.items holds)) }
+        ensures last { self.new.last ≡ self.old.last }
         ensures grows { GrowsByOne self.old self.new }
     {
         let row = Row::Worker {
@@ -269,6 +273,7 @@ impl Store {
         requires room { vec_len self.old.holders < vec_capacity self.old.holders }
         requires number { self.old.next_process < 2 ^ 32 }
         ensures table { seen self.new ≡ with_new_row (seen self.old) (λ n. Master n parent image true (seen_holds self.old.addresses.items holds)) }
+        ensures last { self.new.last ≡ self.old.last }
         ensures grows { GrowsByOne self.old self.new }
     {
         let row = Row::Master {
@@ -290,6 +295,7 @@ impl Store {
         requires own { IsOwn self.old caller.now }
         ensures descriptor { result ≡ lowest_free (seen_holds self.old.addresses.items caller.now.holds) }
         ensures table { seen self.new ≡ with_new_socket (seen self.old) caller.now.number (record { fd = result; socket = (seen self.old).next_socket; address = address.now }) }
+        ensures last { self.new.last ≡ self.old.last }
         ensures grows { GrowsByOne self.old self.new }
     {
         let socket = self.addresses.len() as u32 + 1;
@@ -308,6 +314,7 @@ impl Store {
         requires socket_number { length self.old.addresses.items + 1 < 2 ^ 32 }
         requires kept { IsKept (seen self.old) }
         ensures table { seen self.new ≡ with_foreign address.now (seen self.old) }
+        ensures last { self.new.last ≡ self.old.last }
         ensures grows { GrowsByOne self.old self.new }
     {
         let socket = self.addresses.len() as u32 + 1;

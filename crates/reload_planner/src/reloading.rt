@@ -180,7 +180,7 @@ pub fn plan_reload(
         added: added.as_slice(),
         dropped: dropped.as_slice(),
     };
-    let mut draft = Draft::new(alloc);
+    let mut draft = Draft::with_room(alloc, ready.len() + 4 * starts.len())?;
     let first = add_reload(&mut draft, scene, &renewal, &ready)?;
     Ok(draft.finish(first, note, Vec::new(alloc))?)
 }

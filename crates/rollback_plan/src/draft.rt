@@ -64,6 +64,15 @@ impl Draft {
         }
     }
 
+    /// A draft without steps, with memory for so many.
+    pub fn with_room(alloc: Global, steps: usize) -> Result<Draft, AllocError>
+        ensures { IfOk result (λ draft. trees_of draft ≡ []) }
+    {
+        Ok(Draft {
+            steps: Vec::with_capacity(alloc, steps)?,
+        })
+    }
+
     /// How many steps there are.
     pub fn len(&self) -> usize
         ensures count { result ≡ length (trees_of self.now) }

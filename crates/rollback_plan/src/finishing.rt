@@ -68,7 +68,7 @@ fn numbered(
     requires back { IsTrue (list_all (λ s. all_below (length steps.now) s.edges.items) steps.now) }
     ensures { IfOk result (λ plan. AllNumbered numbers.now steps.now order.now plan.items) }
 {
-    let mut plan = Vec::new(alloc);
+    let mut plan = Vec::with_capacity(alloc, order.len())?;
     for place in order {
         let step = &steps[*place as usize];
         plan.push(Step {
@@ -86,7 +86,7 @@ fn edges_numbered(alloc: Global, edges: &[Edge], numbers: &[u32]) -> Result<Vec<
     requires { IsTrue (all_below (length numbers.now) edges.now) }
     ensures { IfOk result (λ numbered. numbered.items ≡ map (edge_numbered numbers.now) edges.now) }
 {
-    let mut numbered = Vec::new(alloc);
+    let mut numbered = Vec::with_capacity(alloc, edges.len())?;
     for edge in edges {
         let next = match edge.next {
             Next::To(place) => Next::To(Place(numbers[place.0 as usize])),

@@ -13,7 +13,7 @@ pub(crate) fn heights_of(alloc: Global, steps: &[Step]) -> Result<Vec<u32>, Allo
     requires back { IsTrue (all_lead_back 0 steps.now) }
     ensures { IfOk result (λ heights. heights.items ≡ map height (trees_after [] steps.now)) }
 {
-    let mut heights = Vec::new(alloc);
+    let mut heights = Vec::with_capacity(alloc, steps.len())?;
     for step in steps {
         let tallest = tallest_behind(&step.edges, &heights);
         heights.push(tallest + 1)?;

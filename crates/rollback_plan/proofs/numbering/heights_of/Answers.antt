@@ -12,8 +12,8 @@ use Rattle.rollback_plan.proofs.numbering.heights_of.Goals as goal
 pub loop-step-init : goal.loop-step-init
 loop-step-init c =
     record {
-      heights = c.new-heights.ensures.items ∙ ap (map height) (sym trees_after-nil);
-      within = λ k. omega (arith, ap (λ hs. get_or hs k 0) c.new-heights.ensures.items);
+      heights = c.in_ok-heights.ensures.items ∙ ap (map height) (sym trees_after-nil);
+      within = λ k. omega (arith, ap (λ hs. get_or hs k 0) c.in_ok-heights.ensures.items);
     }
 
 pub tallest_behind-tallest-requires : goal.tallest_behind-tallest-requires

@@ -22,7 +22,7 @@ loop-holder-preserved c = λ addresses.
       | in_default w ↦ free-after q g addresses holders i item c.loop-holder-test.true c.loop-holder.first (c.loop-holder.invariant addresses) None c.match-worker_number.first (λ k. one k ∙ ap (λ n. is_number n k) w.in_default.is) (omega (arith, w.first-is)) tt
     ]
 
-pub returns : goal.returns
-returns c = λ addresses k le.
+pub returns-clause-free : goal.returns-clause-free
+returns-clause-free c = λ addresses k le.
     let all = take_all c.loop-holder.holder-index c.args.holders.now c.loop-holder-test.false in
     ap (λ hs. list_any (is_worker is_active c.args.parent c.args.generation k) (seen_rows addresses hs)) (sym all) ∙ c.loop-holder.invariant addresses k le

@@ -21,5 +21,5 @@ returns-clause-grows c =
       socket_numbers = search rules;
       files = search rules;
       file_room = search rules;
-      free = λ known. subst (λ (hs : List Holder). AreFree c.without-self.result (seen_rows addresses hs)) c.deref.ensures.value (c.without-self.ensures addresses (seen s).rows s.next_process (seen_holds addresses c.args.holds) known (ap (λ (hs : List Holder). seen_rows addresses hs) c.deref.ensures.value ∙ more));
+      free = λ known. subst (λ (hs : List Holder). AreFree c.without-self.result (seen_rows addresses hs)) c.deref.ensures.value (c.without-self.ensures.free addresses (seen s).rows s.next_process (seen_holds addresses c.args.holds) known (ap (λ (hs : List Holder). seen_rows addresses hs) c.deref.ensures.value ∙ more));
     }

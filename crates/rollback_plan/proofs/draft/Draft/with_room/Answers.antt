@@ -1,0 +1,7 @@
+use Rattle.std.proofs.Common.{[], ap}
+use Rattle.rollback_plan.specs.Steps.{trees_after}
+use Rattle.rollback_plan.proofs.draft.Draft.with_room.Goals as goal
+
+pub returns : goal.returns
+unfolding trees_after
+returns c = ap (trees_after []) c.in_ok-with_capacity.ensures.items
