@@ -1,5 +1,5 @@
 //! A plan that is built from its ends up.
-ghost use Rattle.std.specs.Prelude.{◌≡◌, ◌++◌, ◌∷◌, [], ◌+◌, ◌<◌, ◌≤◌, ◌↔◌, length, IsTrue, IfOk, IsErrOf, OnOk, OnErr, vec_len, take};
+ghost use Rattle.std.specs.Prelude.{◌≡◌, ◌++◌, ◌∷◌, [], ◌+◌, ◌<◌, ◌≤◌, ◌↔◌, length, IsTrue, IfOk, IsErrOf, OnOk, OnErr, vec_len, vec_capacity, take};
 ghost use Rattle.definitions.specs.Tree.{Does};
 ghost use Rattle.rollback_plan.specs.Steps.{step_tree, leads_back, all_lead_back, all_below};
 
@@ -66,7 +66,8 @@ impl Draft {
 
     /// A draft without steps, with memory for so many.
     pub fn with_room(alloc: Global, steps: usize) -> Result<Draft, AllocError>
-        ensures { IfOk result (λ draft. trees_of draft ≡ []) }
+        ensures none { IfOk result (λ draft. trees_of draft ≡ []) }
+        ensures room { IfOk result (λ draft. steps ≤ vec_capacity draft.steps) }
     {
         Ok(Draft {
             steps: Vec::with_capacity(alloc, steps)?,

@@ -34,4 +34,4 @@ returns-clause-few c =
     let added = ap length (c.as_slice.ensures.items ∙ c.only_in-added.ensures) in
     let dropped = ap length (c.as_slice-2.ensures.items ∙ c.only_in-dropped.ensures) in
     rw (← c.settings.view_is)
-    (omega (arith, c.in_ok-finish.ensures.few, c.in_ok-first.ensures.count, ap length c.in_ok-draft.ensures, fresh, leaving, added, dropped, filter_few (λ a. not (has old a)) wanted, filter_few (λ a. not (has wanted a)) old))
+    (omega (arith, c.in_ok-finish.ensures.few, c.in_ok-first.ensures.count, ap length c.in_ok-draft.ensures.none, fresh, leaving, added, dropped, filter_few (λ a. not (has old a)) wanted, filter_few (λ a. not (has wanted a)) old))

@@ -2,6 +2,6 @@ use Rattle.std.proofs.Common.{[], ap}
 use Rattle.rollback_plan.specs.Steps.{trees_after}
 use Rattle.rollback_plan.proofs.draft.Draft.with_room.Goals as goal
 
-pub returns : goal.returns
+pub returns-clause-none : goal.returns-clause-none
 unfolding trees_after
-returns c = ap (trees_after []) c.in_ok-with_capacity.ensures.items
+returns-clause-none c = ap (trees_after []) c.in_ok-with_capacity.ensures.items
