@@ -55,7 +55,7 @@ impl Listeners {
         ensures most { length self.now ≤ MOST_DESCRIPTORS }
         ensures listed { AreListed self.now }
     {
-        self.as_slice().len()
+        self.len
     }
 
     /// Whether there is none.
@@ -178,7 +178,7 @@ impl Listeners {
                 return place;
             }
         }
-        self.len
+        all.len()
     }
 
     /// Opens an address that is not listened on yet, at the lowest free descriptor.
