@@ -11,10 +11,10 @@ use Rattle.listener_set.proofs.Rising.{is_in-below}
 use Rattle.definitions.specs.Table.{Address, Hold, Process, Caller, Table, live_master}
 use Rattle.vocabulary.specs.declared.table.Listener.{Listener}
 use Rattle.definitions.specs.Record.{Agrees, listener_of}
-use Rattle.kernel_model.specs.declared.process.Holder.{Holder}
-use Rattle.kernel_model.specs.Holds.{seen_hold, seen_holds}
+use Rattle.process_table.specs.declared.process.Holder.{Holder}
+use Rattle.process_table.specs.Holds.{seen_hold, seen_holds}
 use Rattle.kernel_model.specs.declared.running.Running.{Running}
-use Rattle.kernel_model.specs.Seen.{seen_holder, seen_rows}
+use Rattle.process_table.specs.Seen.{seen_holder, seen_rows}
 use Rattle.kernel_model.specs.Running.{running, MasterAgrees, WorkersAgree}
 
 ---- Numbers

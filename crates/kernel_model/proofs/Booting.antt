@@ -14,14 +14,14 @@ use Rattle.definitions.specs.Table.{Address, FilePath, Generation, same_generati
 use Rattle.definitions.specs.Record.{first_generation}
 use Rattle.definitions.specs.Calls.{is_image}
 use Rattle.definitions.specs.Formed.{IsQuiet, HasParent, IsAscending}
-use Rattle.kernel_model.specs.Holds.{address_of, seen_hold, seen_holds}
-use Rattle.kernel_model.specs.declared.store.Store.{Store}
-use Rattle.kernel_model.specs.Seen.{seen_rows, seen_file, seen}
-use Rattle.kernel_model.specs.Room.{HasSockets, IsKept, IsSound}
-use Rattle.kernel_model.specs.Free.{KnowsFree}
+use Rattle.process_table.specs.Holds.{address_of, seen_hold, seen_holds}
+use Rattle.process_table.specs.declared.store.Store.{Store}
+use Rattle.process_table.specs.Seen.{seen_rows, seen_file, seen}
+use Rattle.process_table.specs.Room.{HasSockets, IsKept, IsSound}
+use Rattle.process_table.specs.Free.{KnowsFree}
 use Rattle.definitions.specs.Start.{holds_from, first_worker, first_rows, first_files, booted}
 use Rattle.kernel_model.specs.Boot.{first_pairs}
-use Rattle.kernel_model.proofs.Lists.{list_any-map, map-push}
+use Rattle.process_table.proofs.Lists.{list_any-map, map-push}
 use Rattle.kernel_model.proofs.CallSteps.{all-append, ascending-append, count-append, and-both}
 
 -- ---- the first descriptors

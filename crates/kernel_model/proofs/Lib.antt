@@ -1,7 +1,3 @@
-pub mod Lists
-pub mod Closing
-pub mod Masters
-pub mod Keeping
 pub mod Steps
 pub mod CallSteps
 pub mod MasterSteps
@@ -10,18 +6,9 @@ pub mod Ended
 pub mod Adopted
 pub mod Foreigners
 pub mod WrittenFiles
-pub mod Census
-pub mod First
-pub mod Lone
-pub mod Free
-pub mod Opening
 pub mod ExitLoop
 pub mod Room
-pub mod Patterns
-pub mod PatternEdits
 pub mod Booting
 pub mod Agreement
 pub mod Reading
-pub mod OrderedKeys
-pub mod Services
 pub mod Serving

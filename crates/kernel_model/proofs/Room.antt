@@ -5,9 +5,9 @@ use Rattle.vocabulary.specs.declared.calls.Call.{Call}
 use Rattle.vocabulary.specs.declared.calls.Fate.{Fate}
 use Rattle.definitions.specs.Exits.{after_exits}
 use Rattle.definitions.specs.Calls.{Stepped, step_with}
-use Rattle.kernel_model.specs.declared.store.Store.{Store}
-use Rattle.kernel_model.specs.Seen.{seen}
-use Rattle.kernel_model.specs.Room.{EditsRows, GrowsByOne, HasRoomFor, IsKept}
+use Rattle.process_table.specs.declared.store.Store.{Store}
+use Rattle.process_table.specs.Seen.{seen}
+use Rattle.process_table.specs.Room.{EditsRows, GrowsByOne, HasRoomFor, IsKept}
 use Rattle.kernel_model.proofs.CallsKept.{IsKept-exits, IsKept-step}
 
 module _ (a b : Store) (e : EditsRows a b) where

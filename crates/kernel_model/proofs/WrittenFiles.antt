@@ -1,20 +1,16 @@
 -- Files, one of which is written or goes.
-use Rattle.std.proofs.Common.{◌≡◌, ℕ, zero, suc, ◌+◌, ◌<◌, Bool, true, false, cond, not, is_some, List, [], ◌∷◌, ◌++◌, map, filter, length, get_or, set, take, drop, Some, None, refl, sym, ap, ◌∙◌, arith}
+use Rattle.std.proofs.Common.{◌≡◌, ℕ, zero, suc, ◌<◌, Bool, true, false, cond, not, is_some, List, [], ◌∷◌, ◌++◌, map, filter, length, get_or, set, take, drop, Some, None, refl, ap, ◌∙◌, arith}
 use Rattle.std.specs.Prelude.{bytes_eq, position}
-use Rattle.std.specs.Ordering.{is_le}
-use Rattle.std.specs.List.{insert, position_or_len}
+use Rattle.std.specs.List.{position_or_len}
 use Rattle.std.proofs.lemmas.List.{drop_all, take_all, append-nil}
 use Rattle.std.proofs.lemmas.List.Quantifiers.{position-Some}
 use Rattle.std.proofs.lemmas.List.Sums.{fails_before_first}
 use Rattle.definitions.specs.Table.{FilePath, File, owner_at, owner_if}
 use Rattle.definitions.specs.Calls.{with_file, without_file}
-use Rattle.kernel_model.specs.declared.readers.FileRow.{FileRow}
-use Rattle.kernel_model.specs.Seen.{seen_file}
+use Rattle.process_table.specs.declared.file_row.FileRow.{FileRow}
+use Rattle.process_table.specs.Seen.{seen_file}
 use Rattle.kernel_model.specs.Files.{rewritten}
-use Rattle.kernel_model.specs.Services.{address_cmp}
-use Rattle.kernel_model.specs.TableText.{put_file}
-use Rattle.kernel_model.proofs.First.{past}
-use Rattle.kernel_model.proofs.OrderedKeys.{map-insert}
+use Rattle.process_table.proofs.First.{past}
 
 -- where the file is there it is written in its place
 pub written-there : (path : FilePath) (owner : ℕ) (files : List File) → is_some (owner_at path files) ≡ true → rewritten path owner files ≡ with_file path owner files
@@ -83,13 +79,3 @@ without-rows path (x ∷ xs) = at (not (bytes_eq x.path path)) (without-rows pat
 pub refilled : (xs ys : List FileRow) (n : ℕ) → n ≡ length ys → length xs ≡ length ys → take n (xs ++ drop (length xs) ys) ≡ xs
 refilled xs ys n count same =
     ap (λ zs. take n (xs ++ zs)) (drop_all (length xs) ys (omega arith)) ∙ ap (take n) (append-nil xs) ∙ take_all n xs (omega arith)
-
--- ---- a file among others in ascending paths
-position-rows : (test : File → Bool) (xs : List FileRow) → position_or_len test (map seen_file xs) ≡ position_or_len (λ (x : FileRow). test (seen_file x)) xs
-position-rows test [] = refl
-position-rows test (x ∷ xs) = ap (λ n. cond (not (test (seen_file x))) (1 + n) 0) (position-rows test xs)
-
-pub put_file-rows : (f : FileRow) (xs : List FileRow) (i : ℕ) → i ≡ position_or_len (λ (x : FileRow). is_le (address_cmp f.path x.path)) xs → map seen_file (insert xs i f) ≡ put_file (seen_file f) (map seen_file xs)
-put_file-rows f xs i at =
-    map-insert seen_file xs i f
-    ∙ ap (λ n. insert (map seen_file xs) n (seen_file f)) (at ∙ sym (position-rows (λ (x : File). is_le (address_cmp f.path x.path)) xs))

@@ -1,17 +1,14 @@
 //! How a kernel starts.
 ghost use Rattle.std.specs.Prelude.{◌≡◌, ◌<◌, ◌≤◌, ◌↔◌, ℕ, List, length, map, IfOk, IsTrue, IsErrOf};
 ghost use Rattle.definitions.specs.Table.{Hold};
-ghost use Rattle.kernel_model.specs.Holds.{seen_holds};
-ghost use Rattle.kernel_model.specs.Seen.{process_of, seen, seen_rows, seen_file};
-ghost use Rattle.kernel_model.specs.Room.{IsSound};
+ghost use Rattle.process_table.specs.Holds.{seen_holds};
+ghost use Rattle.process_table.specs.Seen.{process_of, seen, seen_rows, seen_file};
+ghost use Rattle.process_table.specs.Room.{IsSound};
 ghost use Rattle.definitions.specs.Start.{booted, first_worker, first_rows, first_files};
 ghost use Rattle.kernel_model.specs.Boot.{first_pairs, AreBadLimits};
 
-use crate::free_names::FreeNames;
-use crate::process::{Holder, Row};
-use crate::readers::FileRow;
-use crate::store::Store;
 use listener_set::{DescriptorTable, FilePath, Generation, ListenerSet};
+use process_table::{FileRow, FreeNames, Holder, Row, Store};
 use std::alloc::{AllocError, Global};
 use thiserror::Error;
 use vocabulary::{Limits, Stance};

@@ -3,16 +3,14 @@ ghost use Rattle.std.specs.Prelude.{◌≡◌, ℕ, List};
 ghost use Rattle.std.specs.List.{list_any};
 ghost use Rattle.definitions.specs.Table.{Table, Caller as LiveMaster, is_worker};
 ghost use Rattle.definitions.specs.Calls.{opened, closed, forked, awaited, quitted, killed, counted, ended, written, moved, unlinked, own_step, fault_if, fault_of, step_with};
-ghost use Rattle.kernel_model.specs.Seen.{seen, seen_caller, has_stance};
-ghost use Rattle.kernel_model.specs.Room.{GrowsByOne, HasRoomFor, IsKept};
-ghost use Rattle.kernel_model.specs.Rows.{IsOwn};
-ghost use Rattle.kernel_model.specs.Free.{KnowsFree};
+ghost use Rattle.process_table.specs.Seen.{seen, seen_caller, has_stance};
+ghost use Rattle.process_table.specs.Room.{GrowsByOne, HasRoomFor, IsKept};
+ghost use Rattle.process_table.specs.Rows.{IsOwn};
+ghost use Rattle.process_table.specs.Free.{KnowsFree};
 
-use crate::edits::Edit;
-use crate::process::{Caller, Stances, WorkerName};
-use crate::store::Store;
 use crate::{files, master_calls};
 use listener_set::{Address, FilePath, Generation};
+use process_table::{Caller, Edit, Stances, Store, WorkerName};
 use vocabulary::{Answer, Call, Fate};
 
 /// A new socket at the caller's lowest free descriptor, unless somebody holds the address or the caller has as many

@@ -2,11 +2,11 @@
 ghost use Rattle.std.specs.Prelude.{◌≡◌, ◌+◌, ◌<◌, ◌≤◌, length, map, is_some, bytes_eq, vec_len, vec_capacity};
 ghost use Rattle.definitions.specs.Table.{owner_at};
 ghost use Rattle.definitions.specs.Calls.{with_file, without_file};
-ghost use Rattle.kernel_model.specs.Seen.{seen_file};
+ghost use Rattle.process_table.specs.Seen.{seen_file};
 ghost use Rattle.kernel_model.specs.Files.{rewritten};
 
-use crate::readers::FileRow;
 use listener_set::FilePath;
+use process_table::FileRow;
 
 /// The process number that the file at a path holds.
 pub fn owner_at(files: &[FileRow], path: &FilePath) -> Option<u32>

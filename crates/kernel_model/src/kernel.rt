@@ -7,14 +7,14 @@ ghost use Rattle.definitions.specs.Calls.{step_with};
 ghost use Rattle.definitions.specs.Formed.{IsFormed};
 ghost use Rattle.definitions.specs.Start.{booted};
 ghost use Rattle.kernel_model.specs.Boot.{AreBadLimits};
-ghost use Rattle.kernel_model.specs.Room.{LacksNumbers};
-ghost use Rattle.kernel_model.specs.Foreign.{with_foreign};
+ghost use Rattle.process_table.specs.Room.{LacksNumbers};
+ghost use Rattle.process_table.specs.Foreign.{with_foreign};
 
 use crate::boot::{self, BootRefusal};
-use crate::moments::Moment;
-use crate::store::Store;
 use crate::{calls, exits};
+use event_pattern::Moment;
 use listener_set::{Address, FilePath, ListenerSet};
+use process_table::Store;
 use std::alloc::{AllocError, Global};
 use std::marker::Model;
 use thiserror::Error;
@@ -52,8 +52,8 @@ impl Model for Kernel {
 
     ghost Value = { State };
 
-    ghost use Rattle.kernel_model.specs.Seen.{seen};
-    ghost use Rattle.kernel_model.specs.Room.{IsSound};
+    ghost use Rattle.process_table.specs.Seen.{seen};
+    ghost use Rattle.process_table.specs.Room.{IsSound};
 
     ghost view = { λ k. record { table = seen k.store; room = k.room } };
 

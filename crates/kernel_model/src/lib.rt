@@ -6,30 +6,21 @@
 
 mod boot;
 mod calls;
-mod edits;
 mod exits;
 mod files;
-mod free_names;
-mod holds;
 mod kernel;
 mod master_calls;
-mod moments;
-mod pattern;
-mod process;
 mod readers;
 mod running;
 mod service;
-mod store;
-mod table_text;
 
 pub use boot::BootRefusal;
+pub use event_pattern::{Moment, Pattern};
 pub use kernel::{ForeignRefusal, Kernel, ReserveRefusal};
-pub use moments::Moment;
-pub use pattern::Pattern;
-pub use process::Row;
-pub use readers::{FileRow, HoldRow};
+pub use process_table::{FileRow, Row};
+pub use readers::HoldRow;
 pub use running::Running;
-pub use service::Service;
+pub use service_counts::Service;
 
 #[cfg(test)]
 mod tests;

@@ -1,13 +1,15 @@
-//! Rows, holds and files of a kernel, one at a time.
-ghost use Rattle.std.specs.Prelude.{◌≡◌, ◌+◌, ◌-◌, length, map, slice_get};
+//! Rows, holds and files of a kernel, one at a time, and the text of them all.
+ghost use Rattle.std.specs.Prelude.{◌≡◌, ◌+◌, ◌-◌, length, map, slice_get, IfOk};
 ghost use Rattle.std.specs.Option.{option_map};
 ghost use Rattle.std.specs.List.{AllByRecursion};
-ghost use Rattle.kernel_model.specs.Seen.{seen_holder, seen_rows};
-ghost use Rattle.kernel_model.specs.Room.{HasSockets};
+ghost use Rattle.process_table.specs.Seen.{seen_holder, seen_rows};
+ghost use Rattle.process_table.specs.Room.{HasSockets};
+ghost use Rattle.kernel_model.specs.Readers.{holds_in};
 
 use crate::Kernel;
-use crate::process::{Holder, Row};
-use listener_set::{Address, DescriptorTable, FilePath};
+use listener_set::{Address, DescriptorTable};
+use process_table::{FileRow, Holder, Row};
+use std::alloc::AllocError;
 
 /// A socket that a process holds.
 #[derive(Clone, Copy, Debug)]
@@ -19,13 +21,6 @@ pub struct HoldRow {
     /// Counted from 1.
     pub socket: u32,
     pub address: Address,
-}
-
-/// A file with a process number in it.
-#[derive(Clone, Copy, Debug)]
-pub struct FileRow {
-    pub path: FilePath,
-    pub owner: u32,
 }
 
 fn row_at(holders: &[Holder], i: usize) -> Option<Row>
@@ -56,23 +51,19 @@ fn file_at(files: &[FileRow], i: usize) -> Option<FileRow>
     files.get(i).copied()
 }
 
-impl Holder {
-    ghost use Rattle.kernel_model.specs.Readers.{hold_row, holds_in};
-
-    /// The i-th hold, counted from 0.
-    fn hold_at(&self, addresses: &[Address], i: usize) -> Option<HoldRow>
-        requires { HasSockets (length addresses.now + 1) (seen_holder addresses.now self.now) }
-        ensures { result ≡ slice_get (holds_in (seen_holder addresses.now self.now)) i }
-    {
-        let (descriptor, socket) = pair_at(&self.holds, i)?;
-        let address = address_at(addresses, socket)?;
-        Some(HoldRow {
-            process: self.row.number(),
-            descriptor,
-            socket,
-            address,
-        })
-    }
+/// The i-th hold of a process, counted from 0.
+fn hold_at(holder: &Holder, addresses: &[Address], i: usize) -> Option<HoldRow>
+    requires { HasSockets (length addresses.now + 1) (seen_holder addresses.now holder.now) }
+    ensures { result ≡ slice_get (holds_in (seen_holder addresses.now holder.now)) i }
+{
+    let (descriptor, socket) = pair_at(&holder.holds, i)?;
+    let address = address_at(addresses, socket)?;
+    Some(HoldRow {
+        process: holder.row.number(),
+        descriptor,
+        socket,
+        address,
+    })
 }
 
 impl HoldRow {
@@ -87,7 +78,7 @@ impl HoldRow {
         for holder in holders {
             let count = holder.holds.len();
             if rest < count {
-                return holder.hold_at(addresses, rest);
+                return hold_at(holder, addresses, rest);
             }
             rest -= count;
         }
@@ -97,6 +88,7 @@ impl HoldRow {
 
 impl Kernel {
     ghost use Rattle.kernel_model.specs.Readers.{row_of, hold_rows, file_row};
+    ghost use Rattle.table_text.specs.TableText.{IsTextOf};
 
     /// The i-th process, counted from 0, in ascending process numbers.
     pub fn row(&self, i: usize) -> Option<Row>
@@ -117,5 +109,16 @@ impl Kernel {
         ensures { result ≡ slice_get (map file_row self.now.table.files) i }
     {
         file_at(&self.store.files, i)
+    }
+
+    /// The text of the table, a line for each process, in ascending numbers, as `process 100 parent 1 m1 live fds
+    /// 3=0.0.0.0:8080` or `process 101 parent 100 w1.1.0 ready fds none`; then one for each file, in ascending paths, as
+    /// `file /run/app.pid 100`; then one for each address of the service, ascending, as `service 0.0.0.0:8080 1.1=4`.
+    /// `AllocError` where memory for the text, or for the files in order or the service, is refused.
+    pub fn table_text(&self) -> Result<Vec<u8>, AllocError>
+        ensures { IfOk result (λ text. IsTextOf self.now.table text.items) }
+    {
+        let service = self.service()?;
+        table_text::table_text(&self.store, &service)
     }
 }

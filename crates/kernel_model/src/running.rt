@@ -5,19 +5,17 @@ ghost use Rattle.listener_set.specs.Numbers.{is_in};
 ghost use Rattle.vocabulary.specs.Settings.{HasSuffixRoom};
 ghost use Rattle.definitions.specs.Table.{is_master};
 ghost use Rattle.definitions.specs.Record.{Agrees, FilesAre, IsRunning, listener_of};
-ghost use Rattle.kernel_model.specs.Holds.{address_of, seen_holds};
-ghost use Rattle.kernel_model.specs.Seen.{seen, seen_caller, seen_file, seen_holder, seen_rows};
+ghost use Rattle.process_table.specs.Holds.{address_of, seen_holds};
+ghost use Rattle.process_table.specs.Seen.{seen, seen_caller, seen_file, seen_holder, seen_rows};
 ghost use Rattle.kernel_model.specs.Running.{running, AreRunning, AreReady, MasterAgrees, WorkersAgree};
 
 use crate::Kernel;
 use crate::files::owner_at;
-use crate::process::{Caller, Holder, Row, Stances};
-use crate::readers::FileRow;
-use crate::store::Store;
 use listener_set::{
     Address, DescriptorTable, FIRST_DESCRIPTOR, FilePath, Generation, MOST_DESCRIPTORS, Numbers,
     WORKER_LIMIT,
 };
+use process_table::{Caller, FileRow, Holder, Row, Stances, Store};
 use vocabulary::{Listener, PidNote, Stance};
 
 /// What a master's record says of the table.

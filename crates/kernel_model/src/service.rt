@@ -1,128 +1,19 @@
-//! Services: which addresses are served, and by how many workers of each generation.
-ghost use Rattle.std.specs.Prelude.{◌≡◌, ◌≤◌, ◌<◌, ◌+◌, ◌^◌, ◌&&◌, ℕ, Bool, List, [], map, length, slice_get, bytes_eq, count_by, is_some, IfOk, IfSome, OnOk, OnErr, if◌then◌else◌, Some, None};
-ghost use Rattle.std.specs.Ordering.{is_le, is_eq};
-ghost use Rattle.std.specs.FinMap.{find, put};
-ghost use Rattle.std.specs.Option.{option_map};
-ghost use Rattle.std.specs.List.{list_any, position_or_len};
+//! Who serves the addresses of a table.
+ghost use Rattle.std.specs.Prelude.{◌≡◌, ◌≤◌, ◌<◌, ◌^◌, ◌&&◌, ℕ, Bool, List, map, length, bytes_eq, count_by, IfOk, if◌then◌else◌, Some, None};
+ghost use Rattle.std.specs.List.{list_any};
 ghost use Rattle.definitions.specs.Table.{Generation, Hold, has_address};
 ghost use Rattle.definitions.specs.Service.{is_live_with, is_serving};
-ghost use Rattle.kernel_model.specs.Seen.{process_of, seen_holder, seen_rows};
-ghost use Rattle.kernel_model.specs.Services.{address_cmp, generation_cmp, count_at, at, with_count, with_key, entry_at, AreCounts, IsService, is_generation};
-ghost use Rattle.kernel_model.specs.Served.{seen_count, seen_served};
+ghost use Rattle.process_table.specs.Seen.{process_of, seen_holder, seen_rows};
+ghost use Rattle.service_counts.specs.Services.{count_at, at, AreCounts};
+ghost use Rattle.service_counts.specs.Served.{seen_count};
+ghost use Rattle.kernel_model.specs.Serving.{is_generation};
 
-use crate::process::{Holder, Row};
-use crate::{Kernel, holds};
+use crate::Kernel;
 use listener_set::{Address, Generation};
+use process_table::{Holder, Row, holds};
+use service_counts::{Count, Service, count_of, set_count};
 use std::alloc::{AllocError, Global};
-use std::marker::Model;
 use vocabulary::Stance;
-
-/// How many workers of a generation serve.
-#[derive(Clone, Copy)]
-pub(crate) struct Count {
-    pub(crate) generation: Generation,
-    pub(crate) workers: u32,
-}
-
-/// An address, and who serves it in ascending generations.
-#[derive(Drop)]
-pub(crate) struct Served {
-    pub(crate) address: Address,
-    pub(crate) counts: Vec<Count>,
-}
-
-/// Who serves which addresses: for each address that is a key, how many workers of each generation. No count is 0.
-#[derive(Drop)]
-pub struct Service {
-    pub(crate) entries: Vec<Served>,
-}
-
-impl Model for Service {
-    ghost use Rattle.std.specs.Prelude.{ℕ, List, map};
-    ghost use Rattle.definitions.specs.Table.{Generation};
-
-    ghost Value = { List (List ℕ × List (Generation × ℕ)) };
-
-    ghost use Rattle.kernel_model.specs.Services.{IsService};
-    ghost use Rattle.kernel_model.specs.Served.{seen_served};
-
-    ghost view = { λ s. map seen_served s.entries.items };
-
-    ghost invariant = { λ s. IsService (map seen_served s.entries.items) };
-}
-
-impl Service {
-    /// The service without addresses.
-    pub fn new(alloc: Global) -> Self
-        ensures { result ≡ [] }
-    {
-        Service {
-            entries: Vec::new(alloc),
-        }
-    }
-
-    /// Makes the address a key, and sets the generation's count where one is given. A count is at least 1.
-    pub fn add(
-        &mut self,
-        address: &Address,
-        count: Option<(Generation, u32)>,
-    ) -> Result<(), AllocError>
-        requires { IfSome count (λ c. 1 ≤ c.1) }
-        ensures ok { OnOk result (self.new ≡ with_key address.now count self.old) }
-        ensures err { OnErr result (self.new ≡ self.old) }
-    {
-        let place = place_of(&self.entries, address);
-        if place < self.entries.len() && is_of(&self.entries[place], address) {
-            let entry = &mut self.entries[place];
-            set_given(&mut entry.counts, count)?;
-            return Ok(());
-        }
-        let mut counts = Vec::new(*self.entries.allocator());
-        set_given(&mut counts, count)?;
-        self.insert(address, counts)
-    }
-
-    /// The i-th address, counted from 0, in ascending bytes.
-    pub fn address(&self, i: usize) -> Option<Address>
-        ensures address { result ≡ option_map (λ e. e.0) (slice_get self.now i) }
-        ensures service { IsService self.now }
-    {
-        let entry = self.entries.get(i)?;
-        Some(entry.address)
-    }
-
-    /// The j-th count of the i-th address, both counted from 0, in ascending generations.
-    pub fn entry(&self, i: usize, j: usize) -> Option<(Generation, u32)>
-        ensures { result ≡ entry_at self.now i j }
-    {
-        let entry = self.entries.get(i)?;
-        let count = entry.counts.get(j)?;
-        Some((count.generation, count.workers))
-    }
-
-    /// Whether the address is a key.
-    fn has(&self, address: &Address) -> bool
-        ensures { result ≡ is_some (find address_cmp address.now self.now) }
-    {
-        self.entries.iter().any(|entry| is_of(entry, address))
-    }
-
-    /// Adds a key with its counts.
-    fn insert(&mut self, address: &Address, counts: Vec<Count>) -> Result<(), AllocError>
-        requires absent { find address_cmp address.now self.old ≡ None }
-        requires counts { AreCounts (map seen_count counts.items) }
-        ensures ok { OnOk result (self.new ≡ put address_cmp address.now (map seen_count counts.items) self.old) }
-        ensures err { OnErr result (self.new ≡ self.old) }
-    {
-        let place = place_of(&self.entries, address);
-        let entry = Served {
-            address: *address,
-            counts,
-        };
-        self.entries.insert(place, entry)?;
-        Ok(())
-    }
-}
 
 impl Kernel {
     ghost use Rattle.definitions.specs.Service.{service, IsSame};
@@ -135,92 +26,6 @@ impl Kernel {
         let store = &self.store;
         service_of(&store.holders, &store.addresses, *store.holders.allocator())
     }
-}
-
-fn is_of(entry: &Served, address: &Address) -> bool
-    ensures { result ≡ is_eq (address_cmp address.now entry.now.address) }
-{
-    address.bytes() == entry.address.bytes()
-}
-
-fn is_no_higher(address: &Address, entry: &Served) -> bool
-    ensures { result ≡ is_le (address_cmp address.now entry.now.address) }
-{
-    address.bytes().cmp(entry.address.bytes()).is_le()
-}
-
-/// Where the first address stands that is no lower.
-fn place_of(entries: &[Served], address: &Address) -> usize
-    ensures place { result ≡ position_or_len (λ e. is_le (address_cmp address.now e.address)) entries.now }
-    ensures within { result ≤ length entries.now }
-{
-    entries
-        .iter()
-        .position(|entry| is_no_higher(address, entry))
-        .unwrap_or(entries.len())
-}
-
-/// Whether the generation is no higher than the other.
-fn is_up_to(generation: Generation, other: Generation) -> bool
-    ensures { result ≡ is_le (generation_cmp generation other) }
-{
-    generation.image < other.image
-        || (generation.image == other.image && generation.config <= other.config)
-}
-
-fn is_same(generation: Generation, other: Generation) -> bool
-    ensures { result ≡ is_eq (generation_cmp generation other) }
-{
-    generation.image == other.image && generation.config == other.config
-}
-
-/// Where the first generation stands that is no lower.
-fn count_place(counts: &[Count], generation: Generation) -> usize
-    ensures place { result ≡ position_or_len (λ c. is_le (generation_cmp generation c.generation)) counts.now }
-    ensures within { result ≤ length counts.now }
-{
-    counts
-        .iter()
-        .position(|count| is_up_to(generation, count.generation))
-        .unwrap_or(counts.len())
-}
-
-fn set(counts: &mut Vec<Count>, generation: Generation, workers: u32) -> Result<(), AllocError>
-    ensures ok { OnOk result (map seen_count counts.new.items ≡ put generation_cmp generation workers (map seen_count counts.old.items)) }
-    ensures err { OnErr result (counts.new.items ≡ counts.old.items) }
-{
-    let place = count_place(counts, generation);
-    if place < counts.len() && is_same(generation, counts[place].generation) {
-        counts[place].workers = workers;
-        return Ok(());
-    }
-    let count = Count {
-        generation,
-        workers,
-    };
-    counts.insert(place, count)?;
-    Ok(())
-}
-
-fn set_given(counts: &mut Vec<Count>, count: Option<(Generation, u32)>) -> Result<(), AllocError>
-    ensures ok { OnOk result (map seen_count counts.new.items ≡ with_count count (map seen_count counts.old.items)) }
-    ensures err { OnErr result (counts.new.items ≡ counts.old.items) }
-{
-    match count {
-        None => Ok(()),
-        Some((generation, workers)) => set(counts, generation, workers),
-    }
-}
-
-fn count_of(counts: &[Count], generation: Generation) -> u32
-    ensures { result ≡ count_at (map seen_count counts.now) generation }
-{
-    for count in counts {
-        if is_same(generation, count.generation) {
-            return count.workers;
-        }
-    }
-    0
 }
 
 fn is_live(row: &Row) -> bool
@@ -286,7 +91,7 @@ fn ready_counts(
     for holder in holders {
         if let Some(generation) = serving_generation(holder, addresses, address) {
             let workers = count_of(&counts, generation) + 1;
-            set(&mut counts, generation, workers)?;
+            set_count(&mut counts, generation, workers)?;
         }
     }
     Ok(counts)

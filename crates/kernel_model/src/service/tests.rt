@@ -8,32 +8,6 @@ const FIRST: Generation = Generation {
     config: 1,
 };
 
-const SECOND: Generation = Generation {
-    image: 1,
-    config: 2,
-};
-
-#[test]
-fn keeps_addresses_and_generations_in_order(rt: HostRuntime) -> Result<(), Fail> {
-    let (Ok(low), Ok(high)) = (Address::read(b"0.0.0.0:443"), Address::read(b"0.0.0.0:80")) else {
-        panic!(rt; "no addresses")
-    };
-    let mut service = Service::new(rt.alloc());
-    service.add(&high, Some((SECOND, 3)))?;
-    service.add(&low, None)?;
-    service.add(&high, Some((FIRST, 1)))?;
-    service.add(&high, None)?;
-    service.add(&high, Some((SECOND, 2)))?;
-    assert_eq!(rt; service.address(0), Some(low));
-    assert_eq!(rt; service.address(1), Some(high));
-    assert_eq!(rt; service.address(2), None);
-    assert_eq!(rt; service.entry(0, 0), None);
-    assert_eq!(rt; service.entry(1, 0), Some((FIRST, 1)));
-    assert_eq!(rt; service.entry(1, 1), Some((SECOND, 2)));
-    assert_eq!(rt; service.entry(1, 2), None);
-    Ok(())
-}
-
 #[test]
 fn counts_the_workers_of_a_new_kernel(rt: HostRuntime) -> Result<(), Fail> {
     let mut listeners = ListenerSet::new();

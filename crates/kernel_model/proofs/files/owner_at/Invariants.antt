@@ -1,6 +1,6 @@
 use Rattle.std.proofs.Common.{◌≡◌, map, drop}
 use Rattle.definitions.specs.Table.{owner_at}
-use Rattle.kernel_model.specs.Seen.{seen_file}
+use Rattle.process_table.specs.Seen.{seen_file}
 use Rattle.kernel_model.proofs.files.owner_at.Given as goal
 
 abbrev pub invariant-loop-file : goal.invariant-loop-file

@@ -1,8 +1,8 @@
 use Rattle.std.proofs.Common.{not, map, ap, ◌∙◌, rules, tests}
 use Rattle.std.specs.Prelude.{bytes_eq}
 use Rattle.std.proofs.lemmas.Fn.{filter_same}
-use Rattle.kernel_model.specs.declared.readers.FileRow.{FileRow}
-use Rattle.kernel_model.specs.Seen.{seen_file}
+use Rattle.process_table.specs.declared.file_row.FileRow.{FileRow}
+use Rattle.process_table.specs.Seen.{seen_file}
 use Rattle.kernel_model.proofs.WrittenFiles.{without-rows}
 use Rattle.kernel_model.proofs.files.remove.Goals as goal
 

@@ -2,7 +2,7 @@ use Rattle.std.proofs.Common.{refl, sym, ◌∙◌, rules, tests}
 use Rattle.std.specs.Prelude.{bytes_eq}
 use Rattle.std.proofs.lemmas.Iterator.{YieldsList-from_slice}
 use Rattle.std.proofs.lemmas.Iterator.Search.{position_from_yields_List}
-use Rattle.kernel_model.specs.declared.readers.FileRow.{FileRow}
+use Rattle.process_table.specs.declared.file_row.FileRow.{FileRow}
 use Rattle.kernel_model.proofs.WrittenFiles.{rewritten-Some, rewritten-None}
 use Rattle.kernel_model.proofs.files.rewrite.Goals as goal
 

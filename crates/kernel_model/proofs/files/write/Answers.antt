@@ -1,9 +1,9 @@
 use Rattle.std.proofs.Common.{◌++◌, ◌∷◌, [], is_some, map, length, sym, ap, ◌∙◌, arith}
 use Rattle.definitions.specs.Table.{owner_at}
-use Rattle.kernel_model.specs.declared.readers.FileRow.{FileRow}
-use Rattle.kernel_model.specs.Seen.{seen_file}
+use Rattle.process_table.specs.declared.file_row.FileRow.{FileRow}
+use Rattle.process_table.specs.Seen.{seen_file}
 use Rattle.kernel_model.specs.Files.{rewritten}
-use Rattle.kernel_model.proofs.Lists.{map-push}
+use Rattle.process_table.proofs.Lists.{map-push}
 use Rattle.kernel_model.proofs.WrittenFiles.{refilled, written-there, written-new}
 use Rattle.kernel_model.proofs.files.write.Goals as goal
 

@@ -1,6 +1,6 @@
 use Rattle.std.proofs.Common.{ℕ, List, ◌↔◌, drop}
-use Rattle.kernel_model.specs.Holds.{seen_holds}
-use Rattle.kernel_model.specs.Seen.{seen_rows}
+use Rattle.process_table.specs.Holds.{seen_holds}
+use Rattle.process_table.specs.Seen.{seen_rows}
 use Rattle.kernel_model.specs.Running.{AreRunning}
 use Rattle.kernel_model.proofs.running.are_running.Given as goal
 

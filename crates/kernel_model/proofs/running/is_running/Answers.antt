@@ -1,7 +1,7 @@
 use Rattle.std.proofs.Common.{◌≡◌, true, nat_eq, ◌&&◌, ap, sym}
 use Rattle.std.proofs.lemmas.Bool.{and_parts, eqb-true}
 use Rattle.definitions.specs.Table.{Generation}
-use Rattle.kernel_model.specs.Holds.{seen_holds}
+use Rattle.process_table.specs.Holds.{seen_holds}
 use Rattle.kernel_model.proofs.Agreement.{same_sockets}
 use Rattle.kernel_model.proofs.running.is_running.Goals as goal
 

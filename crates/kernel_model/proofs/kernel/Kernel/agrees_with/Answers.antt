@@ -2,7 +2,7 @@ use Rattle.std.proofs.Common.{sym, ap, subst, ◌∙◌}
 use Rattle.std.proofs.lemmas.Bool.{true≢false}
 use Rattle.definitions.specs.Record.{Agrees}
 use Rattle.kernel_model.specs.State.{State}
-use Rattle.kernel_model.specs.Seen.{seen, seen_caller}
+use Rattle.process_table.specs.Seen.{seen, seen_caller}
 use Rattle.kernel_model.specs.Running.{running}
 use Rattle.kernel_model.proofs.Agreement.{agreed}
 use Rattle.kernel_model.proofs.kernel.Kernel.agrees_with.Goals as goal

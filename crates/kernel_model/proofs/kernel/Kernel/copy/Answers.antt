@@ -1,6 +1,6 @@
 use Rattle.std.proofs.Common.{sym, subst, rules}
-use Rattle.kernel_model.specs.Room.{IsKept}
-use Rattle.kernel_model.proofs.Free.{KnowsFree-same}
+use Rattle.process_table.specs.Room.{IsKept}
+use Rattle.process_table.proofs.Free.{KnowsFree-same}
 use Rattle.kernel_model.proofs.kernel.Kernel.copy.Goals as goal
 
 pub invariant_of-result : goal.invariant_of-result

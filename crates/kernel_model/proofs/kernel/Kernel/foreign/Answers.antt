@@ -1,10 +1,10 @@
 use Rattle.std.proofs.Common.{◌≡◌, ◌+◌, sym, ap, subst, ◌∙◌, arith, rules}
 use Rattle.std.proofs.lemmas.Bool.{false≢true}
 use Rattle.definitions.specs.Table.{Table}
-use Rattle.kernel_model.specs.Room.{HasMemoryFor, IsKept}
+use Rattle.process_table.specs.Room.{HasMemoryFor, IsKept}
 use Rattle.kernel_model.proofs.Foreigners.{IsKept-foreign, sound-foreign}
-use Rattle.kernel_model.proofs.Free.{KnowsFree-same}
-use Rattle.kernel_model.specs.Seen.{seen}
+use Rattle.process_table.proofs.Free.{KnowsFree-same}
+use Rattle.process_table.specs.Seen.{seen}
 use Rattle.kernel_model.proofs.kernel.Kernel.foreign.Goals as goal
 
 pub invariant_of-self : goal.invariant_of-self

@@ -1,7 +1,7 @@
 use Rattle.std.proofs.Common.{sym, ap, subst, arith, rules}
 use Rattle.definitions.specs.Table.{Table}
-use Rattle.kernel_model.specs.Room.{IsKept}
-use Rattle.kernel_model.proofs.Free.{KnowsFree-same}
+use Rattle.process_table.specs.Room.{IsKept}
+use Rattle.process_table.proofs.Free.{KnowsFree-same}
 use Rattle.kernel_model.proofs.kernel.Kernel.reserve.Goals as goal
 
 pub invariant_of-self : goal.invariant_of-self

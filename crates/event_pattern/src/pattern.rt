@@ -1,0 +1,151 @@
+//! Patterns: which moments of a run are not quiet.
+ghost use Rattle.std.specs.Prelude.{◌≡◌, ◌==◌, ◌≤◌, ◌↔◌, nat_le, ℕ, [], length, IsTrue, if◌then◌else◌, OnOk, OnErr, slice_get};
+ghost use Rattle.std.specs.Option.{option_map};
+ghost use Rattle.std.specs.List.{position_or_len};
+ghost use Rattle.std.specs.List.Sorted.{IsNonDecreasingBy};
+ghost use Rattle.event_pattern.specs.Pattern.{moment_at, with_exit, with_fate, seen_entry, seen_moment, IsPattern, IsNameWithin};
+
+use crate::moments::Moment;
+use std::alloc::{AllocError, Global};
+use std::marker::Model;
+use vocabulary::{Fate, Name};
+
+/// A moment that is not quiet.
+#[derive(Drop)]
+struct Event {
+    number: u32,
+    exits: Vec<Name>,
+    fate: Option<Fate>,
+}
+
+/// What happens at each call of a run, counted from 1. It keeps the moments that are not quiet, in ascending numbers.
+#[derive(Drop)]
+pub struct Pattern {
+    events: Vec<Event>,
+}
+
+impl Model for Pattern {
+    ghost use Rattle.std.specs.Prelude.{ℕ, List, map};
+    ghost use Rattle.definitions.specs.Run.{Moment};
+
+    ghost Value = { List (ℕ × Moment) };
+
+    ghost use Rattle.event_pattern.specs.Events.{seen_event};
+    ghost use Rattle.event_pattern.specs.Pattern.{IsPattern};
+
+    ghost view = { λ p. map seen_event p.events.items };
+
+    ghost invariant = { λ p. IsPattern (map seen_event p.events.items) };
+}
+
+impl Pattern {
+    /// The pattern whose moments are all quiet.
+    pub fn new(alloc: Global) -> Self
+        ensures { result ≡ [] }
+    {
+        Pattern {
+            events: Vec::new(alloc),
+        }
+    }
+
+    /// Adds an exit behind those of the n-th moment. A worker's number is at most 1023.
+    pub fn add_exit(&mut self, n: u32, name: Name) -> Result<(), AllocError>
+        requires number { 1 ≤ n }
+        requires within { IsNameWithin name }
+        ensures ok { OnOk result ((m : ℕ) → moment_at self.new m ≡ (if m == n then with_exit name (moment_at self.old n) else moment_at self.old m)) }
+        ensures err { OnErr result (self.new ≡ self.old) }
+    {
+        let place = first_from(&self.events, n);
+        if place < self.events.len() && self.events[place].number == n {
+            let event = &mut self.events[place];
+            event.exits.push(name)?;
+            return Ok(());
+        }
+        let mut exits = Vec::new(*self.events.allocator());
+        exits.push(name)?;
+        let event = Event {
+            number: n,
+            exits,
+            fate: None,
+        };
+        self.events.insert(place, event)?;
+        Ok(())
+    }
+
+    /// Makes the call of the n-th moment fail so, in place of what was set before.
+    pub fn set_fate(&mut self, n: u32, fate: Fate) -> Result<(), AllocError>
+        requires { 1 ≤ n }
+        ensures ok { OnOk result ((m : ℕ) → moment_at self.new m ≡ (if m == n then with_fate fate (moment_at self.old n) else moment_at self.old m)) }
+        ensures err { OnErr result (self.new ≡ self.old) }
+    {
+        let place = first_from(&self.events, n);
+        if place < self.events.len() && self.events[place].number == n {
+            let event = &mut self.events[place];
+            event.fate = Some(fate);
+            return Ok(());
+        }
+        let event = Event {
+            number: n,
+            exits: Vec::new(*self.events.allocator()),
+            fate: Some(fate),
+        };
+        self.events.insert(place, event)?;
+        Ok(())
+    }
+
+    /// What happens at the n-th moment.
+    pub fn moment(&self, n: u32) -> Moment<'_>
+        ensures { seen_moment result ≡ moment_at self.now n }
+    {
+        let place = first_from(&self.events, n);
+        match self.events.get(place) {
+            Some(event) if event.number == n => Moment {
+                exits: &event.exits,
+                fate: event.fate,
+            },
+            _ => Moment {
+                exits: &[],
+                fate: None,
+            },
+        }
+    }
+
+    /// How many moments are not quiet.
+    pub fn len(&self) -> usize
+        ensures count { result ≡ length self.now }
+        ensures pattern { IsPattern self.now }
+    {
+        self.events.len()
+    }
+
+    /// Whether every moment is quiet.
+    pub fn is_empty(&self) -> bool
+        ensures { IsTrue result ↔ (self.now ≡ []) }
+    {
+        self.events.is_empty()
+    }
+
+    /// The i-th moment that is not quiet, counted from 0, with its number. The numbers rise.
+    pub fn entry(&self, i: usize) -> Option<(u32, Moment<'_>)>
+        ensures { option_map seen_entry result ≡ slice_get self.now i }
+    {
+        let event = self.events.get(i)?;
+        let moment = Moment {
+            exits: &event.exits,
+            fate: event.fate,
+        };
+        Some((event.number, moment))
+    }
+}
+
+/// Where the first moment with that number or a higher one stands.
+fn first_from(events: &[Event], n: u32) -> usize
+    requires { IsNonDecreasingBy (λ e. e.number) events.now }
+    ensures place { result ≡ position_or_len (λ e. nat_le n e.number) events.now }
+    ensures within { result ≤ length events.now }
+{
+    events.partition_point(|event| event.number < n)
+}
+
+#[cfg(test)]
+mod tests;

@@ -1,0 +1,10 @@
+pub mod Lists
+pub mod Closing
+pub mod Masters
+pub mod Keeping
+pub mod Census
+pub mod First
+pub mod Lone
+pub mod Free
+pub mod Opening
+pub mod Foreigners

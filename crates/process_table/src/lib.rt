@@ -1,0 +1,18 @@
+//! The process table: what each process is and holds, the files, and the few ways to read and to change them.
+//!
+//! A `Store` is seen as the table of `definitions`. It keeps no invariant of its own: what its callers have to keep
+//! stands in its contracts.
+#![tactic(auto)]
+
+mod edits;
+mod file_row;
+mod free_names;
+pub mod holds;
+mod process;
+mod store;
+
+pub use edits::Edit;
+pub use file_row::FileRow;
+pub use free_names::FreeNames;
+pub use process::{Caller, Holder, Row, Stances, WorkerName};
+pub use store::Store;
