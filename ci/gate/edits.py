@@ -1,0 +1,177 @@
+"""The trial of the must-fail edits beside `rt ci`, each crate's once its own proof stands."""
+import hashlib
+import os
+import shutil
+import tempfile
+import threading
+import time
+
+from gate import kit
+from gate.ledger import Ledger, key
+from gate.refusals import Trial
+
+# What a check may take, and what stays free for the proofs beside it, in bytes.
+CHECK_MEMORY = 5_000_000_000
+NICE = 10
+
+
+class Crate:
+    """The edits of a crate, and which of them are to be tried first, or at all."""
+
+    def __init__(self, built, edits):
+        self.built, self.name, self.folder = built, built.name, f"{edits}/{built.name}"
+        self.edits, self.bad = kit.edits_of(self.folder)
+        self.key, self.is_whole, self.first, self.others, self.trial = None, True, [], [], None
+
+    def choose(self, ledger, is_all, sample):
+        """Decides what to try, once the libraries below are there."""
+        self.key = key(self.built, self.folder)
+        self.is_whole = is_all or not ledger.fits(self.name, self.key)
+        left = ledger.left.get(self.name, set())
+        self.first = [it for it in self.edits if base(it) in left]
+        self.others = [it for it in self.edits if base(it) not in left and (self.is_whole or sample(base(it)))]
+
+    def chosen(self):
+        return len(self.first) + len(self.others)
+
+
+def base(path):
+    return path.rpartition("/")[2]
+
+
+class Options:
+    """What of the edits to try: all or a sample of those in the ledger, and until when."""
+
+    def __init__(self, is_all, sample, ends):
+        self.is_all, self.sample, self.ends = is_all, sample, ends
+
+
+class Sample:
+    """One in so many edits, other ones at each commit."""
+
+    def __init__(self, one_in, seed):
+        self.one_in, self.seed = one_in, seed
+
+    def __call__(self, name):
+        return int(hashlib.sha256(f"{self.seed} {name}".encode()).hexdigest(), 16) % self.one_in == 0
+
+
+class Trials:
+    """All trials of a run, in lanes of their own that give way to the proofs."""
+
+    def __init__(self, tree, edits, ledger, options, say):
+        self.options, self.say, self.ledger = options, say, ledger
+        self.crates = {it.name: Crate(it, edits) for it in kit.built_crates(tree)}
+        self.waiting = {it.name for it in self.crates.values() if it.edits}
+        self.ready, self.finished = [], []
+        self.changed = threading.Condition()
+        self.lanes = [threading.Thread(target=self.lane, daemon=True) for _ in range(kit.processors())]
+        self.kept = tempfile.TemporaryDirectory(prefix="edits-")
+
+    def start(self):
+        for lane in self.lanes:
+            lane.start()
+
+    def proved(self, name):
+        """A crate and all below it are proved: its edits can be tried."""
+        if name not in self.waiting:
+            return
+        crate = self.crates[name]
+        crate.choose(self.ledger, self.options.is_all, self.options.sample)
+        with self.changed:
+            self.waiting.discard(name)
+            self.ready.append(crate)
+            self.changed.notify_all()
+
+    def no_more(self):
+        """No further crate will be proved. Waits until all trials have ended."""
+        with self.changed:
+            self.waiting.clear()
+            self.changed.notify_all()
+        for lane in self.lanes:
+            lane.join()
+
+    def next_crate(self):
+        """The crate to go on with: what an earlier run left, then what is due, then samples, the largest first."""
+        with self.changed:
+            while True:
+                if self.ready:
+                    crate = min(self.ready, key=lambda it: (not it.first, not it.is_whole, -it.chosen()))
+                    self.ready.remove(crate)
+                    return crate
+                if not self.waiting:
+                    return None
+                self.changed.wait()
+
+    def lane(self):
+        # (what this thread starts is nice too)
+        os.setpriority(os.PRIO_PROCESS, threading.get_native_id(), NICE)
+        while (crate := self.next_crate()) is not None:
+            self.try_edits(crate)
+
+    def try_edits(self, crate):
+        started = time.monotonic()
+        kept = os.path.join(self.kept.name, crate.name)
+        os.mkdir(kept)
+        crate.trial = Trial(crate.built, [crate.first, crate.others], kept)
+        while crate.trial.left and not self.is_over():
+            self.wait_for_memory()
+            crate.trial.step()
+        shutil.rmtree(kept)
+        with self.changed:
+            self.finished.append(crate)
+        self.tell(crate, time.monotonic() - started)
+
+    def is_over(self):
+        return self.options.ends is not None and time.monotonic() >= self.options.ends
+
+    def wait_for_memory(self):
+        while kit.free_memory() < CHECK_MEMORY:
+            time.sleep(2)
+
+    def tell(self, crate, seconds):
+        trial = crate.trial
+        if not crate.chosen():
+            return
+        why = "due" if crate.is_whole else "sample"
+        refused, checks = len(trial.refused), trial.checks
+        left = len(trial.untried())
+        words = f"{crate.name}: {refused} of {len(crate.edits)} edits refused ({why}), {checks} checks, {seconds:.0f} s"
+        words += f", {trial.alone_checks} alone" if trial.alone_checks else ""
+        words += f", {left} left" if left else ""
+        self.say(words)
+        for note in trial.notes:
+            self.say(note)
+
+    def write_ledger(self):
+        """Writes down what this run has seen refused."""
+        for crate in self.finished:
+            untried = {base(it) for it in crate.trial.untried()}
+            if crate.trial.survived:
+                self.ledger.drop([crate.name])
+            elif crate.is_whole:
+                self.ledger.note(crate.name, crate.key, untried)
+            else:
+                left = self.ledger.left[crate.name] - {base(it) for it in crate.trial.refused}
+                self.ledger.note(crate.name, crate.key, left)
+        self.ledger.drop([name for name in list(self.ledger.keys) if name not in self.crates or not self.crates[name].edits])
+        self.ledger.write()
+
+    def counts(self):
+        return Counts(self)
+
+
+class Counts:
+    """How many edits were refused, survived, were left, or stand in the ledger."""
+
+    def __init__(self, trials):
+        edited = [it for it in trials.crates.values() if it.edits]
+        self.all = sum(len(it.edits) for it in edited)
+        self.bad = [path for it in trials.crates.values() for path in it.bad]
+        self.refused = sum(len(it.trial.refused) for it in trials.finished)
+        self.survived = [f"{it.name}/{base(path)}" for it in trials.finished for path in it.trial.survived]
+        self.left = [f"{it.name}/{base(path)}" for it in trials.finished for path in it.trial.untried()]
+        seen = {it.name for it in trials.finished}
+        self.unreached = [f"{it.name}/{base(path)}" for it in edited if it.name not in seen for path in it.edits]
+        self.by_ledger = self.all - self.refused - len(self.survived) - len(self.left) - len(self.unreached)
+
