@@ -180,11 +180,26 @@ fn reports_are_read_as_they_are_written(rt: HostRuntime) -> Result<(), Fail> {
     let rolled_back = "rolled-back cause 2 pid at-oldbin";
     let degraded = "degraded target 3 cause 9 pid oldbin-left";
     let reports = [
-        (Outcome::Done, None, PidNote::NoFile, "done cause none pid no-file"),
+        (
+            Outcome::Done,
+            None,
+            PidNote::NoFile,
+            "done cause none pid no-file",
+        ),
         (Outcome::RolledBack, Some(2), PidNote::AtOldbin, rolled_back),
         (short, Some(9), PidNote::OldbinLeft, degraded),
-        (Outcome::Lost, Some(1), PidNote::Left, "lost cause 1 pid left"),
-        (Outcome::Done, Some(0), PidNote::InPlace, "done cause 0 pid in-place"),
+        (
+            Outcome::Lost,
+            Some(1),
+            PidNote::Left,
+            "lost cause 1 pid left",
+        ),
+        (
+            Outcome::Done,
+            Some(0),
+            PidNote::InPlace,
+            "done cause 0 pid in-place",
+        ),
     ];
     for (outcome, cause, note, text) in reports {
         let report = Report {
@@ -196,7 +211,10 @@ fn reports_are_read_as_they_are_written(rt: HostRuntime) -> Result<(), Fail> {
         let mut out = Vec::new(rt.alloc());
         write_report(&mut out, &report)?;
         assert!(rt; out.as_slice() == text.as_bytes(), "{text}");
-        assert!(rt; read_report(text.as_bytes(), &ready) == Some(report), "{text}");
+        assert!(rt;
+            read_report(text.as_bytes(), &ready) == Some(report),
+            "{text}"
+        );
     }
     assert!(rt; read_report(b"degraded old 0 cause 1 pid left", &ready).is_none());
     assert!(rt; read_report(b"done cause none", &ready).is_none());

@@ -56,8 +56,14 @@ fn a_handover_is_written_and_read_back(rt: HostRuntime) -> Result<(), Fail> {
 const REFUSED: [(&str, Option<HandoverRefusal>); 12] = [
     ("handover 9\n", Some(HandoverRefusal::Version)),
     ("handover 1\nold-pid 0\n", Some(HandoverRefusal::Line(2))),
-    ("handover 1\nold-pid 100\ngeneration 2  2\n", Some(HandoverRefusal::Line(3))),
-    ("handover 1\nold-pid 100\ngeneration 2 2\nworkers 2\n", Some(HandoverRefusal::Line(4))),
+    (
+        "handover 1\nold-pid 100\ngeneration 2  2\n",
+        Some(HandoverRefusal::Line(3)),
+    ),
+    (
+        "handover 1\nold-pid 100\ngeneration 2 2\nworkers 2\n",
+        Some(HandoverRefusal::Line(4)),
+    ),
     (
         "handover 1\nold-pid 100\ngeneration 2 2\nlistener 3 0.0.0.0:8080\nwant 0.0.0.0:8080\nworkers 02\n",
         Some(HandoverRefusal::Line(6)),
@@ -78,7 +84,10 @@ const REFUSED: [(&str, Option<HandoverRefusal>); 12] = [
         "handover 1\nold-pid 1\ngeneration 0 0\nlistener 3 /a\nwant /b\nwant /b\n",
         Some(HandoverRefusal::Line(6)),
     ),
-    ("handover 1\nold-pid 1\ngeneration 0 0\nlistener 3 /a\nwant /b\nworkers 0\nend\n", None),
+    (
+        "handover 1\nold-pid 1\ngeneration 0 0\nlistener 3 /a\nwant /b\nworkers 0\nend\n",
+        None,
+    ),
     (
         "handover 1\nold-pid 1\ngeneration 0 0\nlistener 3 /a\nwant /b\nworkers 0\nend\n\n",
         Some(HandoverRefusal::Trailing),
@@ -95,6 +104,10 @@ fn a_handover_is_refused_by_its_first_faulty_line(rt: HostRuntime) {
         assert_eq!(rt; read(text.as_bytes()).err(), refusal, "{text}");
     }
     for end in 0..TEXT.len() {
-        assert_eq!(rt; read(&TEXT[..end]).err(), Some(HandoverRefusal::Cut), "cut at {end}");
+        assert_eq!(rt;
+            read(&TEXT[..end]).err(),
+            Some(HandoverRefusal::Cut),
+            "cut at {end}"
+        );
     }
 }

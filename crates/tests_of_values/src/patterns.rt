@@ -44,11 +44,23 @@ fn moments_are_kept_by_their_numbers(rt: HostRuntime) -> Result<(), Fail> {
 #[test]
 fn lines_are_read_as_they_are_written(rt: HostRuntime) -> Result<(), Fail> {
     for (line, text) in [
-        (PatternLine::Exit(1, Name::Worker(SECOND, 0)), "1 exit w1.2.0"),
-        (PatternLine::Exit(2, Name::Worker(SECOND, 1023)), "2 exit w1.2.1023"),
-        (PatternLine::Exit(12, Name::Draining(SECOND, 9)), "12 exit d1.2.9"),
+        (
+            PatternLine::Exit(1, Name::Worker(SECOND, 0)),
+            "1 exit w1.2.0",
+        ),
+        (
+            PatternLine::Exit(2, Name::Worker(SECOND, 1023)),
+            "2 exit w1.2.1023",
+        ),
+        (
+            PatternLine::Exit(12, Name::Draining(SECOND, 9)),
+            "12 exit d1.2.9",
+        ),
         (PatternLine::Exit(2, Name::Master(1)), "2 exit m1"),
-        (PatternLine::Fail(4_294_967_295, Fate::TooMany), "4294967295 fail too-many"),
+        (
+            PatternLine::Fail(4_294_967_295, Fate::TooMany),
+            "4294967295 fail too-many",
+        ),
         (PatternLine::Fail(3, Fate::NoImage), "3 fail no-image"),
         (PatternLine::Next, "next"),
     ] {
