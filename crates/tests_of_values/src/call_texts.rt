@@ -150,19 +150,14 @@ const OTHER_SETS: [&str; 14] = [
 
 #[test]
 fn other_calls_answers_and_sets_are_refused(rt: HostRuntime) {
+    let open = Call::OpenAt(Address::plain());
+    for text in ["opened 2", "opened 67", "ok", "counted 1"] {
+        assert!(rt; read_answer(&open, text.as_bytes()).is_none(), "{text}");
+    }
+    assert!(rt; read_answer(&Call::Adopt, b"gone").is_none());
+    assert!(rt; read_answer(&Call::Leave, b"ok ").is_none());
     for text in OTHER_CALLS {
         assert!(rt; read_call(text.as_bytes()).is_none(), "{text}");
-    }
-    let open = Call::OpenAt(Address::plain());
-    for (call, text) in [
-        (open, "opened 2"),
-        (open, "opened 67"),
-        (open, "ok"),
-        (open, "counted 1"),
-        (Call::Adopt, "gone"),
-        (Call::Leave, "ok "),
-    ] {
-        assert!(rt; read_answer(&call, text.as_bytes()).is_none(), "{text}");
     }
     for text in OTHER_SETS {
         assert!(rt; read_set(text.as_bytes()).is_none(), "{text}");
@@ -170,38 +165,47 @@ fn other_calls_answers_and_sets_are_refused(rt: HostRuntime) {
     assert!(rt; read_set(b"0-1023") == Some(Numbers::below(1024)));
 }
 
+/// What a report says, but for its ready workers, and its text.
+const REPORTS: [(Outcome, Option<u32>, PidNote, &str); 5] = [
+    (
+        Outcome::Done,
+        None,
+        PidNote::NoFile,
+        "done cause none pid no-file",
+    ),
+    (
+        Outcome::RolledBack,
+        Some(2),
+        PidNote::AtOldbin,
+        "rolled-back cause 2 pid at-oldbin",
+    ),
+    (
+        Outcome::Degraded {
+            side: Side::Target,
+            short: 3,
+        },
+        Some(9),
+        PidNote::OldbinLeft,
+        "degraded target 3 cause 9 pid oldbin-left",
+    ),
+    (
+        Outcome::Lost,
+        Some(1),
+        PidNote::Left,
+        "lost cause 1 pid left",
+    ),
+    (
+        Outcome::Done,
+        Some(0),
+        PidNote::InPlace,
+        "done cause 0 pid in-place",
+    ),
+];
+
 #[test]
 fn reports_are_read_as_they_are_written(rt: HostRuntime) -> Result<(), Fail> {
     let ready = set(&[1]);
-    let short = Outcome::Degraded {
-        side: Side::Target,
-        short: 3,
-    };
-    let rolled_back = "rolled-back cause 2 pid at-oldbin";
-    let degraded = "degraded target 3 cause 9 pid oldbin-left";
-    let reports = [
-        (
-            Outcome::Done,
-            None,
-            PidNote::NoFile,
-            "done cause none pid no-file",
-        ),
-        (Outcome::RolledBack, Some(2), PidNote::AtOldbin, rolled_back),
-        (short, Some(9), PidNote::OldbinLeft, degraded),
-        (
-            Outcome::Lost,
-            Some(1),
-            PidNote::Left,
-            "lost cause 1 pid left",
-        ),
-        (
-            Outcome::Done,
-            Some(0),
-            PidNote::InPlace,
-            "done cause 0 pid in-place",
-        ),
-    ];
-    for (outcome, cause, note, text) in reports {
+    for (outcome, cause, note, text) in REPORTS {
         let report = Report {
             outcome,
             cause,
