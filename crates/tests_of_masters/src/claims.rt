@@ -130,7 +130,8 @@ fn a_kernel_agrees_with_its_own_listeners_and_settled_workers(rt: HostRuntime) -
         ..so
     };
     kernel.call(Actor(1), &Call::Fork(FIRST, 2), &[], &quiet);
-    assert!(rt; are_denied(&kernel, &[so, more]));
+    assert!(rt; !agrees(&kernel, &so));
+    assert!(rt; !agrees(&kernel, &more));
     kernel.call(Actor(1), &Call::AwaitReady(FIRST, 2), &[], &quiet);
     assert!(rt; !agrees(&kernel, &so));
     assert!(rt; agrees(&kernel, &more));
