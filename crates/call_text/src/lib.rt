@@ -28,6 +28,3 @@ pub use reports::{write_entries, write_report};
 pub use sets::{read_set, write_set};
 pub use verbs::read_call;
 pub use words::{end_text, fate_text, note_text, reply_text, side_text};
-
-#[cfg(test)]
-mod tests;

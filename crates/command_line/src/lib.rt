@@ -91,6 +91,3 @@ fn shown_by<'a>(alloc: Global, error: &Error) -> Result<Request<'a>, Refusal>
         _ => Err(Refusal::Usage),
     }
 }
-
-#[cfg(test)]
-mod tests;

@@ -10,6 +10,3 @@ pub use asking::target_of;
 pub use reading::read;
 pub use refusal::WordRefusal;
 pub use words::Word;
-
-#[cfg(test)]
-mod tests;

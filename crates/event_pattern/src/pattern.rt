@@ -146,6 +146,3 @@ fn first_from(events: &[Event], n: u32) -> usize
 {
     events.partition_point(|event| event.number < n)
 }
-
-#[cfg(test)]
-mod tests;

@@ -14,6 +14,3 @@ pub use laws::handovers_have_one_text;
 pub use listeners::Listeners;
 pub use reading::read;
 pub use writing::write;
-
-#[cfg(test)]
-mod tests;

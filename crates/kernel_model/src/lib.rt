@@ -21,6 +21,3 @@ pub use process_table::{FileRow, Row};
 pub use readers::HoldRow;
 pub use running::Running;
 pub use service_counts::Service;
-
-#[cfg(test)]
-mod tests;

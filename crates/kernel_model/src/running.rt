@@ -201,6 +201,3 @@ impl Kernel {
         }
     }
 }
-
-#[cfg(test)]
-mod tests;

@@ -115,6 +115,3 @@ fn service_of(
     }
     Ok(service)
 }
-
-#[cfg(test)]
-mod tests;

@@ -6,6 +6,3 @@
 mod pattern_line;
 
 pub use pattern_line::PatternLine;
-
-#[cfg(test)]
-mod tests;

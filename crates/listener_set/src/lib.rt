@@ -18,6 +18,3 @@ pub use generation::Generation;
 pub use listeners::{ListenerRefusal, ListenerSet, MOST_LISTENERS};
 pub use number_text::{read_number, read_number64};
 pub use numbers::{Members, Numbers, WORKER_LIMIT};
-
-#[cfg(test)]
-mod tests;

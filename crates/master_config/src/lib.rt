@@ -15,6 +15,3 @@ mod values;
 pub use config::{Config, read};
 pub use key::Key;
 pub use refusal::ConfigRefusal;
-
-#[cfg(test)]
-mod tests;

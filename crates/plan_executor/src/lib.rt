@@ -17,6 +17,3 @@ pub use enactment::{EnactRefusal, Enacted, enact};
 pub use execution::execute;
 pub use transcript::Transcript;
 pub use words::run_words;
-
-#[cfg(test)]
-mod tests;

@@ -15,6 +15,3 @@ pub use going_on::add_starts_any;
 pub use listening::{add_closes, add_opens};
 pub use signals::{add_kills, add_quits, add_usr1s};
 pub use starting::add_starts;
-
-#[cfg(test)]
-mod tests;

@@ -7,6 +7,3 @@ mod plans;
 
 pub use graph::write_graph;
 pub use plans::write_plan;
-
-#[cfg(test)]
-mod tests;

@@ -19,6 +19,3 @@ pub use reopening::plan_reopen;
 pub use scene::Scene;
 pub use stopping::plan_stop;
 pub use workers::plan_workers;
-
-#[cfg(test)]
-mod tests;

@@ -24,6 +24,3 @@ pub use plan::Plan;
 pub use replies::{plain_reply, reply_to};
 pub use settling::{Undone, WaysBack};
 pub use step::{Edge, Next, Place, Step};
-
-#[cfg(test)]
-mod tests;

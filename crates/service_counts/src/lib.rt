@@ -8,6 +8,3 @@ mod service;
 
 pub use counts::{Count, count_of, set_count};
 pub use service::{Served, Service};
-
-#[cfg(test)]
-mod tests;

@@ -8,6 +8,3 @@ mod setup;
 pub use handover_text::Listeners;
 pub use record::Record;
 pub use vocabulary::{Outcome, PidNote, Report, Settings, Side, Target};
-
-#[cfg(test)]
-mod tests;

@@ -8,6 +8,3 @@ mod refusal;
 pub use block::write_transcript;
 pub use patterns::read_patterns;
 pub use refusal::TextRefusal;
-
-#[cfg(test)]
-mod tests;

@@ -6,6 +6,3 @@ mod workers;
 
 pub use refusal::TableRefusal;
 pub use workers::WorkerTable;
-
-#[cfg(test)]
-mod tests;

@@ -1,0 +1,156 @@
+//! Claims of masters that are true of a kernel, and such as are not.
+use kernel_model::{Kernel, Moment, Running};
+use listener_set::{Address, FilePath, Generation, ListenerSet, Numbers};
+use service_state::Record;
+use std::alloc::Global;
+use std::test::Fail;
+use vocabulary::{Actor, Call, Limits, Listener, PidNote, Settings};
+
+const FIRST: Generation = Generation {
+    image: 1,
+    config: 1,
+};
+
+const LIMITS: Limits = Limits {
+    processes: 16,
+    descriptors: 64,
+};
+
+fn started(alloc: Global, listeners: &[Listener], path: FilePath) -> Result<Kernel, Fail> {
+    let mut addresses = ListenerSet::new();
+    for listener in listeners {
+        addresses.add(&listener.address)?;
+    }
+    Ok(Kernel::boot(alloc, &addresses, 2, Some(path), LIMITS)?)
+}
+
+/// What a master with two workers says as it starts.
+fn first<'a>(listeners: &'a [Listener], path: FilePath) -> Running<'a> {
+    Running {
+        listeners,
+        generation: FIRST,
+        ready: Numbers::below(2),
+        pid_path: Some(path),
+        note: PidNote::InPlace,
+        pid: 100,
+    }
+}
+
+fn listener(descriptor: u32, text: &[u8]) -> Result<Listener, Fail> {
+    Ok(Listener {
+        descriptor,
+        address: Address::read(text)?,
+    })
+}
+
+/// Whether they agree, where the path leaves room for the suffix.
+fn agrees(kernel: &Kernel, claim: &Running<'_>) -> bool {
+    match &claim.pid_path {
+        Some(path) if path.bytes().len() > 100 => false,
+        _ => kernel.agrees_with(claim),
+    }
+}
+
+/// Whether no claim is true of the kernel.
+fn are_denied(kernel: &Kernel, claims: &[Running<'_>]) -> bool {
+    claims.iter().all(|claim| !agrees(kernel, claim))
+}
+
+/// The listeners of the master that is started.
+fn both() -> Result<[Listener; 2], Fail> {
+    Ok([listener(3, b"127.0.0.1:80")?, listener(4, b"/run/app")?])
+}
+
+#[test]
+fn a_kernel_agrees_with_its_start_and_no_other_workers_or_files(
+    rt: HostRuntime,
+) -> Result<(), Fail> {
+    let path = FilePath::read(b"/run/app.pid")?;
+    let listeners = both()?;
+    let kernel = started(rt.alloc(), &listeners, path)?;
+    let so = first(&listeners, path);
+    let fileless = Running {
+        note: PidNote::NoFile,
+        pid_path: None,
+        ..so
+    };
+    assert!(rt; agrees(&kernel, &so));
+    assert!(rt; agrees(&kernel, &fileless));
+    let image = Generation {
+        image: 2,
+        config: 1,
+    };
+    let config = Generation {
+        image: 1,
+        config: 2,
+    };
+    let ready = |ready| Running { ready, ..so };
+    let of = |generation| Running { generation, ..so };
+    let note = |note| Running { note, ..so };
+    let at = |pid_path| Running { pid_path, ..so };
+    let wrong = [
+        ready(Numbers::below(1)),
+        ready(Numbers::below(3)),
+        of(image),
+        of(config),
+        Running { pid: 101, ..so },
+        note(PidNote::AtOldbin),
+        note(PidNote::OldbinLeft),
+        note(PidNote::Left),
+        note(PidNote::NoFile),
+        at(None),
+        at(Some(path.oldbin())),
+    ];
+    assert!(rt; are_denied(&kernel, &wrong));
+    Ok(())
+}
+
+#[test]
+fn a_kernel_agrees_with_its_own_listeners_and_settled_workers(rt: HostRuntime) -> Result<(), Fail> {
+    let path = FilePath::read(b"/run/app.pid")?;
+    let listeners = both()?;
+    let mut kernel = started(rt.alloc(), &listeners, path)?;
+    let elsewhere = [listener(3, b"127.0.0.1:80")?, listener(5, b"/run/app")?];
+    let swapped = [listener(3, b"/run/app")?, listener(4, b"127.0.0.1:80")?];
+    let wrong = [
+        first(&listeners[..1], path),
+        first(&elsewhere, path),
+        first(&swapped, path),
+    ];
+    assert!(rt; are_denied(&kernel, &wrong));
+
+    kernel.reserve(2)?;
+    let quiet = Moment {
+        exits: &[],
+        fate: None,
+    };
+    let so = first(&listeners, path);
+    let more = Running {
+        ready: Numbers::below(3),
+        ..so
+    };
+    kernel.call(Actor(1), &Call::Fork(FIRST, 2), &[], &quiet);
+    assert!(rt; !agrees(&kernel, &so));
+    assert!(rt; !agrees(&kernel, &more));
+    kernel.call(Actor(1), &Call::AwaitReady(FIRST, 2), &[], &quiet);
+    assert!(rt; !agrees(&kernel, &so));
+    assert!(rt; agrees(&kernel, &more));
+    Ok(())
+}
+
+#[test]
+fn a_record_agrees_with_a_kernel_that_was_started_so(rt: HostRuntime) -> Result<(), Fail> {
+    let mut settings = Settings::plain();
+    settings.listeners.add(&Address::read(b"0.0.0.0:9090")?)?;
+    settings.pid = Some(FilePath::read(b"/run/a.pid")?);
+    let kernel = Kernel::boot(rt.alloc(), &settings.listeners, 2, settings.pid, LIMITS)?;
+    let started = |ready, pid| Record::start(&settings, 2, &Numbers::below(ready), pid);
+    assert!(rt; started(2, 100).agrees(&kernel));
+    assert!(rt; !started(1, 100).agrees(&kernel));
+    assert!(rt; !started(2, 101).agrees(&kernel));
+    let one = Record::start(&Settings::plain(), 2, &Numbers::below(2), 100);
+    assert!(rt; !one.agrees(&kernel));
+    let bare = Kernel::boot(rt.alloc(), &settings.listeners, 2, None, LIMITS)?;
+    assert!(rt; !started(2, 100).agrees(&bare));
+    Ok(())
+}

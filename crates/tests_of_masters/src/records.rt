@@ -1,0 +1,125 @@
+//! What a master knows of itself after plans.
+use listener_set::{Address, FilePath, ListenerSet, Numbers};
+use service_state::{Listeners, Record};
+use std::test::Fail;
+use vocabulary::{Outcome, PidNote, Report, Settings, Target};
+
+/// The settings with these addresses, a pid file, two workers, and values of their own for the rest.
+fn settings(addresses: &[&str]) -> Result<Settings, Fail> {
+    let mut listeners = ListenerSet::new();
+    for address in addresses {
+        listeners.add(&Address::read(address.as_bytes())?)?;
+    }
+    let mut settings = Settings::plain();
+    if listeners.len() >= 1 {
+        settings.listeners = listeners;
+    }
+    settings.pid = Some(FilePath::read(b"/run/a.pid")?);
+    settings.workers = 2;
+    settings.retries = 5;
+    settings.timeout = 7;
+    Ok(settings)
+}
+
+/// A running master with that many workers.
+fn running(addresses: &[&str]) -> Result<Record, Fail> {
+    Ok(Record::start(&settings(addresses)?, 2, &Numbers::below(2), 100))
+}
+
+fn report(outcome: Outcome, ready: u32) -> Report {
+    Report {
+        outcome,
+        cause: None,
+        note: PidNote::AtOldbin,
+        ready: Numbers::below(ready.min(1024)),
+    }
+}
+
+/// Descriptors and addresses, as a table shows them.
+fn is_listening(listeners: &Listeners, expected: &[(u32, &str)]) -> bool {
+    listeners.len() == expected.len()
+        && listeners.as_slice().iter().zip(expected).all(|(listener, (descriptor, address))| {
+            listener.descriptor == *descriptor && listener.address.bytes() == address.as_bytes()
+        })
+}
+
+#[test]
+fn a_reload_opens_first_and_closes_at_its_end(rt: HostRuntime) -> Result<(), Fail> {
+    let only_9090 = settings(&["0.0.0.0:9090"])?;
+    let first = running(&["0.0.0.0:8080"])?
+        .after(&Target::Reload(only_9090), &report(Outcome::Done, 2), 100)
+        .ok_or("no record")?;
+    assert!(rt; is_listening(&first.listeners, &[(4, "0.0.0.0:9090")]));
+    assert_eq!(rt; first.generation.image, 1);
+    assert_eq!(rt; first.generation.config, 2);
+    let both = settings(&["0.0.0.0:7070", "0.0.0.0:9090", "0.0.0.0:6060"])?;
+    let second = first
+        .after(&Target::Reload(both), &report(Outcome::Done, 2), 100)
+        .ok_or("no record")?;
+    let expected = [
+        (3, "0.0.0.0:7070"),
+        (4, "0.0.0.0:9090"),
+        (5, "0.0.0.0:6060"),
+    ];
+    assert!(rt; is_listening(&second.listeners, &expected));
+    assert_eq!(rt; second.generation.config, 3);
+    Ok(())
+}
+
+#[test]
+fn an_upgrade_closes_first_and_then_opens(rt: HostRuntime) -> Result<(), Fail> {
+    let target = Target::Upgrade(settings(&["0.0.0.0:9090", "0.0.0.0:7070"])?);
+    let start = running(&["0.0.0.0:8080", "0.0.0.0:7070"])?;
+    assert_eq!(rt; start.listeners.addresses().len(), 2);
+    assert_eq!(rt; start.listeners.get(1).ok_or("one")?.descriptor, 4);
+    assert!(rt; start.listeners.get(2).is_none());
+    let record = start
+        .after(&target, &report(Outcome::Done, 2), 102)
+        .ok_or("no record")?;
+    assert!(rt;
+        is_listening(
+            &record.listeners,
+            &[(3, "0.0.0.0:9090"), (4, "0.0.0.0:7070")]
+        )
+    );
+    assert_eq!(rt; record.generation.image, 2);
+    assert_eq!(rt; record.generation.config, 2);
+    assert_eq!(rt; record.retries, 5);
+    assert_eq!(rt; record.timeout, 7);
+    assert_eq!(rt; record.pid, 102);
+    assert!(rt; record.note == PidNote::AtOldbin);
+    Ok(())
+}
+
+#[test]
+fn other_counts_are_wanted_after_their_word_alone(rt: HostRuntime) -> Result<(), Fail> {
+    let record = running(&["0.0.0.0:8080"])?;
+    let wanted = |target, outcome, ready| match record.after(
+        &target,
+        &report(outcome, ready),
+        100,
+    ) {
+        None => None,
+        Some(after) => Some(after.wanted),
+    };
+    assert_eq!(rt; wanted(Target::Workers(3), Outcome::Done, 3), Some(3));
+    assert_eq!(rt; wanted(Target::Workers(3), Outcome::RolledBack, 2), Some(2));
+    assert_eq!(rt; wanted(Target::Workers(1), Outcome::Done, 2), None);
+    assert_eq!(rt; wanted(Target::Workers(1025), Outcome::Done, 2), None);
+    assert_eq!(rt;
+        wanted(Target::Mend(Numbers::none()), Outcome::Done, 2),
+        Some(2)
+    );
+    assert_eq!(rt; wanted(Target::Reopen, Outcome::Done, 2), Some(2));
+    assert_eq!(rt; wanted(Target::Reopen, Outcome::Lost, 2), None);
+    assert_eq!(rt;
+        wanted(Target::Stop { quick: false }, Outcome::Done, 0),
+        None
+    );
+    assert!(rt;
+        record
+            .after(&Target::Reopen, &report(Outcome::Done, 2), 0)
+            .is_none()
+    );
+    Ok(())
+}

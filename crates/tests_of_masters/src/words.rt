@@ -1,0 +1,118 @@
+//! Words without a master or a configuration, the table of workers, and what is printed of refusals.
+use control_words::{Word, WordRefusal};
+use kernel_model::Kernel;
+use listener_set::Numbers;
+use plan_executor::{Body, CodeText, EnactRefusal, run_words};
+use reload_planner::PlanRefusal;
+use service_state::Record;
+use std::alloc::Global;
+use std::test::Fail;
+use vocabulary::{Limits, Settings};
+use worker_table::{TableRefusal, WorkerTable};
+
+/// The body of a word's block, where no next settings are at hand.
+fn body_of(alloc: Global, state: Option<Record>, word: Word) -> Result<Body, Fail> {
+    let settings = Settings::plain();
+    let limits = Limits {
+        processes: 65_535,
+        descriptors: 64,
+    };
+    let mut kernel = Kernel::boot(alloc, &settings.listeners, 2, settings.pid, limits)?;
+    let mut state = state;
+    let mut workers = WorkerTable::new(alloc)?;
+    let mut blocks = Vec::new(alloc);
+    run_words(
+        alloc,
+        &mut kernel,
+        &mut state,
+        &mut workers,
+        &[word],
+        &[],
+        None,
+        &mut blocks,
+    )?;
+    Ok(blocks.pop().ok_or("no block")?.body)
+}
+
+/// Whether a word was refused with this code.
+fn is_refused(body: &Body, wanted: &str) -> bool {
+    match body {
+        Body::Refused(code) => code.as_str() == wanted,
+        _ => false,
+    }
+}
+
+#[test]
+fn words_lack_a_master_or_a_configuration(rt: HostRuntime) -> Result<(), Fail> {
+    let state = Record::start(&Settings::plain(), 2, &Numbers::below(2), 100);
+    for word in [Word::Hup, Word::Usr2] {
+        let body = body_of(rt.alloc(), Some(state), word)?;
+        assert!(rt; is_refused(&body, "W4"), "{word}");
+        let body = body_of(rt.alloc(), None, word)?;
+        assert!(rt; is_refused(&body, "V1"), "{word}");
+    }
+    Ok(())
+}
+
+#[test]
+fn a_table_takes_each_number_once(rt: HostRuntime) -> Result<(), Fail> {
+    let mut table = WorkerTable::new(rt.alloc())?;
+    for nr in 0..1024 {
+        assert!(rt; table.lowest_missing(1024) == Some(nr));
+        assert!(rt; table.add(nr) == Ok(()), "at {nr}");
+    }
+    assert!(rt; table.lowest_missing(2000) == Some(1024));
+    assert!(rt; table.lowest_missing(1024) == None);
+    assert!(rt; table.add(1024) == Err(TableRefusal::TooHigh));
+    assert!(rt; table.add(5) == Err(TableRefusal::Taken));
+    assert!(rt; table.remove(5) == Ok(()));
+    assert!(rt; table.remove(5) == Err(TableRefusal::NoSuch));
+    assert!(rt; table.lowest_missing(1024) == Some(5));
+    assert!(rt; table.lowest_missing(5) == None);
+    assert!(rt; table.add(5) == Ok(()));
+    Ok(())
+}
+
+/// Whether a refusal prints this, and its code is the same.
+fn is_printed(alloc: Global, refusal: EnactRefusal, text: &str) -> Result<bool, Fail> {
+    let printed = format!(in alloc; "{refusal}")?;
+    Ok(CodeText::from(refusal).as_str() == text && printed.as_str() == text)
+}
+
+#[test]
+fn refusals_are_printed_as_their_codes(rt: HostRuntime) -> Result<(), Fail> {
+    for (refusal, text) in [
+        (EnactRefusal::Memory, "E1"),
+        (EnactRefusal::RecordDisagrees, "E2"),
+        (EnactRefusal::Plan(PlanRefusal::TooLarge), "E3 P1"),
+        (EnactRefusal::Plan(PlanRefusal::Unplanned), "E3 P2"),
+        (EnactRefusal::Plan(PlanRefusal::NoGeneration), "E3 P3"),
+        (EnactRefusal::Plan(PlanRefusal::Memory), "E3 out of memory"),
+        (EnactRefusal::MasterNamed(4_294_967_295), "E4 4294967295"),
+        (EnactRefusal::NoNumbers, "E5"),
+    ] {
+        assert!(rt; is_printed(rt.alloc(), refusal, text)?, "{text}");
+    }
+    for (refusal, code) in [
+        (WordRefusal::Unknown, "W1"),
+        (WordRefusal::BadNumber, "W2"),
+        (WordRefusal::AtMost, "W3"),
+        (WordRefusal::NoConfig, "W4"),
+        (WordRefusal::PidChanged, "W5"),
+    ] {
+        let text = format!(in rt.alloc(); "{refusal}")?;
+        assert_eq!(rt; (text.as_str(), refusal.code()), (code, code));
+    }
+    assert_eq!(rt; CodeText::from(WordRefusal::AtMost).as_str(), "W3");
+    for (refusal, code) in [
+        (TableRefusal::Taken, "T1"),
+        (TableRefusal::TooHigh, "T2"),
+        (TableRefusal::NoSuch, "T3"),
+        (TableRefusal::Backwards, "T4"),
+    ] {
+        assert_eq!(rt; refusal.code(), code);
+        let text = refusal.to_string(rt.alloc())?;
+        assert!(rt; text.as_str().starts_with(code), "at {code}");
+    }
+    Ok(())
+}

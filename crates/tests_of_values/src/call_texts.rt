@@ -1,0 +1,226 @@
+//! Calls, answers and reports that are written, read back, or refused.
+use call_text::{
+    read_answer, read_call, read_report, read_set, write_answer, write_call, write_report,
+};
+use listener_set::{Address, FilePath, Generation, Numbers};
+use std::alloc::Global;
+use std::test::Fail;
+use vocabulary::{Actor, Answer, Call, Outcome, PidNote, Report, Side};
+
+const FIRST: Generation = Generation {
+    image: 1,
+    config: 1,
+};
+
+/// The set of these numbers.
+fn set(numbers: &[u32]) -> Numbers {
+    let mut set = Numbers::none();
+    for number in numbers {
+        set.add(*number % 1024);
+    }
+    set
+}
+
+/// Whether a call is written so, and read back.
+fn is_call(alloc: Global, call: Call, text: &str) -> Result<bool, Fail> {
+    let mut out = Vec::new(alloc);
+    write_call(&mut out, Actor(7), &call)?;
+    let read = read_call(text.as_bytes()) == Some((Actor(7), call));
+    Ok(read && out.as_slice() == text.as_bytes())
+}
+
+/// Whether an answer to a call is written so, and read back.
+fn is_answer(alloc: Global, call: Call, answer: Answer, text: &str) -> Result<bool, Fail> {
+    let mut out = Vec::new(alloc);
+    write_answer(&mut out, &answer)?;
+    let read = read_answer(&call, text.as_bytes()) == Some(answer);
+    Ok(read && out.as_slice() == text.as_bytes())
+}
+
+#[test]
+fn calls_are_read_as_they_are_written(rt: HostRuntime) -> Result<(), Fail> {
+    let address = Address::read(b"0.0.0.0:8080")?;
+    let path = FilePath::read(b"/run/a.pid")?;
+    let far = Generation {
+        image: 4_294_967_295,
+        config: 0,
+    };
+    let texts = [
+        (Call::OpenAt(address), "m7 open 0.0.0.0:8080"),
+        (Call::CloseAt(address), "m7 close 0.0.0.0:8080"),
+        (Call::Fork(FIRST, 2), "m7 fork 1.1 2"),
+        (
+            Call::AwaitReady(far, 1023),
+            "m7 await-ready 4294967295.0 1023",
+        ),
+        (Call::Quit(FIRST, 0), "m7 quit 1.1 0"),
+        (Call::Kill(FIRST, 0), "m7 kill 1.1 0"),
+        (Call::Census(FIRST), "m7 census 1.1"),
+        (Call::AwaitGone(FIRST, 0), "m7 await-gone 1.1 0"),
+        (Call::SpawnMaster(2), "m7 spawn-master 2"),
+        (Call::Adopt, "m7 adopt"),
+        (Call::WritePid(path), "m7 write-pid /run/a.pid"),
+        (
+            Call::MovePid(path, path.oldbin()),
+            "m7 move-pid /run/a.pid /run/a.pid.oldbin",
+        ),
+        (Call::RemovePid(path), "m7 remove-pid /run/a.pid"),
+        (Call::Alive(2), "m7 alive 2"),
+        (Call::Leave, "m7 leave"),
+        (Call::Usr1(FIRST, 0), "m7 usr1 1.1 0"),
+        (Call::TermMaster(2), "m7 term-master 2"),
+    ];
+    for (call, text) in texts {
+        assert!(rt; is_call(rt.alloc(), call, text)?, "{text}");
+    }
+    Ok(())
+}
+
+#[test]
+fn answers_are_read_as_they_are_written(rt: HostRuntime) -> Result<(), Fail> {
+    let open = Call::OpenAt(Address::plain());
+    let census = Call::Census(FIRST);
+    let spawn = Call::SpawnMaster(2);
+    let texts = [
+        (open, Answer::Opened(66), "opened 66"),
+        (open, Answer::InUse, "in-use"),
+        (open, Answer::TooMany, "too-many"),
+        (open, Answer::Denied, "denied"),
+        (open, Answer::NoMemory, "no-memory"),
+        (Call::Leave, Answer::Fine, "ok"),
+        (Call::Fork(FIRST, 0), Answer::Forked, "forked"),
+        (Call::Fork(FIRST, 0), Answer::Again, "again"),
+        (Call::AwaitReady(FIRST, 0), Answer::IsReady, "ready"),
+        (Call::AwaitGone(FIRST, 0), Answer::Gone, "gone"),
+        (Call::AwaitGone(FIRST, 0), Answer::Late, "late"),
+        (census, Answer::Counted(set(&[])), "counted none"),
+        (census, Answer::Counted(set(&[5])), "counted 5"),
+        (
+            census,
+            Answer::Counted(set(&[0, 1, 2, 5, 7, 8, 1023])),
+            "counted 0-2,5,7-8,1023",
+        ),
+        (spawn, Answer::Spawned, "spawned"),
+        (spawn, Answer::NoImage, "no-image"),
+        (Call::Adopt, Answer::Adopted, "adopted"),
+        (Call::Adopt, Answer::Refused, "refused"),
+        (
+            Call::RemovePid(FilePath::read(b"/a")?),
+            Answer::IoFault,
+            "io-fault",
+        ),
+        (Call::Alive(2), Answer::IsAlive, "alive"),
+        (Call::Alive(2), Answer::MasterGone, "master-gone"),
+    ];
+    for (call, answer, text) in texts {
+        assert!(rt; is_answer(rt.alloc(), call, answer, text)?, "{text}");
+    }
+    Ok(())
+}
+
+const OTHER_CALLS: [&str; 22] = [
+    "",
+    "m1",
+    "adopt",
+    "m1 ",
+    "m1 adopt ",
+    "m1 adopt 1",
+    "M1 adopt",
+    "m01 adopt",
+    "m4294967296 adopt",
+    "m1  adopt",
+    "m1 fork 1.1",
+    "m1 fork 1.1 1024",
+    "m1 fork 1.1 missing",
+    "m1 fork 1 1",
+    "m1 fork 1.1.1 1",
+    "m1 census 1.1 set 0",
+    "m1 open 0.0.0.0",
+    "m1 open",
+    "m1 alive -1",
+    "m1 move-pid /a",
+    "m1 move-pid /a /b /c",
+    "m1 remove-pid a",
+];
+
+const OTHER_SETS: [&str; 14] = [
+    "", "none,1", "1,2", "0-0", "2-1", "1-3,4", "5,3", "1-1024", "1,", ",1", "01", "1,1", "1-2-3",
+    "0-2, 5",
+];
+
+#[test]
+fn other_calls_answers_and_sets_are_refused(rt: HostRuntime) {
+    let open = Call::OpenAt(Address::plain());
+    for text in ["opened 2", "opened 67", "ok", "counted 1"] {
+        assert!(rt; read_answer(&open, text.as_bytes()).is_none(), "{text}");
+    }
+    assert!(rt; read_answer(&Call::Adopt, b"gone").is_none());
+    assert!(rt; read_answer(&Call::Leave, b"ok ").is_none());
+    for text in OTHER_CALLS {
+        assert!(rt; read_call(text.as_bytes()).is_none(), "{text}");
+    }
+    for text in OTHER_SETS {
+        assert!(rt; read_set(text.as_bytes()).is_none(), "{text}");
+    }
+    assert!(rt; read_set(b"0-1023") == Some(Numbers::below(1024)));
+}
+
+/// What a report says, but for its ready workers, and its text.
+const REPORTS: [(Outcome, Option<u32>, PidNote, &str); 5] = [
+    (
+        Outcome::Done,
+        None,
+        PidNote::NoFile,
+        "done cause none pid no-file",
+    ),
+    (
+        Outcome::RolledBack,
+        Some(2),
+        PidNote::AtOldbin,
+        "rolled-back cause 2 pid at-oldbin",
+    ),
+    (
+        Outcome::Degraded {
+            side: Side::Target,
+            short: 3,
+        },
+        Some(9),
+        PidNote::OldbinLeft,
+        "degraded target 3 cause 9 pid oldbin-left",
+    ),
+    (
+        Outcome::Lost,
+        Some(1),
+        PidNote::Left,
+        "lost cause 1 pid left",
+    ),
+    (
+        Outcome::Done,
+        Some(0),
+        PidNote::InPlace,
+        "done cause 0 pid in-place",
+    ),
+];
+
+#[test]
+fn reports_are_read_as_they_are_written(rt: HostRuntime) -> Result<(), Fail> {
+    let ready = set(&[1]);
+    for (outcome, cause, note, text) in REPORTS {
+        let report = Report {
+            outcome,
+            cause,
+            note,
+            ready,
+        };
+        let mut out = Vec::new(rt.alloc());
+        write_report(&mut out, &report)?;
+        assert!(rt; out.as_slice() == text.as_bytes(), "{text}");
+        assert!(rt;
+            read_report(text.as_bytes(), &ready) == Some(report),
+            "{text}"
+        );
+    }
+    assert!(rt; read_report(b"degraded old 0 cause 1 pid left", &ready).is_none());
+    assert!(rt; read_report(b"done cause none", &ready).is_none());
+    Ok(())
+}

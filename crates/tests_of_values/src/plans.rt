@@ -1,0 +1,172 @@
+//! Plans that are drawn up by hand, as they are numbered, written and drawn.
+use listener_set::{Generation, Numbers};
+use plan_text::{write_graph, write_plan};
+use rollback_plan::{Draft, DraftRefusal, Edge, MOST_STEPS, Next, Plan};
+use std::alloc::Global;
+use std::test::Fail;
+use vocabulary::{Actor, Call, End, Order, PidNote, Reply, Side};
+
+const FIRST: Generation = Generation {
+    image: 1,
+    config: 1,
+};
+
+/// One worker more: a fork, the wait for it, and the count at the end.
+fn one_worker_more(alloc: Global) -> Result<Plan, Fail> {
+    let mut draft = Draft::new(alloc);
+    let by = Actor(1);
+    let counted = draft.add(
+        by,
+        Order::Make(Call::Census(FIRST)),
+        &Numbers::below(3),
+        &[
+            Edge::over(&[Reply::Full], End::Done),
+            Edge::over(&[Reply::Short], End::ShortTarget),
+        ],
+    )?;
+    let waited = draft.add(
+        by,
+        Order::Make(Call::AwaitReady(FIRST, 2)),
+        &Numbers::none(),
+        &[
+            Edge::over(&[Reply::Late, Reply::Gone], End::ShortOld),
+            Edge::to(&[Reply::IsReady], counted),
+        ],
+    )?;
+    let forked = draft.add(
+        by,
+        Order::Make(Call::Fork(FIRST, 2)),
+        &Numbers::none(),
+        &[
+            Edge::over(&[Reply::NoMemory], End::RolledBack),
+            Edge::to(&[Reply::Forked], waited),
+            Edge::over(&[Reply::Again], End::RolledBack),
+        ],
+    )?;
+    Ok(draft.finish(forked, PidNote::NoFile, Vec::new(alloc))?)
+}
+
+/// A count, and where it is short a kill of the missing worker, which sets the pid note.
+fn a_settle(alloc: Global) -> Result<Plan, Fail> {
+    let mut draft = Draft::new(alloc);
+    let edges = [
+        Edge {
+            replies: &[Reply::Fine, Reply::MasterGone],
+            note: Some(PidNote::Left),
+            next: Next::Over(End::Done),
+        },
+        Edge::over(&[Reply::IoFault], End::Done),
+    ];
+    let order = Order::KillLacking(FIRST);
+    let killed = draft.add(Actor(2), order, &Numbers::none(), &edges)?;
+    let counted = draft.add(
+        Actor(2),
+        Order::Make(Call::Census(FIRST)),
+        &Numbers::none(),
+        &[
+            Edge::over(&[Reply::Full], End::Done),
+            Edge::to(&[Reply::Short], killed),
+        ],
+    )?;
+    Ok(draft.finish(counted, PidNote::InPlace, Vec::new(alloc))?)
+}
+
+/// A fork whose worker quits again, a count that two paths lead to, and one that none leads to.
+fn two_ways(alloc: Global) -> Result<Plan, Fail> {
+    let none = Numbers::none();
+    let mut draft = Draft::new(alloc);
+    let end = draft.settle(Actor(1), FIRST, &none, Side::Old, 0)?;
+    let _unused = draft.settle(Actor(1), FIRST, &none, Side::Target, 0)?;
+    let quit = draft.call(Actor(1), Call::Quit(FIRST, 7), end)?;
+    let first = draft.add(
+        Actor(1),
+        Order::Make(Call::Fork(FIRST, 7)),
+        &none,
+        &[
+            Edge::to(&[Reply::Again, Reply::NoMemory], end),
+            Edge::to(&[Reply::Forked], quit),
+        ],
+    )?;
+    Ok(draft.finish(first, PidNote::InPlace, Vec::new(alloc))?)
+}
+
+/// Replies that lead to one place are joined, in the order of the table of calls.
+const ONE_WORKER_MORE: &[u8] = b"plan steps 3 longest 3\n\
+    1 m1 fork 1.1 2 | forked 2 | again no-memory rolled-back\n\
+    2 m1 await-ready 1.1 2 | ready 3 | gone late degraded-old\n\
+    3 m1 census 1.1 set 0-2 | full done | short degraded-target\n";
+
+/// The steps of a settle name no number, and an edge that sets the pid note says so.
+const A_SETTLE: &[u8] = b"plan steps 2 longest 2\n\
+    1 m2 census 1.1 set none | full done | short 2\n\
+    2 m2 kill 1.1 missing | ok master-gone done pid left\n";
+
+/// A step that two paths lead to stands after both, and one that no path leads to is not there.
+const TWO_WAYS: &[u8] = b"plan steps 3 longest 3\n\
+    1 m1 fork 1.1 7 | forked 2 | again no-memory 3\n\
+    2 m1 quit 1.1 7 | ok 3\n\
+    3 m1 census 1.1 set none | full rolled-back | short degraded-old\n";
+
+#[test]
+fn plans_are_numbered_and_written(rt: HostRuntime) -> Result<(), Fail> {
+    let more = one_worker_more(rt.alloc())?;
+    assert!(rt; write_plan(rt.alloc(), &more)?.as_slice() == ONE_WORKER_MORE);
+    let settle = a_settle(rt.alloc())?;
+    assert!(rt; write_plan(rt.alloc(), &settle)?.as_slice() == A_SETTLE);
+    let ways = two_ways(rt.alloc())?;
+    assert!(rt; write_plan(rt.alloc(), &ways)?.as_slice() == TWO_WAYS);
+    Ok(())
+}
+
+const MORE_DRAWN: &[u8] = b"digraph plan {\n\
+    \x20 node [fontname=monospace];\n\
+    \x20 edge [fontname=monospace];\n\
+    \x20 1 [shape=box, label=\"1 m1 fork 1.1 2\"];\n\
+    \x20 1 -> \"2\" [label=\"forked\\l\", weight=9, style=bold];\n\
+    \x20 1 -> \"rolled-back\" [label=\"again\\lno-memory\\l\"];\n\
+    \x20 2 [shape=box, label=\"2 m1 await-ready 1.1 2\"];\n\
+    \x20 2 -> \"3\" [label=\"ready\\l\", weight=9, style=bold];\n\
+    \x20 2 -> \"degraded-old\" [label=\"gone\\llate\\l\"];\n\
+    \x20 3 [shape=box, label=\"3 m1 census 1.1 set 0-2\"];\n\
+    \x20 3 -> \"done\" [label=\"full\\l\", weight=9, style=bold];\n\
+    \x20 3 -> \"degraded-target\" [label=\"short\\l\"];\n\
+    }\n";
+
+const SETTLE_DRAWN: &[u8] = b"digraph plan {\n\
+    \x20 node [fontname=monospace];\n\
+    \x20 edge [fontname=monospace];\n\
+    \x20 1 [shape=box, label=\"1 m2 census 1.1 set none\"];\n\
+    \x20 1 -> \"done\" [label=\"full\\l\", weight=9, style=bold];\n\
+    \x20 1 -> \"2\" [label=\"short\\l\"];\n\
+    \x20 2 [shape=box, label=\"2 m2 kill 1.1 missing\"];\n\
+    \x20 2 -> \"done\" [label=\"ok\\lmaster-gone\\lpid left\\l\", weight=9, style=bold];\n\
+    }\n";
+
+#[test]
+fn plans_are_drawn_with_a_box_for_each_step(rt: HostRuntime) -> Result<(), Fail> {
+    let more = one_worker_more(rt.alloc())?;
+    assert!(rt; write_graph(rt.alloc(), &more)?.as_slice() == MORE_DRAWN);
+    let settle = a_settle(rt.alloc())?;
+    assert!(rt; write_graph(rt.alloc(), &settle)?.as_slice() == SETTLE_DRAWN);
+    Ok(())
+}
+
+/// A settle that doesn't fit adds nothing, and no step fits into a full draft.
+#[test]
+fn a_full_draft_stays_as_it_is(rt: HostRuntime) -> Result<(), Fail> {
+    let mut draft = Draft::new(rt.alloc());
+    let set = Numbers::none();
+    for _step in 0..MOST_STEPS - 4 {
+        draft.settle(Actor(1), FIRST, &set, Side::Old, 0)?;
+    }
+    let refused = draft.settle(Actor(1), FIRST, &set, Side::Old, 1).err();
+    assert_eq!(rt; refused, Some(DraftRefusal::TooLarge));
+    assert_eq!(rt; draft.len(), MOST_STEPS - 4);
+    for _step in 0..4 {
+        draft.settle(Actor(1), FIRST, &set, Side::Old, 0)?;
+    }
+    let refused = draft.settle(Actor(1), FIRST, &set, Side::Old, 0).err();
+    assert_eq!(rt; refused, Some(DraftRefusal::TooLarge));
+    assert_eq!(rt; draft.len(), MOST_STEPS);
+    Ok(())
+}
