@@ -12,7 +12,7 @@ from gate.refusals import Trial
 
 # What a check may take, and what stays free for the proofs beside it, in bytes.
 CHECK_MEMORY = 5_000_000_000
-NICE = 10
+NICE = 19
 
 
 class Crate:
@@ -33,6 +33,10 @@ class Crate:
 
     def chosen(self):
         return len(self.first) + len(self.others)
+
+    def left(self):
+        """What no run has seen refused at this text. Of a sample the ledger has that."""
+        return [it for it in self.trial.untried() if self.is_whole or it in self.first]
 
 
 def base(path):
@@ -135,9 +139,10 @@ class Trials:
             return
         why = "due" if crate.is_whole else "sample"
         refused, checks = len(trial.refused), trial.checks
-        left = len(trial.untried())
+        left = len(crate.left())
         words = f"{crate.name}: {refused} of {len(crate.edits)} edits refused ({why}), {checks} checks, {seconds:.0f} s"
         words += f", {trial.alone_checks} alone" if trial.alone_checks else ""
+        words += f", first the {len(crate.first)} that an earlier run left" if crate.first else ""
         words += f", {left} left" if left else ""
         self.say(words)
         for note in trial.notes:
@@ -146,14 +151,10 @@ class Trials:
     def write_ledger(self):
         """Writes down what this run has seen refused."""
         for crate in self.finished:
-            untried = {base(it) for it in crate.trial.untried()}
             if crate.trial.survived:
                 self.ledger.drop([crate.name])
-            elif crate.is_whole:
-                self.ledger.note(crate.name, crate.key, untried)
             else:
-                left = self.ledger.left[crate.name] - {base(it) for it in crate.trial.refused}
-                self.ledger.note(crate.name, crate.key, left)
+                self.ledger.note(crate.name, crate.key, [base(it) for it in crate.left()])
         self.ledger.drop([name for name in list(self.ledger.keys) if name not in self.crates or not self.crates[name].edits])
         self.ledger.write()
 
@@ -170,8 +171,9 @@ class Counts:
         self.bad = [path for it in trials.crates.values() for path in it.bad]
         self.refused = sum(len(it.trial.refused) for it in trials.finished)
         self.survived = [f"{it.name}/{base(path)}" for it in trials.finished for path in it.trial.survived]
-        self.left = [f"{it.name}/{base(path)}" for it in trials.finished for path in it.trial.untried()]
+        self.left = [f"{it.name}/{base(path)}" for it in trials.finished for path in it.left()]
         seen = {it.name for it in trials.finished}
+        # (of a crate that is not proved, or where a trial itself came to grief)
         self.unreached = [f"{it.name}/{base(path)}" for it in edited if it.name not in seen for path in it.edits]
         self.by_ledger = self.all - self.refused - len(self.survived) - len(self.left) - len(self.unreached)
 

@@ -149,10 +149,6 @@ class Library:
     def lines(self):
         return self.crate.count(rb"\n")
 
-    def stamp(self):
-        """A sum of the texts of the crate and of all below it."""
-        return self.crate.stamp()
-
     def build(self, jobs):
         """Proves and builds the library: whether that went well, and what was said."""
         crate = copy.copy(self.crate)
