@@ -14,6 +14,7 @@ ghost use Rattle.plan_executor.specs.Range.{HasRange};
 ghost use Rattle.plan_executor.specs.Refusals.{HasNoPlan, IsRefused};
 ghost use Rattle.plan_executor.specs.declared.enactment.EnactRefusal.{EnactRefusal as Refusal};
 
+use crate::agreement::agrees;
 use crate::naming::first_naming;
 use crate::patterned::Patterned;
 use crate::{Transcript, execute};
@@ -88,7 +89,7 @@ pub fn enact(
         → IsErrOf result EnactRefusal.Memory ⊎ (IsErrOf result why ↔ IsRefused kernel.old.table state.now target.now (moment_at pattern.now) why) }
     ensures err { OnErr result (kernel.new ≡ kernel.old) }
 {
-    if !state.agrees(kernel) {
+    if !agrees(state, kernel) {
         return Err(EnactRefusal::RecordDisagrees);
     }
     let plan = plan_of(alloc, state, target)?;

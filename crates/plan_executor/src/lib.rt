@@ -1,6 +1,7 @@
 //! Execution of plans by calls that a caller supplies, and targets carried out on the modelled kernel.
 #![tactic(auto)]
 
+mod agreement;
 mod block;
 mod calls;
 mod enactment;
@@ -11,12 +12,10 @@ mod transcript;
 mod walk;
 mod words;
 
+pub use agreement::agrees;
 pub use block::{Block, Body, CodeText};
 pub use calls::Calls;
 pub use enactment::{EnactRefusal, Enacted, enact};
 pub use execution::execute;
 pub use transcript::Transcript;
 pub use words::run_words;
-
-#[cfg(test)]
-mod tests;
