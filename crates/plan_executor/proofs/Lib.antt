@@ -1,6 +1,4 @@
 pub mod Descriptors
-pub mod Edges
-pub mod Paths
 pub mod Running
 pub mod Reporting
 pub mod Replaying
