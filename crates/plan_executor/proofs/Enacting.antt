@@ -75,13 +75,13 @@ keeps h t r (Stop quick) pattern tree start ds within range is =
 
 pub enacted : Headlines → (first last : State) (r : Record) (target : Target) (pattern : Pattern) (tree : Tree) (note : PidNote) (e : Enacted) →
     IsStart first.table r → HasDescriptors first.table r → IsTarget target → HasRange target → planned r target ≡ Some tree → note ≡ r.note → (LacksNumbers first.table (height tree) → ⊥) →
-    KeepsPathLaw tree note e.transcript.entries e.report → Replays pattern 0 first.table e.transcript.entries last.table →
-    last.room + length e.transcript.entries ≡ height tree →
-    first_naming (r.generation.image ∷ []) [] pattern 0 e.transcript.entries ≡ None → e.after ≡ record_after r target e.report r.pid →
+    KeepsPathLaw tree note e.log.entries e.report → Replays pattern 0 first.table e.log.entries last.table →
+    last.room + length e.log.entries ≡ height tree →
+    first_naming (r.generation.image ∷ []) [] pattern 0 e.log.entries ≡ None → e.after ≡ record_after r target e.report r.pid →
     IsEnacted first last r target pattern e
 enacted headlines first last r target pattern tree note e start ds within range is same numbers law replays room spared after =
-    let noted = subst (λ (n : PidNote). KeepsPathLaw tree n e.transcript.entries e.report) same law in
-    let whole = whole-run tree r.note pattern first.table last.table e.transcript.entries e.report noted replays in
+    let noted = subst (λ (n : PidNote). KeepsPathLaw tree n e.log.entries e.report) same law in
+    let whole = whole-run tree r.note pattern first.table last.table e.log.entries e.report noted replays in
     let none = refused-is [] (r.generation.image ∷ []) [] tree pattern (start_at first.table r.note) ∙ (ap (first_naming (r.generation.image ∷ []) [] pattern 0) whole.entries_are ∙ spared) in
     let kept = keeps headlines first.table r target pattern tree start ds within range is none in
     record {

@@ -1,5 +1,4 @@
-pub mod Edges
-pub mod Paths
+pub mod Descriptors
 pub mod Running
 pub mod Reporting
 pub mod Replaying

@@ -93,7 +93,7 @@ left-true (Stop quick) r state ran is left = subst (IsTrueOf ran.last.table) (sy
 acted-true : (target : Target) (r : Record) (pattern : Pattern) (old : Standing) (body : Body) (new : Standing) → IsActed old r target pattern body new → IsTrueOf old.kernel.table old.state → IsTrueOf new.kernel.table new.state
 acted-true target r pattern old Nothing new h true_of = absurd h
 acted-true target r pattern old (Refused code) new h true_of = subst (λ (s : Standing). IsTrueOf s.kernel.table s.state) (sym h.still) true_of
-acted-true target r pattern old (Ran transcript report) new h true_of =
+acted-true target r pattern old (Ran log report) new h true_of =
     let is = h.enacted in
     let ran = run is.tree pattern (start_at old.kernel.table r.note) in
     let left : new.state ≡ record_after r target (report_of ran) r.pid = is.after ∙ ap (λ x. record_after r target x r.pid) is.is_run.report_is in

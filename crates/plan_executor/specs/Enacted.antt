@@ -34,8 +34,8 @@ pub record IsEnacted (first last : State) (r : Record) (target : Target) (patter
   pub is_planned : planned r target ≡ Some tree
   pub numbers : LacksNumbers first.table (height tree) → ⊥
   pub spared : refused_moment r.generation.image tree pattern (start_at first.table r.note) ≡ None
-  pub is_run : IsWholeRun tree r.note pattern first.table e.transcript.entries last.table e.report
-  pub room : last.room + length e.transcript.entries ≡ height tree
+  pub is_run : IsWholeRun tree r.note pattern first.table e.log.entries last.table e.report
+  pub room : last.room + length e.log.entries ≡ height tree
   pub after : e.after ≡ record_after r target e.report r.pid
   pub keeps : Keeps first.table r target r.pid (run tree pattern (start_at first.table r.note))
   pub floor : HasFloor first.table r target (run tree pattern (start_at first.table r.note))

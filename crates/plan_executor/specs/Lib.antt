@@ -1,6 +1,3 @@
-pub mod Transcript
-pub mod Fit
-pub mod Walk
 pub mod Lawful
 pub mod Naming
 pub mod Codes

@@ -20,7 +20,7 @@ use Rattle.plan_executor.specs.declared.block.Block.{Block}
 use Rattle.plan_executor.specs.declared.block.Body.{Body}
 use Rattle.plan_executor.specs.declared.block.Body.TheVariants.{Nothing, Refused, Ran}
 use Rattle.plan_executor.specs.declared.enactment.EnactRefusal.{EnactRefusal}
-use Rattle.plan_executor.specs.Transcript.{Told}
+use Rattle.plan_runner.specs.Log.{Told}
 use Rattle.plan_executor.specs.Codes.{enact_code, stopped_code}
 use Rattle.plan_executor.specs.Refusals.{IsRefused}
 use Rattle.plan_executor.specs.Enacted.{IsEnacted}
@@ -49,9 +49,9 @@ IsStill code old body new = (body ≡ Refused code) × (new ≡ old)
 
 -- The target was run from the one kernel to the other. Then the record is the one that the report leaves, and of the workers
 -- those that are ready stay, each with its last beat unless the run started it.
-pub record HasRun (old : Standing) (r : Record) (target : Target) (pattern : Pattern) (transcript : Told) (report : Report) (new : Standing) : Type 0 where
-  pub enacted : IsEnacted old.kernel new.kernel r target pattern (record { transcript = transcript; report = report; after = new.state })
-  pub workers : new.workers ≡ followed old.workers report.ready (started new.state transcript.entries)
+pub record HasRun (old : Standing) (r : Record) (target : Target) (pattern : Pattern) (log : Told) (report : Report) (new : Standing) : Type 0 where
+  pub enacted : IsEnacted old.kernel new.kernel r target pattern (record { log = log; report = report; after = new.state })
+  pub workers : new.workers ≡ followed old.workers report.ready (started new.state log.entries)
 
 -- the code of a target that is refused
 pub record IsDeclined (old : Standing) (r : Record) (target : Target) (pattern : Pattern) (code : List ℕ) (new : Standing) : Type 0 where
@@ -64,7 +64,7 @@ pub record IsDeclined (old : Standing) (r : Record) (target : Target) (pattern :
 abbrev pub IsActed : Standing → Record → Target → Pattern → Body → Standing → Type 0
 IsActed old r target pattern Nothing new = ⊥
 IsActed old r target pattern (Refused code) new = IsDeclined old r target pattern code new
-IsActed old r target pattern (Ran transcript report) new = HasRun old r target pattern transcript report new
+IsActed old r target pattern (Ran log report) new = HasRun old r target pattern log report new
 
 -- What it makes of what a word asks.
 abbrev pub IsAnswered : Result (Option Target) WordRefusal → Record → Pattern → Standing → Body → Standing → Type 0

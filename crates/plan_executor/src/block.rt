@@ -2,10 +2,11 @@
 ghost use Rattle.std.specs.Prelude.{◌≡◌, ◌+◌, ◌≤◌, ◌++◌, length};
 ghost use Rattle.plan_executor.specs.Codes.{plan_code, stopped_code};
 
-use crate::{EnactRefusal, Transcript};
+use crate::EnactRefusal;
 use arrayvec::ArrayString;
 use control_words::{Word, WordRefusal};
 use itoa::Buffer;
+use plan_runner::CallLog;
 use reload_planner::PlanRefusal;
 use std::marker::Model;
 use vocabulary::Report;
@@ -116,7 +117,7 @@ fn plan_code(refusal: PlanRefusal) -> &'static str
 pub enum Body {
     Nothing,
     Refused(CodeText),
-    Ran(Transcript, Report),
+    Ran(CallLog, Report),
 }
 
 /// A word and what it came to.

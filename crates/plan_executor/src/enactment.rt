@@ -14,10 +14,11 @@ ghost use Rattle.plan_executor.specs.Range.{HasRange};
 ghost use Rattle.plan_executor.specs.Refusals.{HasNoPlan, IsRefused};
 ghost use Rattle.plan_executor.specs.declared.enactment.EnactRefusal.{EnactRefusal as Refusal};
 
+use crate::agreement::agrees;
 use crate::naming::first_naming;
 use crate::patterned::Patterned;
-use crate::{Transcript, execute};
 use kernel_model::{Kernel, Pattern, ReserveRefusal};
+use plan_runner::{CallLog, execute};
 use reload_planner::PlanRefusal;
 use rollback_plan::Plan;
 use service_state::Record;
@@ -59,7 +60,7 @@ impl From<AllocError> for EnactRefusal {
 #[derive(Drop)]
 pub struct Enacted {
     /// The calls that were made, with their answers.
-    pub transcript: Transcript,
+    pub log: CallLog,
     pub report: Report,
     /// The record of the master that runs then; none after a stop.
     pub after: Option<Record>,
@@ -88,17 +89,17 @@ pub fn enact(
         → IsErrOf result EnactRefusal.Memory ⊎ (IsErrOf result why ↔ IsRefused kernel.old.table state.now target.now (moment_at pattern.now) why) }
     ensures err { OnErr result (kernel.new ≡ kernel.old) }
 {
-    if !state.agrees(kernel) {
+    if !agrees(state, kernel) {
         return Err(EnactRefusal::RecordDisagrees);
     }
     let plan = plan_of(alloc, state, target)?;
     let longest = plan.longest();
     let copy = reserved_copy(kernel, longest)?;
-    let made = Transcript::with_room(alloc, longest)?;
-    let mut transcript = Transcript::with_room(alloc, longest)?;
+    let made = CallLog::with_room(alloc, longest)?;
+    let mut log = CallLog::with_room(alloc, longest)?;
     let mut calls = Patterned::new(copy, pattern, made);
-    let report = execute(&plan, &mut calls, &mut transcript);
-    if let Some(moment) = first_naming(pattern, state.generation.image, transcript.entries()) {
+    let report = execute(&plan, &mut calls, &mut log);
+    if let Some(moment) = first_naming(pattern, state.generation.image, log.entries()) {
         return Err(EnactRefusal::MasterNamed(moment));
     }
     read_settings(target);
@@ -109,11 +110,7 @@ pub fn enact(
     theorems::stops_end_as_reported();
     *kernel = calls.into_kernel();
     let after = state.after(target, &report, state.pid);
-    Ok(Enacted {
-        transcript,
-        report,
-        after,
-    })
+    Ok(Enacted { log, report, after })
 }
 
 /// A target's settings are in range, which only a reading of them tells.

@@ -1,8 +1,8 @@
 //! The modelled kernel, called under a pattern.
 ghost use Rattle.std.specs.Prelude.{◌≡◌, ◌+◌, ◌<◌, ◌≤◌, ◌^◌, []};
 
-use crate::{Calls, Transcript};
 use kernel_model::{Kernel, Pattern};
+use plan_runner::{CallLog, Calls};
 use vocabulary::{Actor, Answer, Call, Entry};
 
 /// A plan of one master hands nothing over.
@@ -13,15 +13,15 @@ const NO_TEXT: &[u8] = &[];
 pub(crate) struct Patterned<'a> {
     kernel: Kernel,
     pattern: &'a Pattern,
-    made: Transcript,
+    made: CallLog,
     number: u32,
     ghost enough: { made.room ≤ kernel.room },
     ghost countable: { number + made.room < 2 ^ 32 },
 }
 
 impl<'a> Patterned<'a> {
-    /// A kernel before the first moment of a pattern, with a transcript to keep its calls in.
-    pub(crate) fn new(kernel: Kernel, pattern: &'a Pattern, made: Transcript) -> Patterned<'a>
+    /// A kernel before the first moment of a pattern, with a log to keep its calls in.
+    pub(crate) fn new(kernel: Kernel, pattern: &'a Pattern, made: CallLog) -> Patterned<'a>
         requires { made.room ≤ kernel.room }
         ensures kernel { result.kernel ≡ kernel }
         ensures pattern { result.pattern.now ≡ pattern.now }

@@ -146,12 +146,12 @@ fn act(
         Ok(enacted) => enacted,
         Err(refusal) => return declined(refusal),
     };
-    let started = started(enacted.after.as_ref(), enacted.transcript.entries());
+    let started = started(enacted.after.as_ref(), enacted.log.entries());
     // `lowest` says that the numbers are below the limit, which the proof cites.
     let _ = enacted.report.ready.lowest();
     workers.follow(&enacted.report.ready, &started);
     *state = enacted.after;
-    Ok(Body::Ran(enacted.transcript, enacted.report))
+    Ok(Body::Ran(enacted.log, enacted.report))
 }
 
 /// The code of a target that is refused for another cause than want of memory.

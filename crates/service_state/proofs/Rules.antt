@@ -1,16 +1,14 @@
 -- What keeps the rules of a record.
-use Rattle.std.proofs.Common.{◌≡◌, ℕ, ◌+◌, ◌<◌, map, true, ◌&&◌, nat_le, Option, List, [], ◌∷◌, length, inl, inr}
+use Rattle.std.proofs.Common.{◌≡◌, ℕ, ◌<◌, true, ◌&&◌, nat_le, Option, List, [], ◌∷◌, length, inl, inr}
 use Rattle.std.specs.Prelude.{is_none}
 use Rattle.std.specs.List.{AllByRecursion}
 use Rattle.std.proofs.lemmas.Bool.{false≢true, and_parts, leb-true}
 use Rattle.std.proofs.lemmas.Bool.Decides.{leb_tells}
-use Rattle.listener_set.specs.Numbers.{first_from, RisesFrom}
+use Rattle.listener_set.specs.Numbers.{first_from}
 use Rattle.vocabulary.specs.Settings.{HasSuffixRoom}
 use Rattle.definitions.specs.Record.{IsRecord}
 use Rattle.vocabulary.specs.declared.reports.Report.{Report}
 use Rattle.definitions.specs.After.{Setup, recorded, keeps_rules}
-use Rattle.vocabulary.specs.declared.table.Listener.{Listener}
-use Rattle.handover_text.specs.Listeners.{AreListedFrom}
 use Rattle.service_state.specs.Setups.{IsSetup}
 
 -- where no number is at least the bound, each is below it
@@ -37,8 +35,3 @@ IsRecord-from_rules s path report pid h ranges room =
       pid_path = room;
       pid = leb-true 1 pid ready.1;
     }
-
--- the descriptors of listeners rise
-pub rises : (fd : ℕ) (ls : List Listener) → AreListedFrom fd ls → RisesFrom fd (map (λ (l : Listener). l.descriptor) ls)
-rises fd [] h = tt
-rises fd (l ∷ ls) h = (h.0, rises (l.descriptor + 1) ls h.3)

@@ -1,7 +1,6 @@
 //! What a running master knows of itself, and what it knows after a plan has ended.
 #![tactic(auto)]
 
-mod agreement;
 mod record;
 mod setup;
 

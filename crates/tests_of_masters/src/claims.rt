@@ -145,12 +145,12 @@ fn a_record_agrees_with_a_kernel_that_was_started_so(rt: HostRuntime) -> Result<
     settings.pid = Some(FilePath::read(b"/run/a.pid")?);
     let kernel = Kernel::boot(rt.alloc(), &settings.listeners, 2, settings.pid, LIMITS)?;
     let started = |ready, pid| Record::start(&settings, 2, &Numbers::below(ready), pid);
-    assert!(rt; started(2, 100).agrees(&kernel));
-    assert!(rt; !started(1, 100).agrees(&kernel));
-    assert!(rt; !started(2, 101).agrees(&kernel));
+    assert!(rt; plan_executor::agrees(&started(2, 100), &kernel));
+    assert!(rt; !plan_executor::agrees(&started(1, 100), &kernel));
+    assert!(rt; !plan_executor::agrees(&started(2, 101), &kernel));
     let one = Record::start(&Settings::plain(), 2, &Numbers::below(2), 100);
-    assert!(rt; !one.agrees(&kernel));
+    assert!(rt; !plan_executor::agrees(&one, &kernel));
     let bare = Kernel::boot(rt.alloc(), &settings.listeners, 2, None, LIMITS)?;
-    assert!(rt; !started(2, 100).agrees(&bare));
+    assert!(rt; !plan_executor::agrees(&started(2, 100), &bare));
     Ok(())
 }

@@ -10,7 +10,7 @@ use Rattle.plan_executor.specs.declared.block.Body.TheVariants.{Nothing, Refused
 abbrev pub body_text : Body → List ℕ
 body_text Nothing = codes "nothing\n"
 body_text (Refused code) = codes "refused " ++ code ++ codes "\n"
-body_text (Ran transcript report) = entries_text 1 transcript.entries ++ report_text report ++ codes "\n"
+body_text (Ran log report) = entries_text 1 log.entries ++ report_text report ++ codes "\n"
 
 abbrev pub block_text : Block → List ℕ
 block_text block = codes "word " ++ word_text block.word ++ codes "\n" ++ body_text block.body

@@ -37,8 +37,8 @@ fn write_body(out: &mut Vec<u8>, body: &Body) -> Result<(), AllocError>
             out.extend_from_slice(code.as_str().as_bytes())?;
             out.extend_from_slice(b"\n")
         }
-        Body::Ran(transcript, report) => {
-            write_entries(out, transcript.entries())?;
+        Body::Ran(log, report) => {
+            write_entries(out, log.entries())?;
             write_report(out, report)?;
             out.extend_from_slice(b"\n")
         }

@@ -49,7 +49,7 @@ returns-in_err-copy-clause-exact c =
 
 pub returns-in-Some-clause-exact : goal.returns-in-Some-clause-exact
 returns-in-Some-clause-exact c =
-    let entries = c.execute-report.new.transcript.entries in
+    let entries = c.execute-report.new.log.entries in
     let led = c.execute-report.ensures.follows in
     let calls = c.new-calls.result in
     let last = c.execute-report.new.calls.kernel.table in
@@ -68,7 +68,7 @@ returns-in-Some-clause-exact c =
 
 pub returns-clause-ok : goal.returns-clause-ok
 returns-clause-ok c =
-    let entries = c.execute-report.new.transcript.entries in
+    let entries = c.execute-report.new.log.entries in
     let led = c.execute-report.ensures.follows in
     let calls = c.new-calls.result in
     let then = c.execute-report.new.calls.kernel in
@@ -99,7 +99,7 @@ returns-clause-ok c =
       stops = c.stops_end_as_reported.ensures.headline;
       stops_manner = c.stops_end_as_reported.ensures.manner;
     }) c.args.kernel.now c.into_kernel.result c.args.state.now c.args.target.now (moment_at c.args.pattern.now) (tree_of c.in_ok-plan.plan) (note_of c.in_ok-plan.plan)
-    (record { transcript = c.execute-report.new.transcript; report = c.execute-report.result; after = c.after-after.result })
+    (record { log = c.execute-report.new.log; report = c.execute-report.result; after = c.after-after.result })
     (record { formed = c.reserved_copy.ensures.formed; agrees = agrees; record_in_range = c.agrees.ensures.in_range; rising = c.agrees.ensures.rising })
     (record { descriptors = c.agrees.ensures.descriptors; limit = c.reserved_copy.ensures.descriptors })
     c.requires c.read_settings.ensures c.in_ok-plan.ensures.tree c.in_ok-plan.ensures.note

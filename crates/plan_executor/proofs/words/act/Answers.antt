@@ -16,7 +16,7 @@ pub returns-clause-ok : goal.returns-clause-ok
 returns-clause-ok c =
     let old = c.args.workers.now in
     let after = c.in-Ok.enacted.after in
-    let entries = c.in-Ok.enacted.transcript.entries in
+    let entries = c.in-Ok.enacted.log.entries in
     let like : IsLike c.started-started.result (started after entries) = λ k lt. c.started-started.ensures k lt ∙ (ap (λ a. is_in (started a c.entries.result.now) k) c.as_ref.ensures.value ∙ ap (λ es. is_in (started after es) k) c.entries.ensures) in
     record {
       enacted = c.in-Ok.ensures.ok;

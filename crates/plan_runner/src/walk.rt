@@ -6,7 +6,7 @@ ghost use Rattle.definitions.specs.Path.{first_cause};
 ghost use Rattle.rollback_plan.specs.Bounds.{is_short};
 ghost use Rattle.rollback_plan.specs.Cursors.{rest_of};
 ghost use Rattle.rollback_plan.specs.Plans.{tree_of, note_of};
-ghost use Rattle.plan_executor.specs.Fit.{is_fit_next, height_next};
+ghost use Rattle.plan_runner.specs.Fit.{is_fit_next, height_next};
 
 use rollback_plan::{Bound, Cursor, Plan, plain_reply, reply_to};
 use vocabulary::{Actor, Call, End, Entry, Outcome, PidNote, Report, Side};
@@ -34,7 +34,7 @@ pub(crate) struct Walk<'a> {
 impl<'a> Walk<'a> {
     ghost use Rattle.definitions.specs.Tree.{is_listed};
     ghost use Rattle.definitions.specs.Path.{begin, advance, Asks, IsOver, IsOutcome, Reports};
-    ghost use Rattle.plan_executor.specs.Walk.{trail_of, AsksFor};
+    ghost use Rattle.plan_runner.specs.Walk.{trail_of, AsksFor};
 
     /// Before the first call.
     pub(crate) fn new(plan: &'a Plan) -> Walk<'a>

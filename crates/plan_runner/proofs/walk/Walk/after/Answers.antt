@@ -4,9 +4,9 @@ use Rattle.definitions.specs.Tree.{Tree, is_fit, height, reply_of, plain_reply}
 use Rattle.definitions.specs.Path.{lacking_after}
 use Rattle.rollback_plan.specs.Bounds.{is_short}
 use Rattle.rollback_plan.specs.Cursors.{rest_of, tree_to}
-use Rattle.plan_executor.specs.Fit.{height_next}
-use Rattle.plan_executor.proofs.Edges.{SetIs, asks_one, fit_one, fit_after, lower_after, lost_after, advanced_lost, advanced_on, causes_of, still_countable}
-use Rattle.plan_executor.proofs.walk.Walk.after.Goals as goal
+use Rattle.plan_runner.specs.Fit.{height_next}
+use Rattle.plan_runner.proofs.Edges.{SetIs, asks_one, fit_one, fit_after, lower_after, lost_after, advanced_lost, advanced_on, causes_of, still_countable}
+use Rattle.plan_runner.proofs.walk.Walk.after.Goals as goal
 
 pub returns-in_default-edge-clause-trail : goal.returns-in_default-edge-clause-trail
 returns-in_default-edge-clause-trail c =

@@ -3,9 +3,9 @@ use Rattle.vocabulary.specs.declared.calls.Answer.TheVariants.{MasterGone}
 use Rattle.vocabulary.specs.declared.reports.Entry.{Entry}
 use Rattle.definitions.specs.Path.{Trail, begin, after, advance, Asks, Follows}
 use Rattle.rollback_plan.specs.Plans.{tree_of, note_of}
-use Rattle.plan_executor.specs.Walk.{trail_of}
-use Rattle.plan_executor.proofs.Paths.{after-push, Follows-push, asks_height}
-use Rattle.plan_executor.proofs.execution.execute.Goals as goal
+use Rattle.plan_runner.specs.Walk.{trail_of}
+use Rattle.plan_runner.proofs.Paths.{after-push, Follows-push, asks_height}
+use Rattle.plan_runner.proofs.execution.execute.Goals as goal
 
 -- a call is left to make
 pub make-answer-requires : goal.make-answer-requires
@@ -18,13 +18,13 @@ pub push-requires : goal.push-requires
 push-requires g c =
     let t = trail_of c.loop-due.walk in
     let left = asks_height t.rest t.lacking _ (c.in-Some.ensures.some c.make-answer.result) in
-    omega (arith, left, c.loop-due.invariant.transcript_room)
+    omega (arith, left, c.loop-due.invariant.log_room)
 
 -- one entry more
 pub loop-due-preserved : goal.loop-due-preserved
 loop-due-preserved g c =
     let start = begin (tree_of c.args.plan.now) (note_of c.args.plan.now) in
-    let old = c.loop-due.transcript.entries in
+    let old = c.loop-due.log.entries in
     let e : Entry = record { by = c.in-Some.due.by; call = c.in-Some.due.call; answer = c.make-answer.result } in
     let kept = c.loop-due.invariant in
     let pushed = c.push.ensures.entries in
@@ -40,5 +40,5 @@ loop-due-preserved g c =
       longest = omega (arith, ap length pushed, length-append old (e ∷ []), kept.longest, c.after-walk.ensures.lower);
       calls_room = omega (arith, kept.calls_room, c.make-answer.ensures.room, c.after-walk.ensures.lower);
       room_left = omega (arith, ap length pushed, length-append old (e ∷ []), kept.room_left, c.make-answer.ensures.room);
-      transcript_room = omega (arith, kept.transcript_room, c.push.ensures.room, c.after-walk.ensures.lower);
+      log_room = omega (arith, kept.log_room, c.push.ensures.room, c.after-walk.ensures.lower);
     }

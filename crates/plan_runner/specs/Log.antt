@@ -1,4 +1,4 @@
--- What a contract sees of a transcript.
+-- What a contract sees of a log.
 use Rattle.std.specs.Prelude.{List, ℕ}
 use Rattle.vocabulary.specs.declared.reports.Entry.{Entry}
 

@@ -5,7 +5,7 @@ ghost use Rattle.definitions.specs.Path.{KeepsPathLaw};
 ghost use Rattle.rollback_plan.specs.Plans.{tree_of, note_of};
 
 use crate::walk::Walk;
-use crate::{Calls, Transcript};
+use crate::{CallLog, Calls};
 use rollback_plan::Plan;
 use vocabulary::{Entry, Report};
 
@@ -14,15 +14,15 @@ use vocabulary::{Entry, Report};
 /// It takes no memory of its own, and makes at most as many calls as the plan's longest path
 /// has steps. The entries are a whole path of the plan and the report is theirs; or the plan has
 /// no way on where a master is gone, and the report says Lost.
-pub fn execute<C: Calls>(plan: &Plan, calls: &mut C, transcript: &mut Transcript) -> Report
+pub fn execute<C: Calls>(plan: &Plan, calls: &mut C, log: &mut CallLog) -> Report
     requires calls { height (tree_of plan.now) ≤ C.room calls.old }
-    requires room { height (tree_of plan.now) ≤ transcript.old.room }
-    requires empty { transcript.old.entries ≡ [] }
-    ensures path_law { KeepsPathLaw (tree_of plan.now) (note_of plan.now) transcript.new.entries result }
-    ensures made { C.made calls.new ≡ C.made calls.old ++ transcript.new.entries }
-    ensures follows { C.follows calls.old transcript.new.entries calls.new }
-    ensures longest { length transcript.new.entries ≤ height (tree_of plan.now) }
-    ensures room_left { C.room calls.old ≤ C.room calls.new + length transcript.new.entries }
+    requires room { height (tree_of plan.now) ≤ log.old.room }
+    requires empty { log.old.entries ≡ [] }
+    ensures path_law { KeepsPathLaw (tree_of plan.now) (note_of plan.now) log.new.entries result }
+    ensures made { C.made calls.new ≡ C.made calls.old ++ log.new.entries }
+    ensures follows { C.follows calls.old log.new.entries calls.new }
+    ensures longest { length log.new.entries ≤ height (tree_of plan.now) }
+    ensures room_left { C.room calls.old ≤ C.room calls.new + length log.new.entries }
 {
     let mut walk = Walk::new(plan);
     while let Some(due) = walk.due() {
@@ -32,7 +32,7 @@ pub fn execute<C: Calls>(plan: &Plan, calls: &mut C, transcript: &mut Transcript
             call: due.call,
             answer,
         };
-        transcript.push(&entry);
+        log.push(&entry);
         walk = walk.after(&entry);
     }
     walk.report()

@@ -9,14 +9,14 @@ use vocabulary::{Answer, Call, Entry};
 ///
 /// Contracts see the list of its entries, and beside it the room.
 #[derive(Drop)]
-pub struct Transcript {
+pub struct CallLog {
     entries: Vec<Entry>,
     room: u32,
 }
 
-impl Model for Transcript {
+impl Model for CallLog {
     ghost use Rattle.std.specs.Prelude.{◌≤◌, ◌+◌, vec_len, vec_capacity};
-    ghost use Rattle.plan_executor.specs.Transcript.{Told};
+    ghost use Rattle.plan_runner.specs.Log.{Told};
 
     ghost Value = { Told };
 
@@ -25,12 +25,12 @@ impl Model for Transcript {
     ghost invariant = { λ t. vec_len t.entries + t.room ≤ vec_capacity t.entries };
 }
 
-impl Transcript {
+impl CallLog {
     /// No entries, and room for so many. The only refusal is want of memory.
-    pub fn with_room(alloc: Global, room: u32) -> Result<Transcript, AllocError>
+    pub fn with_room(alloc: Global, room: u32) -> Result<CallLog, AllocError>
         ensures { IfOk result (λ t. t ≡ record { entries = []; room = room }) }
     {
-        Ok(Transcript {
+        Ok(CallLog {
             entries: Vec::with_capacity(alloc, room as usize)?,
             room,
         })

@@ -18,7 +18,7 @@ use Rattle.vocabulary.specs.declared.reports.Entry.{Entry}
 use Rattle.definitions.specs.Tree.{Tree, Ends, Does, Branches, Nothing, Branch, branch, among, same_reply, reply_of, full_or_short, replies_to, is_listed, height, highest, is_fit, are_fit, short_after, order_replies, call_of}
 use Rattle.definitions.specs.Path.{Trail, advance, Asks, follow, ready_after, lacking_after, first_cause, went_wrong}
 use Rattle.rollback_plan.specs.Bounds.{is_short}
-use Rattle.plan_executor.specs.Fit.{is_fit_next}
+use Rattle.plan_runner.specs.Fit.{is_fit_next}
 
 and_left : (a b : Bool) → (a && b) ≡ true → a ≡ true
 and_left true b h = refl

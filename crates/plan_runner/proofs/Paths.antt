@@ -3,7 +3,7 @@ use Rattle.std.proofs.Common.{◌≡◌, ℕ, ◌≤◌, List, [], ◌∷◌, �
 use Rattle.definitions.specs.Tree.{Tree, Ends, Does}
 use Rattle.vocabulary.specs.declared.reports.Entry.{Entry}
 use Rattle.definitions.specs.Path.{Trail, advance, after, Asks, Follows}
-use Rattle.plan_executor.specs.Fit.{height_next}
+use Rattle.plan_runner.specs.Fit.{height_next}
 
 pub after-push : (t : Trail) (entries : List Entry) (e : Entry) → after t (entries ++ e ∷ []) ≡ advance (after t entries) e
 after-push t [] e = refl

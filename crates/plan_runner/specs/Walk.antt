@@ -5,7 +5,7 @@ use Rattle.vocabulary.specs.declared.calls.Call.{Call}
 use Rattle.vocabulary.specs.declared.calls.Answer.{Answer}
 use Rattle.definitions.specs.Path.{Trail, Asks}
 use Rattle.rollback_plan.specs.Cursors.{rest_of}
-use Rattle.plan_executor.specs.declared.walk.Walk.{Walk}
+use Rattle.plan_runner.specs.declared.walk.Walk.{Walk}
 
 -- its trail
 abbrev pub trail_of : Walk → Trail

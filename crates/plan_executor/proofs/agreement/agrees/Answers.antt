@@ -1,0 +1,18 @@
+use Rattle.std.proofs.Common.{◌≡◌, ◌∙◌, subst, map, IsTrue}
+use Rattle.std.specs.Prelude.{◌↔◌}
+use Rattle.definitions.specs.Record.{Record, Agrees}
+use Rattle.listener_set.specs.Numbers.{RisesFrom}
+use Rattle.vocabulary.specs.declared.table.Listener.{Listener}
+use Rattle.plan_executor.proofs.Descriptors.{rises}
+use Rattle.plan_executor.proofs.agreement.agrees.Goals as goal
+
+pub returns-clause-agrees : goal.returns-clause-agrees
+returns-clause-agrees c =
+    let r = c.state.inside in
+    let same : record { listeners = c.as_slice.result.now; generation = r.generation; ready = r.ready; wanted = r.wanted; retries = r.retries; timeout = r.timeout; pid_path = r.pid_path; note = r.note; pid = r.pid } ≡ c.args.state.now =
+    (λ i. record { listeners = c.as_slice.ensures.items i; generation = r.generation; ready = r.ready; wanted = r.wanted; retries = r.retries; timeout = r.timeout; pid_path = r.pid_path; note = r.note; pid = r.pid }) ∙ c.state.view_is in
+    subst (λ (x : Record). IsTrue c.agrees_with.result ↔ Agrees c.args.kernel.now.table x) same (c.agrees_with.ensures r.wanted r.retries r.timeout)
+
+pub returns-clause-descriptors : goal.returns-clause-descriptors
+returns-clause-descriptors c =
+    subst (λ (r : Record). RisesFrom 3 (map (λ (l : Listener). l.descriptor) r.listeners)) c.state.view_is (rises 3 c.state.inside.listeners c.as_slice.ensures.listed)

@@ -1,0 +1,11 @@
+//! Execution of plans by calls that a caller supplies, whoever it is that makes them.
+#![tactic(auto)]
+
+mod call_log;
+mod calls;
+mod execution;
+mod walk;
+
+pub use call_log::CallLog;
+pub use calls::Calls;
+pub use execution::execute;
