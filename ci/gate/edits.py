@@ -70,7 +70,7 @@ class Trials:
         self.ready, self.finished = [], []
         self.changed = threading.Condition()
         self.lanes = [threading.Thread(target=self.lane, daemon=True) for _ in range(kit.processors())]
-        self.kept = tempfile.TemporaryDirectory(prefix="edits-")
+        self.kept = tempfile.TemporaryDirectory(prefix="edits-", ignore_cleanup_errors=True)
 
     def start(self):
         for lane in self.lanes:
