@@ -16,7 +16,7 @@ pub fn program<'a>(alloc: Global) -> Result<Command<'a>, AllocError>
     ensures { IfOk result (λ command. app_of command ≡ prefork_app) }
 {
     Command::new(alloc, "prefork")
-        .about("Plans of a preforking master: Unicorn's signals, nginx's upgrade")
+        .about("Plan and rehearse the control words of a preforking master")
         .after_help(PROGRAM_NOTES)
         .version("0.1.0")
         .subcommand_required(true)
@@ -30,7 +30,7 @@ fn enact<'a>(alloc: Global) -> Result<Command<'a>, AllocError>
     ensures own { IfOk result (λ command. (out-Command command).has_globals ≡ false) }
 {
     let command = Command::new(alloc, "enact")
-        .about("Carry out control words on a modelled kernel, and print each call with its answer")
+        .about("Carry out control words on a modelled kernel; print calls and answers")
         .after_help(ENACT_NOTES);
     with_start(alloc, command)?
         .arg(option(alloc, "held", "ADDRESS", HELD_HELP))?
@@ -43,7 +43,7 @@ fn plan<'a>(alloc: Global) -> Result<Command<'a>, AllocError>
     ensures own { IfOk result (λ command. (out-Command command).has_globals ≡ false) }
 {
     let command = Command::new(alloc, "plan")
-        .about("Print the plan of a control word: each step, and what follows each answer")
+        .about("Print a control word's plan: each step, and what follows each answer")
         .after_help(PLAN_NOTES);
     with_start(alloc, command)?
         .arg(flag(alloc, "dot", DOT_HELP))?

@@ -9,56 +9,62 @@ Example: the plan of a reload, before anything is done:
   prefork plan --from a.toml --to b.toml HUP";
 
 pub(crate) const FROM_HELP: &str = "\
-The configuration of the start, a TOML file [default: one worker, 0.0.0.0:8080]";
+The configuration of the start, a TOML file
+[default: one worker, 0.0.0.0:8080]";
 
 pub(crate) const TO_HELP: &str = "\
-The configuration that HUP reads [default: that of the start]";
+The configuration that HUP goes over to
+[default: that of the start]";
 
 pub(crate) const WORKERS_HELP: &str = "\
-How many workers are wanted and run at the start, 0 to 1024. HUP goes over to
-the count of its own configuration
-[default: the configuration's count]";
+How many workers are wanted and run at the start,
+0 to 1024; HUP goes over to the count of its own
+configuration [default: the configuration's count]";
 
 pub(crate) const BARE_HELP: &str = "Start without workers, however many are wanted";
 
-pub(crate) const HELD_HELP: &str = "An address that another program listens on";
+pub(crate) const HELD_HELP: &str = "An address that a foreign process listens on";
 
-pub(crate) const STATE_HELP: &str = "Show the processes and the service at the end";
+pub(crate) const STATE_HELP: &str = "\
+Print the table of processes, files and the service
+after the last block";
 
 pub(crate) const DOT_HELP: &str = "Draw the plan for Graphviz: the input of `dot`";
 
 pub(crate) const WORDS_HELP: &str = "\
-Control words, named after Unicorn's signals, carried out in this order:
-TTIN         one worker more
-TTOU         one worker less, down to none
-WINCH        no workers
-HUP          go over to the configuration of --to
-USR1         reopen the logs
-USR2         go over to a new master (has no plan yet: refused)
-QUIT         stop, once requests in progress are finished
-INT, TERM    stop at once
-beat NR NOW  worker NR lives at the moment NOW (one argument, in quotes)
-tick NOW     start workers without a beat in time, and missing ones, anew";
+Control words, after Unicorn's signals, carried out in this order:
+TTIN        one worker more
+TTOU        one worker less, down to none
+WINCH       no workers
+HUP         go over to the configuration of --to
+USR1        reopen the logs
+USR2        go over to a new master (has no plan yet: refused)
+QUIT        stop, once requests in progress are finished
+INT, TERM   stop at once
+beat K NOW  worker K is alive at the moment NOW
+tick NOW    kill each worker whose last beat is too old and start
+            it anew, and start those that are missing
+A beat or a tick is one argument: quote it.";
 
 pub(crate) const WORD_HELP: &str = "One control word, as those of `prefork enact --help`";
 
 pub(crate) const ENACT_NOTES: &str = "\
 Standard input says what goes wrong; empty input (</dev/null) means that
 nothing does.
-Each line names a moment, the number of a call from 1:
+Each line begins with the number of a call, from 1, or is 'next':
   2 fail late     call 2 is answered 'late', if it can be
   2 exit w1.1.0   worker 0 of generation 1.1 exits just before call 2
   next            what follows is for the next control word
-Faults: in-use, too-many, denied, no-memory, again, late, no-image, refused,
-io-fault. Moments do not fall; a 'fail' comes after the exits of its moment.
+Fates: in-use, too-many, denied, no-memory, again, late, no-image, refused,
+io-fault. Call numbers do not fall; a 'fail' comes after the exits of its call.
 
 For each word the output has the calls in order, and then one line:
   done            the service that was asked for runs
   rolled-back     the plan failed, and what ran before runs again
   degraded        some workers are missing, on the old or the target's side
   lost            the master that carried out the plan is gone
-with the first call that went wrong and the state of the pid file. A word
-without a plan has the line 'nothing', or 'refused' with a code.
+with the first call that went wrong and where the pid file is. A word without
+a plan has the line 'nothing', or 'refused' with a code.
 
 Exit status: 0 done, 1 a word was refused or lost or nothing could be run,
 2 usage, 3 rolled back, 4 degraded; of several, 1 comes before 4 and 4 before 3.

@@ -13,7 +13,8 @@ use std::alloc::Global;
 pub struct StartOptions<'a> {
     /// `--from`: the file of the start's configuration. Without it the defaults hold.
     pub from: Option<&'a str>,
-    /// `--to`: the file of the configuration that HUP and USR2 read. Without it it is the start's.
+    /// `--to`: the file of the configuration that HUP and USR2 go over to. Without it it is the
+    /// start's.
     pub to: Option<&'a str>,
     /// `--workers`: how many workers are wanted and run at the start. Without it the
     /// configuration's count holds.
@@ -27,9 +28,9 @@ pub struct StartOptions<'a> {
 pub struct EnactOptions<'a> {
     /// How the master starts.
     pub start: StartOptions<'a>,
-    /// `--held`: an address that a process of somebody else holds.
+    /// `--held`: an address that a foreign process holds.
     pub held: Option<&'a str>,
-    /// `--state`: the table of processes is shown last.
+    /// `--state`: the table of processes, files and the service is written last.
     pub state: bool,
     /// The control words in their order, at least one.
     pub words: Vec<&'a str>,

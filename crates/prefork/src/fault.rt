@@ -18,11 +18,11 @@ pub enum Fault {
     Config(ConfigRefusal),
     /// The kernel can't be started like this.
     Boot,
-    /// The address that somebody else is to hold is none.
+    /// The address that the foreign process is to hold is none.
     Address(AddressRefusal),
     /// The master holds the address itself.
     Held,
-    /// There is no process or socket number for somebody else.
+    /// There is no process or socket number for the foreign process.
     Crowded,
     /// The patterns on standard input are refused.
     Pattern(TextRefusal),

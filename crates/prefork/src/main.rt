@@ -1,4 +1,4 @@
-//! `prefork`: a preforking master whose plans are proved.
+//! `prefork`: the decision core of a preforking master, whose plans are proved.
 #![tactic(auto)]
 
 mod fault;

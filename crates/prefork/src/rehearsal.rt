@@ -53,7 +53,7 @@ impl Rehearsal {
         })
     }
 
-    /// Lets a process of somebody else hold an address.
+    /// Lets a foreign process hold an address.
     pub fn hold(&mut self, address: &str) -> Result<(), Fault> {
         let address = Address::read(address.as_bytes()).map_err(Fault::Address)?;
         match self.kernel.foreign(&address) {

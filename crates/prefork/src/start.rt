@@ -1,4 +1,4 @@
-//! How a master starts: its configuration, and the one that a reload is to take up.
+//! How a master starts: its configuration, and the one that a reload goes over to.
 use crate::fault::Fault;
 use command_line::StartOptions;
 use listener_set::{Numbers, WORKER_LIMIT};
@@ -13,7 +13,7 @@ use vocabulary::Settings;
 pub struct Start {
     /// The settings that the master starts with.
     pub settings: Settings,
-    /// The settings that HUP and USR2 take up.
+    /// The settings that HUP and USR2 go over to.
     pub next: Settings,
     /// How many workers are wanted.
     pub wanted: u32,
