@@ -2,10 +2,11 @@
 use crate::{TextRefusal, read_patterns, write_transcript};
 use control_words::Word;
 use listener_set::{Address, Generation, Numbers};
-use plan_executor::{Block, Body, CodeText, Transcript};
+use plan_runner::CallLog;
 use std::alloc::Global;
 use std::test::Fail;
 use vocabulary::{Actor, Answer, Call, Entry, Fate, Name, Outcome, PidNote, Report, Side};
+use word_runner::{Block, Body, CodeText};
 
 const FIRST: Generation = Generation {
     image: 1,
@@ -13,8 +14,8 @@ const FIRST: Generation = Generation {
 };
 
 /// A transcript of calls of the master of image 1.
-fn transcript_of(alloc: Global, calls: &[(Call, Answer)]) -> Result<Transcript, Fail> {
-    let mut transcript = Transcript::with_room(alloc, 64)?;
+fn transcript_of(alloc: Global, calls: &[(Call, Answer)]) -> Result<CallLog, Fail> {
+    let mut transcript = CallLog::with_room(alloc, 64)?;
     for (call, answer) in calls {
         if transcript.room() >= 1 {
             transcript.push(&Entry {
