@@ -17,7 +17,7 @@ use Rattle.vocabulary.specs.declared.plans.PidNote.{PidNote}
 use Rattle.definitions.specs.Run.{Pattern, run, start_at, report_of, Replays}
 use Rattle.definitions.specs.Path.{KeepsPathLaw}
 use Rattle.definitions.specs.After.{record_after, next_config}
-use Rattle.plan_executor.specs.declared.enactment.Enacted.{Enacted}
+use Rattle.word_runner.specs.declared.enactor.Enacted.{Enacted}
 use Rattle.plan_executor.specs.Naming.{first_naming}
 use Rattle.plan_executor.specs.Enacted.{HasFloor, IsEnacted}
 use Rattle.plan_executor.specs.Range.{HasRange}

@@ -20,7 +20,7 @@ use Rattle.kernel_model.specs.Room.{LacksNumbers}
 use Rattle.kernel_model.specs.State.{State}
 use Rattle.reload_planner.specs.declared.refusal.PlanRefusal.{PlanRefusal}
 use Rattle.reload_planner.specs.declared.refusal.PlanRefusal.TheVariants as planner
-use Rattle.plan_executor.specs.declared.enactment.Enacted.{Enacted}
+use Rattle.word_runner.specs.declared.enactor.Enacted.{Enacted}
 use Rattle.plan_executor.specs.declared.enactment.EnactRefusal.{EnactRefusal}
 use Rattle.plan_executor.specs.declared.enactment.EnactRefusal.TheVariants.{Memory, RecordDisagrees, Plan, MasterNamed, NoNumbers}
 use Rattle.plan_executor.specs.Refusals.{HasNoPlan, IsShortOfNumbers, NamesMaster, IsRefused}

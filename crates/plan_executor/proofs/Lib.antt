@@ -5,5 +5,4 @@ pub mod Replaying
 pub mod Refused
 pub mod Enacting
 pub mod Exact
-pub mod Starting
-pub mod Wording
+pub mod Truth

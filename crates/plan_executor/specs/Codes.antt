@@ -3,6 +3,8 @@ use Rattle.std.specs.Prelude.{ℕ, List, ◌++◌, codes}
 use Rattle.std.specs.Fmt.{decimal}
 use Rattle.reload_planner.specs.declared.refusal.PlanRefusal.{PlanRefusal}
 use Rattle.reload_planner.specs.declared.refusal.PlanRefusal.TheVariants as planner
+use Rattle.word_runner.specs.declared.enactor.TargetRefusal.{TargetRefusal}
+use Rattle.word_runner.specs.declared.enactor.TargetRefusal.TheVariants as lack
 use Rattle.plan_executor.specs.declared.enactment.EnactRefusal.{EnactRefusal}
 use Rattle.plan_executor.specs.declared.enactment.EnactRefusal.TheVariants.{Memory, RecordDisagrees, Plan, MasterNamed, NoNumbers}
 
@@ -19,6 +21,10 @@ enact_code (Plan refusal) = codes "E3 " ++ plan_code refusal
 enact_code (MasterNamed moment) = codes "E4 " ++ decimal moment
 enact_code NoNumbers = codes "E5"
 
--- there is no master any more
-abbrev pub stopped_code : List ℕ
-stopped_code = codes "V1"
+-- want of memory has no code that a word prints
+abbrev pub target_refusal : EnactRefusal → TargetRefusal
+target_refusal Memory = lack.Memory
+target_refusal RecordDisagrees = lack.Coded (enact_code RecordDisagrees)
+target_refusal (Plan refusal) = lack.Coded (enact_code (Plan refusal))
+target_refusal (MasterNamed moment) = lack.Coded (enact_code (MasterNamed moment))
+target_refusal NoNumbers = lack.Coded (enact_code NoNumbers)

@@ -13,7 +13,7 @@ use Rattle.definitions.specs.Claims.{refused_moment, Keeps, KeepsFloor}
 use Rattle.kernel_model.specs.Room.{LacksNumbers}
 use Rattle.kernel_model.specs.State.{State}
 use Rattle.plan_executor.specs.Lawful.{IsWholeRun}
-use Rattle.plan_executor.specs.declared.enactment.Enacted.{Enacted}
+use Rattle.word_runner.specs.declared.enactor.Enacted.{Enacted}
 
 -- Where a target quits nobody, or only when others are ready, its run keeps the floor. A mend kills first, and a stop leaves none.
 abbrev pub HasFloor : Table → Record → Target → Ran → Type 0

@@ -4,6 +4,5 @@ pub mod Codes
 pub mod Refusals
 pub mod Patterned
 pub mod Enacted
-pub mod Started
 pub mod Words
 pub mod Range

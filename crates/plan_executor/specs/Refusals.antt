@@ -1,5 +1,5 @@
 -- Why a target is not carried out.
-use Rattle.std.specs.Prelude.{ℕ, ◌≡◌, true, Some, None}
+use Rattle.std.specs.Prelude.{ℕ, ◌≡◌, true, Some}
 use Rattle.definitions.specs.Table.{Table}
 use Rattle.definitions.specs.Record.{Record, Agrees}
 use Rattle.vocabulary.specs.declared.targets.Target.{Target}

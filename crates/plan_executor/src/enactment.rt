@@ -24,7 +24,8 @@ use rollback_plan::Plan;
 use service_state::Record;
 use std::alloc::{AllocError, Global};
 use thiserror::Error;
-use vocabulary::{Report, Settings, Target};
+use vocabulary::{Settings, Target};
+use word_runner::Enacted;
 
 /// Why a target is not carried out.
 #[derive(Clone, Copy, Debug, PartialEq, Eq, Error)]
@@ -54,16 +55,6 @@ impl From<AllocError> for EnactRefusal {
     fn from(_error: AllocError) -> EnactRefusal {
         EnactRefusal::Memory
     }
-}
-
-/// What came of a target.
-#[derive(Drop)]
-pub struct Enacted {
-    /// The calls that were made, with their answers.
-    pub log: CallLog,
-    pub report: Report,
-    /// The record of the master that runs then; none after a stop.
-    pub after: Option<Record>,
 }
 
 /// Plans a target for a running state and carries the plan out on the modelled kernel, under a

@@ -2,13 +2,12 @@
 #![tactic(auto)]
 
 mod agreement;
-mod block;
+mod codes;
 mod enactment;
 mod naming;
 mod patterned;
-mod words;
+mod rehearsal;
 
 pub use agreement::agrees;
-pub use block::{Block, Body, CodeText};
-pub use enactment::{EnactRefusal, Enacted, enact};
-pub use words::run_words;
+pub use enactment::{EnactRefusal, enact};
+pub use rehearsal::run_words;

@@ -2,8 +2,8 @@
 use Rattle.std.specs.Prelude.{ℕ, ◌==◌, ◌||◌, max, if◌then◌else◌}
 use Rattle.vocabulary.specs.declared.reports.Outcome.{Outcome}
 use Rattle.vocabulary.specs.declared.reports.Outcome.TheVariants as outcome
-use Rattle.plan_executor.specs.declared.block.Body.{Body}
-use Rattle.plan_executor.specs.declared.block.Body.TheVariants as body
+use Rattle.word_runner.specs.declared.block.Body.{Body}
+use Rattle.word_runner.specs.declared.block.Body.TheVariants as body
 
 -- 3 where the word was rolled back, 4 where some workers are lacking
 abbrev pub outcome_status : Outcome → ℕ

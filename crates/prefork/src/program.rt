@@ -9,12 +9,12 @@ use crate::start::Start;
 use command_line::{EnactOptions, PlanOptions, Refusal, Request};
 use control_words::Word;
 use kernel_model::Pattern;
-use plan_executor::Body;
 use std::alloc::{AllocError, Global};
 use std::io::{Read, Write};
 use std::rt::Files;
 use transcript::TextRefusal;
 use vocabulary::Outcome;
+use word_runner::Body;
 
 /// Runs the program, and gives its exit status.
 ///

@@ -4,10 +4,11 @@ use crate::start::Start;
 use control_words::Word;
 use kernel_model::{BootRefusal, ForeignRefusal, Kernel, Pattern};
 use listener_set::{Address, Numbers};
-use plan_executor::{Block, run_words};
+use plan_executor::run_words;
 use service_state::Record;
 use std::alloc::Global;
 use vocabulary::{Limits, Settings};
+use word_runner::Block;
 use worker_table::WorkerTable;
 
 /// What the modelled kernel of a rehearsal allows.

@@ -2,12 +2,13 @@
 use control_words::{Word, WordRefusal};
 use kernel_model::Kernel;
 use listener_set::Numbers;
-use plan_executor::{Body, CodeText, EnactRefusal, run_words};
+use plan_executor::{EnactRefusal, run_words};
 use reload_planner::PlanRefusal;
 use service_state::Record;
 use std::alloc::Global;
 use std::test::Fail;
 use vocabulary::{Limits, Settings};
+use word_runner::{Body, CodeText};
 use worker_table::{TableRefusal, WorkerTable};
 
 /// The body of a word's block, where no next settings are at hand.

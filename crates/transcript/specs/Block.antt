@@ -2,9 +2,9 @@
 use Rattle.std.specs.Prelude.{ℕ, List, ◌++◌, codes}
 use Rattle.control_words.specs.Words.{word_text}
 use Rattle.call_text.specs.ReportText.{report_text, entries_text}
-use Rattle.plan_executor.specs.declared.block.Block.{Block}
-use Rattle.plan_executor.specs.declared.block.Body.{Body}
-use Rattle.plan_executor.specs.declared.block.Body.TheVariants.{Nothing, Refused, Ran}
+use Rattle.word_runner.specs.declared.block.Block.{Block}
+use Rattle.word_runner.specs.declared.block.Body.{Body}
+use Rattle.word_runner.specs.declared.block.Body.TheVariants.{Nothing, Refused, Ran}
 
 -- what stands behind the word: `nothing`, a refusal's code, or the calls that were made and the report
 abbrev pub body_text : Body → List ℕ

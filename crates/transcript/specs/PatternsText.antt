@@ -3,7 +3,7 @@ use Rattle.std.specs.Prelude.{ℕ, ◌+◌, ◌==◌, nat_lt, Bool, true, false,
 use Rattle.vocabulary.specs.declared.names.Name.{Name}
 use Rattle.vocabulary.specs.declared.calls.Fate.{Fate}
 use Rattle.definitions.specs.Run.{quiet, Pattern}
-use Rattle.kernel_model.specs.Pattern.{with_exit, with_fate}
+use Rattle.event_pattern.specs.Pattern.{with_exit, with_fate}
 use Rattle.line_text.specs.declared.pattern_line.PatternLine.{PatternLine}
 use Rattle.line_text.specs.declared.pattern_line.PatternLine.TheVariants.{Exit, Fail, Next}
 use Rattle.line_text.specs.PatternReading.{line_of}

@@ -1,6 +1,6 @@
 -- How far a reader has come.
 use Rattle.std.specs.Prelude.{map}
-use Rattle.kernel_model.specs.Pattern.{moment_at}
+use Rattle.event_pattern.specs.Pattern.{moment_at}
 use Rattle.transcript.specs.declared.patterns.Reader.{Reader}
 use Rattle.transcript.specs.PatternsText.{Reading}
 

@@ -5,8 +5,8 @@ ghost use Rattle.transcript.specs.Block.{body_text, block_text};
 
 use call_text::{write_entries, write_number, write_report};
 use control_words::Word;
-use plan_executor::{Block, Body};
 use std::alloc::{AllocError, Global};
+use word_runner::{Block, Body};
 
 /// A word as it is written: its name, and the numbers of a beat or of a tick.
 fn write_word(out: &mut Vec<u8>, word: Word) -> Result<(), AllocError>

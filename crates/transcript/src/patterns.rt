@@ -1,12 +1,12 @@
 //! Patterns as texts.
 ghost use Rattle.std.specs.Prelude.{◌≡◌, ◌≢◌, ◌<◌, ◌≤◌, ◌++◌, ◌∷◌, [], map, length, Some, None, Ok, Err, OnOk, IfOk, IfErr};
-ghost use Rattle.kernel_model.specs.Pattern.{moment_at, IsNameWithin};
+ghost use Rattle.event_pattern.specs.Pattern.{moment_at, IsNameWithin};
 ghost use Rattle.line_text.specs.PatternText.{IsLine};
 ghost use Rattle.transcript.specs.PatternsText.{lines_of, may_follow, begun, with_exit_in, with_fate_in, placed, patterns_of};
 
 use crate::TextRefusal;
 use call_text::cut;
-use kernel_model::Pattern;
+use event_pattern::Pattern;
 use line_text::PatternLine;
 use std::alloc::{AllocError, Global};
 use std::mem;

@@ -13,7 +13,7 @@ use Rattle.kernel_model.specs.State.{State}
 use Rattle.rollback_plan.specs.Plans.{tree_of, note_of}
 use Rattle.plan_executor.specs.Naming.{first_naming}
 use Rattle.plan_executor.proofs.Enacting.{enacted, named}
-use Rattle.plan_executor.specs.declared.enactment.Enacted.{Enacted}
+use Rattle.word_runner.specs.declared.enactor.Enacted.{Enacted}
 use Rattle.plan_executor.specs.declared.enactment.EnactRefusal.{EnactRefusal}
 use Rattle.plan_executor.specs.declared.enactment.EnactRefusal.TheVariants.{Memory, RecordDisagrees, NoNumbers, MasterNamed}
 use Rattle.plan_executor.proofs.Exact.{IsExact, exact-refused, exact-planless, exact-short, exact-enacted}

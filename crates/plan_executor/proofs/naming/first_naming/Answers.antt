@@ -1,6 +1,5 @@
-use Rattle.std.proofs.Common.{◌≡◌, ◌+◌, ◌≤◌, ◌∷◌, [], ◌∙◌, ap, sym, arith, true, false, length, drop, List}
+use Rattle.std.proofs.Common.{◌≡◌, ◌+◌, ◌≤◌, ◌∷◌, [], ◌∙◌, ap, sym, arith, true, false, length, drop}
 use Rattle.std.proofs.lemmas.List.{drop_more, drop_all}
-use Rattle.vocabulary.specs.declared.reports.Entry.{Entry}
 use Rattle.definitions.specs.Run.{Moment}
 use Rattle.definitions.specs.Claims.{names_any}
 use Rattle.definitions.specs.Manner.{is_leave_call}

@@ -1,8 +1,8 @@
 use Rattle.std.proofs.Common.{◌∙◌, ap, sym, subst, Some}
 use Rattle.listener_set.specs.Numbers.{is_in}
-use Rattle.plan_executor.proofs.Starting.{HasTaken, gathered-by, taken-above}
-use Rattle.plan_executor.proofs.words.started_in.Goals as goal
-use Rattle.plan_executor.proofs.words.started_in.Goals.{in-Some+then-nr-lt-WORKER_LIMIT, in-Some+else-nr-lt-WORKER_LIMIT, in_default}
+use Rattle.word_runner.proofs.Starting.{HasTaken, gathered-by, taken-above}
+use Rattle.word_runner.proofs.words.started_in.Goals as goal
+use Rattle.word_runner.proofs.words.started_in.Goals.{in-Some+then-nr-lt-WORKER_LIMIT, in-Some+else-nr-lt-WORKER_LIMIT, in_default}
 
 pub loop-entry-preserved : goal.loop-entry-preserved
 loop-entry-preserved c =

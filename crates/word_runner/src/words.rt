@@ -1,80 +1,66 @@
 //! Control words, carried out one after another.
-ghost use Rattle.std.specs.Prelude.{◌≡◌, ◌+◌, ◌<◌, ◌++◌, ℕ, List, [], Option, length, IfOk, OnOk, OnErr};
-ghost use Rattle.definitions.specs.Record.{Record as Known};
-ghost use Rattle.kernel_model.specs.State.{State};
-ghost use Rattle.worker_table.specs.Calls.{beating};
+ghost use Rattle.std.specs.Prelude.{◌≡◌, ◌+◌, ◌<◌, ◌++◌, ℕ, List, length, IfOk, OnOk, OnErr};
 ghost use Rattle.std.specs.Option.{option_copied};
 ghost use Rattle.definitions.specs.Target.{IsTarget};
-ghost use Rattle.kernel_model.specs.Pattern.{moment_at};
 ghost use Rattle.listener_set.specs.Numbers.{is_in};
-ghost use Rattle.plan_executor.specs.Codes.{enact_code};
-ghost use Rattle.plan_executor.specs.Started.{start_of, started_in, started};
-ghost use Rattle.plan_executor.specs.Words.{standing, beat_in, overdue_at, pattern_at, IsActed, IsNoted, ComesTo, AreDone, IsTrueOf};
-ghost use Rattle.plan_executor.specs.declared.block.Block.{Block as Done};
+ghost use Rattle.worker_table.specs.Calls.{beating};
+ghost use Rattle.word_runner.specs.Started.{start_of, started_in, started};
+ghost use Rattle.word_runner.specs.Words.{standing, beat_in, overdue_at, IsActed, IsNoted, ComesTo, AreDone};
+ghost use Rattle.word_runner.specs.declared.block.Block.{Block as Done};
 
-use crate::{Block, Body, CodeText, EnactRefusal, enact};
+use crate::{Block, Body, CodeText, Enactor, TargetRefusal};
 use control_words::{Word, target_of};
-use kernel_model::{Kernel, Pattern};
 use listener_set::{Generation, Numbers, WORKER_LIMIT};
 use service_state::Record;
 use std::alloc::{AllocError, Global};
 use vocabulary::{Answer, Call, Entry, Settings, Target};
 use worker_table::WorkerTable;
 
-/// Carries control words out one after another on the modelled kernel, the i-th under the i-th
-/// pattern, and under a quiet one where there is none. `settings` are those of a new configuration.
+/// Carries control words out one after another. `settings` are those of a new configuration.
 ///
 /// Each word puts its block behind `blocks`. A refused word prints its code and changes nothing;
 /// once there is no record, each is refused as V1. After a run the record is the one that the
 /// report leaves, and the table of workers follows: those that the plan started have not beaten.
 /// The only refusal is want of memory. It leaves the words before it done, with their blocks, and
 /// all else as they left it.
-pub fn run_words(
+pub fn run_words<E: Enactor>(
     alloc: Global,
-    kernel: &mut Kernel,
+    enactor: &E,
+    world: &mut E::World,
     state: &mut Option<Record>,
     workers: &mut WorkerTable,
     words: &[Word],
-    patterns: &[Pattern],
     settings: Option<&Settings>,
     blocks: &mut Vec<Block>,
 ) -> Result<(), AllocError>
     ensures done { (done : List Done)
         × (blocks.new.items ≡ blocks.old.items ++ done)
-        × AreDone (option_copied settings.entry) words.now patterns.now (standing kernel.old state.old workers.old) done (standing kernel.new state.new workers.new) }
+        × AreDone (E.enacts enactor.now) (E.declines enactor.now) (option_copied settings.entry) words.now 0 (standing world.old state.old workers.old) done (standing world.new state.new workers.new) }
     ensures all { OnOk result (length blocks.new.items ≡ length blocks.old.items + length words.now) }
-    ensures agrees { IsTrueOf kernel.old.table state.old → IsTrueOf kernel.new.table state.new }
 {
-    let quiet = Pattern::new(alloc);
     for (place, word) in words.iter().enumerate() {
         blocks.reserve(1)?;
-        let pattern = pattern_at(patterns, &quiet, place);
-        let body = run_word(alloc, kernel, state, workers, *word, pattern, settings)?;
+        let body = run_word(
+            alloc, enactor, world, state, workers, *word, place, settings,
+        )?;
         blocks.push_reserved(Block { word: *word, body });
     }
     Ok(())
 }
 
-/// The pattern at a place, and the quiet one where there is none.
-fn pattern_at<'a>(patterns: &'a [Pattern], quiet: &'a Pattern, place: usize) -> &'a Pattern
-    requires { quiet.now ≡ [] }
-    ensures { result.now ≡ pattern_at patterns.now place }
-{
-    patterns.get(place).unwrap_or(quiet)
-}
-
 /// Carries a word out. Want of memory leaves everything as it was.
-fn run_word(
+fn run_word<E: Enactor>(
     alloc: Global,
-    kernel: &mut Kernel,
+    enactor: &E,
+    world: &mut E::World,
     state: &mut Option<Record>,
     workers: &mut WorkerTable,
     word: Word,
-    pattern: &Pattern,
+    place: usize,
     settings: Option<&Settings>,
 ) -> Result<Body, AllocError>
-    ensures ok { IfOk result (λ body. ComesTo (option_copied settings.entry) word (moment_at pattern.now) (standing kernel.old state.old workers.old) body (standing kernel.new state.new workers.new)) }
-    ensures err { OnErr result (standing kernel.new state.new workers.new ≡ standing kernel.old state.old workers.old) }
+    ensures ok { IfOk result (λ body. ComesTo (E.enacts enactor.now) (E.declines enactor.now) (option_copied settings.entry) word place (standing world.old state.old workers.old) body (standing world.new state.new workers.new)) }
+    ensures err { OnErr result (standing world.new state.new workers.new ≡ standing world.old state.old workers.old) }
 {
     let Some(running) = *state else {
         return Ok(Body::Refused(CodeText::stopped()));
@@ -88,7 +74,9 @@ fn run_word(
         Ok(None) => return Ok(Body::Nothing),
         Err(refusal) => return Ok(Body::Refused(CodeText::from(refusal))),
     };
-    act(alloc, kernel, state, workers, &running, &target, pattern)
+    act(
+        alloc, enactor, world, state, workers, place, &running, &target,
+    )
 }
 
 /// A worker's beat.
@@ -110,7 +98,7 @@ fn beat_in(word: Word) -> Option<HeardBeat>
 
 /// Notes a beat; the table of workers may refuse it.
 fn beat(workers: &mut WorkerTable, heard: HeardBeat) -> Body
-    ensures { (kernel : State) (state : Option Known) → IsNoted (beating workers.old heard.nr heard.now) heard.nr heard.now (standing kernel state workers.old) result (standing kernel state workers.new) }
+    ensures { IsNoted (beating workers.old heard.nr heard.now) heard.nr heard.now workers.old result workers.new }
 {
     match workers.beat(heard.nr, heard.now) {
         Ok(()) => Body::Nothing,
@@ -129,22 +117,24 @@ fn overdue_at(word: Word, running: &Record, workers: &WorkerTable) -> Numbers
 }
 
 /// Carries a target out for a running master. Want of memory leaves everything as it was.
-fn act(
+fn act<E: Enactor>(
     alloc: Global,
-    kernel: &mut Kernel,
+    enactor: &E,
+    world: &mut E::World,
     state: &mut Option<Record>,
     workers: &mut WorkerTable,
+    place: usize,
     running: &Record,
     target: &Target,
-    pattern: &Pattern,
 ) -> Result<Body, AllocError>
     requires { IsTarget target.now }
-    ensures ok { IfOk result (λ body. IsActed (standing kernel.old state.old workers.old) running.now target.now (moment_at pattern.now) body (standing kernel.new state.new workers.new)) }
-    ensures err { OnErr result (standing kernel.new state.new workers.new ≡ standing kernel.old state.old workers.old) }
+    ensures ok { IfOk result (λ body. IsActed (E.enacts enactor.now) (E.declines enactor.now) place (standing world.old state.old workers.old) running.now target.now body (standing world.new state.new workers.new)) }
+    ensures err { OnErr result (standing world.new state.new workers.new ≡ standing world.old state.old workers.old) }
 {
-    let enacted = match enact(alloc, kernel, running, target, pattern) {
+    let enacted = match enactor.enact(alloc, world, place, running, target) {
         Ok(enacted) => enacted,
-        Err(refusal) => return declined(refusal),
+        Err(TargetRefusal::Memory) => return Err(AllocError),
+        Err(TargetRefusal::Coded(code)) => return Ok(Body::Refused(code)),
     };
     let started = started(enacted.after.as_ref(), enacted.log.entries());
     // `lowest` says that the numbers are below the limit, which the proof cites.
@@ -152,16 +142,6 @@ fn act(
     workers.follow(&enacted.report.ready, &started);
     *state = enacted.after;
     Ok(Body::Ran(enacted.log, enacted.report))
-}
-
-/// The code of a target that is refused for another cause than want of memory.
-fn declined(refusal: EnactRefusal) -> Result<Body, AllocError>
-    ensures { IfOk result (λ body. (refusal ≡ EnactRefusal.Memory → ⊥) × (body ≡ Body.Refused (enact_code refusal))) }
-{
-    match refusal {
-        EnactRefusal::Memory => Err(AllocError),
-        refusal => Ok(Body::Refused(CodeText::from(refusal))),
-    }
 }
 
 /// The workers that a run started and that are of the generation that runs then.

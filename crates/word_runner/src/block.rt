@@ -1,13 +1,10 @@
 //! What a word came to.
 ghost use Rattle.std.specs.Prelude.{◌≡◌, ◌+◌, ◌≤◌, ◌++◌, length};
-ghost use Rattle.plan_executor.specs.Codes.{plan_code, stopped_code};
+ghost use Rattle.word_runner.specs.Codes.{stopped_code};
 
-use crate::EnactRefusal;
 use arrayvec::ArrayString;
 use control_words::{Word, WordRefusal};
-use itoa::Buffer;
 use plan_runner::CallLog;
-use reload_planner::PlanRefusal;
 use std::marker::Model;
 use vocabulary::Report;
 use worker_table::TableRefusal;
@@ -31,7 +28,7 @@ impl Model for CodeText {
 
 impl CodeText {
     /// A code, and what it is about. All codes of this program are shorter than 64 bytes.
-    fn of(code: &str, about: &str) -> CodeText
+    pub fn of(code: &str, about: &str) -> CodeText
         requires { length code.now + length about.now ≤ 64 }
         ensures { result ≡ code.now ++ about.now }
     {
@@ -77,38 +74,6 @@ impl From<TableRefusal> for CodeText {
 
     fn from(refusal: TableRefusal) -> CodeText {
         CodeText::of(refusal.code(), "")
-    }
-}
-
-/// The code of a target's refusal.
-impl From<EnactRefusal> for CodeText {
-    ghost use Rattle.std.specs.Prelude.{◌≡◌};
-    ghost use Rattle.plan_executor.specs.Codes.{enact_code};
-
-    ghost from_gives = { λ refusal code. code ≡ enact_code refusal };
-
-    fn from(refusal: EnactRefusal) -> CodeText {
-        match refusal {
-            EnactRefusal::Memory => CodeText::of("E1", ""),
-            EnactRefusal::RecordDisagrees => CodeText::of("E2", ""),
-            EnactRefusal::Plan(refusal) => CodeText::of("E3 ", plan_code(refusal)),
-            EnactRefusal::MasterNamed(moment) => {
-                CodeText::of("E4 ", Buffer::new().format(moment))
-            }
-            EnactRefusal::NoNumbers => CodeText::of("E5", ""),
-        }
-    }
-}
-
-fn plan_code(refusal: PlanRefusal) -> &'static str
-    ensures code { result.now ≡ plan_code refusal }
-    ensures short { length result.now ≤ 13 }
-{
-    match refusal {
-        PlanRefusal::TooLarge => "P1",
-        PlanRefusal::Unplanned => "P2",
-        PlanRefusal::NoGeneration => "P3",
-        PlanRefusal::Memory => "out of memory",
     }
 }
 

@@ -8,7 +8,7 @@ use Rattle.vocabulary.specs.declared.reports.Entry.{Entry}
 use Rattle.listener_set.specs.Numbers.{is_in, with_number, AreBelow}
 use Rattle.listener_set.proofs.Rising.{is_in-with_number}
 use Rattle.worker_table.specs.Beats.{Workers, followed, last_beat}
-use Rattle.plan_executor.specs.Started.{start_of, started_in}
+use Rattle.word_runner.specs.Started.{start_of, started_in}
 
 -- the same of the numbers below the limit
 abbrev pub IsLike : List ℕ → List ℕ → Type 0

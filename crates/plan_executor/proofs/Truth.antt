@@ -1,0 +1,66 @@
+-- What words leave on the modelled kernel: the record stays true of it.
+use Rattle.std.proofs.Common.{◌≡◌, inl, inr, ℕ, List, Option, Err, refl, sym, ◌∙◌, ap, subst}
+use Rattle.vocabulary.specs.Settings.{Settings}
+use Rattle.definitions.specs.Table.{Table}
+use Rattle.definitions.specs.Record.{Record}
+use Rattle.vocabulary.specs.declared.targets.Target.{Target}
+use Rattle.definitions.specs.Run.{Ran as TheRun, run, start_at, report_of}
+use Rattle.definitions.specs.After.{record_after}
+use Rattle.vocabulary.specs.declared.targets.Target.TheVariants.{Workers, Mend, Reopen, Reload, Upgrade, Stop}
+use Rattle.vocabulary.specs.declared.reports.Report.{Report}
+use Rattle.definitions.specs.Claims.{AgreesAfter, IsLeft}
+use Rattle.kernel_model.specs.State.{State}
+use Rattle.kernel_model.specs.Pattern.{moment_at}
+use Rattle.control_words.specs.declared.words.Word.{Word}
+use Rattle.word_runner.specs.declared.block.Block.{Block}
+use Rattle.word_runner.specs.Enactors.{HasCode}
+use Rattle.word_runner.specs.Words.{Standing, HasRun, AreDone}
+use Rattle.word_runner.proofs.Keeping.{done-keeps}
+use Rattle.plan_runner.specs.Log.{Told}
+use Rattle.plan_executor.specs.declared.enactment.EnactRefusal.{EnactRefusal}
+use Rattle.plan_executor.specs.declared.enactment.EnactRefusal.TheVariants.{Memory, RecordDisagrees, Plan, MasterNamed, NoNumbers}
+use Rattle.plan_executor.specs.Codes.{target_refusal}
+use Rattle.plan_executor.specs.Refusals.{IsRefused}
+use Rattle.plan_executor.specs.Words.{Moments, pattern_at, EnactsAt, DeclinesAt, IsTrueOf}
+use Rattle.plan_executor.proofs.Exact.{IsExact}
+
+---- A refused target
+
+-- the refusal that an enactment answers with fits, unless it is want of memory
+fits : (t : Table) (r : Record) (target : Target) (patterns : List Moments) (place : ℕ) (why : EnactRefusal) → IsExact t r target (moment_at (pattern_at patterns place)) (Err why) → (why ≡ Memory → ⊥) → IsRefused t r target (moment_at (pattern_at patterns place)) why
+fits t r target patterns place why exact other = elim (exact why) [ inl memory ↦ absurd (other (cc)) | inr only ↦ only.0 refl ]
+
+pub declined-is : (patterns : List Moments) (first : State) (place : ℕ) (r : Record) (target : Target) (why : EnactRefusal) →
+    IsExact first.table r target (moment_at (pattern_at patterns place)) (Err why) → HasCode (DeclinesAt patterns first place r target) (target_refusal why)
+declined-is patterns first place r target Memory exact = tt
+declined-is patterns first place r target RecordDisagrees exact = record { why = RecordDisagrees; is_refused = fits first.table r target patterns place RecordDisagrees exact (λ e. cc); code_is = refl }
+declined-is patterns first place r target (Plan refusal) exact = record { why = Plan refusal; is_refused = fits first.table r target patterns place (Plan refusal) exact (λ e. cc); code_is = refl }
+declined-is patterns first place r target (MasterNamed moment) exact = record { why = MasterNamed moment; is_refused = fits first.table r target patterns place (MasterNamed moment) exact (λ e. cc); code_is = refl }
+declined-is patterns first place r target NoNumbers exact = record { why = NoNumbers; is_refused = fits first.table r target patterns place NoNumbers exact (λ e. cc); code_is = refl }
+
+---- The record stays true
+
+-- the record that agrees after a run is the one that is left
+agreed : (target : Target) (r : Record) (state : Option Record) (report : Report) (t : Table) → state ≡ record_after r target report r.pid → AgreesAfter r target report r.pid t → IsTrueOf t state
+agreed target r state report t is after = subst (IsTrueOf t) (sym (is ∙ after.is)) after.agrees
+
+left-true : (target : Target) (r : Record) (state : Option Record) (ran : TheRun) → state ≡ record_after r target (report_of ran) r.pid → IsLeft r target r.pid ran → IsTrueOf ran.last.table state
+left-true (Workers n) r state ran is left = agreed (Workers n) r state (report_of ran) ran.last.table is left
+left-true (Mend overdue) r state ran is left = agreed (Mend overdue) r state (report_of ran) ran.last.table is left
+left-true Reopen r state ran is left = agreed Reopen r state (report_of ran) ran.last.table is left
+left-true (Reload s) r state ran is left = agreed (Reload s) r state (report_of ran) ran.last.table is left
+left-true (Upgrade s) r state ran is left = agreed (Upgrade s) r state (report_of ran) ran.last.table is left
+left-true (Stop quick) r state ran is left = subst (IsTrueOf ran.last.table) (sym (is ∙ left.0)) tt
+
+-- a run leaves a record that is true of the kernel
+ran-true : (patterns : List Moments) (place : ℕ) (old : Standing State) (r : Record) (target : Target) (log : Told) (report : Report) (new : Standing State) → HasRun (EnactsAt patterns) place old r target log report new → IsTrueOf new.world.table new.state
+ran-true patterns place old r target log report new h =
+    let is = h.enacted in
+    let ran = run is.tree (moment_at (pattern_at patterns place)) (start_at old.world.table r.note) in
+    let left : new.state ≡ record_after r target (report_of ran) r.pid = is.after ∙ ap (λ x. record_after r target x r.pid) is.is_run.report_is in
+    subst (λ (t : Table). IsTrueOf t new.state) is.is_run.table (left-true target r new.state ran left is.keeps.after)
+
+pub done-true : (patterns : List Moments) (settings : Option Settings) (words : List Word) (first : Standing State) (blocks : List Block) (last : Standing State) → AreDone (EnactsAt patterns) (DeclinesAt patterns) settings words 0 first blocks last → IsTrueOf first.world.table first.state → IsTrueOf last.world.table last.state
+done-true patterns settings words first blocks last done true_of =
+    done-keeps (EnactsAt patterns) (DeclinesAt patterns) (λ (k : State) (state : Option Record). IsTrueOf k.table state)
+    (λ place old r target log report new h _. ran-true patterns place old r target log report new h) settings words 0 first blocks last done true_of

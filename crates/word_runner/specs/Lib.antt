@@ -1,0 +1,4 @@
+pub mod Codes
+pub mod Enactors
+pub mod Started
+pub mod Words

@@ -1,0 +1,10 @@
+//! Control words, carried out one after another by whatever carries targets out.
+#![tactic(auto)]
+
+mod block;
+mod enactor;
+mod words;
+
+pub use block::{Block, Body, CodeText};
+pub use enactor::{Enacted, Enactor, TargetRefusal};
+pub use words::run_words;
