@@ -1,5 +1,5 @@
 -- Sets of numbers, as plans use them.
-use Rattle.std.proofs.Common.{◌≡◌, ℕ, zero, suc, ◌+◌, ◌<◌, ◌≤◌, ◌||◌, ◌&&◌, inl, inr, Bool, true, false, not, cond, filter, nat_eq, List, [], ◌∷◌, length, length-append, reverse, refl, sym, ◌∙◌, ap, subst, arith, nat_lt}
+use Rattle.std.proofs.Common.{◌≡◌, ℕ, zero, suc, ◌+◌, ◌<◌, ◌≤◌, ◌||◌, ◌&&◌, inl, inr, Bool, true, false, not, cond, filter, nat_eq, List, [], ◌∷◌, ◌++◌, length, length-append, reverse, refl, sym, ◌∙◌, ap, subst, arith, nat_lt}
 use Rattle.std.proofs.lemmas.Bool.{lt-ltb, le-ltb, eq-eqb, ne_eqb, cases_order, cases_eq, cond_both, or_cases, eqb-true}
 use Rattle.std.proofs.lemmas.List.Folds.{list_any-append}
 use Rattle.std.specs.List.{AllByRecursion}
@@ -120,3 +120,14 @@ repair_is by g ready rounds overdue n all late fresh a l f = rw (a, l, f, kept_i
 pub late_few : (n : ℕ) (ready overdue late : List ℕ) → AllByRecursion (λ k. k < n) ready → AreNumbers 1024 late → late ≡ lacks overdue (lacks overdue ready) → length late ≤ n
 late_few n ready overdue late all numbers is =
     omega (arith, rising_few 0 n late numbers.rising (subst (AreBelow n) (sym (is ∙ kept_in ready overdue)) (all_low n (is_in ready) overdue (λ k here. low_in n ready k all here))) (omega arith))
+
+---- Running masters
+
+each_append : (m : ℕ) (ks : List ℕ) (k : ℕ) → AllByRecursion (λ j. j < m) ks → k < m → AllByRecursion (λ j. j < m) (ks ++ k ∷ [])
+each_append m [] k all low = (low, tt)
+each_append m (x ∷ ks) k all low = (all.0, each_append m ks k all.1 low)
+
+-- the numbers below n are below each number from n on
+pub low_below : (n m : ℕ) → n ≤ m → AllByRecursion (λ k. k < m) (numbers_below n)
+low_below zero m le = tt
+low_below (suc n) m le = each_append m (numbers_below n) n (low_below n m (omega (arith, le))) (omega (arith, le))
