@@ -4,7 +4,7 @@ use Rattle.std.specs.Prelude.{codes, bytes_eq, option_map, option_and_then}
 use Rattle.std.specs.Fmt.{decimal}
 use Rattle.std.proofs.lemmas.Bool.Decides.{nat_tests}
 use Rattle.listener_set.specs.declared.generation.Generation.{Generation}
-use Rattle.listener_set.specs.NumberText.{number_of}
+use Rattle.plain_text.specs.NumberText.{number_of}
 use Rattle.vocabulary.specs.declared.calls.Call.{Call}
 use Rattle.vocabulary.specs.declared.calls.Call.TheVariants as call
 use Rattle.call_text.specs.declared.verbs.Verb.{Verb}

@@ -8,7 +8,7 @@ use Rattle.std.specs.Char.{is_ascii_digit}
 use Rattle.std.proofs.lemmas.Bool.{cases_Bool, cases_lt, lt-ltb, le-ltb}
 use Rattle.std.proofs.lemmas.Bool.Decides.{nat_tests}
 use Rattle.std.proofs.lemmas.List.{length-append}
-use Rattle.listener_set.proofs.NumberTextLemmas.{both, digits-decimal}
+use Rattle.plain_text.proofs.NumberTextLemmas.{both, digits-decimal}
 use Rattle.call_text.specs.Reading.{cut}
 
 abbrev pub with_first : ℕ → Option (List ℕ × List ℕ) → Option (List ℕ × List ℕ)

@@ -9,11 +9,11 @@ use Rattle.std.proofs.lemmas.List.{length-append, take-append-drop}
 use Rattle.std.proofs.Math.Seq.{take-append_seam, drop-append_seam}
 use Rattle.listener_set.specs.declared.generation.Generation.{Generation}
 use Rattle.listener_set.specs.declared.address.AddressRefusal.{AddressRefusal}
-use Rattle.listener_set.specs.NumberText.{number_of}
+use Rattle.plain_text.specs.NumberText.{number_of}
 use Rattle.listener_set.specs.AddressText.{reading, check, accepted as taken, IsAddress}
 use Rattle.listener_set.specs.PathText.{is_path, begins_with_slash}
 use Rattle.listener_set.proofs.AddressGrammar.{grammar}
-use Rattle.listener_set.proofs.NumberTextLemmas.{both}
+use Rattle.plain_text.proofs.NumberTextLemmas.{both}
 use Rattle.call_text.specs.NumberText.{generation_text}
 use Rattle.call_text.specs.CallText.{worker_text}
 use Rattle.call_text.specs.Ranges.{IsNumber, IsWorkerNumber, IsGeneration, IsWorker, IsPath}

@@ -4,8 +4,8 @@ use Rattle.std.specs.Prelude.{IfSome, option_map, option_and_then, find, bytes_e
 use Rattle.std.specs.Cmp.Lexicographic.{bytes_decides}
 use Rattle.std.specs.Fmt.{decimal}
 use Rattle.std.proofs.lemmas.Bool.Decides.{nat_tests}
-use Rattle.listener_set.specs.NumberText.{number_of}
-use Rattle.listener_set.proofs.NumberTextLemmas.{both, decimal-number_of, number_of-decimal}
+use Rattle.plain_text.specs.NumberText.{number_of}
+use Rattle.plain_text.proofs.NumberTextLemmas.{both, decimal-number_of, number_of-decimal}
 use Rattle.definitions.specs.Handover.{number_if_within, number_within}
 use Rattle.call_text.specs.Reads.{Reads}
 use Rattle.call_text.specs.Reading.{some_if, cut, joined, behind, worker_number, count_of}

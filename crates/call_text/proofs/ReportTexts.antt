@@ -9,7 +9,7 @@ use Rattle.vocabulary.specs.declared.plans.Side.TheVariants as side
 use Rattle.vocabulary.specs.declared.reports.Report.{Report}
 use Rattle.vocabulary.specs.declared.reports.Outcome.{Outcome}
 use Rattle.vocabulary.specs.declared.reports.Outcome.TheVariants as outcome
-use Rattle.listener_set.specs.NumberText.{number_of}
+use Rattle.plain_text.specs.NumberText.{number_of}
 use Rattle.call_text.specs.Words.{note_text, side_text}
 use Rattle.call_text.specs.ReportText.{outcome_text, cause_text, ending_text, report_text}
 use Rattle.call_text.specs.Reads.{Reads}

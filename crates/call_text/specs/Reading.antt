@@ -1,6 +1,6 @@
 -- What reading a text gives, part by part.
 use Rattle.std.specs.Prelude.{ℕ, ◌+◌, ◌-◌, ◌==◌, nat_lt, nat_le, Bool, ◌&&◌, List, length, take, drop, Option, Some, None, option_map, option_and_then, Result, Ok, Err, position, bytes_eq, codes, if◌then◌else◌}
-use Rattle.listener_set.specs.NumberText.{number_of}
+use Rattle.plain_text.specs.NumberText.{number_of}
 use Rattle.listener_set.specs.AddressText.{reading}
 use Rattle.listener_set.specs.PathText.{is_path}
 use Rattle.listener_set.specs.declared.address.AddressRefusal.{AddressRefusal}

@@ -9,7 +9,8 @@ ghost use Rattle.call_text.specs.ReportReading.{is_note, note_of, is_side, side_
 use crate::cuts::{behind, cut};
 use crate::parts::read_count;
 use crate::words::{note_text, side_text};
-use listener_set::{Numbers, read_number};
+use listener_set::Numbers;
+use plain_text::read_number;
 use vocabulary::{Outcome, PidNote, Report, Side};
 
 /// All notes.

@@ -10,7 +10,8 @@ use crate::cuts::cut;
 use crate::numbers::write_number;
 use crate::parts::read_worker_number;
 use crate::words::fate_text;
-use listener_set::{Generation, read_number};
+use listener_set::Generation;
+use plain_text::read_number;
 use std::alloc::AllocError;
 use vocabulary::{Fate, Name};
 

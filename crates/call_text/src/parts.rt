@@ -4,7 +4,8 @@ ghost use Rattle.definitions.specs.Handover.{number_within};
 ghost use Rattle.call_text.specs.Reading.{count_of, generation_of, worker_of, worker_number, address_of, suffixed_of, path_of, paths_of};
 
 use crate::cuts::cut;
-use listener_set::{Address, FilePath, Generation, WORKER_LIMIT, read_number};
+use listener_set::{Address, FilePath, Generation, WORKER_LIMIT};
+use plain_text::read_number;
 
 /// A number from 1.
 pub(crate) fn read_count(text: &[u8]) -> Option<u32>

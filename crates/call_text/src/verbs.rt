@@ -7,7 +7,7 @@ ghost use Rattle.call_text.specs.CallReading.{verb_text, is_verb, verb_of, about
 
 use crate::cuts::cut;
 use crate::parts::{read_address, read_generation, read_path, read_paths, read_worker};
-use listener_set::read_number;
+use plain_text::read_number;
 use vocabulary::{Actor, Call};
 
 /// A word that something follows.

@@ -5,7 +5,7 @@ ghost use Rattle.command_line.specs.Arguments.{Enactment, FindsEnactment, FindsP
 
 use crate::Refusal;
 use clap::ArgMatches;
-use listener_set::read_number;
+use plain_text::read_number;
 use std::alloc::Global;
 
 /// How a master starts, and which files it reads.

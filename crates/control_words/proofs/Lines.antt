@@ -9,8 +9,8 @@ use Rattle.std.proofs.lemmas.Bool.Decides.{nat_tests}
 use Rattle.std.proofs.lemmas.List.{length-drop, take_at}
 use Rattle.std.proofs.Math.Seq.{drop-append-add}
 use Rattle.std.proofs.lemmas.List.Sums.{split_at_first, passes_at_first}
-use Rattle.listener_set.specs.NumberText.{number_of, number64_of}
-use Rattle.listener_set.proofs.NumberTextLemmas.{both, decimal-number_of, decimal-number64_of, number_of-decimal, number64_of-decimal, digits-decimal}
+use Rattle.plain_text.specs.NumberText.{number_of, number64_of}
+use Rattle.plain_text.proofs.NumberTextLemmas.{both, decimal-number_of, decimal-number64_of, number_of-decimal, number64_of-decimal, digits-decimal}
 use Rattle.control_words.specs.declared.words.Word.{Word}
 use Rattle.control_words.specs.declared.words.Word.TheVariants.{Hup, Quit, Int, Term, Usr1, Usr2, Winch, Ttin, Ttou, Beat, Tick}
 use Rattle.control_words.specs.declared.refusal.WordRefusal.{WordRefusal}

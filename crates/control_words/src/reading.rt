@@ -5,7 +5,8 @@ ghost use Rattle.control_words.specs.Words.{word_text, reading, beat_in, tick_in
 ghost use Rattle.control_words.specs.declared.words.Word.{Word as TheWord};
 
 use crate::{Word, WordRefusal};
-use listener_set::{WORKER_LIMIT, read_number, read_number64};
+use listener_set::WORKER_LIMIT;
+use plain_text::{read_number, read_number64};
 
 /// Where the first space stands, or the length.
 fn first_space(line: &[u8]) -> usize

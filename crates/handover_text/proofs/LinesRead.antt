@@ -6,11 +6,11 @@ use Rattle.std.proofs.lemmas.Option.{none-some, same_Some}
 use Rattle.std.proofs.lemmas.List.Sums.{list_all-from_AllPass}
 use Rattle.std.specs.Char.{is_ascii_graphic}
 use Rattle.listener_set.specs.PathText.{is_path, IsFilePath}
-use Rattle.listener_set.specs.NumberText.{number_of}
+use Rattle.plain_text.specs.NumberText.{number_of}
 use Rattle.listener_set.specs.AddressText.{reading, check, accepted}
 use Rattle.listener_set.specs.declared.address.AddressRefusal.{AddressRefusal}
 use Rattle.listener_set.specs.AddressList.{has}
-use Rattle.listener_set.proofs.NumberTextLemmas.{decimal-number_of}
+use Rattle.plain_text.proofs.NumberTextLemmas.{decimal-number_of}
 use Rattle.vocabulary.specs.declared.table.Listener.{Listener}
 use Rattle.definitions.specs.After.{listens_on}
 use Rattle.definitions.specs.Handover.{Handover, AtListeners, AtWants, passes, number_if_within, number_within, is_space, is_address, is_above, listener_if, listener_read, with_listener, with_want}

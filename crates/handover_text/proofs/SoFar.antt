@@ -9,7 +9,7 @@ use Rattle.std.proofs.lemmas.List.Folds.{list_all-append}
 use Rattle.std.proofs.lemmas.List.Sums.{fails_before_first}
 use Rattle.std.proofs.lemmas.List.Splits.{slice_split_first, slice_split_none, length-slice_split}
 use Rattle.std.proofs.lemmas.List.Quantifiers.{all_pairs_push}
-use Rattle.listener_set.specs.NumberText.{number_of}
+use Rattle.plain_text.specs.NumberText.{number_of}
 use Rattle.listener_set.specs.PathText.{is_path, begins_with_slash}
 use Rattle.listener_set.specs.AddressList.{has}
 use Rattle.listener_set.proofs.AddressLists.{has_address}

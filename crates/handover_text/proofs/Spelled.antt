@@ -10,10 +10,10 @@ use Rattle.std.proofs.lemmas.Bool.Decides.{eqb_tells}
 use Rattle.std.proofs.lemmas.List.{flat_map_more, append-nil, drop_all}
 use Rattle.std.proofs.lemmas.List.Sums.{split_at_first, passes_at_first}
 use Rattle.std.proofs.lemmas.List.Splits.{join_with_byte-slice_split}
-use Rattle.listener_set.specs.NumberText.{number_of}
+use Rattle.plain_text.specs.NumberText.{number_of}
 use Rattle.listener_set.specs.PathText.{is_path}
 use Rattle.listener_set.specs.AddressList.{has}
-use Rattle.listener_set.proofs.NumberTextLemmas.{decimal-number_of}
+use Rattle.plain_text.proofs.NumberTextLemmas.{decimal-number_of}
 use Rattle.vocabulary.specs.declared.handover.HandoverRefusal.{HandoverRefusal}
 use Rattle.vocabulary.specs.declared.table.Listener.{Listener}
 use Rattle.definitions.specs.After.{listens_on}

@@ -3,7 +3,8 @@ ghost use Rattle.std.specs.Prelude.{◌≡◌, ◌≤◌, ◌==◌, length, None
 ghost use Rattle.std.specs.List.{position_or_len, before_first, after_first};
 ghost use Rattle.definitions.specs.Handover.{after_prefix, number_within, listener_read, is_space};
 
-use listener_set::{Address, read_number};
+use listener_set::Address;
+use plain_text::read_number;
 use vocabulary::Listener;
 
 /// Where a byte stands first, or the length.

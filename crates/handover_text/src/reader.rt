@@ -6,7 +6,8 @@ ghost use Rattle.handover_text.specs.Reader.{read_to};
 
 use crate::fields::{after_prefix, around_space, number_within, read_listener};
 use crate::{Handover, Listeners};
-use listener_set::{Address, FilePath, Generation, ListenerSet, MOST_LISTENERS, read_number};
+use listener_set::{Address, FilePath, Generation, ListenerSet, MOST_LISTENERS};
+use plain_text::read_number;
 use std::marker::Model;
 use vocabulary::HandoverRefusal;
 

@@ -4,7 +4,7 @@ ghost use Rattle.call_text.specs.Reads.{Reads};
 ghost use Rattle.line_text.specs.PatternReading.{moment_of, event_of, numbered_of, line_of};
 
 use call_text::{cut, fate_text, read_fate, read_name, write_name, write_number};
-use listener_set::read_number;
+use plain_text::read_number;
 use std::alloc::AllocError;
 use vocabulary::{Fate, Name};
 

@@ -12,10 +12,10 @@ use Rattle.std.proofs.Math.Seq.{drop-append-add}
 use Rattle.std.proofs.lemmas.List.Elements.{All-nil, All-cons, All-head, All-tail, All-append, All-same}
 use Rattle.std.proofs.lemmas.List.Splits.{join_with_byte-slice_split, slice_split_at, slice_split_none}
 use Rattle.std.proofs.lemmas.List.Sums.{split_at_first, passes_at_first, AllPass-from_list_all, list_all-from_AllPass}
-use Rattle.listener_set.specs.NumberText.{number_of, is_within, is_between}
+use Rattle.plain_text.specs.NumberText.{number_of, is_within, is_between}
 use Rattle.listener_set.specs.AddressText.{is_dot, is_colon, is_host, path_check, dotted_check, check, accepted, reading, IsDotted, IsAddress}
 use Rattle.listener_set.specs.declared.address.AddressRefusal.{AddressRefusal}
-use Rattle.listener_set.proofs.NumberTextLemmas.{both, decimal-number_of, number_of-decimal, digits-decimal}
+use Rattle.plain_text.proofs.NumberTextLemmas.{both, decimal-number_of, number_of-decimal, digits-decimal}
 use Rattle.listener_set.proofs.AddressLaws.{host_tests, dotted_tests, path_tests}
 
 -- ---- an accepted text is written by the grammar

@@ -5,9 +5,9 @@ use Rattle.std.proofs.lemmas.List.Splits.{join_with_byte-slice_split}
 use Rattle.std.proofs.lemmas.List.{length-take, length-drop, length-append}
 use Rattle.std.specs.Char.{is_ascii_graphic}
 use Rattle.std.proofs.lemmas.Bool.Decides.{nat_tests}
-use Rattle.listener_set.specs.NumberText.{is_within}
+use Rattle.plain_text.specs.NumberText.{is_within}
 use Rattle.listener_set.specs.AddressText.{is_dot, is_colon, is_host, path_check, dotted_check, check}
-use Rattle.listener_set.proofs.NumberTextLemmas.{both, length-within}
+use Rattle.plain_text.proofs.NumberTextLemmas.{both, length-within}
 
 length-join : (c : ℕ) (parts : List (List ℕ)) → list_all (is_within 0 255) parts ≡ true → length (join_with_byte c parts) ≤ 4 * length parts
 length-join c [] all = omega arith

@@ -3,7 +3,7 @@ use Rattle.std.specs.Prelude.{◌≡◌, ℕ, ◌≤◌, ◌==◌, nat_lt, Bool,
 use Rattle.std.specs.Fmt.{decimal}
 use Rattle.std.specs.List.{All, AllPass, before_first, after_first, list_all, slice_split, join_with_byte}
 use Rattle.std.specs.Char.{is_ascii_graphic}
-use Rattle.listener_set.specs.NumberText.{is_within}
+use Rattle.plain_text.specs.NumberText.{is_within}
 use Rattle.listener_set.specs.declared.address.AddressRefusal.{AddressRefusal}
 use Rattle.listener_set.specs.declared.address.AddressRefusal.TheVariants.{Empty, BadHost, BadPort, PathLong, BadPath}
 

@@ -1,7 +1,6 @@
 pub mod Numbers
 pub mod NumberWords
 pub mod NumberWordsLemmas
-pub mod NumberText
 pub mod ShortText
 pub mod ShortTextLemmas
 pub mod AddressText

@@ -2,11 +2,11 @@
 ghost use Rattle.std.specs.Prelude.{◌≡◌, ◌≤◌, ◌↔◌, length, codes, Ok, IsOk};
 ghost use Rattle.std.specs.List.{AllPass, list_all, slice_split, position_or_len};
 ghost use Rattle.std.specs.Char.{is_ascii_graphic};
-ghost use Rattle.listener_set.specs.NumberText.{is_within};
+ghost use Rattle.plain_text.specs.NumberText.{is_within};
 ghost use Rattle.listener_set.specs.AddressText.{reading, check, path_check, dotted_check, is_host, is_dot, is_colon, IsAddress};
 
-use crate::number_text::is_number_within;
 use crate::short_text::{ShortText, TEXT_BYTES};
+use plain_text::is_number_within;
 use std::marker::Model;
 use thiserror::Error;
 

@@ -7,7 +7,6 @@ mod descriptors;
 mod file_path;
 mod generation;
 mod listeners;
-mod number_text;
 mod numbers;
 mod short_text;
 
@@ -16,5 +15,4 @@ pub use descriptors::{DescriptorTable, FIRST_DESCRIPTOR, Full, MOST_DESCRIPTORS,
 pub use file_path::{BadFile, FILE_PATH_BYTES, FilePath};
 pub use generation::Generation;
 pub use listeners::{ListenerRefusal, ListenerSet, MOST_LISTENERS};
-pub use number_text::{read_number, read_number64};
 pub use numbers::{Members, Numbers, WORKER_LIMIT};

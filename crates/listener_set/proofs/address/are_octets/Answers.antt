@@ -2,7 +2,7 @@ use Rattle.std.proofs.Common.{rules, tests}
 use Rattle.std.proofs.lemmas.Iterator.Search.{all_from_yields_List}
 use Rattle.std.proofs.lemmas.Iterator.Splits.{YieldsList-from_slice_split}
 use Rattle.listener_set.specs.AddressText.{is_dot}
-use Rattle.listener_set.specs.NumberText.{is_within}
+use Rattle.plain_text.specs.NumberText.{is_within}
 use Rattle.listener_set.proofs.address.are_octets.Goals as goal
 
 pub returns : goal.returns

@@ -1,7 +1,7 @@
 //! Numbers as texts.
 ghost use Rattle.std.specs.Prelude.{◌≡◌, ◌<◌, ◌^◌, ℕ, IfSome, Some};
 ghost use Rattle.std.specs.Fmt.{decimal};
-ghost use Rattle.listener_set.specs.NumberText.{number_of, number64_of, is_within};
+ghost use Rattle.plain_text.specs.NumberText.{number_of, number64_of, is_within};
 
 /// The number from 0 to 18,446,744,073,709,551,615 that a text is: decimal digits without leading
 /// zeros, and zero is `0`.
@@ -46,7 +46,7 @@ pub fn read_number(text: &[u8]) -> Option<u32>
 }
 
 /// Whether a text is a number from `least` to `most`.
-pub(crate) fn is_number_within(text: &[u8], least: u32, most: u32) -> bool
+pub fn is_number_within(text: &[u8], least: u32, most: u32) -> bool
     ensures { result ≡ is_within least most text.now }
 {
     match read_number(text) {

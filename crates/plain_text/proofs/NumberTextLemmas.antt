@@ -7,7 +7,7 @@ use Rattle.std.specs.Fmt.{decimal}
 use Rattle.std.proofs.lemmas.Bool.Decides.{nat_tests}
 use Rattle.std.proofs.lemmas.Str.Parse.{IsNumeralModel, numerals_by_fold}
 use Rattle.std.proofs.lemmas.Fmt.{decimal-digits_value, digits_decimal, digits_value-decimal, decimal_nonempty, first_decimal, length-decimal-le}
-use Rattle.listener_set.specs.NumberText.{number_after, number64_of, number_of, at_most, is_within, is_between}
+use Rattle.plain_text.specs.NumberText.{number_after, number64_of, number_of, at_most, is_within, is_between}
 
 -- what digits write, after n
 abbrev pub read_on : ℕ → List ℕ → ℕ

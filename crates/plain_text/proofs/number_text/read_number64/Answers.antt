@@ -1,8 +1,8 @@
 use Rattle.std.proofs.Common.{◌≡◌, ◌∙◌, ◌<◌, ◌^◌, ℕ, List, sym, ap, Option, Some, None, IfSome}
 use Rattle.std.specs.Fmt.{decimal}
-use Rattle.listener_set.specs.NumberText.{number64_of}
-use Rattle.listener_set.proofs.NumberTextLemmas.{decimal-number64_of, number64_of-decimal}
-use Rattle.listener_set.proofs.number_text.read_number64.Goals as goal
+use Rattle.plain_text.specs.NumberText.{number64_of}
+use Rattle.plain_text.proofs.NumberTextLemmas.{decimal-number64_of, number64_of-decimal}
+use Rattle.plain_text.proofs.number_text.read_number64.Goals as goal
 
 found : (text : List ℕ) (o : Option ℕ) → o ≡ number64_of text → IfSome o (λ n. (text ≡ decimal n) × (n < 2 ^ 64))
 found text None e = tt
