@@ -10,15 +10,16 @@ use Rattle.vocabulary.specs.declared.calls.Reply.{Reply}
 use Rattle.vocabulary.specs.declared.calls.Reply.TheVariants.{MasterGone}
 use Rattle.vocabulary.specs.declared.calls.Reply.TheVariants as reply
 use Rattle.definitions.specs.Tree.{replies_to, same_reply, among, is_listed}
-use Rattle.definitions.specs.Handover.{number_within}
-use Rattle.call_text.specs.NumberText.{set_text}
+use Rattle.plain_text.specs.NumberText.{number_within}
+use Rattle.call_text.specs.SetText.{set_text}
 use Rattle.call_text.specs.CallText.{answer_text}
 use Rattle.call_text.specs.Reads.{Reads}
 use Rattle.call_text.specs.Ranges.{IsAnswer, IsAnswerTo}
-use Rattle.call_text.specs.Reading.{some_if, cut}
+use Rattle.plain_text.specs.Cuts.{cut}
+use Rattle.call_text.specs.Reading.{some_if}
 use Rattle.call_text.specs.SetReading.{set_of}
 use Rattle.call_text.specs.AnswerReading.{listed, is_answer, plain_answers, plain_of, answer_about, answer_from, answer_of, answer_to}
-use Rattle.call_text.proofs.CutTexts.{lacks, cut_found, cut_at, cut_none}
+use Rattle.plain_text.proofs.CutTexts.{lacks, cut_found, cut_at, cut_none}
 use Rattle.call_text.proofs.Readers.{IsReader, reads, mapped, then, chosen, within_reads, same_bytes}
 use Rattle.call_text.proofs.SetTexts.{set_reads}
 

@@ -10,12 +10,13 @@ use Rattle.vocabulary.specs.declared.calls.Call.TheVariants as call
 use Rattle.call_text.specs.declared.verbs.Verb.{Verb}
 use Rattle.call_text.specs.declared.verbs.Verb.TheVariants as verb
 use Rattle.call_text.specs.Reads.{Reads}
-use Rattle.call_text.specs.Reading.{cut, worker_of}
-use Rattle.call_text.specs.NumberText.{generation_text}
+use Rattle.plain_text.specs.Cuts.{cut}
+use Rattle.call_text.specs.Reading.{worker_of}
+use Rattle.listener_set.specs.GenerationText.{generation_text}
 use Rattle.call_text.specs.CallText.{master_text, call_text, call_line, worker_text}
 use Rattle.call_text.specs.Ranges.{IsNumber, IsCall, IsCallLine, IsWorker}
 use Rattle.call_text.specs.CallReading.{verb_text, all_verbs, verb_of, about, bare_of, call_from, call_of, master_of, line_of}
-use Rattle.call_text.proofs.CutTexts.{lacks, cut_found, cut_at}
+use Rattle.plain_text.proofs.CutTexts.{lacks, cut_found, cut_at}
 use Rattle.call_text.proofs.Readers.{IsReader, reads, mapped, then, joined_reads, find_found, number_reads, same_bytes}
 use Rattle.call_text.proofs.PartTexts.{number_lacks, generation_reads, worker_reads, address_reads, path_reads, paths_reads}
 

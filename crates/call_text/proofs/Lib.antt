@@ -1,4 +1,3 @@
-pub mod CutTexts
 pub mod Readers
 pub mod PartTexts
 pub mod CallTexts

@@ -14,11 +14,11 @@ use Rattle.listener_set.specs.AddressText.{reading, check, accepted as taken, Is
 use Rattle.listener_set.specs.PathText.{is_path, begins_with_slash}
 use Rattle.listener_set.proofs.AddressGrammar.{grammar}
 use Rattle.plain_text.proofs.NumberTextLemmas.{both}
-use Rattle.call_text.specs.NumberText.{generation_text}
+use Rattle.listener_set.specs.GenerationText.{generation_text}
 use Rattle.call_text.specs.CallText.{worker_text}
 use Rattle.call_text.specs.Ranges.{IsNumber, IsWorkerNumber, IsGeneration, IsWorker, IsPath}
 use Rattle.call_text.specs.Reading.{some_if, joined, worker_number, generation_from, generation_of, worker_of, accepted, address_of, is_suffixed, suffixed_of, path_of, paths_of}
-use Rattle.call_text.proofs.CutTexts.{lacks, lacks-append, lacks-all, lacks-decimal}
+use Rattle.plain_text.proofs.CutTexts.{lacks, lacks-append, lacks-all, lacks-decimal}
 use Rattle.call_text.proofs.Readers.{IsReader, joined_reads, mapped_reads, chosen, number_reads, worker_number_reads, same_bytes}
 
 -- ---- generations and workers

@@ -4,13 +4,13 @@ use Rattle.std.specs.Prelude.{IfSome, option_map, option_and_then, find, bytes_e
 use Rattle.std.specs.Cmp.Lexicographic.{bytes_decides}
 use Rattle.std.specs.Fmt.{decimal}
 use Rattle.std.proofs.lemmas.Bool.Decides.{nat_tests}
-use Rattle.plain_text.specs.NumberText.{number_of}
-use Rattle.plain_text.proofs.NumberTextLemmas.{both, decimal-number_of, number_of-decimal}
-use Rattle.definitions.specs.Handover.{number_if_within, number_within}
+use Rattle.plain_text.proofs.NumberTextLemmas.{decimal-number_of, number_of-decimal, decimal-number_within, number_within-decimal}
 use Rattle.call_text.specs.Reads.{Reads}
-use Rattle.call_text.specs.Reading.{some_if, cut, joined, behind, worker_number, count_of}
+use Rattle.plain_text.specs.NumberText.{number_of, number_within, count_of}
+use Rattle.plain_text.specs.Cuts.{cut}
+use Rattle.call_text.specs.Reading.{some_if, joined, behind, worker_number}
 use Rattle.call_text.specs.Ranges.{IsNumber, IsWorkerNumber, IsCount}
-use Rattle.call_text.proofs.CutTexts.{lacks, cut_found, cut_at}
+use Rattle.plain_text.proofs.CutTexts.{lacks, cut_found, cut_at}
 
 -- what a reader gives is a value with this text, and each value is read
 pub record IsReader {A : Type 0} (IsWithin : A → Type 0) (text_of : A → List ℕ) (reader : List ℕ → Option A) : Type 0 where
@@ -105,55 +105,20 @@ number_reads = record {
   only = λ n lt. number_of-decimal n lt;
 }
 
-worker_number_reads' : (limit : ℕ) → limit < 2 ^ 32 → IsReader (λ n. n < limit) decimal (λ text. option_and_then (λ n. some_if (ltb n limit) n) (number_of text))
-worker_number_reads' limit small = record {
-  found = λ text n e.
-      let from = then (λ n. some_if (ltb n limit) n) (number_of text) n e in
-      let is = chosen (ltb from.0 limit) from.0 n from.2 in
-      let below : ltb from.0 limit ≡ true = is.0 in
-      let lt : from.0 < limit = grind (arith, nat_tests) in
-      (omega (arith, lt, is.1), (number_reads.found text from.0 from.1).1 ∙ ap decimal is.1);
-  only = λ n lt.
-      let below : ltb n limit ≡ true = grind (arith, nat_tests) in
-      ap (option_and_then (λ n. some_if (ltb n limit) n)) (number_reads.only n (omega arith)) ∙ ap (λ b. some_if b n) below;
+pub within_reads : (least most : ℕ) → most < 2 ^ 32 → IsReader (λ n. (least ≤ n) × (n ≤ most)) decimal (number_within least most)
+within_reads least most small = record {
+  found = λ text n e. let is = decimal-number_within least most text n e in ((is.1, is.2), is.0);
+  only = λ n h. let le : n ≤ most = h.1 in number_within-decimal least most n h.0 le (omega arith);
 }
 
 pub worker_number_reads : IsReader IsWorkerNumber decimal worker_number
-worker_number_reads = worker_number_reads' 1024 (omega arith)
-
-within_then : (least most : ℕ) (o : Option ℕ) → number_if_within least most o ≡ option_and_then (λ n. some_if (leb least n && leb n most) n) o
-within_then least most None = refl
-within_then least most (Some n) = refl
-
-pub within_reads : (least most : ℕ) → most < 2 ^ 32 → IsReader (λ n. (least ≤ n) × (n ≤ most)) decimal (number_within least most)
-within_reads least most small = record {
-  found = λ text n e.
-      let from = then (λ n. some_if (leb least n && leb n most) n) (number_of text) n (sym (within_then least most (number_of text)) ∙ e) in
-      let is = chosen (leb least from.0 && leb from.0 most) from.0 n from.2 in
-      let tests = both (leb least from.0) (leb from.0 most) is.0 in
-      let low : leb least from.0 ≡ true = tests.0 in
-      let high : leb from.0 most ≡ true = tests.1 in
-      let ge : least ≤ from.0 = grind (arith, nat_tests) in
-      let le : from.0 ≤ most = grind (arith, nat_tests) in
-      ((omega (arith, ge, is.1), omega (arith, le, is.1)), (number_reads.found text from.0 from.1).1 ∙ ap decimal is.1);
-  only = λ n h.
-      let low : leb least n ≡ true = (let ge : least ≤ n = h.0 in grind (arith, nat_tests)) in
-      let high : leb n most ≡ true = (let le : n ≤ most = h.1 in grind (arith, nat_tests)) in
-      let le : n ≤ most = h.1 in
-      ap (number_if_within least most) (number_reads.only n (omega arith)) ∙ rw (low, high) refl;
+worker_number_reads = record {
+  found = λ text n e. let is = decimal-number_within 0 1023 text n e in let le : n ≤ 1023 = is.2 in (omega arith, is.0);
+  only = λ n lt. let less : n < 1024 = lt in number_within-decimal 0 1023 n (omega arith) (omega arith) (omega arith);
 }
 
 pub count_reads : IsReader IsCount decimal count_of
 count_reads = record {
-  found = λ text n e.
-      let from = then (λ n. some_if (leb 1 n) n) (number_of text) n e in
-      let is = chosen (leb 1 from.0) from.0 n from.2 in
-      let test : leb 1 from.0 ≡ true = is.0 in
-      let ge : 1 ≤ from.0 = grind (arith, nat_tests) in
-      let got = number_reads.found text from.0 from.1 in
-      ((omega (arith, ge, is.1), omega (arith, got.0, is.1)), got.1 ∙ ap decimal is.1);
-  only = λ n h.
-      let ge : 1 ≤ n = h.0 in
-      let test : leb 1 n ≡ true = grind (arith, nat_tests) in
-      ap (option_and_then (λ n. some_if (leb 1 n) n)) (number_reads.only n h.1) ∙ ap (λ b. some_if b n) test;
+  found = λ text n e. let is = decimal-number_within 1 4294967295 text n e in let le : n ≤ 4294967295 = is.2 in ((is.1, omega arith), is.0);
+  only = λ n h. let lt : n < 2 ^ 32 = h.1 in number_within-decimal 1 4294967295 n h.0 (omega arith) lt;
 }

@@ -14,9 +14,11 @@ use Rattle.call_text.specs.Words.{note_text, side_text}
 use Rattle.call_text.specs.ReportText.{outcome_text, cause_text, ending_text, report_text}
 use Rattle.call_text.specs.Reads.{Reads}
 use Rattle.call_text.specs.Ranges.{IsCount, IsCause, IsOutcome, IsReport}
-use Rattle.call_text.specs.Reading.{cut, joined, behind, count_of}
+use Rattle.plain_text.specs.NumberText.{count_of}
+use Rattle.plain_text.specs.Cuts.{cut}
+use Rattle.call_text.specs.Reading.{joined, behind}
 use Rattle.call_text.specs.ReportReading.{all_notes, note_of, both_sides, side_of, plain_outcome, cause_of, noted_of, Ending, ending_of, degraded_from, degraded_of, plain_report, parts_of, report_from, report_of}
-use Rattle.call_text.proofs.CutTexts.{lacks, cut_found, cut_at}
+use Rattle.plain_text.proofs.CutTexts.{lacks, cut_found, cut_at}
 use Rattle.call_text.proofs.Readers.{IsReader, reads, mapped, then, joined_reads, mapped_reads, behind_found, behind_at, find_found, number_reads, count_reads, same_bytes}
 use Rattle.call_text.proofs.PartTexts.{number_lacks}
 

@@ -5,7 +5,7 @@ use Rattle.std.proofs.lemmas.Bool.Decides.{nat_tests}
 use Rattle.listener_set.specs.Numbers.{with_number, RisesFrom, AreBelow, AreNumbers}
 use Rattle.listener_set.specs.NumberWordsLemmas.{AreBelow-append}
 use Rattle.listener_set.proofs.Rising.{with_number-above}
-use Rattle.call_text.specs.NumberText.{run_text, runs_text, set_text}
+use Rattle.call_text.specs.SetText.{run_text, runs_text, set_text}
 use Rattle.call_text.specs.SetReading.{with_run}
 
 -- so many numbers from n on

@@ -7,12 +7,13 @@ use Rattle.std.proofs.lemmas.Bool.Decides.{nat_tests}
 use Rattle.std.proofs.lemmas.List.Splits.{join_with_byte-slice_split, length-slice_split}
 use Rattle.listener_set.specs.Numbers.{AreBelow, AreNumbers}
 use Rattle.listener_set.specs.NumberWordsLemmas.{AreBelow-append}
-use Rattle.call_text.specs.NumberText.{run_text, runs_text, set_text}
+use Rattle.call_text.specs.SetText.{run_text, runs_text, set_text}
 use Rattle.call_text.specs.Reads.{Reads}
-use Rattle.call_text.specs.Reading.{some_if, cut, worker_number}
+use Rattle.plain_text.specs.Cuts.{cut}
+use Rattle.call_text.specs.Reading.{some_if, worker_number}
 use Rattle.call_text.specs.declared.sets.SetReader.{SetReader}
 use Rattle.call_text.specs.SetReading.{is_comma, several_of, run_from, run_of, begun, numbers_in, with_numbers, with_part, with_parts, set_of}
-use Rattle.call_text.proofs.CutTexts.{with_first, cut-cons, cut_found, cut_at, cut_none, lacks, lacks-append}
+use Rattle.plain_text.proofs.CutTexts.{with_first, cut-cons, cut_found, cut_at, cut_none, lacks, lacks-append}
 use Rattle.call_text.proofs.Readers.{IsReader, reads, mapped, then, chosen, same_bytes, worker_number_reads}
 use Rattle.call_text.proofs.PartTexts.{number_lacks}
 use Rattle.call_text.proofs.Runs.{up_from, AreRuns, members, run_texts, joined_runs, AreBelow-lower, with_run-above, AreBelow-up_from, AreNumbers-members, set_text-members, runs_of, runs_text-runs_of, AreRuns-runs_of, members-runs_of}

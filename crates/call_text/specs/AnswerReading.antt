@@ -5,9 +5,10 @@ use Rattle.vocabulary.specs.declared.calls.Answer.{Answer}
 use Rattle.vocabulary.specs.declared.calls.Answer.TheVariants as answer
 use Rattle.vocabulary.specs.declared.calls.Reply.TheVariants.{MasterGone}
 use Rattle.definitions.specs.Tree.{replies_to, reply_of, among}
-use Rattle.definitions.specs.Handover.{number_within}
+use Rattle.plain_text.specs.NumberText.{number_within}
 use Rattle.call_text.specs.CallText.{answer_word}
-use Rattle.call_text.specs.Reading.{◌>>=◌, some_if, cut}
+use Rattle.plain_text.specs.Cuts.{cut}
+use Rattle.call_text.specs.Reading.{◌>>=◌, some_if}
 use Rattle.call_text.specs.SetReading.{set_of}
 
 -- whether an answer is among a call's

@@ -5,7 +5,8 @@ use Rattle.vocabulary.specs.declared.calls.Call.{Call}
 use Rattle.vocabulary.specs.declared.calls.Call.TheVariants as call
 use Rattle.call_text.specs.declared.verbs.Verb.{Verb}
 use Rattle.call_text.specs.declared.verbs.Verb.TheVariants as verb
-use Rattle.call_text.specs.Reading.{◌>>=◌, cut, joined, generation_of, worker_of, address_of, path_of, paths_of}
+use Rattle.plain_text.specs.Cuts.{cut}
+use Rattle.call_text.specs.Reading.{◌>>=◌, joined, generation_of, worker_of, address_of, path_of, paths_of}
 
 abbrev pub verb_text : Verb → List ℕ
 verb_text verb.Open = codes "open"

@@ -8,7 +8,8 @@ use Rattle.vocabulary.specs.declared.calls.Answer.{Answer}
 use Rattle.vocabulary.specs.declared.calls.Answer.TheVariants as answer
 use Rattle.vocabulary.specs.declared.plans.Order.{Order}
 use Rattle.vocabulary.specs.declared.plans.Order.TheVariants.{Make, ForkLacking, AwaitLacking, KillLacking}
-use Rattle.call_text.specs.NumberText.{generation_text, set_text}
+use Rattle.listener_set.specs.GenerationText.{generation_text}
+use Rattle.call_text.specs.SetText.{set_text}
 
 ---- Calls
 

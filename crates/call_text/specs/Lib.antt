@@ -1,4 +1,4 @@
-pub mod NumberText
+pub mod SetText
 pub mod CallText
 pub mod Words
 pub mod ReportText

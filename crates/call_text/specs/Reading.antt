@@ -1,6 +1,7 @@
 -- What reading a text gives, part by part.
-use Rattle.std.specs.Prelude.{ℕ, ◌+◌, ◌-◌, ◌==◌, nat_lt, nat_le, Bool, ◌&&◌, List, length, take, drop, Option, Some, None, option_map, option_and_then, Result, Ok, Err, position, bytes_eq, codes, if◌then◌else◌}
-use Rattle.plain_text.specs.NumberText.{number_of}
+use Rattle.std.specs.Prelude.{ℕ, ◌-◌, nat_le, Bool, ◌&&◌, List, length, take, drop, Option, Some, None, option_map, option_and_then, Result, Ok, Err, bytes_eq, codes, if◌then◌else◌}
+use Rattle.plain_text.specs.NumberText.{number_of, number_within}
+use Rattle.plain_text.specs.Cuts.{cut}
 use Rattle.listener_set.specs.AddressText.{reading}
 use Rattle.listener_set.specs.PathText.{is_path}
 use Rattle.listener_set.specs.declared.address.AddressRefusal.{AddressRefusal}
@@ -12,10 +13,6 @@ o >>= f = option_and_then f o
 
 abbrev pub some_if : {A : Type 0} → Bool → A → Option A
 some_if b v = if b then Some v else None
-
--- what stands before the first such byte, and what stands behind it
-abbrev pub cut : ℕ → List ℕ → Option (List ℕ × List ℕ)
-cut byte text = option_map (λ k. (take k text, drop (k + 1) text)) (position (λ c. c == byte) text)
 
 -- two parts with a byte between them, the first without that byte
 abbrev pub joined : {A B : Type 0} → ℕ → (List ℕ → Option A) → (List ℕ → Option B) → List ℕ → Option (A × B)
@@ -33,15 +30,9 @@ behind word text = do
 
 ---- Numbers and workers
 
-abbrev pub number_below : ℕ → List ℕ → Option ℕ
-number_below limit text = number_of text >>= (λ n. some_if (nat_lt n limit) n)
-
+-- a worker's number is below 1024
 abbrev pub worker_number : List ℕ → Option ℕ
-worker_number text = number_below 1024 text
-
--- numbers are counted from 1
-abbrev pub count_of : List ℕ → Option ℕ
-count_of text = number_of text >>= (λ n. some_if (nat_le 1 n) n)
+worker_number text = number_within 0 1023 text
 
 abbrev pub generation_from : ℕ × ℕ → Generation
 generation_from p = record { image = p.0; config = p.1 }

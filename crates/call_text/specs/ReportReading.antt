@@ -9,7 +9,9 @@ use Rattle.vocabulary.specs.declared.reports.Report.{Report}
 use Rattle.vocabulary.specs.declared.reports.Outcome.{Outcome}
 use Rattle.vocabulary.specs.declared.reports.Outcome.TheVariants as outcome
 use Rattle.call_text.specs.Words.{note_text, side_text}
-use Rattle.call_text.specs.Reading.{◌>>=◌, cut, joined, behind, count_of}
+use Rattle.plain_text.specs.NumberText.{count_of}
+use Rattle.plain_text.specs.Cuts.{cut}
+use Rattle.call_text.specs.Reading.{◌>>=◌, joined, behind}
 
 abbrev pub is_note : List ℕ → PidNote → Bool
 is_note text n = bytes_eq (note_text n) text

@@ -3,7 +3,8 @@ use Rattle.std.specs.Prelude.{ℕ, zero, suc, ◌+◌, ◌-◌, ◌==◌, nat_lt
 use Rattle.std.specs.List.{slice_split}
 use Rattle.listener_set.specs.Numbers.{with_number}
 use Rattle.call_text.specs.declared.sets.SetReader.{SetReader}
-use Rattle.call_text.specs.Reading.{◌>>=◌, some_if, cut, worker_number}
+use Rattle.plain_text.specs.Cuts.{cut}
+use Rattle.call_text.specs.Reading.{◌>>=◌, some_if, worker_number}
 
 abbrev pub is_comma : ℕ → Bool
 is_comma c = c == 44

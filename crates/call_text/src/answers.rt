@@ -6,11 +6,9 @@ ghost use Rattle.call_text.specs.Reads.{Reads};
 ghost use Rattle.call_text.specs.Ranges.{IsAnswerTo};
 ghost use Rattle.call_text.specs.AnswerReading.{listed, is_answer, plain_of, answer_about, answer_of, answer_to};
 
-use crate::cuts::cut;
-use crate::numbers::write_number;
-use crate::parts::read_within;
 use crate::replies::replies_to;
 use crate::sets::{read_numbers, write_set};
+use plain_text::{cut, number_within, write_number};
 use std::alloc::AllocError;
 use vocabulary::{Answer, Call, Reply};
 
@@ -135,7 +133,7 @@ fn read_about(word: &[u8], rest: &[u8]) -> Option<Answer>
     ensures { result ≡ answer_about word.now rest.now }
 {
     if word == b"opened".as_slice() {
-        let descriptor = read_within(rest, 3, 66)?;
+        let descriptor = number_within(rest, 3, 66)?;
         return Some(Answer::Opened(descriptor));
     }
     if word == b"counted".as_slice() {

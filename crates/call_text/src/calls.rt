@@ -3,8 +3,8 @@ ghost use Rattle.std.specs.Prelude.{◌≡◌, ◌++◌, IfOk};
 ghost use Rattle.std.specs.Fmt.{decimal};
 ghost use Rattle.call_text.specs.CallText.{worker_text, missing_text, master_text, call_text, call_line, order_line};
 
-use crate::numbers::{write_generation, write_number};
 use listener_set::Generation;
+use plain_text::write_number;
 use std::alloc::AllocError;
 use vocabulary::{Actor, Call, Order};
 
@@ -26,7 +26,7 @@ fn write_named(
     ensures { IfOk result (λ _. out.new.items ≡ out.old.items ++ (verb.now ++ worker_text generation nr)) }
 {
     out.extend_from_slice(verb.as_bytes())?;
-    write_generation(out, generation)?;
+    generation.write(out)?;
     out.extend_from_slice(b" ")?;
     write_number(out, u64::from(nr))
 }
@@ -36,7 +36,7 @@ fn write_missing(out: &mut Vec<u8>, verb: &str, generation: Generation) -> Resul
     ensures { IfOk result (λ _. out.new.items ≡ out.old.items ++ missing_text verb.now generation) }
 {
     out.extend_from_slice(verb.as_bytes())?;
-    write_generation(out, generation)?;
+    generation.write(out)?;
     out.extend_from_slice(b" missing")
 }
 
@@ -61,7 +61,7 @@ fn write_verb(out: &mut Vec<u8>, call: &Call) -> Result<(), AllocError>
         Call::Kill(generation, nr) => write_named(out, "kill ", *generation, *nr),
         Call::Census(generation) => {
             out.extend_from_slice(b"census ")?;
-            write_generation(out, *generation)
+            generation.write(out)
         }
         Call::AwaitGone(generation, nr) => write_named(out, "await-gone ", *generation, *nr),
         Call::SpawnMaster(image) => write_image(out, "spawn-master ", *image),

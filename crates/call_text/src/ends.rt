@@ -6,11 +6,10 @@ ghost use Rattle.call_text.specs.Reads.{Reads};
 ghost use Rattle.call_text.specs.Ranges.{IsReport};
 ghost use Rattle.call_text.specs.ReportReading.{is_note, note_of, is_side, side_of, plain_outcome, degraded_of, cause_of, noted_of, ending_of, plain_report, parts_of, report_of};
 
-use crate::cuts::{behind, cut};
-use crate::parts::read_count;
+use crate::parts::behind;
 use crate::words::{note_text, side_text};
 use listener_set::Numbers;
-use plain_text::read_number;
+use plain_text::{cut, read_count, read_number};
 use vocabulary::{Outcome, PidNote, Report, Side};
 
 /// All notes.

@@ -6,10 +6,8 @@
 
 mod answers;
 mod calls;
-mod cuts;
 mod ends;
 mod names;
-mod numbers;
 mod parts;
 mod replies;
 mod reports;
@@ -19,10 +17,8 @@ mod words;
 
 pub use answers::{read_answer, write_answer};
 pub use calls::{write_call, write_order};
-pub use cuts::cut;
 pub use ends::read_report;
 pub use names::{read_fate, read_name, write_name};
-pub use numbers::write_number;
 pub use replies::{replies_of, replies_to};
 pub use reports::{write_entries, write_report};
 pub use sets::{read_set, write_set};

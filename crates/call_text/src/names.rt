@@ -6,12 +6,10 @@ ghost use Rattle.call_text.specs.Reads.{Reads};
 ghost use Rattle.call_text.specs.Ranges.{IsName};
 ghost use Rattle.call_text.specs.NameReading.{worker_name_of, name_of, is_fate, fate_of};
 
-use crate::cuts::cut;
-use crate::numbers::write_number;
 use crate::parts::read_worker_number;
 use crate::words::fate_text;
 use listener_set::Generation;
-use plain_text::read_number;
+use plain_text::{cut, read_number, write_number};
 use std::alloc::AllocError;
 use vocabulary::{Fate, Name};
 
@@ -25,9 +23,7 @@ fn write_worker(
     ensures { IfOk result (λ _. out.new.items ≡ out.old.items ++ (kind.now ++ worker_name generation nr)) }
 {
     out.extend_from_slice(kind.as_bytes())?;
-    write_number(out, u64::from(generation.image))?;
-    out.extend_from_slice(b".")?;
-    write_number(out, u64::from(generation.config))?;
+    generation.write(out)?;
     out.extend_from_slice(b".")?;
     write_number(out, u64::from(nr))
 }

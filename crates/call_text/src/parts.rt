@@ -1,30 +1,17 @@
-//! Numbers, generations, workers, addresses and paths, read.
-ghost use Rattle.std.specs.Prelude.{◌≡◌, ◌≤◌, ◌<◌, IfSome};
-ghost use Rattle.definitions.specs.Handover.{number_within};
-ghost use Rattle.call_text.specs.Reading.{count_of, generation_of, worker_of, worker_number, address_of, suffixed_of, path_of, paths_of};
+//! Words, workers, addresses and paths, read.
+ghost use Rattle.std.specs.Prelude.{◌≡◌, ◌<◌, IfSome, option_map};
+ghost use Rattle.plain_text.specs.NumberText.{count_of};
+ghost use Rattle.call_text.specs.Reading.{behind, generation_of, worker_of, worker_number, address_of, suffixed_of, path_of, paths_of};
 
-use crate::cuts::cut;
 use listener_set::{Address, FilePath, Generation, WORKER_LIMIT};
-use plain_text::read_number;
+use plain_text::{cut, number_within, read_number};
 
-/// A number from 1.
-pub(crate) fn read_count(text: &[u8]) -> Option<u32>
-    ensures { result ≡ count_of text.now }
+/// What follows a word and a space, where the text begins so.
+pub(crate) fn behind<'a>(text: &'a [u8], word: &[u8]) -> Option<&'a [u8]>
+    ensures { option_map (λ rest. rest.now) result ≡ behind word.now text.now }
 {
-    let number = read_number(text)?;
-    if number >= 1 { Some(number) } else { None }
-}
-
-/// A number from `least` to `most`.
-pub(crate) fn read_within(text: &[u8], least: u32, most: u32) -> Option<u32>
-    ensures { result ≡ number_within least most text.now }
-{
-    let number = read_number(text)?;
-    if least <= number && number <= most {
-        Some(number)
-    } else {
-        None
-    }
+    let (first, rest) = cut(text, b' ')?;
+    if first == word { Some(rest) } else { None }
 }
 
 /// The number of a worker, below 1024.
@@ -32,12 +19,7 @@ pub(crate) fn read_worker_number(text: &[u8]) -> Option<u32>
     ensures exact { result ≡ worker_number text.now }
     ensures within { IfSome result (λ nr. nr < WORKER_LIMIT) }
 {
-    let number = read_number(text)?;
-    if number < WORKER_LIMIT {
-        Some(number)
-    } else {
-        None
-    }
+    number_within(text, 0, WORKER_LIMIT - 1)
 }
 
 /// Image and config number, joined by a dot.

@@ -4,8 +4,8 @@ ghost use Rattle.call_text.specs.ReportText.{outcome_text, cause_text, report_te
 
 use crate::answers::write_answer;
 use crate::calls::write_call;
-use crate::numbers::write_number;
 use crate::words::{note_text, side_text};
+use plain_text::write_number;
 use std::alloc::AllocError;
 use vocabulary::{Entry, Outcome, Report};
 

@@ -2,14 +2,13 @@
 ghost use Rattle.std.specs.Prelude.{◌≡◌, ◌<◌, ◌+◌, ◌-◌, ◌++◌, [], IfOk, IfSome, option_map};
 ghost use Rattle.std.specs.List.{slice_split};
 ghost use Rattle.listener_set.specs.Numbers.{AreNumbers};
-ghost use Rattle.call_text.specs.NumberText.{run_text, set_text};
+ghost use Rattle.call_text.specs.SetText.{run_text, set_text};
 ghost use Rattle.call_text.specs.Reads.{Reads};
 ghost use Rattle.call_text.specs.SetReading.{is_comma, with_run, several_of, run_of, begun, with_part, with_parts, numbers_in, set_of};
 
-use crate::cuts::cut;
-use crate::numbers::write_number;
 use crate::parts::read_worker_number;
 use listener_set::{Numbers, WORKER_LIMIT};
+use plain_text::{cut, write_number};
 use std::alloc::AllocError;
 
 /// A run of numbers: one number, or the first and the last of several.
@@ -121,7 +120,7 @@ impl SetReader {
 }
 
 /// Reads the runs of a text, of which there are at most 512.
-#[tactic(auto, using(crate::proofs::SetTexts::parts_none, crate::proofs::SetTexts::parts_some, crate::proofs::CutTexts::cut_shorter))]
+#[tactic(auto, using(crate::proofs::SetTexts::parts_none, crate::proofs::SetTexts::parts_some, plain_text::proofs::CutTexts::cut_shorter))]
 fn read_runs(reader: SetReader, text: &[u8]) -> Option<Numbers>
     ensures { result ≡ option_map numbers_in (with_parts reader (slice_split is_comma text.now)) }
 {

@@ -5,9 +5,8 @@ ghost use Rattle.call_text.specs.Ranges.{IsNumber, IsCall, IsCallLine};
 ghost use Rattle.call_text.specs.CallText.{call_line};
 ghost use Rattle.call_text.specs.CallReading.{verb_text, is_verb, verb_of, about, bare_of, call_of, master_of, line_of};
 
-use crate::cuts::cut;
 use crate::parts::{read_address, read_generation, read_path, read_paths, read_worker};
-use plain_text::read_number;
+use plain_text::{cut, read_number};
 use vocabulary::{Actor, Call};
 
 /// A word that something follows.

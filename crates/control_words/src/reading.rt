@@ -1,41 +1,17 @@
 //! Lines as control words.
-ghost use Rattle.std.specs.Prelude.{◌≡◌, ◌≤◌, Ok, IfOk, length};
-ghost use Rattle.std.specs.List.{before_first, after_first, position_or_len};
-ghost use Rattle.control_words.specs.Words.{word_text, reading, beat_in, tick_in, is_space, IsWord};
+ghost use Rattle.std.specs.Prelude.{◌≡◌, Ok, IfOk};
+ghost use Rattle.control_words.specs.Words.{word_text, reading, beat_in, tick_in, IsWord};
 ghost use Rattle.control_words.specs.declared.words.Word.{Word as TheWord};
 
 use crate::{Word, WordRefusal};
 use listener_set::WORKER_LIMIT;
-use plain_text::{read_number, read_number64};
-
-/// Where the first space stands, or the length.
-fn first_space(line: &[u8]) -> usize
-    ensures place { result ≡ position_or_len is_space line.now }
-    ensures within { result ≤ length line.now }
-{
-    line.iter()
-        .position(|byte| *byte == b' ')
-        .unwrap_or(line.len())
-}
-
-/// What stands before the first space, and what stands behind it.
-fn split_at_space(line: &[u8]) -> (&[u8], &[u8])
-    ensures first { result.0.now ≡ before_first is_space line.now }
-    ensures rest { result.1.now ≡ after_first is_space line.now }
-{
-    let space = first_space(line);
-    if space == line.len() {
-        (line, &[])
-    } else {
-        (&line[..space], &line[space + 1..])
-    }
-}
+use plain_text::{around, read_number, read_number64};
 
 /// The beat of a worker, by its numbers `NR NOW`.
 fn beat_in(numbers: &[u8]) -> Option<Word>
     ensures { result ≡ beat_in numbers.now }
 {
-    let (nr, now) = split_at_space(numbers);
+    let (nr, now) = around(numbers, b' ');
     let nr = read_number(nr)?;
     let now = read_number64(now)?;
     if nr < WORKER_LIMIT {
@@ -56,7 +32,7 @@ fn tick_in(number: &[u8]) -> Option<Word>
 fn word_of(line: &[u8]) -> Result<Word, WordRefusal>
     ensures { result ≡ reading line.now }
 {
-    let (name, numbers) = split_at_space(line);
+    let (name, numbers) = around(line, b' ');
     if name == b"beat".as_slice() {
         beat_in(numbers).ok_or(WordRefusal::BadNumber)
     } else if name == b"tick".as_slice() {

@@ -1,8 +1,8 @@
 -- The handover: the text by which an old master tells a new one what it has and what is wanted.
-use Rattle.std.specs.Prelude.{ℕ, ◌+◌, ◌==◌, nat_le, nat_lt, not, Bool, true, false, ◌&&◌, List, [], ◌∷◌, ◌++◌, length, Option, Some, None, Result, Ok, Err, if◌then◌else◌, codes, bytes_eq}
+use Rattle.std.specs.Prelude.{ℕ, ◌+◌, ◌==◌, nat_lt, not, Bool, true, false, ◌&&◌, List, [], ◌∷◌, ◌++◌, length, Option, Some, None, Result, Ok, Err, if◌then◌else◌, codes, bytes_eq}
 use Rattle.std.specs.List.{flat_map, list_any, list_all, before_first, after_first, slice_split}
 use Rattle.std.specs.Fmt.{decimal}
-use Rattle.plain_text.specs.NumberText.{number_of}
+use Rattle.plain_text.specs.NumberText.{number_of, number_within}
 use Rattle.listener_set.specs.AddressText.{check}
 use Rattle.listener_set.specs.declared.address.AddressRefusal.{AddressRefusal}
 use Rattle.listener_set.specs.PathText.{is_path}
@@ -52,14 +52,6 @@ after_prefix (c ∷ cs) (d ∷ ds) = if c == d then after_prefix cs ds else None
 
 abbrev pub is_space : ℕ → Bool
 is_space c = c == 32
-
-abbrev pub number_if_within : ℕ → ℕ → Option ℕ → Option ℕ
-number_if_within least most None = None
-number_if_within least most (Some n) = if nat_le least n && nat_le n most then Some n else None
-
--- a number from least to most
-abbrev pub number_within : ℕ → ℕ → List ℕ → Option ℕ
-number_within least most text = number_if_within least most (number_of text)
 
 abbrev pub passes : Result (Unit {0}) AddressRefusal → Bool
 passes (Ok u) = true

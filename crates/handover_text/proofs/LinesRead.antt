@@ -1,34 +1,21 @@
 -- What is read, line by line.
-use Rattle.std.proofs.Common.{◌≡◌, ℕ, ◌≤◌, ◌<◌, Bool, true, false, ◌&&◌, ◌==◌, cond, nat_le, Option, Some, None, Result, Ok, Err, List, [], ◌∷◌, ◌++◌, length, refl, sym, ap, ◌∙◌, arith}
+use Rattle.std.proofs.Common.{◌≡◌, ℕ, ◌≤◌, ◌<◌, Bool, true, false, ◌==◌, Option, Some, None, Result, Ok, Err, List, [], ◌∷◌, ◌++◌, length, refl, sym, ap, ◌∙◌, arith}
 use Rattle.std.specs.List.{before_first, after_first}
-use Rattle.std.proofs.lemmas.Bool.{and_parts, and_from, leb-true, le-leb, lt-ltb}
+use Rattle.std.proofs.lemmas.Bool.{and_from, le-leb, lt-ltb}
 use Rattle.std.proofs.lemmas.Option.{none-some, same_Some}
 use Rattle.std.proofs.lemmas.List.Sums.{list_all-from_AllPass}
 use Rattle.std.specs.Char.{is_ascii_graphic}
 use Rattle.listener_set.specs.PathText.{is_path, IsFilePath}
-use Rattle.plain_text.specs.NumberText.{number_of}
+use Rattle.plain_text.specs.NumberText.{number_of, number_within}
 use Rattle.listener_set.specs.AddressText.{reading, check, accepted}
 use Rattle.listener_set.specs.declared.address.AddressRefusal.{AddressRefusal}
 use Rattle.listener_set.specs.AddressList.{has}
-use Rattle.plain_text.proofs.NumberTextLemmas.{decimal-number_of}
+use Rattle.plain_text.proofs.NumberTextLemmas.{decimal-number_of, decimal-number_within}
 use Rattle.vocabulary.specs.declared.table.Listener.{Listener}
 use Rattle.definitions.specs.After.{listens_on}
-use Rattle.definitions.specs.Handover.{Handover, AtListeners, AtWants, passes, number_if_within, number_within, is_space, is_address, is_above, listener_if, listener_read, with_listener, with_want}
+use Rattle.definitions.specs.Handover.{Handover, AtListeners, AtWants, passes, is_space, is_address, is_above, listener_if, listener_read, with_listener, with_want}
 
 ---- Values
-
-pub within_bounds : (least most : ℕ) (o : Option ℕ) (n : ℕ) → number_if_within least most o ≡ Some n → (least ≤ n) × (n ≤ most)
-within_bounds least most None n e = cc
-within_bounds least most (Some m) n e = at (nat_le least m && nat_le m most) refl e
-  where
-    at : (b : Bool) → (nat_le least m && nat_le m most) ≡ b → cond b (Some m) None ≡ Some n → (least ≤ n) × (n ≤ most)
-    at false t h = cc
-    at true t h =
-        let same : m ≡ n = cc in
-        let parts = and_parts (nat_le least m) (nat_le m most) t in
-        let low = leb-true least m parts.0 in
-        let high = leb-true m most parts.1 in
-        (omega arith, omega arith)
 
 pub number_most : (text : List ℕ) (n : ℕ) → number_of text ≡ Some n → n ≤ 4294967295
 number_most text n e = let lt = (decimal-number_of text n e).1 in omega (arith, lt)
@@ -41,9 +28,11 @@ listener_bounds rest l e = at (number_within 3 66 (before_first is_space rest)) 
     at None number b address h = cc
     at (Some fd) number false address h = cc
     at (Some fd) number true address h =
-        let bounds = within_bounds 3 66 (number_of (before_first is_space rest)) fd number in
+        let is = decimal-number_within 3 66 (before_first is_space rest) fd number in
         let same : record { descriptor = fd; address = after_first is_space rest } ≡ l = cc in
         let fd_is : fd ≡ l.descriptor = ap (λ (m : Listener). m.descriptor) same in
+        let low : 3 ≤ fd = is.1 in
+        let high : fd ≤ 66 = is.2 in
         (omega arith, omega arith, ap (λ (m : Listener). is_address m.address) (sym same) ∙ address)
 
 -- an address that is read is its text

@@ -9,19 +9,20 @@ use Rattle.std.proofs.lemmas.List.Folds.{list_all-append}
 use Rattle.std.proofs.lemmas.List.Sums.{fails_before_first}
 use Rattle.std.proofs.lemmas.List.Splits.{slice_split_first, slice_split_none, length-slice_split}
 use Rattle.std.proofs.lemmas.List.Quantifiers.{all_pairs_push}
-use Rattle.plain_text.specs.NumberText.{number_of}
+use Rattle.plain_text.specs.NumberText.{number_of, number_within}
+use Rattle.plain_text.proofs.NumberTextLemmas.{decimal-number_within}
 use Rattle.listener_set.specs.PathText.{is_path, begins_with_slash}
 use Rattle.listener_set.specs.AddressList.{has}
 use Rattle.listener_set.proofs.AddressLists.{has_address}
 use Rattle.vocabulary.specs.declared.handover.HandoverRefusal.{HandoverRefusal}
 use Rattle.vocabulary.specs.declared.table.Listener.{Listener}
 use Rattle.definitions.specs.After.{listens_on}
-use Rattle.definitions.specs.Handover.{Handover, Place, AtVersion, AtOldPid, AtGeneration, AtFirstListener, AtListeners, AtWants, AtPidFile, AtEnd, Over, Read, after_prefix, nothing_read, then_read, read_rest, read_pieces, reading, number_within, is_space, is_address, is_above, listener_read, with_old_pid, with_generation, with_listener, with_want, with_workers, with_pid_file, read_end, read_if, read_line}
+use Rattle.definitions.specs.Handover.{Handover, Place, AtVersion, AtOldPid, AtGeneration, AtFirstListener, AtListeners, AtWants, AtPidFile, AtEnd, Over, Read, after_prefix, nothing_read, then_read, read_rest, read_pieces, reading, is_space, is_address, is_above, listener_read, with_old_pid, with_generation, with_listener, with_want, with_workers, with_pid_file, read_end, read_if, read_line}
 use Rattle.vocabulary.specs.Settings.{HasSuffixRoom}
 use Rattle.handover_text.specs.Reader.{read_to}
 use Rattle.handover_text.specs.Ranges.{IsHandover, AreParts, IsReadTo, lines_to, is_path_if}
 use Rattle.handover_text.proofs.Listed.{AreListedFrom-push, length-listed}
-use Rattle.handover_text.proofs.LinesRead.{within_bounds, number_most, listener_bounds}
+use Rattle.handover_text.proofs.LinesRead.{number_most, listener_bounds}
 
 -- a fact of what is read, where it is not refused
 abbrev pub IfRead : (Place → Handover → Type 0) → Read → Type 0
@@ -149,7 +150,7 @@ line_read n AtVersion h line s =
     (λ refused. tt)
 line_read n AtOldPid h line s =
     if_read (IsReadTo (n + 1)) (after_prefix (codes "old-pid ") line) _ _
-    (λ rest. old_pid_read n h s.parts (number_within 1 4294967295 rest) (within_bounds 1 4294967295 (number_of rest)) s.count)
+    (λ rest. old_pid_read n h s.parts (number_within 1 4294967295 rest) (λ pid e. let is = decimal-number_within 1 4294967295 rest pid e in (is.1, is.2)) s.count)
     tt
 line_read n AtGeneration h line s =
     if_read (IsReadTo (n + 1)) (after_prefix (codes "generation ") line) _ _
@@ -169,7 +170,7 @@ line_read n AtWants h line s =
     if_read (IsReadTo (n + 1)) (after_prefix (codes "want ") line) _ _
     (λ rest. want_read n h s.parts rest s.pid s.listener s.count)
     (if_read (IsReadTo (n + 1)) (after_prefix (codes "workers ") line) _ _
-    (λ rest. workers_read n h s.parts (number_within 0 1024 rest) (λ w e. (within_bounds 0 1024 (number_of rest) w e).1) s.pid s.listener s.want s.count)
+    (λ rest. workers_read n h s.parts (number_within 0 1024 rest) (λ w e. (decimal-number_within 0 1024 rest w e).2) s.pid s.listener s.want s.count)
     tt)
 line_read n AtPidFile h line s =
     if_read (IsReadTo (n + 1)) (after_prefix (codes "pid-file ") line) _ _

@@ -1,23 +1,23 @@
 -- What is read is spelled as it stands.
-use Rattle.std.proofs.Common.{◌≡◌, ℕ, ◌+◌, Bool, true, false, ◌&&◌, nat_eq, nat_le, nat_lt, not, Option, Some, None, Result, Ok, Err, List, [], ◌∷◌, ◌++◌, length, refl, sym, ap, ◌∙◌, arith, inl, inr, append_assoc}
+use Rattle.std.proofs.Common.{◌≡◌, ℕ, ◌+◌, Bool, true, false, ◌&&◌, nat_eq, nat_lt, not, Option, Some, None, Result, Ok, Err, List, [], ◌∷◌, ◌++◌, length, refl, sym, ap, ◌∙◌, arith, inl, inr, append_assoc}
 use Rattle.std.specs.Prelude.{bytes_eq, codes, ⊤, IfOk}
 use Rattle.std.specs.Fmt.{decimal}
 use Rattle.std.specs.List.{flat_map, before_first, after_first, slice_split, join_with_byte, position_or_len}
 use Rattle.std.specs.Cmp.Lexicographic.{same_text}
 use Rattle.std.proofs.lemmas.Bool.{cond_both, cases_lt, both_ways}
-use Rattle.std.proofs.lemmas.Option.{none-some, cond_some}
+use Rattle.std.proofs.lemmas.Option.{none-some}
 use Rattle.std.proofs.lemmas.Bool.Decides.{eqb_tells}
 use Rattle.std.proofs.lemmas.List.{flat_map_more, append-nil, drop_all}
 use Rattle.std.proofs.lemmas.List.Sums.{split_at_first, passes_at_first}
 use Rattle.std.proofs.lemmas.List.Splits.{join_with_byte-slice_split}
-use Rattle.plain_text.specs.NumberText.{number_of}
+use Rattle.plain_text.specs.NumberText.{number_of, number_within}
 use Rattle.listener_set.specs.PathText.{is_path}
 use Rattle.listener_set.specs.AddressList.{has}
-use Rattle.plain_text.proofs.NumberTextLemmas.{decimal-number_of}
+use Rattle.plain_text.proofs.NumberTextLemmas.{decimal-number_of, decimal-number_within}
 use Rattle.vocabulary.specs.declared.handover.HandoverRefusal.{HandoverRefusal}
 use Rattle.vocabulary.specs.declared.table.Listener.{Listener}
 use Rattle.definitions.specs.After.{listens_on}
-use Rattle.definitions.specs.Handover.{Handover, Place, AtVersion, AtOldPid, AtGeneration, AtFirstListener, AtListeners, AtWants, AtPidFile, AtEnd, Over, Read, nothing_read, line_of, listener_line, want_line, pid_file_line, spelling, after_prefix, is_space, is_address, is_above, number_if_within, number_within, listener_if, listener_read, with_old_pid, with_generation, with_listener, with_want, with_workers, with_pid_file, read_version, read_end, read_if, read_line, then_read, read_rest, read_pieces, reading}
+use Rattle.definitions.specs.Handover.{Handover, Place, AtVersion, AtOldPid, AtGeneration, AtFirstListener, AtListeners, AtWants, AtPidFile, AtEnd, Over, Read, nothing_read, line_of, listener_line, want_line, pid_file_line, spelling, after_prefix, is_space, is_address, is_above, listener_if, listener_read, with_old_pid, with_generation, with_listener, with_want, with_workers, with_pid_file, read_version, read_end, read_if, read_line, then_read, read_rest, read_pieces, reading}
 use Rattle.handover_text.proofs.SoFar.{IfRead}
 
 ---- A line by its parts
@@ -31,15 +31,6 @@ prefix_spelled (c ∷ p) (d ∷ ds) rest e =
       | inl t ↦ (λ i. sym t.1 i ∷ prefix_spelled p ds rest (rw t.0 at e) i)
       | inr t ↦ absurd (none-some rest (rw t.0 at e))
     ]
-
-number_spelled : (least most : ℕ) (text : List ℕ) (n : ℕ) → number_within least most text ≡ Some n → text ≡ decimal n
-number_spelled least most text n e = at (number_of text) refl e
-  where
-    at : (o : Option ℕ) → number_of text ≡ o → number_if_within least most o ≡ Some n → text ≡ decimal n
-    at None is h = cc
-    at (Some m) is h =
-        let same : m ≡ n = (cond_some (nat_le least m && nat_le m most) m n h).1 in
-        (decimal-number_of text m is).0 ∙ ap decimal same
 
 byte_is : (c d : ℕ) → nat_eq c d ≡ true → c ≡ d
 byte_is c d h = elim (eqb_tells c d) [ inl t ↦ t.1 | inr t ↦ absurd (both_ways (nat_eq c d) t.0 h) ]
@@ -61,7 +52,7 @@ listener_spelled rest l e = at (number_within 3 66 (before_first is_space rest))
     at (Some fd) number true address h =
         let same : record { descriptor = fd; address = after_first is_space rest } ≡ l = cc in
         spaced rest (λ none. both_ways (is_address []) refl (ap is_address (sym none) ∙ address))
-        ∙ ap (λ front. front ++ 32 ∷ after_first is_space rest) (number_spelled 3 66 (before_first is_space rest) fd number)
+        ∙ ap (λ front. front ++ 32 ∷ after_first is_space rest) (decimal-number_within 3 66 (before_first is_space rest) fd number).0
         ∙ ap (λ (m : Listener). decimal m.descriptor ++ 32 ∷ m.address) same
 
 generation_spelled : (rest : List ℕ) (i c : ℕ) → number_of (before_first is_space rest) ≡ Some i → number_of (after_first is_space rest) ≡ Some c → rest ≡ decimal i ++ 32 ∷ decimal c
@@ -270,7 +261,7 @@ listener_line_is : (line rest : List ℕ) (l : Listener) → line ≡ codes "lis
 listener_line_is line rest l is read = ap line_of is ∙ ap (λ r. line_of (codes "listener " ++ r)) (listener_spelled rest l read)
 
 number_line_is : (p line rest : List ℕ) (least most n : ℕ) → line ≡ p ++ rest → number_within least most rest ≡ Some n → line ≡ p ++ decimal n
-number_line_is p line rest least most n is read = is ∙ ap (λ r. p ++ r) (number_spelled least most rest n read)
+number_line_is p line rest least most n is read = is ∙ ap (λ r. p ++ r) (decimal-number_within least most rest n read).0
 
 line_went : (n : ℕ) (place : Place) (h : Handover) (line text : List ℕ) → IsText text place h → IfRead (IsText (text ++ line_of line)) (read_line n place h line)
 line_went n AtVersion h line text s = version_went n h line text (sym s.stands) s.listeners s.wants s.path

@@ -5,24 +5,24 @@ use Rattle.std.specs.Fmt.{decimal}
 use Rattle.std.specs.Char.{is_ascii_digit, is_ascii_graphic}
 use Rattle.std.specs.List.{All, AllPass, list_all, flat_map, after_first, slice_split, onto_first}
 use Rattle.std.specs.Cmp.Lexicographic.{nat_list_eq_equiv, same_text}
-use Rattle.std.proofs.lemmas.Bool.{and_parts, and_from, or_parts, or_from, both_ways, not-true, not_from_false, false_from_ne_true, lt-ltb, le-leb, cond_both}
+use Rattle.std.proofs.lemmas.Bool.{and_parts, and_from, or_parts, or_from, both_ways, not-true, not_from_false, false_from_ne_true, lt-ltb, cond_both}
 use Rattle.std.proofs.lemmas.Bool.Decides.{eqb_tells}
 use Rattle.std.proofs.lemmas.List.{append-nil, length-append}
 use Rattle.std.proofs.lemmas.List.Folds.{list_all-append}
 use Rattle.std.proofs.lemmas.List.Sums.{AllPass-from_list_all, list_all-from_AllPass}
 use Rattle.std.proofs.lemmas.List.Splits.{slice_split_at}
 use Rattle.std.proofs.Math.Seq.{get_or-append_seam}
-use Rattle.plain_text.specs.NumberText.{number_of}
+use Rattle.plain_text.specs.NumberText.{number_of, number_within}
 use Rattle.listener_set.specs.AddressText.{reading as address_reading, check, accepted}
 use Rattle.listener_set.specs.declared.address.AddressRefusal.{AddressRefusal}
 use Rattle.listener_set.specs.PathText.{is_path, begins_with_slash}
 use Rattle.listener_set.specs.AddressList.{AreDistinct, has}
-use Rattle.plain_text.proofs.NumberTextLemmas.{number_of-decimal}
+use Rattle.plain_text.proofs.NumberTextLemmas.{number_of-decimal, number_within-decimal}
 use Rattle.listener_set.proofs.AddressGrammar.{graphic_from_reading, digit_apart, decimal_all, before_first-at, after_first-at}
 use Rattle.vocabulary.specs.declared.handover.HandoverRefusal.TheVariants as refusal
 use Rattle.vocabulary.specs.declared.table.Listener.{Listener}
 use Rattle.definitions.specs.After.{listens_on}
-use Rattle.definitions.specs.Handover.{Handover, Place, AtVersion, AtOldPid, AtGeneration, AtFirstListener, AtListeners, AtWants, AtPidFile, AtEnd, Over, nothing_read, line_of, listener_line, want_line, pid_file_line, spelling, passes, is_space, is_address, is_above, number_if_within, number_within, listener_if, listener_read, with_old_pid, with_generation, with_listener, with_want, with_workers, read_line, then_read, read_pieces, reading}
+use Rattle.definitions.specs.Handover.{Handover, Place, AtVersion, AtOldPid, AtGeneration, AtFirstListener, AtListeners, AtWants, AtPidFile, AtEnd, Over, nothing_read, line_of, listener_line, want_line, pid_file_line, spelling, passes, is_space, is_address, is_above, listener_if, listener_read, with_old_pid, with_generation, with_listener, with_want, with_workers, read_line, then_read, read_pieces, reading}
 use Rattle.handover_text.specs.Listeners.{AreListedFrom}
 use Rattle.handover_text.specs.Ranges.{IsHandover, is_path_if}
 use Rattle.handover_text.proofs.SoFar.{is_newline, pieces_more}
@@ -64,11 +64,6 @@ line-path text h = line_if is_ascii_graphic refl text (AllPass-from_list_all is_
 
 ---- Values
 
-within-decimal : (least most n : ℕ) → least ≤ n → n ≤ most → n ≤ 4294967295 → number_within least most (decimal n) ≡ Some n
-within-decimal least most n low high fits =
-    ap (number_if_within least most) (number_of-decimal n (omega arith))
-    ∙ rw (le-leb least n low, le-leb n most high) refl
-
 apart : (n : ℕ) → n ≤ 4294967295 → All (λ c. is_space c ≡ false) (decimal n)
 apart n most = decimal_all is_space false (digit_apart 32 refl) n (omega arith)
 
@@ -86,7 +81,7 @@ listener-decimal l low high address =
     let after = after_first-at is_space (decimal l.descriptor) 32 l.address none refl in
     ap (λ t. listener_if (number_within 3 66 t) (after_first is_space (decimal l.descriptor ++ 32 ∷ l.address)) (is_address (after_first is_space (decimal l.descriptor ++ 32 ∷ l.address)))) before
     ∙ ap (λ t. listener_if (number_within 3 66 (decimal l.descriptor)) t (is_address t)) after
-    ∙ ap (λ o. listener_if o l.address (is_address l.address)) (within-decimal 3 66 l.descriptor low (omega arith) (omega arith))
+    ∙ ap (λ o. listener_if o l.address (is_address l.address)) (number_within-decimal 3 66 l.descriptor low (omega arith) (omega arith))
     ∙ ap (λ b. listener_if (Some l.descriptor) l.address b) address
 
 ---- Line by line
@@ -195,7 +190,7 @@ module _ (t : Handover) (h : IsHandover t) where
   old_pid_goes more =
       goes_line AtOldPid nothing_read (codes "old-pid " ++ decimal t.old_pid) more AtGeneration at_generation
       (line-append (codes "old-pid ") (decimal t.old_pid) refl (line-decimal t.old_pid h.parts.old_pid))
-      (λ n. ap (with_old_pid n nothing_read) (within-decimal 1 4294967295 t.old_pid h.in_range.old_pid h.parts.old_pid h.parts.old_pid))
+      (λ n. ap (with_old_pid n nothing_read) (number_within-decimal 1 4294967295 t.old_pid h.in_range.old_pid h.parts.old_pid (omega (arith, h.parts.old_pid))))
 
   generation_goes : (more : List ℕ) → Goes AtGeneration at_generation (generation_line t.generation.image t.generation.config ++ more) AtFirstListener (at_listeners t []) more
   generation_goes more =
@@ -232,7 +227,7 @@ module _ (t : Handover) (h : IsHandover t) where
   workers_goes more =
       goes_line AtWants (at_wants t t.want) (codes "workers " ++ decimal t.workers) more AtPidFile at_pid_file
       (line-append (codes "workers ") (decimal t.workers) refl (line-decimal t.workers (omega (arith, h.parts.workers))))
-      (λ n. ap (with_workers n (at_wants t t.want)) (within-decimal 0 1024 t.workers (omega arith) h.parts.workers (omega (arith, h.parts.workers))))
+      (λ n. ap (with_workers n (at_wants t t.want)) (number_within-decimal 0 1024 t.workers (omega arith) h.parts.workers (omega (arith, h.parts.workers))))
 
   abbrev with_path : Option (List ℕ) → Handover
   with_path o = record { old_pid = t.old_pid; generation = t.generation; listeners = t.listeners; want = t.want; workers = t.workers; pid_file = o }

@@ -1,13 +1,14 @@
 //! Reading a handover line by line.
 ghost use Rattle.std.specs.Prelude.{◌≡◌, ℕ, codes};
-ghost use Rattle.definitions.specs.Handover.{AtVersion, AtOldPid, AtGeneration, AtFirstListener, AtListeners, AtWants, AtPidFile, AtEnd, Over, nothing_read, read_version, with_old_pid, with_generation, with_listener, with_want, with_workers, with_pid_file, read_end, read_line, read_want, read_listener, number_within, listener_read, read_rest};
+ghost use Rattle.plain_text.specs.NumberText.{number_within};
+ghost use Rattle.definitions.specs.Handover.{AtVersion, AtOldPid, AtGeneration, AtFirstListener, AtListeners, AtWants, AtPidFile, AtEnd, Over, nothing_read, read_version, with_old_pid, with_generation, with_listener, with_want, with_workers, with_pid_file, read_end, read_line, read_want, read_listener, listener_read, read_rest};
 ghost use Rattle.handover_text.specs.Ranges.{IsReadTo};
 ghost use Rattle.handover_text.specs.Reader.{read_to};
 
-use crate::fields::{after_prefix, around_space, number_within, read_listener};
+use crate::fields::{after_prefix, read_listener};
 use crate::{Handover, Listeners};
 use listener_set::{Address, FilePath, Generation, ListenerSet, MOST_LISTENERS};
-use plain_text::read_number;
+use plain_text::{around, number_within, read_count, read_number};
 use std::marker::Model;
 use vocabulary::HandoverRefusal;
 
@@ -85,7 +86,7 @@ impl Reader {
         let Some(rest) = after_prefix(line, b"old-pid ") else {
             return Err(HandoverRefusal::Line(number));
         };
-        let Some(old_pid) = number_within(rest, 1, u32::MAX) else {
+        let Some(old_pid) = read_count(rest) else {
             return Err(HandoverRefusal::Line(number));
         };
         self.old_pid = old_pid;
@@ -99,7 +100,7 @@ impl Reader {
         let Some(rest) = after_prefix(line, b"generation ") else {
             return Err(HandoverRefusal::Line(number));
         };
-        let (image, config) = around_space(rest);
+        let (image, config) = around(rest, b' ');
         let (Some(image), Some(config)) = (read_number(image), read_number(config)) else {
             return Err(HandoverRefusal::Line(number));
         };

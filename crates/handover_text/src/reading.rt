@@ -4,8 +4,8 @@ ghost use Rattle.definitions.specs.Handover.{reading, spelling};
 ghost use Rattle.handover_text.specs.Ranges.{IsHandover};
 
 use crate::Handover;
-use crate::fields::first_place;
 use crate::reader::Reader;
+use plain_text::cut;
 use vocabulary::HandoverRefusal;
 
 /// Reads a handover. Each line ends in a newline, and has single spaces: `handover 1`; `old-pid` and a process number
@@ -25,11 +25,9 @@ pub fn read(text: &[u8]) -> Result<Handover, HandoverRefusal>
     let mut reader = Reader::new();
     let mut rest = text;
     let mut number = 1;
-    let mut end = first_place(rest, b'\n');
-    while end < rest.len() {
-        reader.read_line(number, &rest[..end])?;
-        rest = &rest[end + 1..];
-        end = first_place(rest, b'\n');
+    while let Some((line, behind)) = cut(rest, b'\n') {
+        reader.read_line(number, line)?;
+        rest = behind;
         number += 1;
     }
     reader.finish(rest)

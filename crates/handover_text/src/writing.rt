@@ -9,24 +9,24 @@ ghost use Rattle.handover_text.specs.Listeners.{AreListed};
 ghost use Rattle.handover_text.specs.Ranges.{is_path_if};
 
 use crate::{Handover, Listeners};
-use itoa::Buffer;
 use listener_set::{Address, FilePath, Generation, ListenerSet};
+use plain_text::write_number;
 use std::alloc::{AllocError, Global};
 use vocabulary::Listener;
 
-fn put_number(text: &mut Vec<u8>, number: u32) -> Result<(), AllocError>
-    ensures { IfOk result (λ _. text.new.items ≡ text.old.items ++ decimal number) }
+/// A name, with a space behind it, and a number.
+fn put_named(text: &mut Vec<u8>, name: &[u8], number: u32) -> Result<(), AllocError>
+    ensures { IfOk result (λ _. text.new.items ≡ text.old.items ++ name.now ++ decimal number) }
 {
-    let mut buffer = Buffer::new();
-    text.extend_from_slice(buffer.format(number).as_bytes())
+    text.extend_from_slice(name)?;
+    write_number(text, u64::from(number))
 }
 
 /// A line of a name, with a space behind it, and a number.
 fn put_numbered(text: &mut Vec<u8>, name: &[u8], number: u32) -> Result<(), AllocError>
     ensures { IfOk result (λ _. text.new.items ≡ text.old.items ++ line_of (name.now ++ decimal number)) }
 {
-    text.extend_from_slice(name)?;
-    put_number(text, number)?;
+    put_named(text, name, number)?;
     text.extend_from_slice(b"\n")
 }
 
@@ -35,11 +35,8 @@ fn put_generation(text: &mut Vec<u8>, generation: Generation) -> Result<(), Allo
     ensures image { generation.image ≤ 4294967295 }
     ensures config { generation.config ≤ 4294967295 }
 {
-    text.extend_from_slice(b"generation ")?;
-    put_number(text, generation.image)?;
-    text.extend_from_slice(b" ")?;
-    put_number(text, generation.config)?;
-    text.extend_from_slice(b"\n")
+    put_named(text, b"generation ", generation.image)?;
+    put_numbered(text, b" ", generation.config)
 }
 
 fn put_listener(text: &mut Vec<u8>, listener: &Listener) -> Result<(), AllocError>
@@ -47,7 +44,7 @@ fn put_listener(text: &mut Vec<u8>, listener: &Listener) -> Result<(), AllocErro
     ensures address { IfOk result (λ _. is_address listener.now.address ≡ true) }
 {
     text.extend_from_slice(b"listener ")?;
-    put_number(text, listener.descriptor)?;
+    write_number(text, u64::from(listener.descriptor))?;
     text.extend_from_slice(b" ")?;
     text.extend_from_slice(listener.address.bytes())?;
     text.extend_from_slice(b"\n")

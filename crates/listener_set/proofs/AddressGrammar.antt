@@ -12,29 +12,18 @@ use Rattle.std.proofs.Math.Seq.{drop-append-add}
 use Rattle.std.proofs.lemmas.List.Elements.{All-nil, All-cons, All-head, All-tail, All-append, All-same}
 use Rattle.std.proofs.lemmas.List.Splits.{join_with_byte-slice_split, slice_split_at, slice_split_none}
 use Rattle.std.proofs.lemmas.List.Sums.{split_at_first, passes_at_first, AllPass-from_list_all, list_all-from_AllPass}
-use Rattle.plain_text.specs.NumberText.{number_of, is_within, is_between}
+use Rattle.plain_text.specs.NumberText.{is_within}
 use Rattle.listener_set.specs.AddressText.{is_dot, is_colon, is_host, path_check, dotted_check, check, accepted, reading, IsDotted, IsAddress}
 use Rattle.listener_set.specs.declared.address.AddressRefusal.{AddressRefusal}
-use Rattle.plain_text.proofs.NumberTextLemmas.{both, decimal-number_of, number_of-decimal, digits-decimal}
+use Rattle.plain_text.proofs.NumberTextLemmas.{both, decimal-is_within, is_within-decimal, digits-decimal}
 use Rattle.listener_set.proofs.AddressLaws.{host_tests, dotted_tests, path_tests}
 
 -- ---- an accepted text is written by the grammar
-within_printed : (least most : ℕ) (text : List ℕ) → is_within least most text ≡ true → (n : ℕ) × (text ≡ decimal n) × (least ≤ n) × (n ≤ most)
-within_printed least most text h = at (number_of text) refl h
-  where
-    at : (o : Option ℕ) → number_of text ≡ o → is_between least most o ≡ true → (n : ℕ) × (text ≡ decimal n) × (least ≤ n) × (n ≤ most)
-    at None e h = cc
-    at (Some n) e h =
-        let tests = both (leb least n) (leb n most) h in
-        let low : leb least n ≡ true = tests.0 in
-        let high : leb n most ≡ true = tests.1 in
-        (n, (decimal-number_of text n e).0, grind (arith, nat_tests), grind (arith, nat_tests))
-
 octets_of : (parts : List (List ℕ)) → list_all (is_within 0 255) parts ≡ true → (ns : List ℕ) × (parts ≡ map decimal ns) × All (λ n. n ≤ 255) ns × (length ns ≡ length parts)
 octets_of [] h = ([], refl, All-nil (λ n. n ≤ 255), refl)
 octets_of (part ∷ parts) h =
     let tests = both (is_within 0 255 part) (list_all (is_within 0 255) parts) h in
-    let n = within_printed 0 255 part tests.0 in
+    let n = decimal-is_within 0 255 part tests.0 in
     let rest = octets_of parts tests.1 in
     (n.0 ∷ rest.0, (λ i. n.1 i ∷ rest.1 i), All-cons (λ n. n ≤ 255) n.0 rest.0 n.3 rest.2, ap suc rest.3)
 
@@ -55,7 +44,7 @@ dotted_written text h =
     let tests = dotted_tests text h in
     let host = host_tests (before_first is_colon text) tests.0 in
     let octets = octets_of (slice_split is_dot (before_first is_colon text)) host.1 in
-    let port = within_printed 1 65535 (after_first is_colon text) tests.1 in
+    let port = decimal-is_within 1 65535 (after_first is_colon text) tests.1 in
     let stands = colon_stands text tests.1 in
     record {
       octets = octets.0;
@@ -117,17 +106,11 @@ parts_again n (m ∷ ns) fit =
     slice_split_at is_dot (decimal n) 46 _ (decimal_all is_dot false (digit_apart 46 refl) n (omega arith)) refl
     ∙ ap (λ parts. decimal n ∷ parts) (parts_again m ns (All-tail (λ k. k ≤ 255) n (m ∷ ns) fit))
 
-printed_within : (least most n : ℕ) → least ≤ n → n ≤ most → most < 2 ^ 32 → is_within least most (decimal n) ≡ true
-printed_within least most n low high fits =
-    let one : leb least n ≡ true = grind (arith, nat_tests) in
-    let two : leb n most ≡ true = grind (arith, nat_tests) in
-    ap (is_between least most) (number_of-decimal n (omega arith)) ∙ rw (one, two) refl
-
 octets_within : (ns : List ℕ) → All (λ n. n ≤ 255) ns → list_all (is_within 0 255) (map decimal ns) ≡ true
 octets_within [] fit = refl
 octets_within (n ∷ ns) fit =
     let small : n ≤ 255 = All-head (λ k. k ≤ 255) n ns fit in
-    rw (printed_within 0 255 n (omega arith) small (omega arith)) (octets_within ns (All-tail (λ k. k ≤ 255) n ns fit))
+    rw (is_within-decimal 0 255 n (omega arith) small (omega arith)) (octets_within ns (All-tail (λ k. k ≤ 255) n ns fit))
 
 host_accepted : (ns : List ℕ) → length ns ≡ 4 → All (λ n. n ≤ 255) ns → is_host (join_with_byte 46 (map decimal ns)) ≡ true
 host_accepted [] four fit = absurd (omega arith)
@@ -155,7 +138,7 @@ dotted_accepted text h =
       before_first-at is_colon host 58 (decimal h.port) lacks refl,
       after_first-at is_colon host 58 (decimal h.port) lacks refl,
       host_accepted h.octets h.four h.octets_fit,
-      printed_within 1 65535 h.port h.port_fits.0 h.port_fits.1 (omega arith),
+      is_within-decimal 1 65535 h.port h.port_fits.0 h.port_fits.1 (omega arith),
     ) refl
 
 host_nonempty : (ns : List ℕ) → length ns ≡ 4 → All (λ n. n ≤ 255) ns → 0 < length (join_with_byte 46 (map decimal ns))

@@ -4,7 +4,6 @@ pub mod NumberSets
 pub mod NumberSearch
 pub mod DescriptorSlots
 pub mod DescriptorPairs
-pub mod AddressParts
 pub mod AddressLaws
 pub mod AddressGrammar
 pub mod AddressLists

@@ -10,3 +10,4 @@ pub mod AddressListLemmas
 pub mod Descriptors
 pub mod DescriptorLemmas
 pub mod Codes
+pub mod GenerationText

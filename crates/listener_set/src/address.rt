@@ -1,12 +1,12 @@
 //! Listening addresses.
 ghost use Rattle.std.specs.Prelude.{◌≡◌, ◌≤◌, ◌↔◌, length, codes, Ok, IsOk};
-ghost use Rattle.std.specs.List.{AllPass, list_all, slice_split, position_or_len};
+ghost use Rattle.std.specs.List.{AllPass, list_all, slice_split};
 ghost use Rattle.std.specs.Char.{is_ascii_graphic};
 ghost use Rattle.plain_text.specs.NumberText.{is_within};
-ghost use Rattle.listener_set.specs.AddressText.{reading, check, path_check, dotted_check, is_host, is_dot, is_colon, IsAddress};
+ghost use Rattle.listener_set.specs.AddressText.{reading, check, path_check, dotted_check, is_host, is_dot, IsAddress};
 
 use crate::short_text::{ShortText, TEXT_BYTES};
-use plain_text::is_number_within;
+use plain_text::{around, number_within};
 use std::marker::Model;
 use thiserror::Error;
 
@@ -55,7 +55,7 @@ fn are_octets(host: &[u8]) -> bool
     ensures { result ≡ list_all (is_within 0 255) (slice_split is_dot host.now) }
 {
     host.split(|byte| *byte == b'.')
-        .all(|part| is_number_within(part, 0, 255))
+        .all(|part| number_within(part, 0, 255).is_some())
 }
 
 /// Whether a text is four numbers up to 255 joined by dots.
@@ -84,23 +84,14 @@ fn check_path(text: &[u8]) -> Result<(), AddressRefusal>
     Ok(())
 }
 
-/// Where the first colon stands, or the length.
-fn first_colon(text: &[u8]) -> usize
-    ensures { result ≡ position_or_len is_colon text.now }
-{
-    text.iter()
-        .position(|byte| *byte == b':')
-        .unwrap_or(text.len())
-}
-
 fn check_dotted(text: &[u8]) -> Result<(), AddressRefusal>
     ensures { result ≡ dotted_check text.now }
 {
-    let colon = first_colon(text);
-    if !is_host(&text[..colon]) {
+    let (host, port) = around(text, b':');
+    if !is_host(host) {
         return Err(AddressRefusal::BadHost);
     }
-    if colon == text.len() || !is_number_within(&text[colon + 1..], 1, 65535) {
+    if number_within(port, 1, 65535).is_none() {
         return Err(AddressRefusal::BadPort);
     }
     Ok(())

@@ -1,1 +1,2 @@
 pub mod NumberTextLemmas
+pub mod CutTexts

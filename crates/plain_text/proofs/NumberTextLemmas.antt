@@ -1,5 +1,5 @@
 -- The text of a number is what is printed of it.
-use Rattle.std.proofs.Common.{◌≡◌, ℕ, ◌+◌, ◌-◌, ◌*◌, ◌^◌, ◌≤◌, ◌<◌, Bool, true, false, cond, leb, eqb, ◌&&◌, List, [], ◌∷◌, length, get_or, Option, Some, None, refl, sym, ap, ◌∙◌, arith, rules, inl, inr}
+use Rattle.std.proofs.Common.{◌≡◌, ℕ, ◌+◌, ◌-◌, ◌*◌, ◌^◌, ◌≤◌, ◌<◌, Bool, true, false, cond, leb, eqb, ◌&&◌, List, [], ◌∷◌, length, get_or, Option, Some, None, is_some, refl, sym, ap, ◌∙◌, arith, rules, inl, inr}
 use Rattle.std.proofs.lemmas.Bool.{cases_lt}
 use Rattle.std.specs.Char.{is_ascii_digit}
 use Rattle.std.specs.Str.{all_ascii_digits}
@@ -7,7 +7,7 @@ use Rattle.std.specs.Fmt.{decimal}
 use Rattle.std.proofs.lemmas.Bool.Decides.{nat_tests}
 use Rattle.std.proofs.lemmas.Str.Parse.{IsNumeralModel, numerals_by_fold}
 use Rattle.std.proofs.lemmas.Fmt.{decimal-digits_value, digits_decimal, digits_value-decimal, decimal_nonempty, first_decimal, length-decimal-le}
-use Rattle.plain_text.specs.NumberText.{number_after, number64_of, number_of, at_most, is_within, is_between}
+use Rattle.plain_text.specs.NumberText.{number_after, number64_of, number_of, at_most, number_if_within, number_within, is_within}
 
 -- what digits write, after n
 abbrev pub read_on : ℕ → List ℕ → ℕ
@@ -103,15 +103,47 @@ number_of-decimal n lt =
     let le : leb n 4294967295 ≡ true = grind (arith, nat_tests) in
     ap (at_most 4294967295) (number64_of-decimal n (omega arith)) ∙ rw le refl
 
+-- the same within bounds
+within_is : (least most : ℕ) (o : Option ℕ) (n : ℕ) → number_if_within least most o ≡ Some n → (o ≡ Some n) × (least ≤ n) × (n ≤ most)
+within_is least most None n e = cc
+within_is least most (Some m) n e =
+    let went = chosen (leb least m && leb m most) (Some m) n e in
+    let tests = both (leb least m) (leb m most) went.0 in
+    let low : leb least m ≡ true = tests.0 in
+    let high : leb m most ≡ true = tests.1 in
+    let same : m ≡ n = cc in
+    (went.1, grind (arith, nat_tests), grind (arith, nat_tests))
+
+pub decimal-number_within : (least most : ℕ) (text : List ℕ) (n : ℕ) → number_within least most text ≡ Some n → (text ≡ decimal n) × (least ≤ n) × (n ≤ most)
+decimal-number_within least most text n e =
+    let is = within_is least most (number_of text) n e in
+    ((decimal-number_of text n is.0).0, is.1, is.2)
+
+pub number_within-decimal : (least most n : ℕ) → least ≤ n → n ≤ most → n < 2 ^ 32 → number_within least most (decimal n) ≡ Some n
+number_within-decimal least most n low high lt =
+    let one : leb least n ≡ true = grind (arith, nat_tests) in
+    let two : leb n most ≡ true = grind (arith, nat_tests) in
+    ap (number_if_within least most) (number_of-decimal n lt) ∙ rw (one, two) refl
+
+pub decimal-is_within : (least most : ℕ) (text : List ℕ) → is_within least most text ≡ true → (n : ℕ) × (text ≡ decimal n) × (least ≤ n) × (n ≤ most)
+decimal-is_within least most text h = at (number_within least most text) refl h
+  where
+    at : (o : Option ℕ) → number_within least most text ≡ o → is_some o ≡ true → (n : ℕ) × (text ≡ decimal n) × (least ≤ n) × (n ≤ most)
+    at None e h = cc
+    at (Some n) e h = let is = decimal-number_within least most text n e in (n, is.0, is.1, is.2)
+
+pub is_within-decimal : (least most n : ℕ) → least ≤ n → n ≤ most → most < 2 ^ 32 → is_within least most (decimal n) ≡ true
+is_within-decimal least most n low high fits = ap is_some (number_within-decimal least most n low high (omega arith))
+
 -- a number up to a bound has few digits
 pub length-within : (k least most : ℕ) (text : List ℕ) → 0 < k → most < 10 ^ k → is_within least most text ≡ true → length text ≤ k
-length-within k least most text pos bound within = at (number_of text) refl within
+length-within k least most text pos bound within = at (number_within least most text) refl within
   where
-    at : (o : Option ℕ) → number_of text ≡ o → is_between least most o ≡ true → length text ≤ k
+    at : (o : Option ℕ) → number_within least most text ≡ o → is_some o ≡ true → length text ≤ k
     at None e h = cc
     at (Some n) e h =
-        let le : leb n most ≡ true = (both (leb least n) (leb n most) h).1 in
-        let small : n ≤ most = grind (arith, nat_tests) in
-        let found = decimal-number_of text n e in
+        let is = within_is least most (number_of text) n e in
+        let found = decimal-number_of text n is.0 in
+        let small : n ≤ most = is.2 in
         let lt : n < 2 ^ 32 = found.1 in
         rw found.0 (length-decimal-le k n pos (omega arith) (omega arith))

@@ -1,1 +1,2 @@
 pub mod NumberText
+pub mod Cuts

@@ -1,5 +1,5 @@
 -- Numbers as texts: decimal digits without leading zeros.
-use Rattle.std.specs.Prelude.{ℕ, ◌+◌, ◌-◌, ◌*◌, ◌==◌, nat_le, Bool, false, ◌&&◌, List, [], ◌∷◌, Option, Some, None, if◌then◌else◌}
+use Rattle.std.specs.Prelude.{ℕ, ◌+◌, ◌-◌, ◌*◌, ◌==◌, nat_le, Bool, ◌&&◌, List, [], ◌∷◌, Option, Some, None, is_some, if◌then◌else◌}
 use Rattle.std.specs.Char.{is_ascii_digit}
 
 -- what digits make of the number that stands before them, up to 18,446,744,073,709,551,615
@@ -22,10 +22,18 @@ at_most most (Some n) = if nat_le n most then Some n else None
 abbrev pub number_of : List ℕ → Option ℕ
 number_of text = at_most 4294967295 (number64_of text)
 
-abbrev pub is_between : ℕ → ℕ → Option ℕ → Bool
-is_between least most None = false
-is_between least most (Some n) = nat_le least n && nat_le n most
+abbrev pub number_if_within : ℕ → ℕ → Option ℕ → Option ℕ
+number_if_within least most None = None
+number_if_within least most (Some n) = if nat_le least n && nat_le n most then Some n else None
+
+-- a number from least to most
+abbrev pub number_within : ℕ → ℕ → List ℕ → Option ℕ
+number_within least most text = number_if_within least most (number_of text)
 
 -- whether a text is a number from least to most
 abbrev pub is_within : ℕ → ℕ → List ℕ → Bool
-is_within least most text = is_between least most (number_of text)
+is_within least most text = is_some (number_within least most text)
+
+-- a number from 1
+abbrev pub count_of : List ℕ → Option ℕ
+count_of text = number_within 1 4294967295 text

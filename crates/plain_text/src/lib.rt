@@ -1,6 +1,8 @@
-//! Numbers as decimal texts.
+//! Numbers as decimal texts, read and written, and texts cut in two.
 #![tactic(auto)]
 
+mod cuts;
 mod number_text;
 
-pub use number_text::{is_number_within, read_number, read_number64};
+pub use cuts::{around, cut};
+pub use number_text::{number_within, read_count, read_number, read_number64, write_number};

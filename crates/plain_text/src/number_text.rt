@@ -1,7 +1,10 @@
 //! Numbers as texts.
-ghost use Rattle.std.specs.Prelude.{◌≡◌, ◌<◌, ◌^◌, ℕ, IfSome, Some};
+ghost use Rattle.std.specs.Prelude.{◌≡◌, ◌≤◌, ◌<◌, ◌^◌, ◌++◌, ℕ, IfSome, IfOk, Some};
 ghost use Rattle.std.specs.Fmt.{decimal};
-ghost use Rattle.plain_text.specs.NumberText.{number_of, number64_of, is_within};
+ghost use Rattle.plain_text.specs.NumberText.{number_of, number64_of, number_within, count_of};
+
+use itoa::Buffer;
+use std::alloc::AllocError;
 
 /// The number from 0 to 18,446,744,073,709,551,615 that a text is: decimal digits without leading
 /// zeros, and zero is `0`.
@@ -45,12 +48,34 @@ pub fn read_number(text: &[u8]) -> Option<u32>
     u32::try_from(read_number64(text)?).ok()
 }
 
-/// Whether a text is a number from `least` to `most`.
-pub fn is_number_within(text: &[u8], least: u32, most: u32) -> bool
-    ensures { result ≡ is_within least most text.now }
+/// The number from `least` to `most` that a text is: decimal digits without leading zeros, and zero
+/// is `0`.
+pub fn number_within(text: &[u8], least: u32, most: u32) -> Option<u32>
+    ensures exact { result ≡ number_within least most text.now }
+
+    // What is read is the number as it is printed, and each number within is read as it is printed.
+    ensures found { IfSome result (λ n. (text.now ≡ decimal n) × (least ≤ n) × (n ≤ most)) }
+    ensures only { (n : ℕ) → least ≤ n → n ≤ most → text.now ≡ decimal n → result ≡ Some n }
 {
-    match read_number(text) {
-        Some(number) => least <= number && number <= most,
-        None => false,
+    let number = read_number(text)?;
+    if least <= number && number <= most {
+        Some(number)
+    } else {
+        None
     }
+}
+
+/// The number from 1 to 4,294,967,295 that a text is: decimal digits without leading zeros.
+pub fn read_count(text: &[u8]) -> Option<u32>
+    ensures { result ≡ count_of text.now }
+{
+    number_within(text, 1, u32::MAX)
+}
+
+/// Puts a number in decimal digits behind what was written. The only refusal is want of memory.
+pub fn write_number(out: &mut Vec<u8>, number: u64) -> Result<(), AllocError>
+    ensures { IfOk result (λ _. out.new.items ≡ out.old.items ++ decimal number) }
+{
+    let mut buffer = Buffer::new();
+    out.extend_from_slice(buffer.format(number).as_bytes())
 }

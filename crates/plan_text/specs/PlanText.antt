@@ -15,7 +15,7 @@ use Rattle.rollback_plan.specs.declared.step.Next.TheVariants.{To, Over}
 use Rattle.rollback_plan.specs.declared.step.Edge.{Edge}
 use Rattle.rollback_plan.specs.declared.step.Step.{Step}
 use Rattle.rollback_plan.specs.Steps.{edge_for}
-use Rattle.call_text.specs.NumberText.{set_text}
+use Rattle.call_text.specs.SetText.{set_text}
 use Rattle.call_text.specs.CallText.{order_line}
 use Rattle.call_text.specs.Words.{reply_text, end_text, note_text}
 use denote.Enum.Bare.{sameb}

@@ -3,7 +3,8 @@ ghost use Rattle.std.specs.Prelude.{◌≡◌, ◌++◌, [], IfOk, codes};
 ghost use Rattle.std.specs.List.{list_any};
 ghost use Rattle.plan_text.specs.PlanText.{same_next, same_note, same_way, goes, new_edge, reply_words, place_text, note_part, edge_text, edges_text};
 
-use call_text::{end_text, note_text, reply_text, write_number};
+use call_text::{end_text, note_text, reply_text};
+use plain_text::write_number;
 use rollback_plan::{Edge, Next, Step};
 use std::alloc::AllocError;
 use vocabulary::{PidNote, Reply};

@@ -6,7 +6,8 @@ ghost use Rattle.plan_text.specs.Graph.{quoted, is_plain, note_line, style_part,
 
 use crate::edges::{goes, new_edge, write_place, write_replies};
 use crate::plans::write_wanted;
-use call_text::{note_text, replies_of, write_number, write_order};
+use call_text::{note_text, replies_of, write_order};
+use plain_text::write_number;
 use rollback_plan::{Edge, Plan, Step};
 use std::alloc::{AllocError, Global};
 use vocabulary::{PidNote, Reply};

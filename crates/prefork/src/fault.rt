@@ -2,10 +2,10 @@
 use control_words::WordRefusal;
 use listener_set::AddressRefusal;
 use master_config::ConfigRefusal;
+use pattern_text::TextRefusal;
 use std::alloc::AllocError;
 use std::io::{ErrorKind, Write};
 use std::{fmt, io};
-use transcript::TextRefusal;
 
 /// Why the program stops before its work is done.
 #[derive(Debug, Drop)]

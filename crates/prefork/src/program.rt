@@ -9,10 +9,10 @@ use crate::start::Start;
 use command_line::{EnactOptions, PlanOptions, Refusal, Request};
 use control_words::Word;
 use kernel_model::Pattern;
+use pattern_text::TextRefusal;
 use std::alloc::{AllocError, Global};
 use std::io::{Read, Write};
 use std::rt::Files;
-use transcript::TextRefusal;
 use vocabulary::Outcome;
 use word_runner::Body;
 
@@ -129,7 +129,7 @@ fn read_words(alloc: Global, texts: &[&str]) -> Result<Vec<Word>, Fault> {
 fn read_patterns<I: Read>(alloc: Global, input: &mut I) -> Result<Vec<Pattern>, Fault> {
     let mut text = Vec::new(alloc);
     input.read_to_end(&mut text)?;
-    match transcript::read_patterns(alloc, text.as_slice()) {
+    match pattern_text::read_patterns(alloc, text.as_slice()) {
         Ok(patterns) => Ok(patterns),
         Err(TextRefusal::Memory) => Err(Fault::Memory),
         Err(refusal) => Err(Fault::Pattern(refusal)),

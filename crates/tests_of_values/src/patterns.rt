@@ -1,6 +1,6 @@
 //! Patterns that are made by hand, and the lines of their texts.
 use event_pattern::Pattern;
-use line_text::PatternLine;
+use pattern_text::PatternLine;
 use listener_set::Generation;
 use std::test::Fail;
 use vocabulary::{Fate, Name};

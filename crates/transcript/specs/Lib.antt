@@ -1,3 +1,1 @@
-pub mod PatternsText
-pub mod Reader
 pub mod Block

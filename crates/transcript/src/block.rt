@@ -3,8 +3,9 @@ ghost use Rattle.std.specs.Prelude.{◌≡◌, ◌++◌, IfOk};
 ghost use Rattle.control_words.specs.Words.{word_text};
 ghost use Rattle.transcript.specs.Block.{body_text, block_text};
 
-use call_text::{write_entries, write_number, write_report};
+use call_text::{write_entries, write_report};
 use control_words::Word;
+use plain_text::write_number;
 use std::alloc::{AllocError, Global};
 use word_runner::{Block, Body};
 

@@ -1,7 +1,7 @@
 use Rattle.std.proofs.Common.{subst, sym}
 use Rattle.listener_set.specs.Numbers.{AreNumbers}
 use Rattle.call_text.specs.Reads.{Reads}
-use Rattle.call_text.specs.NumberText.{set_text}
+use Rattle.call_text.specs.SetText.{set_text}
 use Rattle.call_text.proofs.SetTexts.{Reads-set}
 use Rattle.call_text.proofs.sets.read_set.Goals as goal
 

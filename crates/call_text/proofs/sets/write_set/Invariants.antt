@@ -1,5 +1,5 @@
 use Rattle.std.proofs.Common.{◌≡◌, ◌++◌}
-use Rattle.call_text.specs.NumberText.{runs_text, set_text}
+use Rattle.call_text.specs.SetText.{runs_text, set_text}
 use Rattle.call_text.proofs.sets.write_set.Given as goal
 
 abbrev pub invariant-loop-number : goal.invariant-loop-number

@@ -1,8 +1,0 @@
-use Rattle.std.proofs.Common.{subst, sym}
-use Rattle.call_text.specs.Reads.{Reads}
-use Rattle.line_text.specs.PatternText.{line_text, IsLine}
-use Rattle.line_text.proofs.PatternLines.{Reads-line}
-use Rattle.line_text.proofs.pattern_line.PatternLine.read.Goals as goal
-
-pub returns-clause-reads : goal.returns-clause-reads
-returns-clause-reads c = subst (Reads IsLine line_text c.args.line.now) (sym c.read_any.ensures) (Reads-line c.args.line.now)

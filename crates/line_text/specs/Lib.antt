@@ -1,2 +1,0 @@
-pub mod PatternText
-pub mod PatternReading

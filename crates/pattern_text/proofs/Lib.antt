@@ -1,0 +1,2 @@
+pub mod PatternLines
+pub mod Lines

@@ -1,0 +1,12 @@
+//! Patterns as texts: a section of lines for each.
+//!
+//! Each line is a function to bytes in `specs/`. Readers accept such lines and nothing else.
+#![tactic(auto)]
+
+mod pattern_line;
+mod patterns;
+mod refusal;
+
+pub use pattern_line::PatternLine;
+pub use patterns::read_patterns;
+pub use refusal::TextRefusal;

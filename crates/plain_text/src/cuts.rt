@@ -1,0 +1,32 @@
+//! Texts cut in two.
+ghost use Rattle.std.specs.Prelude.{◌≡◌, ◌==◌, option_map, position};
+ghost use Rattle.std.specs.List.{before_first, after_first};
+ghost use Rattle.plain_text.specs.Cuts.{cut};
+
+/// Where the first such byte stands.
+fn first(text: &[u8], byte: u8) -> Option<usize>
+    ensures { result ≡ position (λ c. c == byte) text.now }
+{
+    text.iter().position(|b| *b == byte)
+}
+
+/// What stands before the first such byte, and what stands behind it; none where there is no such
+/// byte.
+pub fn cut(text: &[u8], byte: u8) -> Option<(&[u8], &[u8])>
+    ensures { option_map (λ p. (p.0.now, p.1.now)) result ≡ cut byte text.now }
+{
+    let place = first(text, byte)?;
+    Some((&text[..place], &text[place + 1..]))
+}
+
+/// What stands before the first such byte, and what stands behind it: all of the text and nothing
+/// where there is no such byte.
+pub fn around(text: &[u8], byte: u8) -> (&[u8], &[u8])
+    ensures before { result.0.now ≡ before_first (λ c. c == byte) text.now }
+    ensures behind { result.1.now ≡ after_first (λ c. c == byte) text.now }
+{
+    match cut(text, byte) {
+        Some(parts) => parts,
+        None => (text, &[]),
+    }
+}

@@ -1,8 +1,0 @@
--- How far a reader has come.
-use Rattle.std.specs.Prelude.{map}
-use Rattle.event_pattern.specs.Pattern.{moment_at}
-use Rattle.transcript.specs.declared.patterns.Reader.{Reader}
-use Rattle.transcript.specs.PatternsText.{Reading}
-
-abbrev pub seen : Reader → Reading
-seen r = record { done = map moment_at r.done.items; section = moment_at r.section; last = r.last; failed = r.has_failed }
