@@ -6,8 +6,8 @@ ghost use Rattle.plan_text.specs.PlanText.{set_part, step_text, steps_text, plan
 
 use crate::edges::write_edges;
 use call_text::{replies_of, write_order, write_set};
-use plain_text::write_number;
 use listener_set::Numbers;
+use plain_text::write_number;
 use rollback_plan::{Plan, Step};
 use std::alloc::{AllocError, Global};
 use vocabulary::{Call, Order};
