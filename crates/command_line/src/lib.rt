@@ -28,7 +28,6 @@ pub enum Request<'a> {
     Show(String),
 }
 
-
 /// Reads the arguments of the process, of which the first is the program's name.
 ///
 /// - `Usage` where `clap` refuses them or the value of `--workers` isn't a decimal number up to

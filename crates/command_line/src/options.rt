@@ -72,9 +72,7 @@ pub(crate) fn enact_options<'a>(
 }
 
 /// The options of `plan`, unless `--workers` has no number.
-pub(crate) fn plan_options<'a>(
-    found: &ArgMatches<'a>,
-) -> Result<PlanOptions<'a>, UsageFault>
+pub(crate) fn plan_options<'a>(found: &ArgMatches<'a>) -> Result<PlanOptions<'a>, UsageFault>
     ensures found { IfOk result (λ options.
         FindsPlanning (rows_of (found_of found.now)) (planning_of options)) }
     ensures usage { IfErr result (λ _. (values : Planning)
