@@ -9,15 +9,16 @@ use Rattle.clap.specs.Faults.{fault_of}
 use Rattle.clap.specs.Kinds.{IsAmong}
 use Rattle.clap.specs.declared.builder.action.ArgAction.TheVariants.{Append, Set, SetTrue}
 use Rattle.clap.specs.declared.parser.matches.ArgMatches.{ArgMatches}
-use Rattle.clap.specs.declared.error.kind.ErrorKind.TheVariants.{DisplayHelp, DisplayVersion}
+use Rattle.clap.specs.declared.error.kind.ErrorKind.{ErrorKind}
+use Rattle.clap.specs.declared.error.kind.ErrorKind.TheVariants.{DisplayHelp, DisplayVersion, OutOfMemory}
 use Rattle.command_line.specs.Number.{Spells}
 use Rattle.command_line.specs.declared.options.EnactOptions.{EnactOptions}
 use Rattle.command_line.specs.declared.options.PlanOptions.{PlanOptions}
 use Rattle.command_line.specs.declared.options.StartOptions.{StartOptions}
 use Rattle.command_line.specs.declared.Request.{Request}
 use Rattle.command_line.specs.declared.Request.TheVariants.{Enact, Plan, Show}
-use Rattle.command_line.specs.declared.Refusal.{Refusal}
-use Rattle.command_line.specs.declared.Refusal.TheVariants.{Usage, Memory}
+use Rattle.command_line.specs.declared.refusal.Refusal.{Refusal}
+use Rattle.command_line.specs.declared.refusal.Refusal.TheVariants.{Usage, Memory}
 
 -- ---- the command line
 
@@ -180,6 +181,13 @@ pub record IsUsageFault (arguments : List Text) : Type 0 where
 abbrev pub IsRefusedBy : List Text → Refusal → Type 0
 IsRefusedBy arguments Usage = IsUsageFault arguments
 IsRefusedBy arguments Memory = ⊤
+
+-- what `clap` tells is want of memory, or a text that is to be written
+abbrev pub TakesMemory : ErrorKind → Type 0
+TakesMemory OutOfMemory = ⊤
+TakesMemory DisplayHelp = ⊤
+TakesMemory DisplayVersion = ⊤
+TakesMemory _ = ⊥
 
 -- what `clap` found is what it finds in the arguments
 pub record AreMatchesOf (arguments : List Text) (matches : ArgMatches) : Type 0 where

@@ -1,20 +1,21 @@
 //! The command line of `prefork`, read by `clap`.
 #![tactic(auto)]
 
-ghost use Rattle.std.specs.Prelude.{◌≡◌, IfErr, IfOk, List, ℕ, map, string_bytes};
-ghost use Rattle.clap.specs.Words.{HasKind, fault_of};
-ghost use Rattle.command_line.specs.Arguments.{AreMatchesOf, Asks, IsRefusedBy, prefork_app};
-ghost use Rattle.command_line.specs.declared.Refusal.TheVariants.{Memory};
+ghost use Rattle.std.specs.Prelude.{◌≡◌, IfErr, IfOk, IsErrOf, List, ℕ, map, string_bytes};
+ghost use Rattle.clap.specs.Words.{HasKind, fault_of, kind_of};
+ghost use Rattle.command_line.specs.Arguments.{AreMatchesOf, Asks, IsRefusedBy, TakesMemory, prefork_app};
 
 mod commands;
 mod help;
 mod options;
+mod refusal;
 
 use clap::error::ErrorKind;
 use clap::{ArgMatches, Error};
 pub use options::{EnactOptions, PlanOptions, StartOptions};
 use options::{enact_options, plan_options};
-use std::alloc::{AllocError, Global};
+pub use refusal::Refusal;
+use std::alloc::Global;
 
 /// What the command line asks for.
 #[derive(Drop)]
@@ -25,25 +26,6 @@ pub enum Request<'a> {
     Plan(PlanOptions<'a>),
     /// `--help` or `--version`: write this text to standard output.
     Show(String),
-}
-
-/// Why a command line asks for nothing.
-#[derive(Debug, Drop, thiserror::Error)]
-pub enum Refusal {
-    /// An unknown, repeated or missing argument, or a number that isn't spelled as one.
-    #[error("usage")]
-    Usage,
-    /// Memory was refused.
-    #[error("memory")]
-    Memory,
-}
-
-impl From<AllocError> for Refusal {
-    ghost from_gives = { λ _ refusal. refusal ≡ Memory };
-
-    fn from(_error: AllocError) -> Refusal {
-        Refusal::Memory
-    }
 }
 
 /// Reads the arguments of the process, of which the first is the program's name.
@@ -76,12 +58,14 @@ fn request_of<'a>(alloc: Global, matches: &ArgMatches<'a>) -> Result<Request<'a>
     }
 }
 
-/// What `clap` answers when it gives no matches: a text that was asked for, or a fault.
+/// What `clap` answers when it gives no matches: a text that was asked for, or a fault. Want of
+/// memory is told only where `clap` tells it, or where a text is to be written.
 fn shown_by<'a>(alloc: Global, error: &Error) -> Result<Request<'a>, Refusal>
     ensures asks { (arguments : List (List ℕ)) → HasKind (fault_of prefork_app arguments) error.now
         → IfOk result (Asks arguments) }
     ensures refused { (arguments : List (List ℕ)) → HasKind (fault_of prefork_app arguments) error.now
         → IfErr result (IsRefusedBy arguments) }
+    ensures memory { IsErrOf result Refusal.Memory → TakesMemory (kind_of error.now) }
 {
     match error.kind() {
         ErrorKind::DisplayHelp | ErrorKind::DisplayVersion => {

@@ -4,6 +4,7 @@ ghost use Rattle.clap.specs.Words.{first_of, found_of, rows_of};
 ghost use Rattle.command_line.specs.Arguments.{Enactment, FindsEnactment, FindsPlanning, FindsStart, IsWorkers, Planning, Start, enactment_of, is_given, planning_of, start_of};
 
 use crate::Refusal;
+use crate::refusal::UsageFault;
 use clap::ArgMatches;
 use plain_text::read_number;
 use std::alloc::Global;
@@ -70,8 +71,8 @@ pub(crate) fn enact_options<'a>(
     })
 }
 
-/// The options of `plan`; `Usage` where `--workers` has no number.
-pub(crate) fn plan_options<'a>(found: &ArgMatches<'a>) -> Result<PlanOptions<'a>, Refusal>
+/// The options of `plan`, unless `--workers` has no number.
+pub(crate) fn plan_options<'a>(found: &ArgMatches<'a>) -> Result<PlanOptions<'a>, UsageFault>
     ensures found { IfOk result (λ options.
         FindsPlanning (rows_of (found_of found.now)) (planning_of options)) }
     ensures usage { IfErr result (λ _. (values : Planning)
@@ -84,11 +85,11 @@ pub(crate) fn plan_options<'a>(found: &ArgMatches<'a>) -> Result<PlanOptions<'a>
             dot: has_flag(found, "dot"),
             word,
         }),
-        None => Err(Refusal::Usage),
+        None => Err(UsageFault),
     }
 }
 
-fn start_options<'a>(found: &ArgMatches<'a>) -> Result<StartOptions<'a>, Refusal>
+fn start_options<'a>(found: &ArgMatches<'a>) -> Result<StartOptions<'a>, UsageFault>
     ensures found { IfOk result (λ options.
         FindsStart (rows_of (found_of found.now)) (start_of options)) }
     ensures usage { IfErr result (λ _. (values : Start)
@@ -120,7 +121,7 @@ fn has_flag(found: &ArgMatches<'_>, id: &str) -> bool
     }
 }
 
-fn workers_of(found: &ArgMatches<'_>) -> Result<Option<u32>, Refusal>
+fn workers_of(found: &ArgMatches<'_>) -> Result<Option<u32>, UsageFault>
     ensures found { IfOk result (IsWorkers (first_of (codes "workers") (rows_of (found_of found.now)))) }
     ensures usage { IfErr result (λ _. (workers : Option ℕ)
         → ¬ IsWorkers (first_of (codes "workers") (rows_of (found_of found.now))) workers) }
@@ -128,7 +129,7 @@ fn workers_of(found: &ArgMatches<'_>) -> Result<Option<u32>, Refusal>
     match text_of(found, "workers") {
         None => Ok(None),
         Some(text) => match read_number(text.as_bytes()) {
-            None => Err(Refusal::Usage),
+            None => Err(UsageFault),
             number => Ok(number),
         },
     }

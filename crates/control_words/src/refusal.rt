@@ -1,26 +1,22 @@
 //! Refusals of lines and words.
 ghost use Rattle.std.specs.Prelude.{◌≡◌};
 
-use thiserror::Error;
+use std::error::Error;
+use std::fmt;
 
 /// Why a line or a word is refused. It is printed as its code.
-#[derive(Clone, Copy, Debug, PartialEq, Eq, Error)]
+#[derive(Clone, Copy, Debug, PartialEq, Eq)]
 pub enum WordRefusal {
-    /// The line is no control word.
-    #[error("W1")]
+    /// W1: the line is no control word.
     Unknown,
-    /// Behind `beat` or `tick` there stand not exactly its numbers.
-    #[error("W2")]
+    /// W2: behind `beat` or `tick` there stand not exactly its numbers.
     BadNumber,
-    /// There are 1024 workers already.
-    #[error("W3")]
+    /// W3: there are 1024 workers already.
     AtMost,
-    /// There are no settings to take up.
-    #[error("W4")]
+    /// W4: there are no settings to take up.
     NoConfig,
-    /// The settings name another pid file than the one that is in use, or one where there was none, or none where there
-    /// was one.
-    #[error("W5")]
+    /// W5: the settings name another pid file than the one that is in use, or one where there was none, or none where
+    /// there was one.
     PidChanged,
 }
 
@@ -40,3 +36,17 @@ impl WordRefusal {
         }
     }
 }
+
+/// Printed as its code.
+impl fmt::Display for WordRefusal {
+    ghost use Rattle.std.specs.Prelude.{Some};
+    ghost use Rattle.control_words.specs.Words.{refusal_code};
+
+    ghost output = { λ refusal. Some (refusal_code refusal) };
+
+    fn fmt<W: fmt::Write>(&self, f: &mut fmt::Formatter<W>) -> fmt::Result {
+        f.write_str(self.code())
+    }
+}
+
+impl Error for WordRefusal {}

@@ -3,6 +3,7 @@ pub use Rattle.process_table.specs.Room
 pub mod Files
 pub mod State
 pub mod Boot
+pub mod Codes
 pub mod Readers
 pub mod Running
 pub mod Serving

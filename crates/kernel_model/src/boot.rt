@@ -10,17 +10,46 @@ ghost use Rattle.kernel_model.specs.Boot.{first_pairs, AreBadLimits};
 use listener_set::{DescriptorTable, FilePath, Generation, ListenerSet};
 use process_table::{FileRow, FreeNames, Holder, Row, Store};
 use std::alloc::{AllocError, Global};
-use thiserror::Error;
+use std::error::Error;
+use std::fmt;
 use vocabulary::{Limits, Stance};
 
 /// Why no kernel is started.
-#[derive(Clone, Copy, Debug, PartialEq, Eq, Error)]
+#[derive(Clone, Copy, Debug, PartialEq, Eq)]
 pub enum BootRefusal {
-    #[error("B1 the limits do not allow the start")]
+    /// B1: the limits do not allow the start.
     BadLimits,
-    #[error("out of memory")]
+    /// Memory was refused.
     Memory,
 }
+
+impl BootRefusal {
+    ghost use Rattle.kernel_model.specs.Codes.{boot_code};
+
+    /// The code of the refusal, as it is printed; of want of memory `memory`.
+    pub fn code(&self) -> &'static str
+        ensures { result.now ≡ boot_code self.now }
+    {
+        match self {
+            BootRefusal::BadLimits => "B1",
+            BootRefusal::Memory => "memory",
+        }
+    }
+}
+
+/// Printed as its code.
+impl fmt::Display for BootRefusal {
+    ghost use Rattle.std.specs.Prelude.{Some};
+    ghost use Rattle.kernel_model.specs.Codes.{boot_code};
+
+    ghost output = { λ refusal. Some (boot_code refusal) };
+
+    fn fmt<W: fmt::Write>(&self, f: &mut fmt::Formatter<W>) -> fmt::Result {
+        f.write_str(self.code())
+    }
+}
+
+impl Error for BootRefusal {}
 
 fn are_bad(listeners: usize, workers: u32, limits: Limits) -> bool
     requires { listeners ≤ 64 }

@@ -1,5 +1,5 @@
 //! The modelled kernel.
-ghost use Rattle.std.specs.Prelude.{true, false, ◌≡◌, ◌≤◌, ◌+◌, ◌↔◌, max, length, OnOk, OnErr, IfOk, IsErrOf};
+ghost use Rattle.std.specs.Prelude.{true, false, ◌≡◌, ◌≤◌, ◌+◌, ◌↔◌, max, length, IsTrue, OnOk, OnErr, IfOk, IsErrOf};
 ghost use Rattle.std.specs.Option.{option_map};
 ghost use Rattle.definitions.specs.Table.{is_held, live_master};
 ghost use Rattle.definitions.specs.Exits.{after_exits};
@@ -11,34 +11,13 @@ ghost use Rattle.process_table.specs.Room.{LacksNumbers};
 ghost use Rattle.process_table.specs.Foreign.{with_foreign};
 
 use crate::boot::{self, BootRefusal};
-use crate::{calls, exits};
+use crate::{ForeignRefusal, ReserveRefusal, calls, exits};
 use event_pattern::Moment;
 use listener_set::{Address, FilePath, ListenerSet};
 use process_table::Store;
 use std::alloc::{AllocError, Global};
 use std::marker::Model;
-use thiserror::Error;
 use vocabulary::{Actor, Answer, Call, Limits};
-
-/// Why no room is made.
-#[derive(Clone, Copy, Debug, PartialEq, Eq, Error)]
-pub enum ReserveRefusal {
-    #[error("B3 too few process or socket numbers are left")]
-    NoNumbers,
-    #[error("out of memory")]
-    Memory,
-}
-
-/// Why no process of somebody else is added.
-#[derive(Clone, Copy, Debug, PartialEq, Eq, Error)]
-pub enum ForeignRefusal {
-    #[error("B2 somebody holds the address")]
-    Held,
-    #[error("B3 no process or socket number is left")]
-    NoNumbers,
-    #[error("out of memory")]
-    Memory,
-}
 
 /// The kernel: its table, and for how many calls it has memory and numbers.
 #[derive(Drop)]
@@ -87,6 +66,14 @@ impl Kernel {
         ensures { result ≡ self.now.room }
     {
         self.room
+    }
+
+    /// Whether fewer than that many process or socket numbers are left, up to 4,294,967,295.
+    pub fn lacks_numbers(&self, calls: u32) -> bool
+        ensures { IsTrue result ↔ LacksNumbers self.now.table calls }
+    {
+        let _ = &self.room;
+        self.store.lacks_numbers(calls)
     }
 
     /// Reserves memory and numbers for that many calls, where there is room for less. B3 where fewer than that many process

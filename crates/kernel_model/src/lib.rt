@@ -11,13 +11,15 @@ mod files;
 mod kernel;
 mod master_calls;
 mod readers;
+mod refusal;
 mod running;
 mod service;
 
 pub use boot::BootRefusal;
 pub use event_pattern::{Moment, Pattern};
-pub use kernel::{ForeignRefusal, Kernel, ReserveRefusal};
+pub use kernel::Kernel;
 pub use process_table::{FileRow, Row};
 pub use readers::HoldRow;
+pub use refusal::{ForeignRefusal, ReserveRefusal};
 pub use running::Running;
 pub use service_counts::Service;

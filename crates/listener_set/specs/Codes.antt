@@ -15,3 +15,7 @@ address_code BadPath = codes "A5"
 abbrev pub listener_code : ListenerRefusal → List ℕ
 listener_code Doubled = codes "A6"
 listener_code TooMany = codes "A7"
+
+-- the text is no path of a file
+abbrev pub file_code : List ℕ
+file_code = codes "F1"

@@ -7,24 +7,25 @@ ghost use Rattle.listener_set.specs.AddressText.{reading, check, path_check, dot
 
 use crate::short_text::{ShortText, TEXT_BYTES};
 use plain_text::{around, number_within};
+use std::error::Error;
+use std::fmt;
 use std::marker::Model;
-use thiserror::Error;
 
 /// The most bytes of an address, as the path of a Unix socket has.
 pub const ADDRESS_BYTES: usize = TEXT_BYTES;
 
 /// Why a text is no address: the first rule that it breaks.
-#[derive(Clone, Copy, Debug, PartialEq, Eq, Error)]
+#[derive(Clone, Copy, Debug, PartialEq, Eq)]
 pub enum AddressRefusal {
-    #[error("A1 the text is empty")]
+    /// A1: the text is empty.
     Empty,
-    #[error("A2 the host is not four numbers from 0 to 255 joined by dots")]
+    /// A2: the host is not four numbers from 0 to 255 joined by dots.
     BadHost,
-    #[error("A3 the port is not a number from 1 to 65535")]
+    /// A3: the port is not a number from 1 to 65535.
     BadPort,
-    #[error("A4 the path is longer than 107 bytes")]
+    /// A4: the path is longer than 107 bytes.
     PathLong,
-    #[error("A5 the path has a byte that is not graphic ASCII")]
+    /// A5: the path has a byte that is not graphic ASCII.
     BadPath,
 }
 
@@ -44,6 +45,20 @@ impl AddressRefusal {
         }
     }
 }
+
+/// Printed as its code.
+impl fmt::Display for AddressRefusal {
+    ghost use Rattle.std.specs.Prelude.{Some};
+    ghost use Rattle.listener_set.specs.Codes.{address_code};
+
+    ghost output = { λ refusal. Some (address_code refusal) };
+
+    fn fmt<W: fmt::Write>(&self, f: &mut fmt::Formatter<W>) -> fmt::Result {
+        f.write_str(self.code())
+    }
+}
+
+impl Error for AddressRefusal {}
 
 fn part_count(host: &[u8]) -> usize
     ensures { result ≡ length (slice_split is_dot host.now) }

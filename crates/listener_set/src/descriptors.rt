@@ -2,8 +2,9 @@
 ghost use Rattle.std.specs.Prelude.{◌≡◌, ◌≤◌, ◌↔◌, [], length, IsTrue, IsErr, IsNone, None, is_none, position, OnErr, IfOk, IfSome, OnSome};
 ghost use Rattle.listener_set.specs.Descriptors.{lowest_free, descriptors_of, put_pair, socket_of, without_descriptor, pair_from, IsDescriptor, AreDescriptors};
 
+use std::error::Error;
+use std::fmt;
 use std::marker::Model;
-use thiserror::Error;
 
 /// The lowest descriptor of a listener.
 pub const FIRST_DESCRIPTOR: u32 = 3;
@@ -14,9 +15,21 @@ pub const MOST_DESCRIPTORS: usize = 64;
 const PAST_DESCRIPTORS: u32 = FIRST_DESCRIPTOR + MOST_DESCRIPTORS as u32;
 
 /// No descriptor is free: each of the 64 has a socket.
-#[derive(Clone, Copy, Debug, PartialEq, Eq, Error)]
-#[error("each of the 64 descriptors is taken")]
+#[derive(Clone, Copy, Debug, PartialEq, Eq)]
 pub struct Full;
+
+/// No code: the program never prints it.
+impl fmt::Display for Full {
+    ghost use Rattle.std.specs.Prelude.{Some, codes};
+
+    ghost output = { λ _. Some (codes "each of the 64 descriptors is taken") };
+
+    fn fmt<W: fmt::Write>(&self, f: &mut fmt::Formatter<W>) -> fmt::Result {
+        f.write_str("each of the 64 descriptors is taken")
+    }
+}
+
+impl Error for Full {}
 
 /// The sockets that a process holds under the descriptors 3 to 66, as pairs of a descriptor and a
 /// socket number in ascending descriptors.

@@ -4,25 +4,42 @@ ghost use Rattle.listener_set.specs.PathText.{path_reading, is_path, IsFilePath}
 
 use crate::address::is_graphic;
 use crate::short_text::ShortText;
+use std::error::Error;
+use std::fmt;
 use std::marker::Model;
-use thiserror::Error;
 
 /// The most bytes of a path that is read.
 pub const FILE_PATH_BYTES: usize = 100;
 
-/// The text is no path.
-#[derive(Clone, Copy, Debug, PartialEq, Eq, Error)]
-#[error("F1 the path does not begin with a slash, is longer than 100 bytes, or has a byte that is not graphic ASCII")]
+/// F1: the text is no path. It does not begin with a slash, is longer than 100 bytes, or has a byte that is not graphic
+/// ASCII.
+#[derive(Clone, Copy, Debug, PartialEq, Eq)]
 pub struct BadFile;
 
 impl BadFile {
+    ghost use Rattle.listener_set.specs.Codes.{file_code};
+
     /// The code of the rule, as it is printed.
     pub fn code(&self) -> &'static str
-        ensures { result.now ≡ codes "F1" }
+        ensures { result.now ≡ file_code }
     {
         "F1"
     }
 }
+
+/// Printed as its code.
+impl fmt::Display for BadFile {
+    ghost use Rattle.std.specs.Prelude.{Some};
+    ghost use Rattle.listener_set.specs.Codes.{file_code};
+
+    ghost output = { λ _. Some file_code };
+
+    fn fmt<W: fmt::Write>(&self, f: &mut fmt::Formatter<W>) -> fmt::Result {
+        f.write_str(self.code())
+    }
+}
+
+impl Error for BadFile {}
 
 /// The path of a file, of at most 107 bytes, each graphic ASCII: one that was read, of at most 100
 /// bytes, or such a one with `.oldbin` behind it.

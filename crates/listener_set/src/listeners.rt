@@ -3,18 +3,19 @@ ghost use Rattle.std.specs.Prelude.{◌≡◌, ◌<◌, ◌≤◌, ◌↔◌, �
 ghost use Rattle.listener_set.specs.AddressList.{AreDistinct, has};
 
 use crate::Address;
+use std::error::Error;
+use std::fmt;
 use std::marker::Model;
-use thiserror::Error;
 
 /// The most listeners of a configuration.
 pub const MOST_LISTENERS: usize = 64;
 
 /// Why an address is not taken up.
-#[derive(Clone, Copy, Debug, PartialEq, Eq, Error)]
+#[derive(Clone, Copy, Debug, PartialEq, Eq)]
 pub enum ListenerRefusal {
-    #[error("A6 the address is there already")]
+    /// A6: the address is there already.
     Doubled,
-    #[error("A7 there are 64 addresses already")]
+    /// A7: there are 64 addresses already.
     TooMany,
 }
 
@@ -31,6 +32,20 @@ impl ListenerRefusal {
         }
     }
 }
+
+/// Printed as its code.
+impl fmt::Display for ListenerRefusal {
+    ghost use Rattle.std.specs.Prelude.{Some};
+    ghost use Rattle.listener_set.specs.Codes.{listener_code};
+
+    ghost output = { λ refusal. Some (listener_code refusal) };
+
+    fn fmt<W: fmt::Write>(&self, f: &mut fmt::Formatter<W>) -> fmt::Result {
+        f.write_str(self.code())
+    }
+}
+
+impl Error for ListenerRefusal {}
 
 /// The listeners of a configuration: at most 64 distinct addresses, in order.
 #[derive(Clone, Copy, Debug)]

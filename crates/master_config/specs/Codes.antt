@@ -1,5 +1,8 @@
 -- The codes of the rules, as they are printed.
-use Rattle.std.specs.Prelude.{ℕ, List, codes}
+use Rattle.std.specs.Prelude.{ℕ, List, [], ◌∷◌, ◌++◌, codes}
+use Rattle.std.specs.Fmt.{decimal}
+use Rattle.listener_set.specs.Codes.{address_code}
+use Rattle.master_config.specs.KeyNames.{key_name}
 use Rattle.master_config.specs.declared.refusal.ConfigRefusal.{ConfigRefusal}
 use Rattle.master_config.specs.declared.refusal.ConfigRefusal.TheVariants.{NotToml, UnknownKey, WrongKind, OutOfRange, BadAddress, Doubled, NoListener, BadPid, BadCommand, Memory}
 
@@ -14,3 +17,14 @@ config_code NoListener = codes "C7"
 config_code BadPid = codes "C8"
 config_code BadCommand = codes "C9"
 config_code Memory = codes "memory"
+
+-- what a refusal is about, behind a space: the key, the index, and the code of the address
+abbrev pub about : ConfigRefusal → List ℕ
+about (WrongKind key) = 32 ∷ key_name key
+about (OutOfRange key) = 32 ∷ key_name key
+about (BadAddress index refusal) = 32 ∷ (decimal index ++ 32 ∷ address_code refusal)
+about (Doubled index) = 32 ∷ decimal index
+about _ = []
+
+abbrev pub config_text : ConfigRefusal → List ℕ
+config_text refusal = config_code refusal ++ about refusal

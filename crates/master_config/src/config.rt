@@ -1,8 +1,9 @@
 //! The configuration of a text.
-ghost use Rattle.std.specs.Prelude.{◌≡◌, ◌≢◌, IfOk, Err};
+ghost use Rattle.std.specs.Prelude.{◌≡◌, ◌≢◌, ◌↔◌, ◌⊎◌, IfOk, IfErr, Err};
 ghost use Rattle.vocabulary.specs.Settings.{HasSuffixRoom};
 ghost use Rattle.toml.specs.View.{view, table_view};
 ghost use Rattle.toml.specs.Data.{as_str};
+ghost use Rattle.toml.specs.Errors.{IsMemory};
 ghost use Rattle.master_config.specs.Values.{value_at};
 ghost use Rattle.master_config.specs.Configuration.{pid_read, pid_at, settings_of, configuration_of, Reads};
 
@@ -13,6 +14,7 @@ use crate::{ConfigRefusal, Key};
 use listener_set::FilePath;
 use std::alloc::Global;
 use std::marker::Model;
+use toml::de::Error;
 use toml::value::{Table, Value};
 use vocabulary::Settings;
 
@@ -74,8 +76,10 @@ fn settings_in(table: &Table) -> Result<Settings, ConfigRefusal>
     })
 }
 
+/// What a table says. Want of memory is told only where no rule is broken.
 fn config_in(alloc: Global, table: &Table) -> Result<Config, ConfigRefusal>
-    ensures { result ≢ Err ConfigRefusal.Memory → result ≡ configuration_of (table_view table.now) }
+    ensures exact { result ≢ Err ConfigRefusal.Memory → result ≡ configuration_of (table_view table.now) }
+    ensures due { IfErr (configuration_of (table_view table.now)) (λ why. result ≡ Err why) }
 {
     if !has_only_known(table) {
         return Err(ConfigRefusal::UnknownKey);
@@ -89,6 +93,18 @@ fn config_in(alloc: Global, table: &Table) -> Result<Config, ConfigRefusal>
     Ok(Config { settings, command })
 }
 
+/// Why a text that has no table is no configuration: memory was refused, or it is not TOML.
+fn unread(error: &Error) -> ConfigRefusal
+    ensures memory { (result ≡ ConfigRefusal.Memory) ↔ IsMemory error.now }
+    ensures only { (result ≡ ConfigRefusal.Memory) ⊎ (result ≡ ConfigRefusal.NotToml) }
+{
+    if error.is_memory() {
+        ConfigRefusal::Memory
+    } else {
+        ConfigRefusal::NotToml
+    }
+}
+
 /// Reads a configuration. A text that is not TOML is refused as such, in bytes that are no UTF-8 too; then come a key
 /// that is not known, and each key's rules in the order of the crate's page. A key that is missing has its default:
 /// the listener 0.0.0.0:8080, one worker, a timeout of 60 seconds, three retries, no pid file and no command.
@@ -97,7 +113,6 @@ pub fn read(alloc: Global, text: &[u8]) -> Result<Config, ConfigRefusal>
 {
     match toml::table_from_slice(alloc, text) {
         Ok(table) => config_in(alloc, &table),
-        Err(error) if error.is_memory() => Err(ConfigRefusal::Memory),
-        Err(_) => Err(ConfigRefusal::NotToml),
+        Err(error) => Err(unread(&error)),
     }
 }

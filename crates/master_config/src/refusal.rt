@@ -4,41 +4,32 @@ ghost use Rattle.std.specs.Prelude.{◌≡◌};
 use crate::Key;
 use listener_set::AddressRefusal;
 use std::alloc::AllocError;
-use thiserror::Error;
+use std::error::Error;
+use std::fmt;
 
 /// Why a text is no configuration: the first rule that it breaks, or that memory was refused. It is written as its
 /// code, with the key, the index or the address's code that it is about: `C1`, `C3 workers`, `C6 1`, `C5 0 A3`.
-#[derive(Clone, Copy, Debug, PartialEq, Eq, Error)]
+#[derive(Clone, Copy, Debug, PartialEq, Eq)]
 pub enum ConfigRefusal {
-    /// The text is not TOML.
-    #[error("C1")]
+    /// C1: the text is not TOML.
     NotToml,
-    /// A key is none of a configuration's.
-    #[error("C2")]
+    /// C2: a key is none of a configuration's.
     UnknownKey,
-    /// The value is not a whole number, a text or a list of texts, as the key wants it.
-    #[error("C3 {0}")]
+    /// C3: the value is not a whole number, a text or a list of texts, as the key wants it.
     WrongKind(Key),
-    /// The number is out of the key's range, or there are more than 64 listeners.
-    #[error("C4 {0}")]
+    /// C4: the number is out of the key's range, or there are more than 64 listeners.
     OutOfRange(Key),
-    /// The listener at the index, counted from 0, is no address.
-    #[error("C5 {0} {code}", code = .1.code())]
+    /// C5: the listener at the index, counted from 0, is no address.
     BadAddress(usize, AddressRefusal),
-    /// The listener at the index, counted from 0, was there before.
-    #[error("C6 {0}")]
+    /// C6: the listener at the index, counted from 0, was there before.
     Doubled(usize),
-    /// There is no listener.
-    #[error("C7")]
+    /// C7: there is no listener.
     NoListener,
-    /// The pid file's path is none.
-    #[error("C8")]
+    /// C8: the pid file's path is none.
     BadPid,
-    /// The command has no text or more than 16, or one that is empty, longer than 255 bytes or has a byte 0.
-    #[error("C9")]
+    /// C9: the command has no text or more than 16, or one that is empty, longer than 255 bytes or has a byte 0.
     BadCommand,
     /// Memory was refused.
-    #[error("memory")]
     Memory,
 }
 
@@ -63,6 +54,29 @@ impl ConfigRefusal {
         }
     }
 }
+
+/// Printed as its code, with what it is about.
+impl fmt::Display for ConfigRefusal {
+    ghost use Rattle.std.specs.Prelude.{Some};
+    ghost use Rattle.master_config.specs.Codes.{config_text};
+
+    ghost output = { λ refusal. Some (config_text refusal) };
+
+    fn fmt<W: fmt::Write>(&self, f: &mut fmt::Formatter<W>) -> fmt::Result {
+        let code = self.code();
+        match self {
+            ConfigRefusal::WrongKind(key) => write!(f, "{code} {key}"),
+            ConfigRefusal::OutOfRange(key) => write!(f, "{code} {key}"),
+            ConfigRefusal::BadAddress(index, refusal) => {
+                write!(f, "{code} {index} {}", refusal.code())
+            }
+            ConfigRefusal::Doubled(index) => write!(f, "{code} {index}"),
+            _ => f.write_str(code),
+        }
+    }
+}
+
+impl Error for ConfigRefusal {}
 
 impl From<AllocError> for ConfigRefusal {
     ghost use Rattle.master_config.specs.declared.refusal.ConfigRefusal.TheVariants.{Memory};

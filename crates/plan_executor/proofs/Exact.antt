@@ -62,7 +62,7 @@ not_both r (Upgrade s) upgrade lacks = false≢true lacks
 not_both r (Stop quick) upgrade lacks = false≢true upgrade
 
 -- a planner that refuses a target makes no plan of it
-no_tree : (r : Record) (target : Target) (p : PlanRefusal) (tree : Tree) → HasNoPlan r target p → planned r target ≡ Some tree → ⊥
+pub no_tree : (r : Record) (target : Target) (p : PlanRefusal) (tree : Tree) → HasNoPlan r target p → planned r target ≡ Some tree → ⊥
 no_tree r target planner.Unplanned tree none is = no_upgrade r target tree none is
 no_tree r target planner.TooLarge tree none is = none
 no_tree r target planner.NoGeneration tree none is = no_number r target tree none is
@@ -146,3 +146,11 @@ pub exact-short : (t : Table) (r : Record) (target : Target) (pattern : Pattern)
 exact-short t r target pattern tree because agrees is (inl memory) = subst (λ (e : EnactRefusal). IsExact t r target pattern (Err e)) (sym memory) (exact-memory t r target pattern)
 exact-short t r target pattern tree because agrees is (inr h) =
     subst (λ (e : EnactRefusal). IsExact t r target pattern (Err e)) (sym h.0) (exact-refused t r target pattern NoNumbers (record { agrees = agrees; tree = tree; is_planned = is; lacks = h.1 }))
+
+-- where a planner wants memory it refuses nothing
+pub unspared : {T : Type 0} (r : Record) (target : Target) (result : Result T EnactRefusal) → (IsErrOf result (Plan planner.Unplanned) ↔ (is_upgrade target ≡ true)) →
+    (IsErrOf result (Plan planner.NoGeneration) ↔ (lacks_generation r target ≡ true)) → IsErrOf result Memory → (p : PlanRefusal) → HasNoPlan r target p → ⊥
+unspared r target result upgrade numbered memory planner.Unplanned none = let planless = upgrade.1 none in cc
+unspared r target result upgrade numbered memory planner.TooLarge none = none
+unspared r target result upgrade numbered memory planner.NoGeneration none = let planless = numbered.1 none in cc
+unspared r target result upgrade numbered memory planner.Memory none = none

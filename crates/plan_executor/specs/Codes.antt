@@ -1,18 +1,11 @@
 -- The codes of refusals, as they are printed.
 use Rattle.std.specs.Prelude.{ℕ, List, ◌++◌, codes}
 use Rattle.std.specs.Fmt.{decimal}
-use Rattle.reload_planner.specs.declared.refusal.PlanRefusal.{PlanRefusal}
-use Rattle.reload_planner.specs.declared.refusal.PlanRefusal.TheVariants as planner
+use Rattle.reload_planner.specs.Codes.{plan_code}
 use Rattle.word_runner.specs.declared.enactor.TargetRefusal.{TargetRefusal}
 use Rattle.word_runner.specs.declared.enactor.TargetRefusal.TheVariants as lack
 use Rattle.plan_executor.specs.declared.enactment.EnactRefusal.{EnactRefusal}
 use Rattle.plan_executor.specs.declared.enactment.EnactRefusal.TheVariants.{Memory, RecordDisagrees, Plan, MasterNamed, NoNumbers}
-
-abbrev pub plan_code : PlanRefusal → List ℕ
-plan_code planner.TooLarge = codes "P1"
-plan_code planner.Unplanned = codes "P2"
-plan_code planner.NoGeneration = codes "P3"
-plan_code planner.Memory = codes "out of memory"
 
 abbrev pub enact_code : EnactRefusal → List ℕ
 enact_code Memory = codes "E1"

@@ -21,6 +21,11 @@ HasNoPlan r target planner.TooLarge = ⊥
 HasNoPlan r target planner.NoGeneration = lacks_generation r target ≡ true
 HasNoPlan r target planner.Memory = ⊥
 
+-- The record agrees, and no planner refuses the target: what is refused then is found out only behind the plan's memory.
+pub record IsPlannable (t : Table) (r : Record) (target : Target) : Type 0 where
+  pub agrees : Agrees t r
+  pub spared : (refusal : PlanRefusal) → HasNoPlan r target refusal → ⊥
+
 -- The record agrees, and a planner refuses the target.
 pub record IsUnplanned (t : Table) (r : Record) (target : Target) (refusal : PlanRefusal) : Type 0 where
   pub agrees : Agrees t r

@@ -1,10 +1,8 @@
 //! The codes of targets that are not carried out.
-ghost use Rattle.std.specs.Prelude.{◌≡◌, ◌≤◌, length};
-ghost use Rattle.plan_executor.specs.Codes.{plan_code};
-
 use crate::EnactRefusal;
 use itoa::Buffer;
-use reload_planner::PlanRefusal;
+use std::error::Error;
+use std::fmt;
 use word_runner::{CodeText, TargetRefusal};
 
 /// Want of memory, or the code.
@@ -33,7 +31,7 @@ impl From<EnactRefusal> for CodeText {
         match refusal {
             EnactRefusal::Memory => CodeText::of("E1", ""),
             EnactRefusal::RecordDisagrees => CodeText::of("E2", ""),
-            EnactRefusal::Plan(refusal) => CodeText::of("E3 ", plan_code(refusal)),
+            EnactRefusal::Plan(refusal) => CodeText::of("E3 ", refusal.code()),
             EnactRefusal::MasterNamed(moment) => {
                 CodeText::of("E4 ", Buffer::new().format(moment))
             }
@@ -42,14 +40,16 @@ impl From<EnactRefusal> for CodeText {
     }
 }
 
-fn plan_code(refusal: PlanRefusal) -> &'static str
-    ensures code { result.now ≡ plan_code refusal }
-    ensures short { length result.now ≤ 13 }
-{
-    match refusal {
-        PlanRefusal::TooLarge => "P1",
-        PlanRefusal::Unplanned => "P2",
-        PlanRefusal::NoGeneration => "P3",
-        PlanRefusal::Memory => "out of memory",
+/// Printed as its code.
+impl fmt::Display for EnactRefusal {
+    ghost use Rattle.std.specs.Prelude.{Some};
+    ghost use Rattle.plan_executor.specs.Codes.{enact_code};
+
+    ghost output = { λ refusal. Some (enact_code refusal) };
+
+    fn fmt<W: fmt::Write>(&self, f: &mut fmt::Formatter<W>) -> fmt::Result {
+        f.write_str(CodeText::from(*self).as_str())
     }
 }
+
+impl Error for EnactRefusal {}

@@ -1,5 +1,5 @@
 //! A target, planned and carried out on the modelled kernel.
-ghost use Rattle.std.specs.Prelude.{◌≡◌, ◌≤◌, ◌↔◌, ◌⊎◌, Some, OnErr, IfOk, IfErr, IsErrOf};
+ghost use Rattle.std.specs.Prelude.{◌≡◌, ◌≤◌, ◌↔◌, ◌⊎◌, Some, OnErr, IfOk, IfErr, IsErrOf, IsTrue};
 ghost use Rattle.definitions.specs.Formed.{IsFormed};
 ghost use Rattle.definitions.specs.Record.{Agrees};
 ghost use Rattle.definitions.specs.Plans.{planned};
@@ -11,7 +11,8 @@ ghost use Rattle.rollback_plan.specs.Plans.{tree_of, note_of};
 ghost use Rattle.reload_planner.specs.declared.refusal.PlanRefusal.{PlanRefusal as Unplannable};
 ghost use Rattle.plan_executor.specs.Enacted.{IsEnacted};
 ghost use Rattle.plan_executor.specs.Range.{HasRange};
-ghost use Rattle.plan_executor.specs.Refusals.{HasNoPlan, IsRefused};
+ghost use Rattle.reload_planner.specs.Planning.{is_upgrade, lacks_generation};
+ghost use Rattle.plan_executor.specs.Refusals.{HasNoPlan, IsPlannable, IsRefused};
 ghost use Rattle.plan_executor.specs.declared.enactment.EnactRefusal.{EnactRefusal as Refusal};
 
 use crate::agreement::agrees;
@@ -23,27 +24,21 @@ use reload_planner::PlanRefusal;
 use rollback_plan::Plan;
 use service_state::Record;
 use std::alloc::{AllocError, Global};
-use thiserror::Error;
 use vocabulary::{Settings, Target};
 use word_runner::Enacted;
 
 /// Why a target is not carried out.
-#[derive(Clone, Copy, Debug, PartialEq, Eq, Error)]
+#[derive(Clone, Copy, Debug, PartialEq, Eq)]
 pub enum EnactRefusal {
-    /// Memory was refused before the first call.
-    #[error("E1")]
+    /// E1: memory was refused before the first call.
     Memory,
-    /// The record does not agree with the kernel.
-    #[error("E2")]
+    /// E2: the record does not agree with the kernel.
     RecordDisagrees,
-    /// The target has no plan.
-    #[error("E3 {0}")]
+    /// E3: the target has no plan, with the planner's refusal.
     Plan(PlanRefusal),
-    /// The pattern kills the executing master at this moment of the run.
-    #[error("E4 {0}")]
+    /// E4: the pattern kills the executing master at this moment of the run.
     MasterNamed(u32),
-    /// Fewer process or socket numbers are left than the plan's longest path has steps.
-    #[error("E5")]
+    /// E5: fewer process or socket numbers are left than the plan's longest path has steps.
     NoNumbers,
 }
 
@@ -64,7 +59,7 @@ impl From<AllocError> for EnactRefusal {
 /// Refusals in their order: E2 the record disagrees with the kernel; E3 there is no plan, with the
 /// planner's own refusal; E5 fewer process or socket numbers are left than the plan's longest path
 /// has steps; E4 a moment of the run kills the executing master, and the first such is named. E1
-/// may come at any place. After a run the kernel has room for as many calls as the longest path
+/// may come in place of the last two, and never where E2 or E3 is due. After a run the kernel has room for as many calls as the longest path
 /// has steps, less those that were made.
 pub fn enact(
     alloc: Global,
@@ -78,6 +73,7 @@ pub fn enact(
     ensures disagrees { IsErrOf result EnactRefusal.RecordDisagrees ↔ (Agrees kernel.old.table state.now → ⊥) }
     ensures exact { (why : Refusal)
         → IsErrOf result EnactRefusal.Memory ⊎ (IsErrOf result why ↔ IsRefused kernel.old.table state.now target.now (moment_at pattern.now) why) }
+    ensures memory { IsErrOf result EnactRefusal.Memory → IsPlannable kernel.old.table state.now target.now }
     ensures err { OnErr result (kernel.new ≡ kernel.old) }
 {
     if !agrees(state, kernel) {
@@ -125,13 +121,15 @@ fn workers_of(settings: &Settings) -> u32
     settings.workers
 }
 
-/// The plan of a target.
+/// The plan of a target. Want of memory is told only where nothing else is refused.
 fn plan_of(alloc: Global, state: &Record, target: &Target) -> Result<Plan, EnactRefusal>
     requires { IsTarget target.now }
     ensures tree { IfOk result (λ plan. planned state.now target.now ≡ Some (tree_of plan)) }
     ensures note { IfOk result (λ plan. note_of plan ≡ state.now.note) }
     ensures refused { IfErr result (λ why.
         (why ≡ EnactRefusal.Memory) ⊎ ((refusal : Unplannable) × (why ≡ EnactRefusal.Plan refusal) × HasNoPlan state.now target.now refusal)) }
+    ensures upgrade { IsErrOf result (EnactRefusal.Plan Unplannable.Unplanned) ↔ IsTrue (is_upgrade target.now) }
+    ensures numbered { IsErrOf result (EnactRefusal.Plan Unplannable.NoGeneration) ↔ IsTrue (lacks_generation state.now target.now) }
 {
     match reload_planner::plan(alloc, state, target) {
         Ok(plan) => Ok(plan),
@@ -140,15 +138,20 @@ fn plan_of(alloc: Global, state: &Record, target: &Target) -> Result<Plan, Enact
     }
 }
 
-/// A copy of a kernel with room for so many calls.
+/// A copy of a kernel with room for so many calls. Whether numbers are lacking is asked first, so that want of memory is
+/// told only where they are not.
 fn reserved_copy(kernel: &Kernel, calls: u32) -> Result<Kernel, EnactRefusal>
     ensures same { IfOk result (λ k. k ≡ record { table = kernel.now.table; room = calls }) }
-    ensures formed { IsFormed kernel.now.table }
-    ensures descriptors { kernel.now.table.limits.descriptors ≤ 64 }
+    ensures formed { IfOk result (λ _. IsFormed kernel.now.table) }
+    ensures descriptors { IfOk result (λ _. kernel.now.table.limits.descriptors ≤ 64) }
     ensures numbers { IfOk result (λ _. LacksNumbers kernel.now.table calls → ⊥) }
     ensures refused { IfErr result (λ why.
         (why ≡ EnactRefusal.Memory) ⊎ ((why ≡ EnactRefusal.NoNumbers) × LacksNumbers kernel.now.table calls)) }
+    ensures exact { IsErrOf result EnactRefusal.NoNumbers ↔ LacksNumbers kernel.now.table calls }
 {
+    if kernel.lacks_numbers(calls) {
+        return Err(EnactRefusal::NoNumbers);
+    }
     let mut copy = kernel.copy()?;
     match copy.reserve(calls) {
         Ok(()) => Ok(copy),

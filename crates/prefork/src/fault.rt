@@ -1,5 +1,7 @@
 //! Faults of the program: a line on standard error and a status.
+use command_line::Refusal;
 use control_words::WordRefusal;
+use kernel_model::{BootRefusal, ForeignRefusal};
 use listener_set::AddressRefusal;
 use master_config::ConfigRefusal;
 use pattern_text::TextRefusal;
@@ -17,13 +19,11 @@ pub enum Fault {
     /// A configuration file is refused.
     Config(ConfigRefusal),
     /// The kernel can't be started like this.
-    Boot,
+    Boot(BootRefusal),
     /// The address that the foreign process is to hold is none.
     Address(AddressRefusal),
-    /// The master holds the address itself.
-    Held,
-    /// There is no process or socket number for the foreign process.
-    Crowded,
+    /// The foreign process can't be added: the master holds the address itself, or no number is left.
+    Foreign(ForeignRefusal),
     /// The patterns on standard input are refused.
     Pattern(TextRefusal),
     /// A read or a write failed.
@@ -47,13 +47,12 @@ impl Fault {
 impl fmt::Display for Fault {
     fn fmt<W: fmt::Write>(&self, f: &mut fmt::Formatter<W>) -> fmt::Result {
         match self {
-            Fault::Usage => write!(f, "usage"),
+            Fault::Usage => write!(f, "{}", Refusal::Usage.code()),
             Fault::Word(number, refusal) => write!(f, "word {number} {}", refusal.code()),
             Fault::Config(refusal) => write!(f, "config {refusal}"),
-            Fault::Boot => write!(f, "boot B1"),
+            Fault::Boot(refusal) => write!(f, "boot {}", refusal.code()),
             Fault::Address(refusal) => write!(f, "held {}", refusal.code()),
-            Fault::Held => write!(f, "held B2"),
-            Fault::Crowded => write!(f, "held B3"),
+            Fault::Foreign(refusal) => write!(f, "held {}", refusal.code()),
             Fault::Pattern(refusal) => write!(f, "pattern {refusal}"),
             Fault::File => write!(f, "file"),
             Fault::Memory => write!(f, "memory"),
@@ -61,7 +60,58 @@ impl fmt::Display for Fault {
     }
 }
 
+/// Want of memory, or the fault of the command line.
+impl From<Refusal> for Fault {
+    ghost use Rattle.std.specs.Prelude.{◌≡◌};
+    ghost use Rattle.prefork.specs.Faults.{command_fault};
+
+    ghost from_gives = { λ refusal fault. fault ≡ command_fault refusal };
+
+    fn from(refusal: Refusal) -> Fault {
+        match refusal {
+            Refusal::Memory => Fault::Memory,
+            Refusal::Usage => Fault::Usage,
+        }
+    }
+}
+
+/// Want of memory, or the fault of a start.
+impl From<BootRefusal> for Fault {
+    ghost use Rattle.std.specs.Prelude.{◌≡◌};
+    ghost use Rattle.prefork.specs.Faults.{boot_fault};
+
+    ghost from_gives = { λ refusal fault. fault ≡ boot_fault refusal };
+
+    fn from(refusal: BootRefusal) -> Fault {
+        match refusal {
+            BootRefusal::Memory => Fault::Memory,
+            BootRefusal::BadLimits => Fault::Boot(BootRefusal::BadLimits),
+        }
+    }
+}
+
+/// Want of memory, or the fault of a foreign process.
+impl From<ForeignRefusal> for Fault {
+    ghost use Rattle.std.specs.Prelude.{◌≡◌};
+    ghost use Rattle.prefork.specs.Faults.{foreign_fault};
+
+    ghost from_gives = { λ refusal fault. fault ≡ foreign_fault refusal };
+
+    fn from(refusal: ForeignRefusal) -> Fault {
+        match refusal {
+            ForeignRefusal::Memory => Fault::Memory,
+            ForeignRefusal::Held => Fault::Foreign(ForeignRefusal::Held),
+            ForeignRefusal::NoNumbers => Fault::Foreign(ForeignRefusal::NoNumbers),
+        }
+    }
+}
+
 impl From<AllocError> for Fault {
+    ghost use Rattle.std.specs.Prelude.{◌≡◌};
+    ghost use Rattle.prefork.specs.declared.fault.Fault.TheVariants.{Memory};
+
+    ghost from_gives = { λ _ fault. fault ≡ Memory };
+
     fn from(_error: AllocError) -> Fault {
         Fault::Memory
     }

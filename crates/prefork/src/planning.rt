@@ -1,17 +1,16 @@
 //! `plan`: what a control word would do.
-ghost use Rattle.std.specs.Prelude.{IfOk, IfSome};
 ghost use Rattle.definitions.specs.Target.{IsTarget};
 
 use crate::fault::Fault;
-use crate::start::Start;
-use control_words::{Word, target_of};
-use listener_set::Numbers;
+use crate::start::{Start, silent_workers};
+use control_words::Word;
 use plan_text::{write_graph, write_plan};
 use reload_planner::PlanRefusal;
 use rollback_plan::Plan;
 use service_state::Record;
 use std::alloc::{AllocError, Global};
 use vocabulary::Target;
+use word_runner::{Asked, Body, asked_by, note};
 
 /// How a plan is shown.
 #[derive(Clone, Copy)]
@@ -30,27 +29,23 @@ pub struct Outlook {
 }
 
 /// The plan of a word for a master that has just started, `nothing`, or `refused` with its code.
+/// What the word asks is found out as when it is carried out.
 pub fn look_ahead(alloc: Global, start: &Start, word: Word, form: Form) -> Result<Outlook, Fault> {
     let record = start.record()?;
-    match asked(&record, start, word) {
-        Ok(Some(target)) => planned(alloc, &record, &target, form),
-        Ok(None) => said(alloc, "nothing\n", "", 0),
-        Err(code) => said(alloc, "refused ", code, 1),
+    let mut workers = silent_workers(alloc, &record)?;
+    match asked_by(word, &record, &workers, Some(&start.next)) {
+        Asked::Act(target) => planned(alloc, &record, &target, form),
+        Asked::Beat(heard) => answered(alloc, &note(&mut workers, heard)),
+        Asked::Nothing => answered(alloc, &Body::Nothing),
+        Asked::Refused(code) => answered(alloc, &Body::Refused(code)),
     }
 }
 
-/// What a word asks for, or the code of its refusal. No worker has beaten yet.
-fn asked(record: &Record, start: &Start, word: Word) -> Result<Option<Target>, &'static str>
-    ensures { IfOk result (λ target. IfSome target IsTarget) }
-{
-    if let Word::Beat { nr, .. } = word {
-        if record.ready.next_from(nr) != Some(nr) {
-            return Err("T3");
-        }
-    }
-    match target_of(word, record, &Numbers::none(), Some(&start.next)) {
-        Ok(target) => Ok(target),
-        Err(refusal) => Err(refusal.code()),
+/// What a word comes to that asks for no target.
+fn answered(alloc: Global, body: &Body) -> Result<Outlook, Fault> {
+    match body {
+        Body::Refused(code) => said(alloc, "refused ", code.as_str(), 1),
+        _ => said(alloc, "nothing\n", "", 0),
     }
 }
 
@@ -63,9 +58,7 @@ fn planned(alloc: Global, record: &Record, target: &Target, form: Form) -> Resul
             status: 0,
         }),
         Err(PlanRefusal::Memory) => Err(Fault::Memory),
-        Err(PlanRefusal::TooLarge) => said(alloc, "refused ", "P1", 1),
-        Err(PlanRefusal::Unplanned) => said(alloc, "refused ", "P2", 1),
-        Err(PlanRefusal::NoGeneration) => said(alloc, "refused ", "P3", 1),
+        Err(refusal) => said(alloc, "refused ", refusal.code(), 1),
     }
 }
 

@@ -6,7 +6,7 @@ use crate::fault::Fault;
 use crate::planning::{self, Form};
 use crate::rehearsal::Rehearsal;
 use crate::start::Start;
-use command_line::{EnactOptions, PlanOptions, Refusal, Request};
+use command_line::{EnactOptions, PlanOptions, Request};
 use control_words::Word;
 use kernel_model::Pattern;
 use pattern_text::TextRefusal;
@@ -38,15 +38,13 @@ fn answer<R: AllocGlobal + Files, I: Read, O: Write>(
     input: &mut I,
     output: &mut O,
 ) -> Result<u8, Fault> {
-    match command_line::read(rt.alloc(), args) {
-        Ok(Request::Enact(options)) => enact(rt, &options, input, output),
-        Ok(Request::Plan(options)) => plan(rt, &options, output),
-        Ok(Request::Show(text)) => {
+    match command_line::read(rt.alloc(), args)? {
+        Request::Enact(options) => enact(rt, &options, input, output),
+        Request::Plan(options) => plan(rt, &options, output),
+        Request::Show(text) => {
             write(output, text.as_bytes())?;
             Ok(0)
         }
-        Err(Refusal::Usage) => Err(Fault::Usage),
-        Err(Refusal::Memory) => Err(Fault::Memory),
     }
 }
 

@@ -1,9 +1,9 @@
 //! A master on the modelled kernel, word by word.
 use crate::fault::Fault;
-use crate::start::Start;
+use crate::start::{Start, silent_workers};
 use control_words::Word;
-use kernel_model::{BootRefusal, ForeignRefusal, Kernel, Pattern};
-use listener_set::{Address, Numbers};
+use kernel_model::{Kernel, Pattern};
+use listener_set::Address;
 use plan_executor::run_words;
 use service_state::Record;
 use std::alloc::Global;
@@ -32,20 +32,14 @@ impl Rehearsal {
     pub fn start(alloc: Global, start: &Start) -> Result<Rehearsal, Fault> {
         let record = start.record()?;
         let settings = &start.settings;
-        let booted = Kernel::boot(
+        let kernel = Kernel::boot(
             alloc,
             &settings.listeners,
             start.running,
             settings.pid,
             LIMITS,
-        );
-        let kernel = match booted {
-            Ok(kernel) => kernel,
-            Err(BootRefusal::BadLimits) => return Err(Fault::Boot),
-            Err(BootRefusal::Memory) => return Err(Fault::Memory),
-        };
-        let mut workers = WorkerTable::new(alloc)?;
-        workers.follow(&record.ready, &Numbers::none());
+        )?;
+        let workers = silent_workers(alloc, &record)?;
         Ok(Rehearsal {
             kernel,
             record: Some(record),
@@ -57,12 +51,8 @@ impl Rehearsal {
     /// Lets a foreign process hold an address.
     pub fn hold(&mut self, address: &str) -> Result<(), Fault> {
         let address = Address::read(address.as_bytes()).map_err(Fault::Address)?;
-        match self.kernel.foreign(&address) {
-            Ok(()) => Ok(()),
-            Err(ForeignRefusal::Held) => Err(Fault::Held),
-            Err(ForeignRefusal::NoNumbers) => Err(Fault::Crowded),
-            Err(ForeignRefusal::Memory) => Err(Fault::Memory),
-        }
+        self.kernel.foreign(&address)?;
+        Ok(())
     }
 
     /// Carries words out one after another, the i-th under the i-th pattern, and puts the block of

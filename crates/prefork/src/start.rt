@@ -1,12 +1,15 @@
 //! How a master starts: its configuration, and the one that a reload goes over to.
 use crate::fault::Fault;
 use command_line::StartOptions;
+use kernel_model::BootRefusal;
 use listener_set::{Numbers, WORKER_LIMIT};
 use master_config::ConfigRefusal;
 use service_state::Record;
+use std::alloc::{AllocError, Global};
 use std::fs;
 use std::rt::Files;
 use vocabulary::Settings;
+use worker_table::WorkerTable;
 
 /// What the files and options of a start say.
 #[derive(Clone, Copy)]
@@ -42,11 +45,18 @@ impl Start {
     /// What the master knows of itself. More workers than there can be is a fault of the boot.
     pub fn record(&self) -> Result<Record, Fault> {
         if self.wanted > WORKER_LIMIT || self.running > self.wanted {
-            return Err(Fault::Boot);
+            return Err(Fault::Boot(BootRefusal::BadLimits));
         }
         let ready = Numbers::below(self.running);
         Ok(Record::start(&self.settings, self.wanted, &ready, 100))
     }
+}
+
+/// The table of a master's ready workers, none of which has beaten yet.
+pub fn silent_workers(alloc: Global, record: &Record) -> Result<WorkerTable, AllocError> {
+    let mut workers = WorkerTable::new(alloc)?;
+    workers.follow(&record.ready, &Numbers::none());
+    Ok(workers)
 }
 
 /// The settings of a file, where one is named.

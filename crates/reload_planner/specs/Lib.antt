@@ -1,3 +1,4 @@
+pub mod Codes
 pub mod Refusals
 pub mod Changes
 pub mod Planning

@@ -1,19 +1,19 @@
 -- What each run keeps, words keep.
-use Rattle.std.proofs.Common.{◌≡◌, ℕ, ◌+◌, List, [], ◌∷◌, Option, Some, None, Result, Ok, Err, sym, subst}
+use Rattle.std.proofs.Common.{◌≡◌, ℕ, ◌+◌, List, [], ◌∷◌, Option, Some, None, sym, subst}
 use Rattle.vocabulary.specs.Settings.{Settings}
 use Rattle.definitions.specs.Record.{Record}
 use Rattle.vocabulary.specs.declared.targets.Target.{Target}
 use Rattle.vocabulary.specs.declared.reports.Report.{Report}
 use Rattle.control_words.specs.declared.words.Word.{Word}
-use Rattle.control_words.specs.declared.refusal.WordRefusal.{WordRefusal}
-use Rattle.control_words.specs.Words.{target_of}
 use Rattle.plan_runner.specs.Log.{Told}
 use Rattle.word_runner.specs.declared.block.Block.{Block}
 use Rattle.word_runner.specs.declared.block.Body.{Body}
 use Rattle.word_runner.specs.declared.block.Body.TheVariants.{Nothing, Refused, Ran}
 use Rattle.word_runner.specs.declared.enactor.Enacted.{Enacted}
-use Rattle.word_runner.specs.declared.words.HeardBeat.{HeardBeat}
-use Rattle.word_runner.specs.Words.{Standing, HasRun, IsActed, IsAnswered, IsAsked, beat_in, IsHeard, overdue_at, AreDone}
+use Rattle.word_runner.specs.declared.asking.Asked.{Asked}
+use Rattle.word_runner.specs.declared.asking.Asked.TheVariants as asks
+use Rattle.word_runner.specs.Asking.{asked_by}
+use Rattle.word_runner.specs.Words.{Standing, HasRun, IsActed, IsAsked, IsHeard, AreDone}
 
 -- a fact on what targets are carried out on and on the record, which each run keeps
 module _ {G : Type 0} (enacts : G → ℕ → Record → Target → Enacted → G → Type 0) (declines : G → ℕ → Record → Target → List ℕ → Type 0) (Holds : G → Option Record → Type 0)
@@ -29,18 +29,15 @@ module _ {G : Type 0} (enacts : G → ℕ → Record → Target → Enacted → 
   acted target place r old (Refused code) new is h = still old new is.still h
   acted target place r old (Ran log report) new is h = runs place old r target log report new is h
 
-  answered : (asked : Result (Option Target) WordRefusal) (place : ℕ) (r : Record) (old : Standing G) (body : Body) (new : Standing G) → IsAnswered enacts declines asked place r old body new → There old → There new
-  answered (Err refusal) place r old body new is h = still old new is.1 h
-  answered (Ok None) place r old body new is h = still old new is.1 h
-  answered (Ok (Some target)) place r old body new is h = acted target place r old body new is h
-
-  asked : (heard : Option HeardBeat) (settings : Option Settings) (word : Word) (place : ℕ) (r : Record) (old : Standing G) (body : Body) (new : Standing G) → IsAsked enacts declines heard settings word place r old body new → There old → There new
-  asked (Some beat) settings word place r old body new is h = subst There (sym is.1) h
-  asked None settings word place r old body new is h = answered (target_of word r (overdue_at word r old.workers) settings) place r old body new is h
+  asked : (what : Asked) (place : ℕ) (r : Record) (old : Standing G) (body : Body) (new : Standing G) → IsAsked enacts declines what place r old body new → There old → There new
+  asked asks.Nothing place r old body new is h = still old new is.1 h
+  asked (asks.Beat beat) place r old body new is h = subst There (sym is.1) h
+  asked (asks.Act target) place r old body new is h = acted target place r old body new is h
+  asked (asks.Refused code) place r old body new is h = still old new is.1 h
 
   heard : (state : Option Record) (settings : Option Settings) (word : Word) (place : ℕ) (old : Standing G) (body : Body) (new : Standing G) → IsHeard enacts declines state settings word place old body new → There old → There new
   heard None settings word place old body new is h = still old new is.1 h
-  heard (Some r) settings word place old body new is h = asked (beat_in word) settings word place r old body new is h
+  heard (Some r) settings word place old body new is h = asked (asked_by word r old.workers settings) place r old body new is h
 
   pub done-keeps : (settings : Option Settings) (words : List Word) (place : ℕ) (first : Standing G) (blocks : List Block) (last : Standing G) → AreDone enacts declines settings words place first blocks last → There first → There last
   done-keeps settings words place first [] last done h = still first last done h

@@ -1,17 +1,12 @@
 -- What control words come to, one after another, whatever carries targets out.
-use Rattle.std.specs.Prelude.{ℕ, ◌≡◌, ◌+◌, List, [], ◌∷◌, Option, Some, None, Result, Ok, Err}
+use Rattle.std.specs.Prelude.{ℕ, ◌≡◌, ◌+◌, List, [], ◌∷◌, Option, Some, None}
 use Rattle.vocabulary.specs.Settings.{Settings}
 use Rattle.definitions.specs.Record.{Record}
 use Rattle.vocabulary.specs.declared.targets.Target.{Target}
 use Rattle.vocabulary.specs.declared.reports.Report.{Report}
-use Rattle.worker_table.specs.Beats.{Workers, followed, overdue_numbers, with_worker}
+use Rattle.worker_table.specs.Beats.{Workers, followed}
 use Rattle.worker_table.specs.Calls.{beating}
-use Rattle.worker_table.specs.Codes.{table_code}
-use Rattle.worker_table.specs.declared.refusal.TableRefusal.{TableRefusal}
 use Rattle.control_words.specs.declared.words.Word.{Word}
-use Rattle.control_words.specs.declared.words.Word.TheVariants.{Beat, Tick}
-use Rattle.control_words.specs.declared.refusal.WordRefusal.{WordRefusal}
-use Rattle.control_words.specs.Words.{target_of, refusal_code}
 use Rattle.plan_runner.specs.Log.{Told}
 use Rattle.word_runner.specs.declared.block.Block.{Block}
 use Rattle.word_runner.specs.declared.block.Body.{Body}
@@ -19,7 +14,9 @@ use Rattle.word_runner.specs.declared.block.Body.TheVariants.{Nothing, Refused, 
 use Rattle.word_runner.specs.declared.enactor.Enacted.{Enacted}
 use Rattle.word_runner.specs.Codes.{stopped_code}
 use Rattle.word_runner.specs.Started.{started}
-use Rattle.word_runner.specs.declared.words.HeardBeat.{HeardBeat}
+use Rattle.word_runner.specs.declared.asking.Asked.{Asked}
+use Rattle.word_runner.specs.declared.asking.Asked.TheVariants as asks
+use Rattle.word_runner.specs.Asking.{asked_by, IsNoted}
 
 -- Where things stand between two words: what targets are carried out on, the record of the running master, if there
 -- is one, and its workers' beats.
@@ -36,20 +33,6 @@ standing world state workers = record { world = world; state = state; workers = 
 -- a refused word prints its code and changes nothing
 abbrev pub IsStill : {G : Type 0} → List ℕ → Standing G → Body → Standing G → Type 0
 IsStill code old body new = (body ≡ Refused code) × (new ≡ old)
-
--- the workers that are overdue at a tick
-abbrev pub overdue_at : Word → Record → Workers → List ℕ
-overdue_at (Tick now) r workers = overdue_numbers workers now r.timeout
-overdue_at _ r workers = []
-
--- A beat is noted, or it is refused by the table of workers.
-abbrev pub IsNoted : Result (Unit {0}) TableRefusal → ℕ → ℕ → Workers → Body → Workers → Type 0
-IsNoted (Ok u) nr now old body new = (body ≡ Nothing) × (new ≡ with_worker old nr (Some now))
-IsNoted (Err refusal) nr now old body new = (body ≡ Refused (table_code refusal)) × (new ≡ old)
-
-abbrev pub beat_in : Word → Option HeardBeat
-beat_in (Beat nr now) = Some (record { nr = nr; now = now })
-beat_in _ = None
 
 ---- One word
 
@@ -72,20 +55,16 @@ module _ {G : Type 0} (enacts : G → ℕ → Record → Target → Enacted → 
   IsActed place old r target (Ran log report) new = HasRun enacts place old r target log report new
 
   -- What it makes of what a word asks.
-  abbrev pub IsAnswered : Result (Option Target) WordRefusal → ℕ → Record → Standing G → Body → Standing G → Type 0
-  IsAnswered (Err refusal) place r old body new = IsStill (refusal_code refusal) old body new
-  IsAnswered (Ok None) place r old body new = (body ≡ Nothing) × (new ≡ old)
-  IsAnswered (Ok (Some target)) place r old body new = IsActed place old r target body new
-
-  -- What a running master makes of a word, which may be a beat.
-  abbrev pub IsAsked : Option HeardBeat → Option Settings → Word → ℕ → Record → Standing G → Body → Standing G → Type 0
-  IsAsked (Some beat) settings word place r old body new =
+  abbrev pub IsAsked : Asked → ℕ → Record → Standing G → Body → Standing G → Type 0
+  IsAsked asks.Nothing place r old body new = (body ≡ Nothing) × (new ≡ old)
+  IsAsked (asks.Beat beat) place r old body new =
       IsNoted (beating old.workers beat.nr beat.now) beat.nr beat.now old.workers body new.workers × (new ≡ standing old.world old.state new.workers)
-  IsAsked None settings word place r old body new = IsAnswered (target_of word r (overdue_at word r old.workers) settings) place r old body new
+  IsAsked (asks.Act target) place r old body new = IsActed place old r target body new
+  IsAsked (asks.Refused code) place r old body new = IsStill code old body new
 
   abbrev pub IsHeard : Option Record → Option Settings → Word → ℕ → Standing G → Body → Standing G → Type 0
   IsHeard None settings word place old body new = IsStill stopped_code old body new
-  IsHeard (Some r) settings word place old body new = IsAsked (beat_in word) settings word place r old body new
+  IsHeard (Some r) settings word place old body new = IsAsked (asked_by word r old.workers settings) place r old body new
 
   -- What a word at a place comes to, from one standing to another.
   abbrev pub ComesTo : Option Settings → Word → ℕ → Standing G → Body → Standing G → Type 0

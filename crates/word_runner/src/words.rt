@@ -1,15 +1,17 @@
 //! Control words, carried out one after another.
-ghost use Rattle.std.specs.Prelude.{◌≡◌, ◌+◌, ◌<◌, ◌++◌, ℕ, List, length, IfOk, OnOk, OnErr};
+ghost use Rattle.std.specs.Prelude.{◌≡◌, ◌+◌, ◌<◌, ◌++◌, ◌↔◌, ℕ, List, length, IfOk, IsErr, OnOk, OnErr};
 ghost use Rattle.std.specs.Option.{option_copied};
 ghost use Rattle.definitions.specs.Target.{IsTarget};
 ghost use Rattle.listener_set.specs.Numbers.{is_in};
-ghost use Rattle.worker_table.specs.Calls.{beating};
 ghost use Rattle.word_runner.specs.Started.{start_of, started_in, started};
-ghost use Rattle.word_runner.specs.Words.{standing, beat_in, overdue_at, IsActed, IsNoted, ComesTo, AreDone};
+ghost use Rattle.word_runner.specs.Asking.{AsksTarget};
+ghost use Rattle.word_runner.specs.Enactors.{IsTold};
+ghost use Rattle.word_runner.specs.Words.{standing, IsActed, ComesTo, AreDone};
 ghost use Rattle.word_runner.specs.declared.block.Block.{Block as Done};
 
+use crate::asking::{Asked, asked_by, note};
 use crate::{Block, Body, CodeText, Enactor, TargetRefusal};
-use control_words::{Word, target_of};
+use control_words::Word;
 use listener_set::{Generation, Numbers, WORKER_LIMIT};
 use service_state::Record;
 use std::alloc::{AllocError, Global};
@@ -48,7 +50,8 @@ pub fn run_words<E: Enactor>(
     Ok(())
 }
 
-/// Carries a word out. Want of memory leaves everything as it was.
+/// Carries a word out. Want of memory leaves everything as it was, and comes only where the word
+/// asks a running master for a target.
 fn run_word<E: Enactor>(
     alloc: Global,
     enactor: &E,
@@ -61,58 +64,18 @@ fn run_word<E: Enactor>(
 ) -> Result<Body, AllocError>
     ensures ok { IfOk result (λ body. ComesTo (E.enacts enactor.now) (E.declines enactor.now) (option_copied settings.entry) word place (standing world.old state.old workers.old) body (standing world.new state.new workers.new)) }
     ensures err { OnErr result (standing world.new state.new workers.new ≡ standing world.old state.old workers.old) }
+    ensures due { OnErr result (AsksTarget state.old (option_copied settings.entry) word workers.old) }
 {
     let Some(running) = *state else {
         return Ok(Body::Refused(CodeText::stopped()));
     };
-    if let Some(heard) = beat_in(word) {
-        return Ok(beat(workers, heard));
-    }
-    let overdue = overdue_at(word, &running, workers);
-    let target = match target_of(word, &running, &overdue, settings) {
-        Ok(Some(target)) => target,
-        Ok(None) => return Ok(Body::Nothing),
-        Err(refusal) => return Ok(Body::Refused(CodeText::from(refusal))),
-    };
-    act(
-        alloc, enactor, world, state, workers, place, &running, &target,
-    )
-}
-
-/// A worker's beat.
-#[derive(Clone, Copy)]
-struct HeardBeat {
-    nr: u32,
-    now: u64,
-}
-
-/// The beat that a word tells of.
-fn beat_in(word: Word) -> Option<HeardBeat>
-    ensures { result ≡ beat_in word }
-{
-    match word {
-        Word::Beat { nr, now } => Some(HeardBeat { nr, now }),
-        _ => None,
-    }
-}
-
-/// Notes a beat; the table of workers may refuse it.
-fn beat(workers: &mut WorkerTable, heard: HeardBeat) -> Body
-    ensures { IsNoted (beating workers.old heard.nr heard.now) heard.nr heard.now workers.old result workers.new }
-{
-    match workers.beat(heard.nr, heard.now) {
-        Ok(()) => Body::Nothing,
-        Err(refusal) => Body::Refused(CodeText::from(refusal)),
-    }
-}
-
-/// The workers that are overdue at a tick; at another word none is.
-fn overdue_at(word: Word, running: &Record, workers: &WorkerTable) -> Numbers
-    ensures { result ≡ overdue_at word running.now workers.now }
-{
-    match word {
-        Word::Tick { now } => workers.overdue(now, running.timeout),
-        _ => Numbers::none(),
+    match asked_by(word, &running, workers, settings) {
+        Asked::Nothing => Ok(Body::Nothing),
+        Asked::Beat(heard) => Ok(note(workers, heard)),
+        Asked::Refused(code) => Ok(Body::Refused(code)),
+        Asked::Act(target) => act(
+            alloc, enactor, world, state, workers, place, &running, &target,
+        ),
     }
 }
 
@@ -133,8 +96,7 @@ fn act<E: Enactor>(
 {
     let enacted = match enactor.enact(alloc, world, place, running, target) {
         Ok(enacted) => enacted,
-        Err(TargetRefusal::Memory) => return Err(AllocError),
-        Err(TargetRefusal::Coded(code)) => return Ok(Body::Refused(code)),
+        Err(refusal) => return told(refusal),
     };
     let started = started(enacted.after.as_ref(), enacted.log.entries());
     // `lowest` says that the numbers are below the limit, which the proof cites.
@@ -142,6 +104,17 @@ fn act<E: Enactor>(
     workers.follow(&enacted.report.ready, &started);
     *state = enacted.after;
     Ok(Body::Ran(enacted.log, enacted.report))
+}
+
+/// What a refused target comes to: its code is told, and want of memory passed on.
+fn told(refusal: TargetRefusal) -> Result<Body, AllocError>
+    ensures memory { IsErr result ↔ (refusal ≡ TargetRefusal.Memory) }
+    ensures code { IfOk result (IsTold refusal) }
+{
+    match refusal {
+        TargetRefusal::Memory => Err(AllocError),
+        TargetRefusal::Coded(code) => Ok(Body::Refused(code)),
+    }
 }
 
 /// The workers that a run started and that are of the generation that runs then.

@@ -1,18 +1,19 @@
 //! Why a table stays as it was.
 ghost use Rattle.std.specs.Prelude.{◌≡◌};
 
-use thiserror::Error;
+use std::error::Error;
+use std::fmt;
 
 /// Why a call leaves the table as it was.
-#[derive(Clone, Copy, Debug, PartialEq, Eq, Error)]
+#[derive(Clone, Copy, Debug, PartialEq, Eq)]
 pub enum TableRefusal {
-    #[error("T1 the worker is in the table already")]
+    /// T1: the worker is in the table already.
     Taken,
-    #[error("T2 the number is above 1023")]
+    /// T2: the number is above 1023.
     TooHigh,
-    #[error("T3 no such worker is in the table")]
+    /// T3: no such worker is in the table.
     NoSuch,
-    #[error("T4 the moment is before the worker's last beat")]
+    /// T4: the moment is before the worker's last beat.
     Backwards,
 }
 
@@ -31,3 +32,17 @@ impl TableRefusal {
         }
     }
 }
+
+/// Printed as its code.
+impl fmt::Display for TableRefusal {
+    ghost use Rattle.std.specs.Prelude.{Some};
+    ghost use Rattle.worker_table.specs.Codes.{table_code};
+
+    ghost output = { λ refusal. Some (table_code refusal) };
+
+    fn fmt<W: fmt::Write>(&self, f: &mut fmt::Formatter<W>) -> fmt::Result {
+        f.write_str(self.code())
+    }
+}
+
+impl Error for TableRefusal {}

@@ -1,8 +1,10 @@
 use Rattle.std.proofs.Common.{rules, [], ◌∷◌, ◌≡◌, ◌+◌, length, None, Some, sym, ◌∙◌, ap, subst, ◌⊎◌, Result, Err}
 use Rattle.std.proofs.lemmas.Result.{err_from_is_err_and}
+use Rattle.std.specs.Result.{IsErrOf}
 use mathlib.Core.Bool.{true≢false}
 use Rattle.definitions.specs.Table.{Table}
-use Rattle.definitions.specs.Tree.{height}
+use Rattle.definitions.specs.Tree.{Tree, height}
+use Rattle.definitions.specs.Plans.{planned}
 use Rattle.definitions.specs.Run.{Pattern, Replays}
 use Rattle.definitions.specs.After.{record_after}
 use Rattle.definitions.specs.Record.{Record, Agrees}
@@ -16,7 +18,8 @@ use Rattle.plan_executor.proofs.Enacting.{enacted, named}
 use Rattle.word_runner.specs.declared.enactor.Enacted.{Enacted}
 use Rattle.plan_executor.specs.declared.enactment.EnactRefusal.{EnactRefusal}
 use Rattle.plan_executor.specs.declared.enactment.EnactRefusal.TheVariants.{Memory, RecordDisagrees, NoNumbers, MasterNamed}
-use Rattle.plan_executor.proofs.Exact.{IsExact, exact-refused, exact-planless, exact-short, exact-enacted}
+use Rattle.plan_executor.specs.Refusals.{IsPlannable}
+use Rattle.plan_executor.proofs.Exact.{IsExact, no_tree, unspared, exact-refused, exact-planless, exact-short, exact-enacted}
 use Rattle.plan_executor.proofs.enactment.enact.Goals as goal
 
 -- what holds of a refusal that is passed on
@@ -100,11 +103,36 @@ returns-clause-ok c =
       stops_manner = c.stops_end_as_reported.ensures.manner;
     }) c.args.kernel.now c.into_kernel.result c.args.state.now c.args.target.now (moment_at c.args.pattern.now) (tree_of c.in_ok-plan.plan) (note_of c.in_ok-plan.plan)
     (record { log = c.execute-report.new.log; report = c.execute-report.result; after = c.after-after.result })
-    (record { formed = c.reserved_copy.ensures.formed; agrees = agrees; record_in_range = c.agrees.ensures.in_range; rising = c.agrees.ensures.rising })
-    (record { descriptors = c.agrees.ensures.descriptors; limit = c.reserved_copy.ensures.descriptors })
+    (record { formed = c.in_ok-copy.ensures.formed; agrees = agrees; record_in_range = c.agrees.ensures.in_range; rising = c.agrees.ensures.rising })
+    (record { descriptors = c.agrees.ensures.descriptors; limit = c.in_ok-copy.ensures.descriptors })
     c.requires c.read_settings.ensures c.in_ok-plan.ensures.tree c.in_ok-plan.ensures.note
     (subst (λ n. LacksNumbers c.args.kernel.now.table n → ⊥) c.longest-longest.ensures c.in_ok-copy.ensures.numbers)
     c.execute-report.ensures.path_law replays room spared after
 
 pub returns-clause-exact : goal.returns-clause-exact
 returns-clause-exact c = exact-enacted c.args.kernel.now _ c.args.state.now c.args.target.now (moment_at c.args.pattern.now) _ (returns-clause-ok c)
+
+---- Want of memory
+
+-- a target with a plan is refused by no planner
+behind-plan : (t : Table) (r : Record) (target : Target) (tree : Tree) → Agrees t r → planned r target ≡ Some tree → IsPlannable t r target
+behind-plan t r target tree agrees is = record { agrees = agrees; spared = λ p none. no_tree r target p tree none is }
+
+pub returns-in_err-plan-clause-memory : goal.returns-in_err-plan-clause-memory
+returns-in_err-plan-clause-memory c memory =
+    let agrees : Agrees c.args.kernel.now.table c.args.state.now = c.agrees.ensures.agrees.0 (search rules) in
+    let p = err_from_is_err_and c.from_residual.result c.from_residual.ensures.1 in
+    let wanted : IsErrOf c.plan_of.result Memory = cc in
+    record { agrees = agrees; spared = unspared c.args.state.now c.args.target.now c.plan_of.result c.plan_of.ensures.upgrade c.plan_of.ensures.numbered wanted }
+
+pub returns-in_err-copy-clause-memory : goal.returns-in_err-copy-clause-memory
+returns-in_err-copy-clause-memory c memory =
+    behind-plan c.args.kernel.now.table c.args.state.now c.args.target.now (tree_of c.in_ok-plan.plan) (c.agrees.ensures.agrees.0 (search rules)) c.in_ok-plan.ensures.tree
+
+pub returns-in_err-made-clause-memory : goal.returns-in_err-made-clause-memory
+returns-in_err-made-clause-memory c memory =
+    behind-plan c.args.kernel.now.table c.args.state.now c.args.target.now (tree_of c.in_ok-plan.plan) (c.agrees.ensures.agrees.0 (search rules)) c.in_ok-plan.ensures.tree
+
+pub returns-in_err-log-clause-memory : goal.returns-in_err-log-clause-memory
+returns-in_err-log-clause-memory c memory =
+    behind-plan c.args.kernel.now.table c.args.state.now c.args.target.now (tree_of c.in_ok-plan.plan) (c.agrees.ensures.agrees.0 (search rules)) c.in_ok-plan.ensures.tree
