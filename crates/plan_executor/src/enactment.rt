@@ -82,9 +82,8 @@ pub fn enact(
     let plan = plan_of(alloc, state, target)?;
     let longest = plan.longest();
     let copy = reserved_copy(kernel, longest)?;
-    let made = CallLog::with_room(alloc, longest)?;
     let mut log = CallLog::with_room(alloc, longest)?;
-    let mut calls = Patterned::new(copy, pattern, made);
+    let mut calls = Patterned::new(copy, pattern);
     let report = execute(&plan, &mut calls, &mut log);
     if let Some(moment) = first_naming(pattern, state.generation.image, log.entries()) {
         return Err(EnactRefusal::MasterNamed(moment));

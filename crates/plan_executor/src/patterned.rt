@@ -1,9 +1,9 @@
 //! The modelled kernel, called under a pattern.
-ghost use Rattle.std.specs.Prelude.{◌≡◌, ◌+◌, ◌<◌, ◌≤◌, ◌^◌, []};
+ghost use Rattle.std.specs.Prelude.{◌≡◌, ◌+◌, ◌<◌, ◌^◌};
 
 use kernel_model::{Kernel, Pattern};
-use plan_runner::{CallLog, Calls};
-use vocabulary::{Actor, Answer, Call, Entry};
+use plan_runner::Calls;
+use vocabulary::{Actor, Answer, Call};
 
 /// A plan of one master hands nothing over.
 const NO_TEXT: &[u8] = &[];
@@ -13,25 +13,20 @@ const NO_TEXT: &[u8] = &[];
 pub(crate) struct Patterned<'a> {
     kernel: Kernel,
     pattern: &'a Pattern,
-    made: CallLog,
     number: u32,
-    ghost enough: { made.room ≤ kernel.room },
-    ghost countable: { number + made.room < 2 ^ 32 },
+    ghost countable: { number + kernel.room < 2 ^ 32 },
 }
 
 impl<'a> Patterned<'a> {
-    /// A kernel before the first moment of a pattern, with a log to keep its calls in.
-    pub(crate) fn new(kernel: Kernel, pattern: &'a Pattern, made: CallLog) -> Patterned<'a>
-        requires { made.room ≤ kernel.room }
+    /// A kernel before the first moment of a pattern.
+    pub(crate) fn new(kernel: Kernel, pattern: &'a Pattern) -> Patterned<'a>
         ensures kernel { result.kernel ≡ kernel }
         ensures pattern { result.pattern.now ≡ pattern.now }
-        ensures made { result.made ≡ made }
         ensures number { result.number ≡ 0 }
     {
         Patterned {
             kernel,
             pattern,
-            made,
             number: 0,
         }
     }
@@ -43,7 +38,6 @@ impl<'a> Patterned<'a> {
         let Patterned {
             kernel,
             pattern: _,
-            made: _,
             number: _,
         } = self;
         kernel
@@ -53,29 +47,20 @@ impl<'a> Patterned<'a> {
 impl Calls for Patterned<'_> {
     ghost use Rattle.plan_executor.specs.Patterned.{CallsLed, CallsLed-none};
 
-    ghost room = { λ p. p.made.room };
-
-    ghost made = { λ p. p.made.entries };
+    ghost room = { λ p. p.kernel.room };
 
     ghost follows = { CallsLed };
 
     ghost follows_none = { CallsLed-none };
 
     fn room(&self) -> u32 {
-        self.made.room()
+        self.kernel.room()
     }
 
     fn make(&mut self, by: Actor, call: &Call) -> Answer {
         self.number += 1;
         let pattern = self.pattern;
         let moment = pattern.moment(self.number);
-        let answer = self.kernel.call(by, call, NO_TEXT, &moment);
-        let entry = Entry {
-            by,
-            call: *call,
-            answer,
-        };
-        self.made.push(&entry);
-        entry.answer
+        self.kernel.call(by, call, NO_TEXT, &moment)
     }
 }

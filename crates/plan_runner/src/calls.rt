@@ -5,16 +5,14 @@ ghost use Rattle.vocabulary.specs.declared.reports.Entry.{Entry};
 
 use vocabulary::{Actor, Answer, Call};
 
-/// Makes calls, and keeps a list of those that it made.
+/// Makes calls, and says how those that it made led from one of its states to another.
 ///
-/// The law of its ghost members ties what an executor writes down to what was really done, on the
-/// modelled kernel and on real children alike.
+/// That law ties what an executor writes down to what was really done, on the modelled kernel and on
+/// real children alike. What makes the calls needs no list of its own for it; one that keeps a list
+/// says so in `follows`.
 pub trait Calls {
     /// For how many calls there is room.
     ghost room: { Self → ℕ };
-
-    /// The calls made so far, with their answers.
-    ghost made: { Self → List Entry };
 
     /// What makes the calls came from one state to another by these calls.
     ghost follows: { Self → List Entry → Self → Type 0 };
@@ -29,7 +27,6 @@ pub trait Calls {
         ensures room { room self.old ≤ room self.new + 1 }
         ensures falls { room self.new ≤ room self.old }
         ensures listed { IsTrue (is_listed call.now result) }
-        ensures made { made self.new ≡ made self.old ++ (record { by = by; call = call.now; answer = result }) ∷ [] }
         ensures follows { (first : Self) (entries : List Entry) → follows first entries self.old → follows first (entries ++ (record { by = by; call = call.now; answer = result }) ∷ []) self.new };
 
     /// Where no call was made, nothing changed.

@@ -76,7 +76,7 @@ impl<'a> Walk<'a> {
             unreachable!()
         };
         let made = self.made + 1;
-        let plain = reply_to(&entry.answer, &step.set) == plain_reply(&entry.call);
+        let plain = reply_to(&entry.answer, &step.set()) == plain_reply(&entry.call);
         let mut bound = self.bound;
         bound.take(step, &entry.answer);
         let cause = first_cause(self.cause, !plain, made);

@@ -150,8 +150,9 @@ fn step_line(alloc: Global, step: &Step) -> Result<Vec<u8>, AllocError>
     ensures { IfOk result (λ line. line.items ≡ step_line step.now) }
 {
     let mut line = Vec::new(alloc);
-    write_order(&mut line, step.by, &step.order)?;
-    write_wanted(&mut line, &step.order, &step.set)?;
+    let order = step.order();
+    write_order(&mut line, step.by, &order)?;
+    write_wanted(&mut line, &order, &step.set())?;
     Ok(line)
 }
 
@@ -160,7 +161,7 @@ fn draw_step(alloc: Global, out: &mut Vec<u8>, number: u64, step: &Step) -> Resu
 {
     let line = step_line(alloc, step)?;
     write_box(out, number, &line)?;
-    write_arrows(out, number, step, replies_of(&step.order))
+    write_arrows(out, number, step, replies_of(&step.order()))
 }
 
 /// The steps, numbered from 1.

@@ -35,9 +35,10 @@ fn write_step(out: &mut Vec<u8>, number: u64, step: &Step) -> Result<(), AllocEr
 {
     write_number(out, number)?;
     out.extend_from_slice(b" ")?;
-    write_order(out, step.by, &step.order)?;
-    write_wanted(out, &step.order, &step.set)?;
-    write_edges(out, step, replies_of(&step.order))?;
+    let order = step.order();
+    write_order(out, step.by, &order)?;
+    write_wanted(out, &order, &step.set())?;
+    write_edges(out, step, replies_of(&order))?;
     out.extend_from_slice(b"\n")
 }
 

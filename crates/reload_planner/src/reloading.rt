@@ -144,6 +144,10 @@ fn add_reload(
     add_opens(draft, by, renewal.added, trial, &ways_back.opened)
 }
 
+/// The most steps of a reload that are of no one worker: two settles of 8 rounds, an open and two closes
+/// of 64 addresses, and a census.
+const MOST_OTHERS: usize = 2 * (1 + 4 * 8) + 3 * 64 + 1;
+
 /// The plan of a reload, where `old` is listened on: it opens what the settings add, starts their
 /// workers in the next generation and counts them. If all is well the old workers quit, what the
 /// settings drop is closed, and it settles on the new workers; and else the new ones quit, what was
@@ -180,7 +184,7 @@ pub fn plan_reload(
         added: added.as_slice(),
         dropped: dropped.as_slice(),
     };
-    let mut draft = Draft::with_room(alloc, ready.len() + 4 * starts.len())?;
+    let mut draft = Draft::with_room(alloc, ready.len() + 4 * starts.len() + MOST_OTHERS)?;
     let first = add_reload(&mut draft, scene, &renewal, &ready)?;
     Ok(draft.finish(first, note, Vec::new(alloc))?)
 }

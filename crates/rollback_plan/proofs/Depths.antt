@@ -1,20 +1,33 @@
 -- Depths of steps.
-use Rattle.std.proofs.Common.{◌≡◌, ℕ, ◌+◌, ◌-◌, ◌<◌, ◌≤◌, max, true, List, [], ◌∷◌, length, get_or, refl, sym, ◌∙◌, ap, subst, arith, ◌⊎◌, inl, inr, Some, slice_get, length-set}
-use Rattle.std.proofs.lemmas.Bool.{ltb-true, lt-ltb, cases_eq, cases_lt, and_from, and_parts}
+use Rattle.std.proofs.Common.{◌≡◌, ℕ, ◌+◌, ◌-◌, ◌<◌, ◌≤◌, max, true, false, List, [], ◌∷◌, ◌++◌, length, length-append, get_or, nat_eq, refl, sym, ◌∙◌, ap, subst, arith, ◌⊎◌, inl, inr, Some, slice_get, length-set}
+use Rattle.std.proofs.lemmas.Bool.{ltb-true, lt-ltb, cases_eq, cases_lt, and_from, and_parts, or_cases, or_left, or_right, eq-eqb, eqb-true, false≢true}
 use Rattle.std.proofs.lemmas.List.{get_or-set_same, get_or-set_other, set_past}
 use Rattle.rollback_plan.specs.declared.step.Next.{Next}
 use Rattle.rollback_plan.specs.declared.step.Next.TheVariants.{To, Over}
 use Rattle.rollback_plan.specs.declared.step.Edge.{Edge}
 use Rattle.rollback_plan.specs.declared.step.Step.{Step}
 use Rattle.rollback_plan.specs.Steps.{is_below, all_below}
-use Rattle.rollback_plan.specs.Numbering.{deepened_at, deepened, is_deeper, all_deeper}
+use Rattle.listener_set.specs.Numbers.{is_in}
+use Rattle.rollback_plan.specs.Numbering.{place_behind, places_behind, Leads, IsPath, HasPath, IsDepth, AreDepths, deepened_at, deepened, is_deeper, all_deeper}
 use Rattle.rollback_plan.proofs.StepTrees.{all_weaker, all_below-le}
 
 max_cases : (a b : ℕ) → (max a b ≡ a) ⊎ (max a b ≡ b)
 max_cases a b = elim (cases_lt a b) [ inl h ↦ inr (omega arith) | inr h ↦ inl (omega arith) ]
 
+-- what is behind an edge is behind it and others
+behind_front : (next : Next) (ps : List ℕ) (k : ℕ) → is_in (place_behind next []) k ≡ true → is_in (place_behind next ps) k ≡ true
+behind_front (Over end) ps k h = absurd (false≢true h)
+behind_front (To place) ps k h = elim (or_cases (nat_eq place.0 k) false h) [
+  | inl same ↦ or_left (nat_eq place.0 k) (is_in ps k) same
+  | inr no_more ↦ absurd (false≢true no_more)
+]
+
+pub in_behind : (next : Next) (ps : List ℕ) (k : ℕ) → is_in ps k ≡ true → is_in (place_behind next ps) k ≡ true
+in_behind (Over end) ps k h = h
+in_behind (To place) ps k h = or_right (nat_eq place.0 k) (is_in ps k) h
+
 -- what one edge changes
-at_cases : (n depth : ℕ) (next : Next) (depths : List ℕ) → is_below n next ≡ true → (k : ℕ) → (get_or (deepened_at depth next depths) k 0 ≡ get_or depths k 0) ⊎ ((k < n) × (get_or (deepened_at depth next depths) k 0 ≡ depth))
+at_cases : (n depth : ℕ) (next : Next) (depths : List ℕ) → is_below n next ≡ true → (k : ℕ) → (get_or (deepened_at depth next depths) k 0 ≡ get_or depths k 0) ⊎ ((k < n) × (get_or (deepened_at depth next depths) k 0 ≡ depth) × (is_in (place_behind next []) k ≡ true))
 at_cases n depth (Over end) depths below k = inl refl
 at_cases n depth (To place) depths below k =
     elim (cases_eq k place.0) [
@@ -25,9 +38,9 @@ at_cases n depth (To place) depths below k =
       ]
     ]
   where
-    here : k ≡ place.0 → get_or (deepened_at depth (To place) depths) place.0 0 ≡ max (get_or depths place.0 0) depth → (max (get_or depths place.0 0) depth ≡ get_or depths place.0 0) ⊎ (max (get_or depths place.0 0) depth ≡ depth) → (get_or (deepened_at depth (To place) depths) k 0 ≡ get_or depths k 0) ⊎ ((k < n) × (get_or (deepened_at depth (To place) depths) k 0 ≡ depth))
+    here : k ≡ place.0 → get_or (deepened_at depth (To place) depths) place.0 0 ≡ max (get_or depths place.0 0) depth → (max (get_or depths place.0 0) depth ≡ get_or depths place.0 0) ⊎ (max (get_or depths place.0 0) depth ≡ depth) → (get_or (deepened_at depth (To place) depths) k 0 ≡ get_or depths k 0) ⊎ ((k < n) × (get_or (deepened_at depth (To place) depths) k 0 ≡ depth) × (is_in (place.0 ∷ []) k ≡ true))
     here same is (inl stays) = inl (ap (λ j. get_or (deepened_at depth (To place) depths) j 0) same ∙ (is ∙ (stays ∙ ap (λ j. get_or depths j 0) (sym same))))
-    here same is (inr moves) = inr (omega (arith, ltb-true place.0 n below), ap (λ j. get_or (deepened_at depth (To place) depths) j 0) same ∙ (is ∙ moves))
+    here same is (inr moves) = inr (omega (arith, ltb-true place.0 n below), ap (λ j. get_or (deepened_at depth (To place) depths) j 0) same ∙ (is ∙ moves), or_left (nat_eq place.0 k) false (eq-eqb place.0 k (sym same)))
 
 at_ge : (depth : ℕ) (next : Next) (depths : List ℕ) (k : ℕ) → get_or depths k 0 ≤ get_or (deepened_at depth next depths) k 0
 at_ge depth (Over end) depths k = omega arith
@@ -48,16 +61,16 @@ pub length-deepened : (depth : ℕ) (edges : List Edge) (depths : List ℕ) → 
 length-deepened depth [] depths = refl
 length-deepened depth (e ∷ edges) depths = length-deepened depth edges (deepened_at depth e.next depths) ∙ at_length depth e.next depths
 
--- Each depth stays, or it is below n and becomes the new one.
-pub deepened_cases : (n depth : ℕ) (edges : List Edge) (depths : List ℕ) → all_below n edges ≡ true → (k : ℕ) → (get_or (deepened depth edges depths) k 0 ≡ get_or depths k 0) ⊎ ((k < n) × (get_or (deepened depth edges depths) k 0 ≡ depth))
+-- Each depth stays, or its place is behind an edge, below n, and gets the new one.
+pub deepened_cases : (n depth : ℕ) (edges : List Edge) (depths : List ℕ) → all_below n edges ≡ true → (k : ℕ) → (get_or (deepened depth edges depths) k 0 ≡ get_or depths k 0) ⊎ ((k < n) × (get_or (deepened depth edges depths) k 0 ≡ depth) × (is_in (places_behind edges) k ≡ true))
 deepened_cases n depth [] depths below k = inl refl
 deepened_cases n depth (e ∷ edges) depths below k =
     let tests = and_parts (is_below n e.next) (all_below n edges) below in
     elim (deepened_cases n depth edges (deepened_at depth e.next depths) tests.1 k) [
-      | inr moved ↦ inr moved
+      | inr moved ↦ inr (moved.0, moved.1, in_behind e.next (places_behind edges) k moved.2)
       | inl same ↦ elim (at_cases n depth e.next depths tests.0 k) [
         | inl stays ↦ inl (same ∙ stays)
-        | inr moves ↦ inr (moves.0, same ∙ moves.1)
+        | inr moves ↦ inr (moves.0, same ∙ moves.1, behind_front e.next (places_behind edges) k moves.2)
       ]
     ]
 
@@ -96,6 +109,7 @@ pub record AreDeepened (steps : List Step) (first from : ℕ) (depths : List ℕ
   pub within : (k : ℕ) → get_or depths k 0 ≤ (first + 1) - k
   pub alone : (k : ℕ) → get_or depths k 0 ≡ 1 → k ≡ first
   pub deeper : (k : ℕ) (s : Step) → from ≤ k → slice_get steps k ≡ Some s → 1 ≤ get_or depths k 0 → all_deeper depths (get_or depths k 0) s.edges.items ≡ true
+  pub path : (k : ℕ) → 1 ≤ get_or depths k 0 → HasPath steps first k (get_or depths k 0)
 
 -- what lies no lower keeps its depth
 deepened_above : (place depth : ℕ) (edges : List Edge) (depths : List ℕ) → all_below place edges ≡ true → (k : ℕ) → place ≤ k → get_or (deepened depth edges depths) k 0 ≡ get_or depths k 0
@@ -103,6 +117,19 @@ deepened_above place depth edges depths back k le = elim (deepened_cases place d
 
 some_one : {x y : Step} → Some x ≡ Some y → x ≡ y
 some_one e = cc
+
+-- a path goes on by an edge
+path_more : (steps : List Step) (from : ℕ) (places : List ℕ) (k to : ℕ) → IsPath steps from places k → Leads steps k to → IsPath steps from (places ++ to ∷ []) to
+path_more steps from [] k to path on = (subst (λ (j : ℕ). Leads steps j to) (sym path) on, refl)
+path_more steps from (x ∷ places) k to path on = (path.0, path_more steps x places k to path.1 on)
+
+path_on : (steps : List Step) (first k to n : ℕ) → HasPath steps first k n → Leads steps k to → HasPath steps first to (n + 1)
+path_on steps first k to n h on =
+    record {
+      places = h.places ++ to ∷ [];
+      leads = path_more steps first h.places k to h.leads on;
+      count = omega (arith, h.count, length-append h.places (to ∷ []));
+    }
 
 -- a place passes its depth on
 pub deepened_on : (steps : List Step) (first place : ℕ) (s : Step) (depths : List ℕ) → AreDeepened steps first (place + 1) depths → slice_get steps place ≡ Some s → all_below place s.edges.items ≡ true → place < length steps → 1 ≤ get_or depths place 0
@@ -134,4 +161,40 @@ deepened_on steps first place s depths h at back low has =
             subst (λ (d : ℕ). all_deeper new d t.edges.items ≡ true) (sym kept)
             (all_deeper-le depths new (get_or depths k 0) t.edges.items (deepened_ge depth edges depths) (h.deeper k t (omega (arith, other)) here (omega (arith, kept))))
       ];
+      path = λ k laid. elim (deepened_cases place depth edges depths back k) [
+        | inl same ↦ subst (HasPath steps first k) (sym same) (h.path k (omega (arith, laid, same)))
+        | inr moved ↦
+            subst (HasPath steps first k) (sym moved.1)
+            (path_on steps first place k (get_or depths place 0) (h.path place has) (record { step = s; is = at; behind = moved.2 }))
+      ];
+    }
+
+-- ---- the depths are greatest
+
+behind_deeper : (depths : List ℕ) (d : ℕ) (next : Next) (ps : List ℕ) (k : ℕ) → is_deeper depths d next ≡ true → (is_in ps k ≡ true → d < get_or depths k 0) → is_in (place_behind next ps) k ≡ true → d < get_or depths k 0
+behind_deeper depths d (Over end) ps k deep rest h = rest h
+behind_deeper depths d (To place) ps k deep rest h = elim (or_cases (nat_eq place.0 k) (is_in ps k) h) [
+  | inl same ↦ omega (arith, ltb-true d (get_or depths place.0 0) deep, ap (λ j. get_or depths j 0) (eqb-true place.0 k same))
+  | inr there ↦ rest there
+]
+
+-- what is behind edges lies deeper, where that is so of each edge
+places_deeper : (depths : List ℕ) (d : ℕ) (edges : List Edge) (k : ℕ) → all_deeper depths d edges ≡ true → is_in (places_behind edges) k ≡ true → d < get_or depths k 0
+places_deeper depths d [] k deep h = absurd (false≢true h)
+places_deeper depths d (e ∷ edges) k deep h =
+    let parts = and_parts (is_deeper depths d e.next) (all_deeper depths d edges) deep in
+    behind_deeper depths d e.next (places_behind edges) k parts.0 (places_deeper depths d edges k parts.1) h
+
+-- no path is longer than the depths allow
+path_most : (steps : List Step) (first : ℕ) (depths : List ℕ) → AreDepths steps first depths → (from : ℕ) (places : List ℕ) (to : ℕ) → 1 ≤ get_or depths from 0 → IsPath steps from places to → get_or depths from 0 + length places ≤ get_or depths to 0
+path_most steps first depths h from [] to has path = omega (arith, ap (λ j. get_or depths j 0) path)
+path_most steps first depths h from (k ∷ places) to has path =
+    let more = places_deeper depths (get_or depths from 0) path.0.step.edges.items k (h.deeper from path.0.step path.0.is has) path.0.behind in
+    omega (arith, more, path_most steps first depths h k places to (omega (arith, more)) path.1)
+
+pub is_depth : (steps : List Step) (first : ℕ) (depths : List ℕ) (k : ℕ) → AreDepths steps first depths → 1 ≤ get_or depths k 0 → IsDepth steps first k (get_or depths k 0)
+is_depth steps first depths k h has =
+    record {
+      path = h.path k has;
+      greatest = λ places leads. omega (arith, h.begins, path_most steps first depths h first places k (omega (arith, h.begins)) leads);
     }

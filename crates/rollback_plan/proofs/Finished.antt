@@ -10,10 +10,11 @@ use Rattle.rollback_plan.specs.declared.step.Next.TheVariants.{To, Over}
 use Rattle.rollback_plan.specs.declared.step.Edge.{Edge}
 use Rattle.rollback_plan.specs.declared.step.Step.{Step}
 use Rattle.rollback_plan.specs.Steps.{trees_after, all_below, all_lead_back, leads_back, all_lead_on, first_tree}
-use Rattle.rollback_plan.specs.Numbering.{AreDepths, IsWalk, IsByDepth, AreNumbers, AllNumbered, holds_of_edges, holds_behind, is_deeper, all_deeper, are_laid, all_within}
+use Rattle.rollback_plan.specs.Numbering.{IsNumbering, AreDepths, IsWalk, IsByDepth, AreNumbers, AllNumbered, holds_of_edges, holds_behind, is_deeper, all_deeper, are_laid, all_within}
 use Rattle.rollback_plan.proofs.StepTrees.{all_weaker, all_below-le, length-trees}
 use Rattle.rollback_plan.proofs.Ordered.{Rises, layers_rise, rises_in, rises_to, in_layers, layers_in, layers_few}
 use Rattle.rollback_plan.proofs.Walked.{all_in, low_passes}
+use Rattle.rollback_plan.proofs.Depths.{is_depth}
 use Rattle.rollback_plan.proofs.Unfolded.{LeadsOn, AllLeadOn, OrderLeadsOn, IsRest, at_place, trees_numbered, plan_leads_on, length-numbered}
 
 -- what was found of the steps of a draft
@@ -175,3 +176,20 @@ finished steps draft first depths met order order_lent order_again numbers numbe
           plan_tree draft first depths met order numbers plan o own_numbers own_steps
           ∙ (ap (λ xs. at_place xs first) same ∙ ap (λ k. unwrap_or (slice_get (trees_after [] steps) k) (Ends Done)) (let e : first ≡ first - 0 = omega arith in e));
     }
+
+-- how the plan numbers the places
+pub numbering_of : (steps draft : List Step) (first : ℕ) (depths met order order_lent order_again numbers numbers_lent : List ℕ) (plan : List Step) → draft ≡ steps → AreOrdered draft first depths met order → order_lent ≡ order → order_again ≡ order → numbers_lent ≡ numbers → AreNumbers order_lent (length draft) numbers → AllNumbered numbers_lent draft order_again plan
+    → IsNumbering steps first plan
+numbering_of steps draft first depths met order order_lent order_again numbers numbers_lent plan same o lent again read ns all =
+    subst (λ (xs : List Step). IsNumbering xs first plan) same
+    (record {
+      met = met;
+      walk = o.walk.in_turn;
+      depths = depths;
+      laid = λ k here. is_depth draft first depths k o.laid (let has = ltb-true 0 (get_or depths k 0) (all_in (λ j. nat_lt 0 (get_or depths j 0)) met k (met_laid draft first depths met o.laid o.walk) here) in omega (arith, has));
+      order = order;
+      by_depth = o.sorted;
+      numbers = numbers;
+      numbered = subst (λ (ks : List ℕ). AreNumbers ks (length draft) numbers) lent ns;
+      steps_are = subst (λ (ms : List ℕ). AllNumbered ms draft order plan) read (subst (λ (ks : List ℕ). AllNumbered numbers_lent draft ks plan) again all);
+    })

@@ -1,7 +1,7 @@
 -- How far a walk has come.
 use Rattle.std.proofs.Common.{◌≡◌, ℕ, zero, suc, ◌+◌, ◌<◌, ◌≤◌, ◌||◌, Bool, true, false, List, [], ◌∷◌, ◌++◌, length, get_or, set, replicate, reverse, refl, sym, ◌∙◌, ap, subst, arith, length-append, ◌⊎◌, inl, inr, Some, slice_get, nat_eq, nat_lt}
 use Rattle.std.proofs.lemmas.Bool.{or_cases, or_left, or_right, and_from, and_parts, eqb-true, eq-eqb, lt-ltb, ltb-true, cases_eq, false≢true}
-use Rattle.std.proofs.lemmas.List.{reverse-append, length-reverse, length-replicate, length-set, get_or-set_other}
+use Rattle.std.proofs.lemmas.List.{reverse-append, length-reverse, length-replicate, length-set, get_or-set_same, get_or-set_other, reverse-reverse}
 use Rattle.std.specs.List.{list_all}
 use Rattle.listener_set.specs.Numbers.{is_in}
 use Rattle.rollback_plan.specs.declared.step.Next.{Next}
@@ -9,8 +9,9 @@ use Rattle.rollback_plan.specs.declared.step.Next.TheVariants.{To, Over}
 use Rattle.rollback_plan.specs.declared.step.Edge.{Edge}
 use Rattle.rollback_plan.specs.declared.step.Step.{Step}
 use Rattle.rollback_plan.specs.Steps.{is_below, all_below, all_lead_back}
-use Rattle.rollback_plan.specs.Numbering.{place_behind, places_behind, holds_behind, holds_of_edges, IsWalk}
+use Rattle.rollback_plan.specs.Numbering.{place_behind, places_behind, holds_behind, holds_of_edges, Walks, IsWalk}
 use Rattle.rollback_plan.proofs.StepTrees.{all_weaker, back_at}
+use Rattle.rollback_plan.proofs.Depths.{in_behind}
 
 -- ---- members
 
@@ -90,10 +91,6 @@ one_behind : (next : Next) (ps : List ℕ) → holds_behind (is_in (place_behind
 one_behind (Over end) ps = refl
 one_behind (To place) ps = or_left (nat_eq place.0 place.0) (is_in ps place.0) (eq-eqb place.0 place.0 refl)
 
-in_behind : (next : Next) (ps : List ℕ) (k : ℕ) → is_in ps k ≡ true → is_in (place_behind next ps) k ≡ true
-in_behind (Over end) ps k h = h
-in_behind (To place) ps k h = or_right (nat_eq place.0 k) (is_in ps k) h
-
 -- what is behind edges is among the places behind them
 edges_in : (edges : List Edge) → holds_of_edges (is_in (places_behind edges)) edges ≡ true
 edges_in [] = refl
@@ -165,6 +162,8 @@ pub record AreWalked (steps : List Step) (first : ℕ) (flags : List Bool) (met 
   pub begins : is_known met waiting first ≡ true
   pub closed : (k : ℕ) (s : Step) → is_in met k ≡ true → slice_get steps k ≡ Some s → holds_of_edges (is_known met waiting) s.edges.items ≡ true
   pub reached : (test : ℕ → Bool) → test first ≡ true → ((k : ℕ) (s : Step) → test k ≡ true → slice_get steps k ≡ Some s → holds_of_edges test s.edges.items ≡ true) → (list_all test met ≡ true) × (list_all test waiting ≡ true)
+  pub only : (k : ℕ) → is_in met k ≡ true → get_or flags k false ≡ true
+  pub turns : (all : List ℕ) → Walks steps met (reverse waiting) all → Walks steps [] (first ∷ []) all
   pub few : length met + unmet flags ≡ length steps
 
 pub walked_none : (steps : List Step) (first : ℕ) (flags : List Bool) (met waiting : List ℕ) → flags ≡ replicate (length steps) false → met ≡ [] → waiting ≡ first ∷ [] → AreWalked steps first flags met waiting
@@ -175,6 +174,8 @@ walked_none steps first flags met waiting e none one = rw (e, none, one)
       begins = in_itself first;
       closed = λ k s h at. absurd (false≢true h);
       reached = λ test h passes. (refl, and_from (test first) true h refl);
+      only = λ k h. absurd (false≢true h);
+      turns = λ all walk. walk;
       few = omega (arith, unmet_none (length steps));
     }
   where
@@ -192,6 +193,8 @@ walked_past steps first flags met waiting p h was =
       begins = still first h.begins;
       closed = λ k s here at. edges_weaker (is_known met (waiting ++ p ∷ [])) (is_known met waiting) s.edges.items still (h.closed k s here at);
       reached = λ test begins passes. ((h.reached test begins passes).0, (all_front test waiting (p ∷ []) (h.reached test begins passes).1).0);
+      only = h.only;
+      turns = λ all walk. h.turns all (subst (λ (ws : List ℕ). Walks steps met ws all) (sym (reverse-append waiting (p ∷ []))) (Walks.passes (h.flagged p was) walk));
       few = h.few;
     }
   where
@@ -232,9 +235,26 @@ walked_on steps first flags met waiting p s h was at low =
           let waits = all_front test waiting (p ∷ []) all.1 in
           let own : test p ≡ true = (and_parts (test p) true waits.1).0 in
           (all_append test met (p ∷ []) all.0 waits.1, all_append test waiting (reverse (places_behind s.edges.items)) waits.0 (all_reverse test (places_behind s.edges.items) (all_of_edges test s.edges.items (passes p s own at))));
+      only = λ k here. elim (cases_eq k p) [
+        | inl same ↦ ap (λ j. get_or (set flags p true) j false) same ∙ get_or-set_same flags p true false low
+        | inr other ↦ elim (in_cases met (p ∷ []) k here) [
+          | inl before ↦ get_or-set_other flags p k true false other ∙ h.only k before
+          | inr last ↦ absurd (other (sym (in_one p k last)))
+        ]
+      ];
+      turns = λ all walk. h.turns all
+          (subst (λ (ws : List ℕ). Walks steps met ws all) (sym (reverse-append waiting (p ∷ [])))
+          (Walks.meets (not_in (is_in met p) (h.only p)) at (subst (λ (ws : List ℕ). Walks steps (met ++ p ∷ []) ws all) next walk)));
       few = omega (arith, h.few, unmet_set flags p low was, length-append met (p ∷ []));
     }
   where
+    next : reverse (waiting ++ reverse (places_behind s.edges.items)) ≡ places_behind s.edges.items ++ reverse waiting
+    next = reverse-append waiting (reverse (places_behind s.edges.items)) ∙ ap (λ ps. ps ++ reverse waiting) (reverse-reverse (places_behind s.edges.items))
+
+    not_in : (b : Bool) → (b ≡ true → get_or flags p false ≡ true) → b ≡ false
+    not_in true flag = absurd (false≢true (sym was ∙ flag refl))
+    not_in false flag = refl
+
     still : (k : ℕ) → is_known met (waiting ++ p ∷ []) k ≡ true → is_known (met ++ p ∷ []) (waiting ++ reverse (places_behind s.edges.items)) k ≡ true
     still k known = elim (or_cases (is_in met k) (is_in (waiting ++ p ∷ []) k) known) [
       | inl here ↦ or_left (is_in (met ++ p ∷ []) k) (is_in (waiting ++ reverse (places_behind s.edges.items)) k) (in_left met (p ∷ []) k here)
@@ -266,6 +286,7 @@ walked_all steps first flags met h =
       closed = λ k s here at. edges_weaker (is_known met []) (is_in met) s.edges.items over (h.closed k s here at);
       reached = λ test begins passes. (h.reached test begins passes).0;
       few = omega (arith, h.few);
+      in_turn = h.turns met Walks.over;
     }
   where
     over : (k : ℕ) → is_known met [] k ≡ true → is_in met k ≡ true

@@ -3,10 +3,15 @@ use Rattle.std.specs.Prelude.{◌≡◌, ◌<◌, Bool, List, [], ◌++◌, leng
 use Rattle.std.specs.List.{list_all}
 use Rattle.definitions.specs.Tree.{Tree, Branches}
 use Rattle.rollback_plan.specs.declared.step.Edge.{Edge}
+use Rattle.rollback_plan.specs.declared.step.Step.{Step}
 use Rattle.rollback_plan.specs.declared.step.Place.{Place}
 use Rattle.rollback_plan.specs.declared.step.Next.TheVariants.{To}
 use Rattle.rollback_plan.specs.declared.draft.Draft.{Draft}
 use Rattle.rollback_plan.specs.Steps.{trees_after, branches_among, tree_among}
+
+-- its steps in order
+abbrev pub steps_in : Draft → List Step
+steps_in d = d.steps.items
 
 -- the tree at each place
 abbrev pub trees_of : Draft → List Tree

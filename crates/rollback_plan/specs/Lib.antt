@@ -1,3 +1,4 @@
+pub mod Compact
 pub mod Steps
 pub mod Drafts
 pub mod Back

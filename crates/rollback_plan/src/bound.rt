@@ -35,7 +35,7 @@ impl Bound {
     {
         if let Answer::Counted(counted) = answer {
             self.ready = *counted;
-            self.lacking = step.set.minus(counted);
+            self.lacking = step.set().minus(counted);
         }
     }
 
@@ -45,7 +45,7 @@ impl Bound {
         requires { IsTrue (can_name self.now.lacking step.now.order) }
         ensures { result ≡ call_of step.now.order self.now.lacking }
     {
-        match step.order {
+        match step.order() {
             Order::Make(call) => call,
             Order::ForkLacking(generation) => Call::Fork(generation, self.lowest()),
             Order::AwaitLacking(generation) => Call::AwaitReady(generation, self.lowest()),

@@ -64,7 +64,7 @@ impl<'a> Cursor<'a> {
         ensures within { IfSome result (λ e. IsTrue (is_within_plan self.now e.next)) }
     {
         let step = self.step()?;
-        step.edge(reply_to(answer, &step.set))
+        step.edge(reply_to(answer, &step.set()))
     }
 
     /// What comes after an answer for which the step has an edge. The census that the answer may

@@ -3,6 +3,7 @@ ghost use Rattle.std.specs.Prelude.{◌≡◌, ◌++◌, ◌∷◌, [], ◌+◌,
 ghost use Rattle.definitions.specs.Tree.{Does};
 ghost use Rattle.rollback_plan.specs.Steps.{step_tree, leads_back, all_lead_back, all_below};
 
+use crate::compact::{CompactOrder, CompactSet};
 use crate::{Edge, Place, Step};
 use listener_set::Numbers;
 use std::alloc::{AllocError, AllocFailed, Global};
@@ -113,11 +114,12 @@ impl Draft {
         ensures err { OnErr result (trees_of self.new ≡ trees_of self.old) }
         ensures too_large { IsErrOf result DraftRefusal.TooLarge → MOST_STEPS < length (trees_of self.old) + 1 }
     {
-        let edges = Vec::from_slice(*self.steps.allocator(), edges)?;
+        let alloc = *self.steps.allocator();
+        let edges = Vec::from_slice(alloc, edges)?;
         self.step(Step {
             by,
-            order,
-            set: *set,
+            order: CompactOrder::new(alloc, &order)?,
+            set: CompactSet::new(alloc, set)?,
             edges,
         })
     }

@@ -3,7 +3,7 @@ ghost use Rattle.std.specs.Prelude.{◌≡◌, ◌+◌, ◌≤◌, ◌<◌, ◌^
 ghost use Rattle.std.specs.List.{list_all};
 ghost use Rattle.definitions.specs.Tree.{is_fit};
 ghost use Rattle.rollback_plan.specs.Steps.{all_below};
-ghost use Rattle.rollback_plan.specs.Numbering.{edge_numbered, AreNumbers, AllNumbered, all_within};
+ghost use Rattle.rollback_plan.specs.Numbering.{edge_numbered, AreNumbers, IsNumbered, AllNumbered, IsNumbering, all_within};
 
 use crate::layers::by_depth;
 use crate::numbering::{depths_from, heights_of};
@@ -13,11 +13,12 @@ use std::alloc::{AllocError, Global};
 use vocabulary::PidNote;
 
 impl Draft {
-    ghost use Rattle.rollback_plan.specs.Drafts.{trees_of, tree_at};
-    ghost use Rattle.rollback_plan.specs.Plans.{tree_of, note_of, text_of, trees_in};
+    ghost use Rattle.rollback_plan.specs.Drafts.{steps_in, trees_of, tree_at};
+    ghost use Rattle.rollback_plan.specs.Plans.{steps_of, tree_of, note_of, text_of, trees_in};
 
     /// The plan that begins at a place. Steps that the first one doesn't lead to are not
-    /// in it.
+    /// in it; the others are numbered from 1 by the greatest number of steps on a path to them, equal ones in
+    /// the order in which a walk, first edge first, first meets them.
     pub fn finish(self, first: Place, note: PidNote, text: Vec<u8>) -> Result<Plan, AllocError>
         requires made { first.0 < length (trees_of self) }
         requires fit { IsTrue (is_fit false (tree_at self first)) }
@@ -25,6 +26,7 @@ impl Draft {
         ensures note { IfOk result (λ plan. note_of plan ≡ note) }
         ensures text { IfOk result (λ plan. text_of plan ≡ text.items) }
         ensures few { IfOk result (λ plan. length (trees_in plan) ≤ length (trees_of self)) }
+        ensures numbered { IfOk result (λ plan. IsNumbering (steps_in self) first.0 (steps_of plan)) }
     {
         let alloc = *self.steps.allocator();
         let draft: &[Step] = &self.steps;
@@ -70,15 +72,22 @@ fn numbered(
 {
     let mut plan = Vec::with_capacity(alloc, order.len())?;
     for place in order {
-        let step = &steps[*place as usize];
-        plan.push(Step {
-            by: step.by,
-            order: step.order,
-            set: step.set,
-            edges: edges_numbered(alloc, &step.edges, numbers)?,
-        })?;
+        plan.push(step_numbered(alloc, &steps[*place as usize], numbers)?)?;
     }
     Ok(plan)
+}
+
+/// This step, with these numbers for its places.
+fn step_numbered(alloc: Global, step: &Step, numbers: &[u32]) -> Result<Step, AllocError>
+    requires { IsTrue (all_below (length numbers.now) step.now.edges.items) }
+    ensures { IfOk result (IsNumbered numbers.now step.now) }
+{
+    Ok(Step {
+        by: step.by,
+        order: step.order.copy(alloc)?,
+        set: step.set.copy(alloc)?,
+        edges: edges_numbered(alloc, &step.edges, numbers)?,
+    })
 }
 
 /// These edges, with these numbers for their places.

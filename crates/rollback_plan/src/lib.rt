@@ -6,6 +6,7 @@
 #![tactic(auto)]
 
 mod bound;
+mod compact;
 mod cursor;
 mod draft;
 mod finishing;

@@ -3,6 +3,7 @@ ghost use Rattle.std.specs.Prelude.{◌≡◌};
 ghost use Rattle.rollback_plan.specs.declared.step.Next.TheVariants.{To, Over};
 ghost use Rattle.rollback_plan.specs.Steps.{edge_for, IsEdge};
 
+use crate::compact::{CompactOrder, CompactSet};
 use listener_set::Numbers;
 use vocabulary::{Actor, End, Order, PidNote, Reply};
 
@@ -58,14 +59,28 @@ impl Edge {
 pub struct Step {
     /// The master that makes the call.
     pub by: Actor,
-    pub order: Order,
+    pub(crate) order: CompactOrder,
     /// The numbers that a census must contain to be full.
-    pub set: Numbers,
+    pub(crate) set: CompactSet,
     /// The first edge that lists a reply is taken.
     pub edges: Vec<Edge>,
 }
 
 impl Step {
+    /// What it asks for.
+    pub fn order(&self) -> Order
+        ensures { result ≡ self.now.order }
+    {
+        self.order.get()
+    }
+
+    /// The numbers that a census must contain to be full.
+    pub fn set(&self) -> Numbers
+        ensures { result ≡ self.now.set }
+    {
+        self.set.get()
+    }
+
     /// The edge that a reply takes.
     pub fn edge(&self, reply: Reply) -> Option<Edge>
         ensures { result ≡ edge_for self.now.edges.items reply }

@@ -118,7 +118,7 @@ fn steps_grow_with_the_workers_that_are_started_anew(rt: HostRuntime) -> Result<
     ] {
         assert!(rt; number >= 1);
         let step = mend.get(number).ok_or("a step is missing")?;
-        assert_eq!(rt; step.order, Order::Make(call));
+        assert_eq!(rt; step.order(), Order::Make(call));
     }
     let three = Scene {
         rounds: 3,
@@ -151,7 +151,7 @@ fn a_stop_notes_its_removals(rt: HostRuntime) -> Result<(), Fail> {
     for (number, file, reply, note) in noted {
         assert!(rt; number >= 1);
         let step = stop.get(number).ok_or("a step is missing")?;
-        assert_eq!(rt; step.order, Order::Make(Call::RemovePid(file)));
+        assert_eq!(rt; step.order(), Order::Make(Call::RemovePid(file)));
         let edge = step.edge(reply).ok_or("an edge is missing")?;
         assert_eq!(rt; edge.note, note);
         assert_eq!(rt; edge.next, Next::To(Place(number + 1)));
@@ -182,8 +182,8 @@ fn same_edge(a: &Edge, b: &Edge) -> bool {
 /// Whether two steps are the same, with the same edges.
 fn are_alike(a: &Step, b: &Step) -> bool {
     a.by == b.by
-        && a.order == b.order
-        && a.set == b.set
+        && a.order() == b.order()
+        && a.set() == b.set()
         && a.edges.len() == b.edges.len()
         && a.edges
             .iter()

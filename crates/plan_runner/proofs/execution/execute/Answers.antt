@@ -1,4 +1,4 @@
-use Rattle.std.proofs.Common.{◌++◌, ◌∷◌, [], List, length, arith, sym, ◌∙◌, ap, subst, append_assoc, length-append}
+use Rattle.std.proofs.Common.{◌∷◌, [], List, length, arith, sym, ◌∙◌, ap, subst, length-append}
 use Rattle.vocabulary.specs.declared.calls.Answer.TheVariants.{MasterGone}
 use Rattle.vocabulary.specs.declared.reports.Entry.{Entry}
 use Rattle.definitions.specs.Path.{Trail, begin, after, advance, Asks, Follows}
@@ -32,9 +32,6 @@ loop-due-preserved g c =
     record {
       path = subst (Follows start) (sym pushed) (Follows-push start old e kept.path asks);
       trail = c.after-walk.ensures.trail ∙ (ap (λ t. advance t e) kept.trail ∙ (sym (after-push start old e) ∙ ap (after start) (sym pushed)));
-      made =
-          c.make-answer.ensures.made
-          ∙ (ap (λ xs. xs ++ e ∷ []) kept.made ∙ (append_assoc (g.C.Calls.made c.args.calls.now) old (e ∷ []) ∙ ap (λ xs. g.C.Calls.made c.args.calls.now ++ xs) (sym pushed)));
       follows = subst (λ (es : List Entry). g.C.Calls.follows c.args.calls.now es c.make-answer.new.self) (sym pushed) (c.make-answer.ensures.follows c.args.calls.now old kept.follows);
       lost = λ none. (old, e, pushed, c.after-walk.ensures.lost none);
       longest = omega (arith, ap length pushed, length-append old (e ∷ []), kept.longest, c.after-walk.ensures.lower);

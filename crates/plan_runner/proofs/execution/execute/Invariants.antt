@@ -1,4 +1,4 @@
-use Rattle.std.proofs.Common.{◌≡◌, ◌≤◌, ◌+◌, ◌++◌, length, None}
+use Rattle.std.proofs.Common.{◌≡◌, ◌≤◌, ◌+◌, length, None}
 use Rattle.definitions.specs.Tree.{height}
 use Rattle.definitions.specs.Path.{begin, after, Follows, EndsGone}
 use Rattle.rollback_plan.specs.Plans.{tree_of, note_of}
@@ -13,7 +13,6 @@ invariant-loop-due g l =
     record {
       path : Follows start l.log.entries;
       trail : trail_of l.walk ≡ after start l.log.entries;
-      made : g.C.Calls.made l.calls ≡ g.C.Calls.made l.fn.calls ++ l.log.entries;
       follows : g.C.Calls.follows l.fn.calls l.log.entries l.calls;
       lost : (trail_of l.walk).rest ≡ None → EndsGone l.log.entries;
       longest : length l.log.entries + left ≤ height (tree_of l.plan);

@@ -15,23 +15,23 @@ returns-clause-listed c =
     let call = c.args.call.now in
     let fate = c.moment-moment.result.fate in
     let exits = c.moment-moment.result.exits.now in
-    let answer : c.call-answer.result ≡ (step c.args.by call fate (after_exits exits c.args.self.now.kernel.table)).answer = ap (λ (s : Stepped). s.answer) c.call-answer.ensures.step in
+    let answer : c.call.result ≡ (step c.args.by call fate (after_exits exits c.args.self.now.kernel.table)).answer = ap (λ (s : Stepped). s.answer) c.call.ensures.step in
     subst (λ (a : Answer). is_listed call a ≡ true) (sym answer) (step-listed c.args.by call fate (after_exits exits c.args.self.now.kernel.table))
 
 pub returns-clause-follows : goal.returns-clause-follows
 returns-clause-follows c first entries h =
     let call = c.args.call.now in
-    let e : Entry = record { by = c.args.by; call = call; answer = c.call-answer.result } in
+    let e : Entry = record { by = c.args.by; call = call; answer = c.call.result } in
     let last = c.args.self.now.kernel.table in
     let k = c.args.self.now.number + 1 in
     let at = moment_at first.pattern.now in
     let number = h.number in
     let room = h.room in
-    let took = c.call-answer.ensures.room in
+    let took = c.call.ensures.room in
     let longer : length (entries ++ e ∷ []) ≡ length entries + 1 = length-append entries (e ∷ []) in
     let moment : seen_moment c.moment-moment.result ≡ at k = c.moment-moment.ensures ∙ ap (λ p. moment_at p k) h.pattern in
-    let stepped : record { answer = c.call-answer.result; table = c.call-answer.new.self.table } ≡ step c.args.by call (at k).fate (after_exits (at k).exits last) =
-    c.call-answer.ensures.step ∙ ap (λ (m : Moment). step c.args.by call m.fate (after_exits m.exits last)) moment in
+    let stepped : record { answer = c.call.result; table = c.call.new.self.table } ≡ step c.args.by call (at k).fate (after_exits (at k).exits last) =
+    c.call.ensures.step ∙ ap (λ (m : Moment). step c.args.by call m.fate (after_exits m.exits last)) moment in
     record {
       pattern = h.pattern;
       number = omega (arith, number, longer);

@@ -1,4 +1,4 @@
-use Rattle.std.proofs.Common.{◌≡◌, ◌+◌, ◌<◌, ◌≤◌, ◌^◌, ℕ, Option, IfSome, option_map, true, refl, sym, ap, subst, List}
+use Rattle.std.proofs.Common.{◌≡◌, ◌+◌, ◌<◌, ◌≤◌, ◌^◌, ℕ, Option, IfSome, option_map, true, refl, sym, ◌∙◌, ap, subst, List}
 use Rattle.vocabulary.specs.declared.plans.PidNote.{PidNote}
 use Rattle.definitions.specs.Tree.{Tree, is_fit, height, reply_of, plain_reply}
 use Rattle.definitions.specs.Path.{lacking_after}
@@ -15,7 +15,7 @@ returns-in_default-edge-clause-trail c =
     let set = c.in-Some-step.step.now.set in
     let set_is = subst (λ (t : Tree). SetIs t set) (sym c.in-Some-step.ensures.some) refl in
     let is = ap (option_map rest_of) c.in-Some.is in
-    let causes = causes_of w.cause c.first_cause-cause.result (w.made + 1) c.eq-plain.result c.reply_to.result c.plain_reply.result (reply_of set e.answer) (plain_reply e.call) c.first_cause-cause.ensures c.eq-plain.ensures c.reply_to.ensures c.plain_reply.ensures in
+    let causes = causes_of w.cause c.first_cause-cause.result (w.made + 1) c.eq-plain.result c.reply_to.result c.plain_reply.result (reply_of set e.answer) (plain_reply e.call) c.first_cause-cause.ensures c.eq-plain.ensures (c.reply_to.ensures ∙ ap (λ (ks : List ℕ). reply_of ks e.answer) c.set.ensures) c.plain_reply.ensures in
     advanced_lost (option_map rest_of w.rest) (rest_of c.in-Some.cursor) set w.bound.ready w.bound.lacking c.take.new.self.ready c.take.new.self.lacking w.note w.cause c.first_cause-cause.result w.made e
     is set_is c.take.ensures.ready c.take.ensures.lacking causes (sym c.in_default-edge.ensures.edge)
 
@@ -62,7 +62,7 @@ returns-clause-trail c =
     let on = sym c.in-Some-edge.ensures.edge in
     let next : rest_of c.next.result ≡ tree_to c.in-Some.cursor c.in-Some-edge.edge.next =
     subst (λ (o : Option (Option PidNote × Tree)). IfSome o (λ after. rest_of c.next.result ≡ after.1)) on c.next.ensures in
-    let causes = causes_of w.cause c.first_cause-cause.result (w.made + 1) c.eq-plain.result c.reply_to.result c.plain_reply.result (reply_of set e.answer) (plain_reply e.call) c.first_cause-cause.ensures c.eq-plain.ensures c.reply_to.ensures c.plain_reply.ensures in
+    let causes = causes_of w.cause c.first_cause-cause.result (w.made + 1) c.eq-plain.result c.reply_to.result c.plain_reply.result (reply_of set e.answer) (plain_reply e.call) c.first_cause-cause.ensures c.eq-plain.ensures (c.reply_to.ensures ∙ ap (λ (ks : List ℕ). reply_of ks e.answer) c.set.ensures) c.plain_reply.ensures in
     rw next
     (advanced_on (option_map rest_of w.rest) (rest_of c.in-Some.cursor) set w.bound.ready w.bound.lacking c.take.new.self.ready c.take.new.self.lacking w.note c.unwrap_or.result w.cause c.first_cause-cause.result w.made e
     (c.in-Some-edge.edge.note, tree_to c.in-Some.cursor c.in-Some-edge.edge.next)

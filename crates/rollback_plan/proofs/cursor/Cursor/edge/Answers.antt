@@ -1,5 +1,5 @@
 use Rattle.std.proofs.Common.{◌≡◌, Option, Some, IfSome, true, sym, ◌∙◌, ap, subst, option_map}
-use Rattle.definitions.specs.Tree.{among}
+use Rattle.definitions.specs.Tree.{among, reply_of}
 use Rattle.definitions.specs.Path.{follow}
 use Rattle.rollback_plan.specs.declared.step.Edge.{Edge}
 use Rattle.rollback_plan.specs.Steps.{edge_for, is_within, tree_behind}
@@ -10,7 +10,7 @@ pub returns-clause-edge : goal.returns-clause-edge
 returns-clause-edge c =
     let steps = c.args.self.now.plan.now.steps.items in
     let s = c.in_ok-step.step.now in
-    ap (option_map (λ e. (e.note, tree_behind steps e.next))) (c.edge.ensures ∙ ap (edge_for s.edges.items) c.reply_to.ensures)
+    ap (option_map (λ e. (e.note, tree_behind steps e.next))) (c.edge.ensures ∙ (ap (edge_for s.edges.items) c.reply_to.ensures ∙ ap (λ set. edge_for s.edges.items (reply_of set c.args.answer.now)) c.set.ensures))
     ∙ (sym (follow_here steps s c.args.answer.now) ∙ ap (λ t. follow (Some t) c.args.answer.now) (sym c.in_ok-step.ensures.some))
 
 pub returns-clause-within : goal.returns-clause-within

@@ -4,7 +4,7 @@ use Rattle.rollback_plan.specs.declared.step.Step.{Step}
 use Rattle.rollback_plan.specs.Steps.{trees_after, all_lead_back}
 use Rattle.rollback_plan.specs.Numbering.{are_laid, all_within}
 use Rattle.rollback_plan.proofs.StepTrees.{length-trees, length-trees_from}
-use Rattle.rollback_plan.proofs.Finished.{ordered, finished, met_laid, order_few, order_within, all_back, height_of}
+use Rattle.rollback_plan.proofs.Finished.{ordered, finished, numbering_of, met_laid, order_few, order_within, all_back, height_of}
 use Rattle.rollback_plan.proofs.draft.Draft.finish.Goals as goal
 
 pub depths_from-requires-clause-first : goal.depths_from-requires-clause-first
@@ -95,3 +95,16 @@ returns-clause-few c =
     let plan = finished c.args.self.steps.items draft first depths met order c.deref-3.result.now c.deref-4.result.now c.in_ok-numbers.numbers.items c.deref-5.result.now c.in_ok-steps.steps.items
     c.deref-draft.ensures.value o c.deref-3.ensures.value c.deref-4.ensures.value c.deref-5.ensures.value c.in_ok-numbers.ensures c.in_ok-steps.ensures in
     omega (arith, plan.few, length-trees_from 1 c.in_ok-steps.steps.items, length-trees c.args.self.steps.items)
+
+pub returns-clause-numbered : goal.returns-clause-numbered
+returns-clause-numbered c =
+    let draft = c.deref-draft.result.now in
+    let first = c.args.first.0 in
+    let depths = c.in_ok-depths.depths.items in
+    let met = c.in_ok-met.met.items in
+    let order = c.in_ok-order.order.items in
+    let back = subst (λ (xs : List Step). all_lead_back 0 xs ≡ true) (sym c.deref-draft.ensures.value) c.args.self.back in
+    let o = ordered draft first depths c.deref-2.result.now met c.deref.result.now order c.deref-2.ensures.value c.deref.ensures.value back
+    (omega (arith, c.requires.made, length-trees c.args.self.steps.items, ap length c.deref-draft.ensures.value)) c.in_ok-depths.ensures c.in_ok-met.ensures c.in_ok-order.ensures in
+    numbering_of c.args.self.steps.items draft first depths met order c.deref-3.result.now c.deref-4.result.now c.in_ok-numbers.numbers.items c.deref-5.result.now c.in_ok-steps.steps.items
+    c.deref-draft.ensures.value o c.deref-3.ensures.value c.deref-4.ensures.value c.deref-5.ensures.value c.in_ok-numbers.ensures c.in_ok-steps.ensures
