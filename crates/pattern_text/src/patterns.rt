@@ -137,10 +137,11 @@ fn first_line(text: &[u8]) -> (&[u8], &[u8])
     around(text, b'\n')
 }
 
-/// Reads patterns, a section of lines for each: `N exit NAME` for an exit before the N-th call, N from 1, `N fail FATE` for
-/// its failure, and between sections a line `next`. Names are `wI.C.N` of a Starting or Ready worker, `dI.C.N` of a Draining
-/// one and `mI` of a master. In a section N does not fall, and within one N there is at most one `fail`, which is the last.
-/// The empty text is one section with no line, and the very last newline may be missing.
+/// Reads patterns, a section of lines for each: `N exit NAME` for an exit before the N-th call, N from 1,
+/// `N fail FATE` for its failure, and between sections a line `next`. Names are `wI.C.N` of a Starting or Ready
+/// worker, `dI.C.N` of a Draining one and `mI` of a master. In a section N does not fall, and within one N there is
+/// at most one `fail`, which is the last. The empty text is one section with no line, and the very last newline may
+/// be missing.
 ///
 /// The first faulty line is named: X1 for its form, else X2 for its place. Any bytes may come.
 pub fn read_patterns(alloc: Global, text: &[u8]) -> Result<Vec<Pattern>, TextRefusal>
