@@ -2,4 +2,6 @@ pub mod Places
 pub mod StartTrees
 pub mod SignalTrees
 pub mod ListeningTrees
+pub mod TriedTrees
 pub mod Fitness
+pub mod TriedFitness

@@ -1,14 +1,14 @@
 -- Plans of one master can be run: each step has an edge for each reply, and a worker is named only after a short census.
-use Rattle.std.proofs.Common.{◌≡◌, ℕ, Bool, true, false, List, [], ◌∷◌, Option, Some, None, reverse, refl}
+use Rattle.std.proofs.Common.{◌≡◌, ℕ, Bool, true, false, List, [], Option, Some, None, reverse, refl}
 use Rattle.listener_set.specs.declared.generation.Generation.{Generation}
 use Rattle.definitions.specs.Table.{Address, FilePath}
 use Rattle.vocabulary.specs.declared.plans.Side.TheVariants.{Old, Target}
 use Rattle.vocabulary.specs.declared.plans.PidNote.{PidNote}
-use Rattle.vocabulary.specs.declared.plans.PidNote.TheVariants.{InPlace, AtOldbin, OldbinLeft, Left, NoFile}
+use Rattle.vocabulary.specs.declared.plans.PidNote.TheVariants.{Left, NoFile}
 use Rattle.definitions.specs.Record.{oldbin}
 use Rattle.definitions.specs.Tree.{Tree, is_fit}
 use Rattle.definitions.specs.Plans.{settle, starts, census, census_edges, usr1s, removes, stopped, stop_tree, remove_oldbin_too, has_oldbin}
-use Rattle.reload_planner.specs.Changes.{change_tree, repair_tree, ends_tree, on_tree, trial_tree, back_tree, renewal_tree}
+use Rattle.reload_planner.specs.Changes.{change_tree, repair_tree, on_tree, back_tree, renewal_tree}
 use Rattle.plan_pieces.proofs.Fitness.{settle_fit, quits_fit, kills_fit, usr1s_fit, closes_fit, awaits_gone_fit, remove_fit, awaits_fit, forks_fit, starts_any_fit, opens_fit}
 
 starts_fit : (by : ℕ) (g : Generation) (ks : List ℕ) (ok : Tree) (bad : List ℕ → Tree) (short : Bool) → is_fit short ok ≡ true → ((forked : List ℕ) → is_fit short (bad forked) ≡ true) → is_fit short (starts by g ks ok bad) ≡ true

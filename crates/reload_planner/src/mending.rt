@@ -8,10 +8,9 @@ ghost use Rattle.rollback_plan.specs.Drafts.{trees_of, IsMade};
 ghost use Rattle.rollback_plan.specs.Plans.{tree_of, note_of, text_of, trees_in};
 ghost use Rattle.reload_planner.specs.Changes.{repair_tree};
 
-use crate::scene::listed;
 use crate::{PlanRefusal, Scene};
 use listener_set::{Numbers, WORKER_LIMIT};
-use plan_pieces::{add_kills, add_starts_any};
+use plan_pieces::{add_kills, add_starts_any, listed};
 use rollback_plan::{Draft, DraftRefusal, Place, Plan};
 use std::alloc::Global;
 use vocabulary::{PidNote, Side};

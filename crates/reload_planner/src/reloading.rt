@@ -11,10 +11,9 @@ ghost use Rattle.rollback_plan.specs.Back.{AreMade};
 ghost use Rattle.rollback_plan.specs.Plans.{tree_of, note_of, text_of, trees_in};
 ghost use Rattle.reload_planner.specs.Changes.{on_tree, trial_tree, renewal_tree};
 
-use crate::scene::listed;
 use crate::{PlanRefusal, Scene};
 use listener_set::{Address, Generation, ListenerSet, Numbers};
-use plan_pieces::{add_closes, add_opens, add_quits, add_starts};
+use plan_pieces::{add_closes, add_opens, add_quits, add_starts, listed};
 use rollback_plan::{Draft, DraftRefusal, Edge, Place, Plan, Undone};
 use std::alloc::Global;
 use vocabulary::{Actor, Call, Order, PidNote, Reply, Settings, Side};

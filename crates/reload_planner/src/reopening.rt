@@ -7,9 +7,8 @@ ghost use Rattle.rollback_plan.specs.declared.draft.TheConstants.{MOST_STEPS};
 ghost use Rattle.rollback_plan.specs.Drafts.{trees_of, IsMade};
 ghost use Rattle.rollback_plan.specs.Plans.{tree_of, note_of, text_of, trees_in};
 
-use crate::scene::listed;
 use crate::{PlanRefusal, Scene};
-use plan_pieces::add_usr1s;
+use plan_pieces::{add_usr1s, listed};
 use rollback_plan::{Draft, DraftRefusal, Place, Plan};
 use std::alloc::Global;
 use vocabulary::{PidNote, Side};

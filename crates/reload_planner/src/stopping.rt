@@ -9,10 +9,9 @@ ghost use Rattle.rollback_plan.specs.Drafts.{trees_of, tree_at, IsMade, Keeps};
 ghost use Rattle.rollback_plan.specs.Plans.{tree_of, note_of, text_of, trees_in};
 ghost use Rattle.reload_planner.specs.Changes.{ends_tree};
 
-use crate::scene::listed;
 use crate::{PlanRefusal, Scene};
 use listener_set::{FilePath, Numbers};
-use plan_pieces::{add_awaits_gone, add_kills, add_quits, add_remove};
+use plan_pieces::{add_awaits_gone, add_kills, add_quits, add_remove, listed};
 use rollback_plan::{Draft, DraftRefusal, Edge, Place, Plan};
 use std::alloc::Global;
 use vocabulary::{Actor, Call, End, Order, PidNote, Reply};

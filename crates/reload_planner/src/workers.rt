@@ -7,10 +7,9 @@ ghost use Rattle.rollback_plan.specs.Drafts.{trees_of, IsMade};
 ghost use Rattle.rollback_plan.specs.Plans.{tree_of, note_of, text_of, trees_in};
 ghost use Rattle.reload_planner.specs.Changes.{change_tree};
 
-use crate::scene::listed;
 use crate::{PlanRefusal, Scene};
 use listener_set::{Numbers, WORKER_LIMIT};
-use plan_pieces::{add_quits, add_starts};
+use plan_pieces::{add_quits, add_starts, listed};
 use rollback_plan::{Draft, DraftRefusal, Place, Plan, Undone};
 use std::alloc::Global;
 use vocabulary::{PidNote, Side};

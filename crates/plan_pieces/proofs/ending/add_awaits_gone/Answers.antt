@@ -1,7 +1,6 @@
-use Rattle.std.proofs.Common.{◌≡◌, ◌+◌, ℕ, length, get_or, take, reverse, ◌∙◌, ap, subst, arith}
-use Rattle.std.proofs.lemmas.List.{take_all}
+use Rattle.std.proofs.Common.{ℕ, get_or, ◌∙◌, ap, subst, arith}
 use Rattle.vocabulary.specs.declared.calls.Call.TheVariants.{AwaitGone, Kill}
-use Rattle.definitions.specs.Plans.{does, then_edge, gone_edges, awaits_gone}
+use Rattle.definitions.specs.Plans.{does, then_edge, gone_edges}
 use Rattle.rollback_plan.specs.Drafts.{IsMade, tree_at}
 use Rattle.rollback_plan.proofs.DraftTrees.{keeps_on}
 use Rattle.plan_pieces.proofs.SignalTrees.{awaits_gone_more}

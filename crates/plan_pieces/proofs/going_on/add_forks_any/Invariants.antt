@@ -1,4 +1,4 @@
-use Rattle.std.proofs.Common.{◌≡◌, ◌+◌, ◌*◌, length, drop}
+use Rattle.std.proofs.Common.{◌≡◌, ◌+◌, length, drop}
 use Rattle.definitions.specs.Plans.{forks_any}
 use Rattle.rollback_plan.specs.Drafts.{trees_of, tree_at, IsMade, Keeps}
 use Rattle.plan_pieces.proofs.going_on.add_forks_any.Given as goal

@@ -1,4 +1,4 @@
-use Rattle.std.proofs.Common.{◌≡◌, ◌+◌, ◌*◌, length, drop}
+use Rattle.std.proofs.Common.{◌≡◌, ◌+◌, length, drop}
 use Rattle.definitions.specs.Plans.{kills}
 use Rattle.rollback_plan.specs.Drafts.{trees_of, tree_at, IsMade, Keeps}
 use Rattle.plan_pieces.proofs.signals.add_kills.Given as goal

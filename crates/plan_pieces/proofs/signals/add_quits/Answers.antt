@@ -1,6 +1,6 @@
-use Rattle.std.proofs.Common.{◌≡◌, ◌+◌, ℕ, get_or, take, reverse, ◌∙◌, ap, subst, arith}
+use Rattle.std.proofs.Common.{ℕ, get_or, ◌∙◌, ap, subst, arith}
 use Rattle.vocabulary.specs.declared.calls.Call.TheVariants.{Quit}
-use Rattle.definitions.specs.Plans.{does, then_edge, quits}
+use Rattle.definitions.specs.Plans.{does, then_edge}
 use Rattle.rollback_plan.specs.Drafts.{IsMade, tree_at}
 use Rattle.rollback_plan.proofs.DraftTrees.{keeps_on}
 use Rattle.rollback_plan.proofs.BackTrees.{quits_more}

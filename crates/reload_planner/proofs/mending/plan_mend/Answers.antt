@@ -1,5 +1,5 @@
-use Rattle.std.proofs.Common.{false, ◌∙◌, ap, length, arith, subst, sym, not, ◌≡◌, ◌≤◌, ℕ, List}
-use Rattle.listener_set.specs.Numbers.{lacks, is_in, AreNumbers}
+use Rattle.std.proofs.Common.{false, ◌∙◌, ap, length, arith, not}
+use Rattle.listener_set.specs.Numbers.{lacks, is_in}
 use Rattle.definitions.specs.Tree.{is_fit}
 use Rattle.reload_planner.proofs.Sets.{repair_is, late_few, filter_few, length-below}
 use Rattle.reload_planner.proofs.Fitness.{repair_fit}

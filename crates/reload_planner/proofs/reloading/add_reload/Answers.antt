@@ -1,11 +1,11 @@
-use Rattle.std.proofs.Common.{◌≡◌, ℕ, List, length, reverse, take, true, sym, ◌∙◌, ap, subst, arith}
+use Rattle.std.proofs.Common.{◌≡◌, List, length, reverse, take, true, sym, ◌∙◌, ap, subst, arith}
 use Rattle.std.proofs.lemmas.List.{take_all}
 use Rattle.std.proofs.lemmas.Result.{IfOk-weaker}
 use Rattle.definitions.specs.Table.{Address}
 use Rattle.vocabulary.specs.declared.plans.Side.TheVariants.{Old}
 use Rattle.definitions.specs.Plans.{quits, closes, settle}
 use Rattle.rollback_plan.specs.declared.step.Place.{Place}
-use Rattle.rollback_plan.specs.Drafts.{IsMade, are_places}
+use Rattle.rollback_plan.specs.Drafts.{are_places}
 use Rattle.rollback_plan.specs.Back.{AreMade}
 use Rattle.rollback_plan.proofs.DraftTrees.{made_kept}
 use Rattle.rollback_plan.proofs.BackTrees.{all_kept}

@@ -1,4 +1,4 @@
-use Rattle.std.proofs.Common.{ℕ, length, get_or, reverse, take, ◌∙◌, ap, subst, arith}
+use Rattle.std.proofs.Common.{length, get_or, reverse, take, ◌∙◌, ap, subst, arith}
 use Rattle.std.proofs.lemmas.List.{take_all}
 use Rattle.std.proofs.lemmas.Result.{IfOk-weaker}
 use Rattle.definitions.specs.Tree.{Tree}

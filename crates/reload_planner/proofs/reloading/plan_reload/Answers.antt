@@ -1,4 +1,4 @@
-use Rattle.std.proofs.Common.{false, ◌∙◌, ap, length, arith, sym, not, ◌≡◌, ℕ}
+use Rattle.std.proofs.Common.{false, ◌∙◌, ap, length, arith, sym, not, ◌≡◌}
 use Rattle.listener_set.specs.AddressList.{has}
 use Rattle.definitions.specs.Tree.{is_fit}
 use Rattle.reload_planner.proofs.Sets.{filter_few, length-below}

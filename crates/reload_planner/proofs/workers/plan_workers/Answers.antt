@@ -1,5 +1,5 @@
-use Rattle.std.proofs.Common.{false, ◌∙◌, ap, length, arith, reverse, not, ◌≡◌, ◌≤◌, ℕ}
-use Rattle.listener_set.specs.Numbers.{lacks, is_in, numbers_below}
+use Rattle.std.proofs.Common.{false, ◌∙◌, ap, length, arith, reverse, not}
+use Rattle.listener_set.specs.Numbers.{lacks, is_in}
 use Rattle.definitions.specs.Tree.{is_fit}
 use Rattle.reload_planner.proofs.Sets.{change_is, filter_few, length-below}
 use Rattle.reload_planner.proofs.Fitness.{change_fit}

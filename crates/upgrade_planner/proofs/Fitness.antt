@@ -1,0 +1,70 @@
+-- The plan of an upgrade can be run: each step has an edge for each reply, and a worker is named only after a short census.
+use Rattle.std.proofs.Common.{ℕ, List, Option, Some, None, reverse, refl}
+use Rattle.listener_set.specs.declared.generation.Generation.{Generation}
+use Rattle.listener_set.specs.Numbers.{numbers_below}
+use Rattle.definitions.specs.Table.{FilePath}
+use Rattle.definitions.specs.Calls.{Call, Census, SpawnMaster}
+use Rattle.vocabulary.specs.declared.plans.Side.TheVariants.{Old, Target}
+use Rattle.vocabulary.specs.declared.plans.PidNote.{PidNote}
+use Rattle.vocabulary.specs.declared.plans.PidNote.TheVariants.{InPlace, AtOldbin, OldbinLeft, Left, NoFile}
+use Rattle.definitions.specs.Record.{oldbin}
+use Rattle.definitions.specs.Tree.{Tree}
+use Rattle.definitions.specs.Plans.{does, settle, tries, tries_all, move_back, move_aside, remove_oldbin, back_alone, back_from, back_late, hand_over, relieve, spawn_edges}
+use Rattle.plan_pieces.proofs.Fitness.{settle_fit, quits_fit, awaits_gone_fit, remove_fit, starts_any_fit}
+use Rattle.plan_pieces.proofs.TriedFitness.{IsFit, move_fit, tries_fit, tries_all_fit}
+use Rattle.upgrade_planner.specs.Trees.{succession}
+
+---- Ways back
+
+move_back_fit : (by : ℕ) (path : Option FilePath) (rest : Tree) → IsFit rest → IsFit (move_back by path rest)
+move_back_fit by None rest h = h
+move_back_fit by (Some path) rest h = move_fit by (oldbin path) path (Some InPlace) (Some AtOldbin) rest h
+
+alone_fit : (by : ℕ) (g : Generation) (ready : List ℕ) (rounds : ℕ) (path : Option FilePath) → IsFit (back_alone by g ready rounds path)
+alone_fit by g ready rounds path = move_back_fit by path (settle by g ready Old rounds) (λ short. settle_fit by g ready Old rounds short)
+
+from_fit : (by new : ℕ) (g : Generation) (ready : List ℕ) (rounds : ℕ) (path : Option FilePath) → IsFit (back_from by new g ready rounds path)
+from_fit by new g ready rounds path short = rw (alone_fit by g ready rounds path short) refl
+
+late_fit : (by new : ℕ) (g : Generation) (ready : List ℕ) (rounds : ℕ) (path : Option FilePath) → IsFit (back_late by new g ready rounds path)
+late_fit by new g ready rounds path short = rw (starts_any_fit by g ready (back_alone by g ready rounds path) short (alone_fit by g ready rounds path short)) refl
+
+---- On
+
+remove_oldbin_fit : (by : ℕ) (path : Option FilePath) (rest : Tree) → IsFit rest → IsFit (remove_oldbin by path rest)
+remove_oldbin_fit by None rest h = h
+remove_oldbin_fit by (Some path) rest h = λ short. remove_fit by (oldbin path) (Some InPlace) (Some OldbinLeft) rest short (h short)
+
+hand_over_fit : (by new : ℕ) (g : Generation) (rounds : ℕ) (path : Option FilePath) (n : ℕ) → IsFit (hand_over by new g rounds path n)
+hand_over_fit by new g rounds path n short = rw (remove_oldbin_fit new path _ (λ s. settle_fit new _ (numbers_below n) Target rounds s) short) refl
+
+relieve_fit : (by new : ℕ) (g : Generation) (ready : List ℕ) (rounds : ℕ) (path : Option FilePath) (n : ℕ) → IsFit (relieve by new g ready rounds path n)
+relieve_fit by new g ready rounds path n short =
+    quits_fit by g (reverse ready) _ short (awaits_gone_fit by g (reverse ready) _ short (rw (hand_over_fit by new g rounds path n short, late_fit by new g ready rounds path short) refl))
+
+---- The whole
+
+spawn_fit : (by image : ℕ) (ok bad : Tree) → IsFit ok → IsFit bad → IsFit (does by (SpawnMaster image) (spawn_edges ok bad))
+spawn_fit by image ok bad h e short = rw (h short, e short) refl
+
+move_aside_fit : (by : ℕ) (path : Option FilePath) (note : PidNote) (ok bad : Tree) → IsFit ok → IsFit bad → IsFit (move_aside by path note ok bad)
+move_aside_fit by None note ok bad h e = h
+move_aside_fit by (Some path) AtOldbin ok bad h e = h
+move_aside_fit by (Some path) InPlace ok bad h e = λ short. rw (h short, e short) refl
+move_aside_fit by (Some path) OldbinLeft ok bad h e = λ short. rw (h short, e short) refl
+move_aside_fit by (Some path) Left ok bad h e = λ short. rw (h short, e short) refl
+move_aside_fit by (Some path) NoFile ok bad h e = λ short. rw (h short, e short) refl
+
+pub succession_fit : (old new : Generation) (ready : List ℕ) (rounds : ℕ) (path : Option FilePath) (note : PidNote) (calls : List Call) (numbers : List ℕ) (n : ℕ) → IsFit (succession old new ready rounds path note calls numbers n)
+succession_fit old new ready rounds path note calls numbers n =
+    let back = back_from old.image new.image old ready rounds path in
+    let relief = relieve old.image new.image old ready rounds path n in
+    let counted = tries new.image (Census new) numbers relief back in
+    let takeover = tries_all new.image calls counted back in
+    let alone = back_alone old.image old ready rounds path in
+    let is_back = from_fit old.image new.image old ready rounds path in
+    let is_counted = tries_fit new.image (Census new) numbers relief back (relieve_fit old.image new.image old ready rounds path n) is_back in
+    let is_takeover = tries_all_fit new.image calls counted back is_counted is_back in
+    move_aside_fit old.image path note (does old.image (SpawnMaster new.image) (spawn_edges takeover alone)) (settle old.image old ready Old rounds)
+    (spawn_fit old.image new.image takeover alone is_takeover (alone_fit old.image old ready rounds path))
+    (λ short. settle_fit old.image old ready Old rounds short)

@@ -1,0 +1,3 @@
+pub mod Takeovers
+pub mod Fitness
+pub mod Upgrades

@@ -1,0 +1,96 @@
+//! The ways back to the old master.
+ghost use Rattle.std.specs.Prelude.{◌≡◌, ◌≤◌, ◌<◌, ◌+◌, ◌*◌, length, IfOk, IsErrOf, OnOk};
+ghost use Rattle.vocabulary.specs.Settings.{HasSuffixRoom};
+ghost use Rattle.vocabulary.specs.declared.plans.Side.TheVariants as side;
+ghost use Rattle.definitions.specs.Plans.{settle, move_back, back_alone, back_from, back_late};
+ghost use Rattle.rollback_plan.specs.declared.draft.DraftRefusal.TheVariants.{TooLarge};
+ghost use Rattle.rollback_plan.specs.declared.draft.TheConstants.{MOST_STEPS};
+ghost use Rattle.rollback_plan.specs.Drafts.{trees_of, tree_at, IsMade, Keeps};
+
+use crate::upgrade::Upgrade;
+use listener_set::FilePath;
+use plan_pieces::{add_move, add_starts_any};
+use rollback_plan::{Draft, DraftRefusal, Place};
+use vocabulary::{Actor, Call, PidNote, Side};
+
+/// The ways back to the old master, which all end in the settle of its side.
+#[derive(Clone, Copy)]
+pub struct WaysBack {
+    /// Nothing was done.
+    pub undone: Place,
+    /// There is no new master: the pid file goes back to its path.
+    pub alone: Place,
+    /// The new master is stopped, and then the pid file goes back.
+    pub stopped: Place,
+    /// The new master is stopped, the old workers, which have gone, are started again, and then the pid file goes back.
+    pub restarted: Place,
+}
+
+/// Adds the move of the pid file from the path with the suffix to its own, before the rest.
+fn add_move_back(
+    draft: &mut Draft,
+    by: Actor,
+    path: Option<FilePath>,
+    rest: Place,
+) -> Result<Place, DraftRefusal>
+    requires rest { rest.0 < length (trees_of draft.old) }
+    requires room { HasSuffixRoom path }
+    ensures made { IfOk result (λ place. IsMade draft.new place (move_back by path (tree_at draft.old rest))) }
+    ensures count { OnOk result (length (trees_of draft.new) ≤ length (trees_of draft.old) + 1) }
+    ensures keeps { Keeps draft.old draft.new }
+    ensures too_large { IsErrOf result TooLarge → MOST_STEPS < length (trees_of draft.old) + 1 }
+{
+    let Some(path) = path else {
+        return Ok(rest);
+    };
+    let (fine, fault) = (Some(PidNote::InPlace), Some(PidNote::AtOldbin));
+    add_move(draft, by, path.oldbin(), path, fine, fault, rest)
+}
+
+/// Adds that the new master is stopped and the old workers are started again, going on after a failure. Without such
+/// workers that is the way back on which the new master is stopped, and nothing is added.
+fn add_restart(
+    draft: &mut Draft,
+    upgrade: &Upgrade<'_>,
+    alone: Place,
+    stopped: Place,
+) -> Result<Place, DraftRefusal>
+    requires alone { IsMade draft.old alone (back_alone upgrade.now.old.generation.image upgrade.now.old.generation upgrade.now.old.numbers upgrade.now.rounds upgrade.now.path) }
+    requires stopped { IsMade draft.old stopped (back_from upgrade.now.old.generation.image upgrade.now.new.generation.image upgrade.now.old.generation upgrade.now.old.numbers upgrade.now.rounds upgrade.now.path) }
+    ensures made { IfOk result (λ place. IsMade draft.new place (back_late upgrade.now.old.generation.image upgrade.now.new.generation.image upgrade.now.old.generation upgrade.now.old.numbers upgrade.now.rounds upgrade.now.path)) }
+    ensures count { OnOk result (length (trees_of draft.new) ≤ length (trees_of draft.old) + (3 * length upgrade.now.old.numbers + 1)) }
+    ensures keeps { Keeps draft.old draft.new }
+    ensures too_large { IsErrOf result TooLarge → MOST_STEPS < length (trees_of draft.old) + (3 * length upgrade.now.old.numbers + 1) }
+{
+    let old = &upgrade.old;
+    if upgrade.leaving.is_empty() {
+        return Ok(stopped);
+    }
+    let starting = add_starts_any(draft, old.master(), old.generation, upgrade.leaving, alone)?;
+    let call = Call::TermMaster(upgrade.new.generation.image);
+    draft.call(old.master(), call, starting)
+}
+
+/// Adds the ways back to the old master.
+pub fn add_ways_back(draft: &mut Draft, upgrade: &Upgrade<'_>) -> Result<WaysBack, DraftRefusal>
+    requires room { HasSuffixRoom upgrade.now.path }
+    ensures undone { IfOk result (λ ways. IsMade draft.new ways.undone (settle upgrade.now.old.generation.image upgrade.now.old.generation upgrade.now.old.numbers side.Old upgrade.now.rounds)) }
+    ensures alone { IfOk result (λ ways. IsMade draft.new ways.alone (back_alone upgrade.now.old.generation.image upgrade.now.old.generation upgrade.now.old.numbers upgrade.now.rounds upgrade.now.path)) }
+    ensures stopped { IfOk result (λ ways. IsMade draft.new ways.stopped (back_from upgrade.now.old.generation.image upgrade.now.new.generation.image upgrade.now.old.generation upgrade.now.old.numbers upgrade.now.rounds upgrade.now.path)) }
+    ensures restarted { IfOk result (λ ways. IsMade draft.new ways.restarted (back_late upgrade.now.old.generation.image upgrade.now.new.generation.image upgrade.now.old.generation upgrade.now.old.numbers upgrade.now.rounds upgrade.now.path)) }
+    ensures count { OnOk result (length (trees_of draft.new) ≤ length (trees_of draft.old) + (4 * upgrade.now.rounds + 3 * length upgrade.now.old.numbers + 4)) }
+    ensures too_large { IsErrOf result TooLarge → MOST_STEPS < length (trees_of draft.old) + (4 * upgrade.now.rounds + 3 * length upgrade.now.old.numbers + 4) }
+{
+    let old = &upgrade.old;
+    let by = old.master();
+    let undone = draft.settle(by, old.generation, &old.numbers, Side::Old, upgrade.rounds)?;
+    let alone = add_move_back(draft, by, upgrade.path, undone)?;
+    let stopped = draft.call(by, Call::TermMaster(upgrade.new.generation.image), alone)?;
+    let restarted = add_restart(draft, upgrade, alone, stopped)?;
+    Ok(WaysBack {
+        undone,
+        alone,
+        stopped,
+        restarted,
+    })
+}

@@ -1,0 +1,12 @@
+//! The plan of an upgrade: a new master takes over the sockets of the old one and starts workers of its own, while the
+//! old one waits and can still go back.
+#![tactic(auto)]
+
+mod backing;
+mod drawing;
+mod planning;
+mod relieving;
+mod taking_over;
+mod upgrade;
+
+pub use planning::plan;

@@ -1,0 +1,117 @@
+//! The plan of an upgrade.
+ghost use Rattle.std.specs.Prelude.{◌≡◌, ◌≤◌, ◌↔◌, Some, None, option_map, length, IfOk, IsErrOf, IsOkUnless};
+ghost use Rattle.vocabulary.specs.declared.targets.Target.TheVariants as target;
+ghost use Rattle.definitions.specs.After as after;
+ghost use Rattle.definitions.specs.Target.{text_handed, upgrade_generation};
+ghost use Rattle.definitions.specs.Plans.{plan_tree};
+ghost use Rattle.rollback_plan.specs.Plans.{tree_of, note_of, text_of, trees_in};
+ghost use Rattle.reload_planner.specs.Planning.{most_steps};
+
+use crate::drawing::add_upgrade;
+use crate::upgrade::{Crew, Upgrade};
+use handover_text::{Handover, write};
+use listener_set::{Generation, Numbers};
+use plan_pieces::listed;
+use reload_planner::PlanRefusal;
+use rollback_plan::{Draft, Plan};
+use service_state::Record;
+use std::alloc::{AllocError, Global};
+use vocabulary::Settings;
+
+/// The generation of an upgrade; none where the number of its image or of its configuration would pass its limit.
+fn next_image(generation: Generation) -> Option<Generation>
+    ensures { result ≡ after.next_image generation }
+{
+    if generation.image == u32::MAX || generation.config == u32::MAX {
+        return None;
+    }
+    Some(Generation {
+        image: generation.image + 1,
+        config: generation.config + 1,
+    })
+}
+
+/// The text that the new master is handed.
+fn handed(
+    alloc: Global,
+    state: &Record,
+    settings: &Settings,
+    generation: Generation,
+) -> Result<Vec<u8>, AllocError>
+    requires { generation ≡ upgrade_generation state.now.generation }
+    ensures { IfOk result (λ text. text.items ≡ text_handed state.now (target.Upgrade settings.now)) }
+{
+    let handover = Handover {
+        old_pid: state.pid,
+        generation,
+        listeners: state.listeners,
+        want: settings.listeners,
+        workers: settings.workers,
+        pid_file: state.pid_path,
+    };
+    write(alloc, &handover)
+}
+
+/// The plan of an upgrade to the next generation.
+fn plan_to(
+    alloc: Global,
+    state: &Record,
+    settings: &Settings,
+    generation: Generation,
+) -> Result<Plan, PlanRefusal>
+    requires { generation ≡ upgrade_generation state.now.generation }
+    ensures tree { IfOk result (λ plan. tree_of plan ≡ plan_tree state.now (target.Upgrade settings.now)) }
+    ensures note { IfOk result (λ plan. note_of plan ≡ state.now.note) }
+    ensures text { IfOk result (λ plan. text_of plan ≡ text_handed state.now (target.Upgrade settings.now)) }
+    ensures few { IfOk result (λ plan. length (trees_in plan) ≤ most_steps state.now (target.Upgrade settings.now)) }
+    ensures memory { IsOkUnless result PlanRefusal.Memory }
+{
+    let leaving = listed(alloc, &state.ready)?;
+    let wanted = Numbers::below(settings.workers);
+    let coming = listed(alloc, &wanted)?;
+    let listening = state.listeners.addresses();
+    let dropped = listening.only_in(&settings.listeners);
+    let added = settings.listeners.only_in(&listening);
+    let upgrade = Upgrade {
+        old: Crew {
+            generation: state.generation,
+            numbers: state.ready,
+        },
+        leaving: &leaving,
+        new: Crew {
+            generation,
+            numbers: wanted,
+        },
+        coming: &coming,
+        workers: settings.workers,
+        rounds: state.retries,
+        path: state.pid_path,
+        note: state.note,
+        dropped: dropped.as_slice(),
+        added: added.as_slice(),
+    };
+    let mut draft = Draft::with_room(alloc, 6 * leaving.len() + 2 * coming.len())?;
+    let first = add_upgrade(&mut draft, &upgrade)?;
+    let text = handed(alloc, state, settings, generation)?;
+    Ok(draft.finish(first, state.note, text)?)
+}
+
+/// Plans an upgrade of a running master to a new executable with these settings: what both masters do, and what they do
+/// instead where a call fails or the new master is gone. The plan's text is what the new master is handed.
+///
+/// `NoGeneration` (P3) exactly where the number of the image or of the configuration is 4,294,967,295; it is found
+/// before any memory is asked for. No plan is too large: its steps are bounded as those of the other targets are.
+pub fn plan(alloc: Global, state: &Record, settings: &Settings) -> Result<Plan, PlanRefusal>
+    ensures tree { IfOk result (λ plan. option_map (λ g. plan_tree state.now (target.Upgrade settings.now)) (after.next_image state.now.generation) ≡ Some (tree_of plan)) }
+    ensures note { IfOk result (λ plan. note_of plan ≡ state.now.note) }
+    ensures text { IfOk result (λ plan. text_of plan ≡ text_handed state.now (target.Upgrade settings.now)) }
+    ensures few { IfOk result (λ plan. length (trees_in plan) ≤ most_steps state.now (target.Upgrade settings.now)) }
+    ensures numbered { IsErrOf result PlanRefusal.NoGeneration ↔ (after.next_image state.now.generation ≡ None) }
+    ensures not_large { IsErrOf result PlanRefusal.TooLarge → ⊥ }
+    ensures planned_here { IsErrOf result PlanRefusal.Unplanned → ⊥ }
+{
+    match next_image(state.generation) {
+        None => Err(PlanRefusal::NoGeneration),
+        Some(generation) => plan_to(alloc, state, settings, generation),
+    }
+}

@@ -1,0 +1,50 @@
+//! What an upgrade changes.
+ghost use Rattle.std.specs.Prelude.{◌≡◌};
+ghost use Rattle.listener_set.specs.Numbers.{numbers_below};
+ghost use Rattle.definitions.specs.Target.{upgrade_generation};
+
+use listener_set::{Address, FilePath, Generation, Numbers};
+use vocabulary::{Actor, PidNote};
+
+/// A master with its workers.
+#[derive(Clone, Copy)]
+pub struct Crew {
+    /// What its workers run; the image is the master's own.
+    pub generation: Generation,
+    /// The numbers of its workers.
+    pub numbers: Numbers,
+}
+
+impl Crew {
+    /// The master.
+    pub fn master(&self) -> Actor
+        ensures { result ≡ self.now.generation.image }
+    {
+        Actor(self.generation.image)
+    }
+}
+
+/// What an upgrade changes.
+#[derive(Clone, Copy)]
+pub struct Upgrade<'a> {
+    /// The old master with its ready workers, and their numbers upwards.
+    pub old: Crew,
+    pub leaving: &'a [u32],
+    /// The new master with the workers that are wanted of it, and their numbers upwards.
+    pub new: Crew,
+    pub coming: &'a [u32],
+    /// How many workers are wanted.
+    pub workers: u32,
+    /// How many rounds of starts a settle makes before it gives up, from 0 to 8.
+    pub rounds: u32,
+    /// The pid file, a path of at most 100 bytes, and where it stands.
+    pub path: Option<FilePath>,
+    pub note: PidNote,
+    /// The addresses that are listened on no more, and those that are listened on anew.
+    pub dropped: &'a [Address],
+    pub added: &'a [Address],
+    ghost leave: { leaving.now ≡ old.numbers },
+    ghost come: { coming.now ≡ new.numbers },
+    ghost wanted: { new.numbers ≡ numbers_below workers },
+    ghost next: { new.generation ≡ upgrade_generation old.generation },
+}
