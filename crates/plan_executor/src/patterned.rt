@@ -5,14 +5,12 @@ use kernel_model::{Kernel, Pattern};
 use plan_runner::{CallLog, Calls};
 use vocabulary::{Actor, Answer, Call, Entry};
 
-/// A plan of one master hands nothing over.
-const NO_TEXT: &[u8] = &[];
-
-/// A kernel whose calls come with the moments of a pattern, the first with moment 1.
+/// A kernel whose calls come with the moments of a pattern, the first with moment 1, and are each handed a text.
 #[derive(Drop)]
 pub(crate) struct Patterned<'a> {
     kernel: Kernel,
     pattern: &'a Pattern,
+    text: &'a [u8],
     made: CallLog,
     number: u32,
     ghost enough: { made.room ≤ kernel.room },
@@ -21,16 +19,23 @@ pub(crate) struct Patterned<'a> {
 
 impl<'a> Patterned<'a> {
     /// A kernel before the first moment of a pattern, with a log to keep its calls in.
-    pub(crate) fn new(kernel: Kernel, pattern: &'a Pattern, made: CallLog) -> Patterned<'a>
+    pub(crate) fn new(
+        kernel: Kernel,
+        pattern: &'a Pattern,
+        text: &'a [u8],
+        made: CallLog,
+    ) -> Patterned<'a>
         requires { made.room ≤ kernel.room }
         ensures kernel { result.kernel ≡ kernel }
         ensures pattern { result.pattern.now ≡ pattern.now }
+        ensures text { result.text.now ≡ text.now }
         ensures made { result.made ≡ made }
         ensures number { result.number ≡ 0 }
     {
         Patterned {
             kernel,
             pattern,
+            text,
             made,
             number: 0,
         }
@@ -43,6 +48,7 @@ impl<'a> Patterned<'a> {
         let Patterned {
             kernel,
             pattern: _,
+            text: _,
             made: _,
             number: _,
         } = self;
@@ -69,7 +75,7 @@ impl Calls for Patterned<'_> {
         self.number += 1;
         let pattern = self.pattern;
         let moment = pattern.moment(self.number);
-        let answer = self.kernel.call(by, call, NO_TEXT, &moment);
+        let answer = self.kernel.call(by, call, self.text, &moment);
         let entry = Entry {
             by,
             call: *call,
