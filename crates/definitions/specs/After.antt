@@ -1,10 +1,10 @@
 -- What a master's record becomes once a plan has ended.
-use Rattle.std.specs.Prelude.{ℕ, ◌+◌, ◌==◌, nat_lt, nat_le, Bool, true, false, ◌&&◌, not, List, [], ◌∷◌, Option, Some, None, is_none, option_map, filter, bytes_eq, length, if◌then◌else◌}
+use Rattle.std.specs.Prelude.{ℕ, ◌+◌, ◌==◌, nat_lt, nat_le, Bool, true, false, ◌&&◌, not, List, [], ◌∷◌, Option, Some, None, is_none, option_map, option_and_then, filter, bytes_eq, length, if◌then◌else◌}
 use Rattle.std.specs.List.{list_any}
 use Rattle.listener_set.specs.AddressList.{has}
 use Rattle.listener_set.specs.Numbers.{first_from}
 use Rattle.vocabulary.specs.Settings.{Settings}
-use Rattle.definitions.specs.Table.{Address, FilePath, Generation}
+use Rattle.definitions.specs.Table.{Address, FilePath, Generation, Table, Caller, live_master}
 use Rattle.definitions.specs.Tree.{Old, Target as TargetSide}
 use Rattle.definitions.specs.Record.{Listener, Record}
 use Rattle.definitions.specs.Path.{Report, Outcome}
@@ -36,20 +36,20 @@ abbrev pub added : List Address → List Listener → List Address
 added addresses ls = filter (λ a. not (listens_on ls a)) addresses
 
 -- the listeners whose addresses a list has; the others are closed
-abbrev pub kept : List Address → List Listener → List Listener
-kept addresses ls = filter (λ (l : Listener). has addresses l.address) ls
+abbrev pub still_wanted : List Address → List Listener → List Listener
+still_wanted addresses ls = filter (λ (l : Listener). has addresses l.address) ls
 
--- what is added, opened
-abbrev pub opened : List Address → List Listener → Option (List Listener)
-opened addresses ls = all_opened (added addresses ls) ls
+-- with what is added
+abbrev pub with_added : List Address → List Listener → Option (List Listener)
+with_added addresses ls = all_opened (added addresses ls) ls
 
 -- A reload opens what is added, and closes what is dropped at its end.
 abbrev pub reloaded : List Address → List Listener → Option (List Listener)
-reloaded addresses ls = option_map (kept addresses) (opened addresses ls)
+reloaded addresses ls = option_map (still_wanted addresses) (with_added addresses ls)
 
 -- The new master of an upgrade closes what is dropped, and then opens what is added.
 abbrev pub upgraded : List Address → List Listener → Option (List Listener)
-upgraded addresses ls = opened addresses (kept addresses ls)
+upgraded addresses ls = with_added addresses (still_wanted addresses ls)
 
 ---- What a service stands on
 
@@ -79,6 +79,15 @@ next_config g = numbered (Some g.image) (next_number g.config)
 -- the generation of an upgrade
 abbrev pub next_image : Generation → Option Generation
 next_image g = numbered (next_number g.image) (next_number g.config)
+
+-- a reload or an upgrade that has no generation, since a number would pass its limit
+abbrev pub lacks_generation : Record → Target → Bool
+lacks_generation r (target.Workers n) = false
+lacks_generation r (target.Mend overdue) = false
+lacks_generation r target.Reopen = false
+lacks_generation r (target.Reload s) = is_none (next_config r.generation)
+lacks_generation r (target.Upgrade s) = is_none (next_image r.generation)
+lacks_generation r (target.Stop quick) = false
 
 -- the service of new settings
 abbrev pub renewed : Settings → Option (List Listener) → Option Generation → Option Setup
@@ -145,3 +154,19 @@ record_from (Some s) path report pid = record_if (keeps_rules (recorded s path r
 -- after a stop or where the run was lost, nor where the result would break the rules of a record.
 abbrev pub record_after : Record → Target → Report → ℕ → Option Record
 record_after r t report pid = record_from (setup_after report.outcome r t) r.pid_path report pid
+
+---- Who reigns then
+
+-- the process number of the live master of a service's image
+abbrev pub master_of : Option Setup → Table → Option ℕ
+master_of None t = None
+master_of (Some s) t = option_map (λ (c : Caller). c.number) (live_master s.generation.image t.rows)
+
+-- The process number of the master that reigns in a table after an outcome: the live master of the image of the service that
+-- the outcome names.
+abbrev pub reigning : Record → Target → Outcome → Table → Option ℕ
+reigning r t outcome table = master_of (setup_after outcome r t) table
+
+-- The record that a report leaves to the master that reigns in the last table.
+abbrev pub next_record : Record → Target → Report → Table → Option Record
+next_record r t report last = option_and_then (record_after r t report) (reigning r t report.outcome last)

@@ -26,8 +26,8 @@ abbrev pub each_row : (Process → Option Process) → Table → Table
 each_row f t = with_rows t (filter_map f t.rows)
 
 -- a row that passes the test leaves
-abbrev pub dropped : (Process → Bool) → Process → Option Process
-dropped test p = if test p then None else Some p
+abbrev pub drop_where : (Process → Bool) → Process → Option Process
+drop_where test p = if test p then None else Some p
 
 ---- OpenAt
 
@@ -56,13 +56,7 @@ is_row caller (Worker n q g k s hs) = false
 is_row caller (Foreign n hs) = false
 
 abbrev pub with_new_socket : Table → ℕ → Hold → Table
-with_new_socket t caller h = record {
-  rows = filter_map (change (is_row caller) (with_holds (put_hold h))) t.rows;
-  files = t.files;
-  next_process = t.next_process;
-  next_socket = t.next_socket + 1;
-  limits = t.limits;
-}
+with_new_socket t caller h = record t { rows = filter_map (change (is_row caller) (with_holds (put_hold h))) t.rows; next_socket = t.next_socket + 1 }
 
 -- A new socket of the address, unless somebody holds the address or the caller has as many descriptors as it may.
 abbrev pub opened : Caller → Address → Table → Stepped
@@ -93,13 +87,7 @@ abbrev pub has_process_room : Table → Bool
 has_process_room t = nat_lt (count_by is_own t.rows) t.limits.processes
 
 abbrev pub with_new_row : Table → (ℕ → Process) → Table
-with_new_row t row = record {
-  rows = t.rows ++ row t.next_process ∷ [];
-  files = t.files;
-  next_process = t.next_process + 1;
-  next_socket = t.next_socket;
-  limits = t.limits;
-}
+with_new_row t row = record t { rows = t.rows ++ row t.next_process ∷ []; next_process = t.next_process + 1 }
 
 -- A new Starting worker with the caller's holds, unless an active worker of the caller bears the name or the process limit is reached.
 abbrev pub forked : Caller → Generation → ℕ → Table → Stepped
@@ -120,7 +108,7 @@ abbrev pub awaited : Caller → Generation → ℕ → Table → Stepped
 awaited c g k t =
     if list_any (is_worker is_active c.number g k) t.rows
     then gives answer.IsReady (each_row (change (is_worker is_starting c.number g k) made_ready) t)
-    else gives answer.Gone (each_row (dropped (is_worker is_exited c.number g k)) t)
+    else gives answer.Gone (each_row (drop_where (is_worker is_exited c.number g k)) t)
 
 ---- Quit and Kill
 
@@ -135,7 +123,7 @@ quitted c g k t = gives answer.Fine (each_row (change (is_worker is_active c.num
 
 -- All workers of the name leave, in any stance.
 abbrev pub killed : Caller → Generation → ℕ → Table → Stepped
-killed c g k t = gives answer.Fine (each_row (dropped (is_worker is_any c.number g k)) t)
+killed c g k t = gives answer.Fine (each_row (drop_where (is_worker is_any c.number g k)) t)
 
 ---- Census
 
@@ -154,15 +142,15 @@ is_exited_of caller (Foreign n hs) = false
 
 -- The numbers of the caller's Ready workers; its Exited ones of every generation leave.
 abbrev pub counted : Caller → Generation → Table → Stepped
-counted c g t = gives (answer.Counted (census_of c.number g t.rows)) (each_row (dropped (is_exited_of c.number)) t)
+counted c g t = gives (answer.Counted (census_of c.number g t.rows)) (each_row (drop_where (is_exited_of c.number)) t)
 
 ---- AwaitGone
 
 -- Late while an active worker bears the name; else all of the name leave, and it is gone.
-abbrev pub ended : Caller → Generation → ℕ → Table → Stepped
-ended c g k t =
+abbrev pub awaited_gone : Caller → Generation → ℕ → Table → Stepped
+awaited_gone c g k t =
     if list_any (is_worker is_active c.number g k) t.rows then gives answer.Late t
-    else gives answer.Gone (each_row (dropped (is_worker is_any c.number g k)) t)
+    else gives answer.Gone (each_row (drop_where (is_worker is_any c.number g k)) t)
 
 ---- SpawnMaster, Alive and TermMaster
 
@@ -182,7 +170,7 @@ spawned c image t =
 -- Where no live master is of the image, an exited one leaves.
 abbrev pub asked_alive : Option Caller → ℕ → Table → Stepped
 asked_alive (Some c) image t = gives answer.IsAlive t
-asked_alive None image t = gives answer.Gone (each_row (dropped (is_image image)) t)
+asked_alive None image t = gives answer.Gone (each_row (drop_where (is_image image)) t)
 
 -- a master of the image with the number
 abbrev pub is_image_row : ℕ → ℕ → Process → Bool
@@ -198,7 +186,7 @@ is_of_image image rows (Foreign n hs) = false
 
 -- The master of the image leaves, live or exited, and its workers do.
 abbrev pub terminated : ℕ → Table → Stepped
-terminated image t = gives answer.Fine (each_row (dropped (is_of_image image t.rows)) t)
+terminated image t = gives answer.Fine (each_row (drop_where (is_of_image image t.rows)) t)
 
 ---- Adopt
 
@@ -220,7 +208,7 @@ adopted text image c t = if suits (reading text) image c.holds then gives answer
 ---- Files
 
 abbrev pub with_files : List File → Table → Table
-with_files files t = record { rows = t.rows; files = files; next_process = t.next_process; next_socket = t.next_socket; limits = t.limits }
+with_files files t = record t { files = files }
 
 -- a file's number in its place, or a file more
 abbrev pub with_file : FilePath → ℕ → List File → List File
@@ -255,8 +243,8 @@ without_master m (Worker n q g k s hs) = if q == m then None else Some (Worker n
 without_master m (Foreign n hs) = Some (Foreign n hs)
 
 -- The caller leaves, with its workers.
-abbrev pub left : Caller → Table → Stepped
-left c t = gives answer.Fine (each_row (without_master c.number) t)
+abbrev pub departed : Caller → Table → Stepped
+departed c t = gives answer.Fine (each_row (without_master c.number) t)
 
 ---- The order in a call
 
@@ -269,14 +257,14 @@ own_step text image c (AwaitReady g k) t = awaited c g k t
 own_step text image c (Quit g k) t = quitted c g k t
 own_step text image c (Kill g k) t = killed c g k t
 own_step text image c (Census g) t = counted c g t
-own_step text image c (AwaitGone g k) t = ended c g k t
+own_step text image c (AwaitGone g k) t = awaited_gone c g k t
 own_step text image c (SpawnMaster i) t = spawned c i t
 own_step text image c Adopt t = adopted text image c t
 own_step text image c (WritePid path) t = written c path t
 own_step text image c (MovePid from to) t = moved from to t
 own_step text image c (RemovePid path) t = unlinked path t
 own_step text image c (Alive i) t = asked_alive (live_master i t.rows) i t
-own_step text image c Leave t = left c t
+own_step text image c Leave t = departed c t
 own_step text image c (Usr1 g k) t = gives answer.Fine t
 own_step text image c (TermMaster i) t = terminated i t
 
@@ -319,7 +307,3 @@ step_by text image (Some c) call f t = fault_or_own (fault_at c call f t) text i
 -- without effect; then the call's own answer.
 abbrev pub step_with : List ℕ → ℕ → Call → Option Fate → Table → Stepped
 step_with text image call f t = step_by text image (live_master image t.rows) call f t
-
--- A call that is handed no text.
-abbrev pub step : ℕ → Call → Option Fate → Table → Stepped
-step image call f t = step_with [] image call f t

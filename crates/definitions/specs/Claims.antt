@@ -1,5 +1,5 @@
 -- What the run of a plan keeps, and how it ends.
-use Rattle.std.specs.Prelude.{map, ℕ, ◌≡◌, ◌≤◌, ◌+◌, min, Bool, true, false, ◌&&◌, ◌||◌, ◌==◌, nat_le, ◌++◌, List, [], if◌then◌else◌, ◌∷◌, length, Option, Some, None, is_some, count_by, bytes_eq, ⊤}
+use Rattle.std.specs.Prelude.{map, ℕ, ◌≡◌, ◌≤◌, ◌+◌, min, Bool, true, false, ◌&&◌, ◌||◌, ◌==◌, ◌++◌, List, [], if◌then◌else◌, ◌∷◌, length, Option, Some, None, is_some, count_by, bytes_eq, ⊤}
 use Rattle.std.specs.List.{list_any, AllByRecursion}
 use Rattle.listener_set.specs.Numbers.{IsRising, RisesFrom, is_in}
 use Rattle.listener_set.specs.AddressList.{has}
@@ -10,17 +10,17 @@ use Rattle.definitions.specs.Formed.{IsFormed}
 use Rattle.definitions.specs.Service.{Service, is_live_with, service, IsSame}
 use Rattle.definitions.specs.Record.{Listener, Record, IsRecord, Agrees, PidNote, InPlace, AtOldbin, OldbinLeft, Left, NoFile, oldbin}
 use Rattle.definitions.specs.Target.{Target, Workers, Mend, Reopen, Reload, Upgrade, Stop, want, count_wanted, upgrade_generation, text_handed}
-use Rattle.definitions.specs.Tree.{Order, Make, ForkLacking, AwaitLacking, KillLacking, Reply, among, reply_of, Tree, Branches, Ends, Does, Nothing, Branch, height}
+use Rattle.definitions.specs.Tree.{Tree, height}
 use Rattle.definitions.specs.Plans.{plan_tree}
 use Rattle.definitions.specs.Path.{Report, Outcome, Entry}
 use Rattle.vocabulary.specs.declared.reports.Outcome.TheVariants as outcome
 use Rattle.vocabulary.specs.declared.plans.Side.TheVariants as side
-use Rattle.definitions.specs.After.{record_after, next_config, next_image}
+use Rattle.definitions.specs.After.{next_record, next_config, next_image}
 use Rattle.definitions.specs.Manner.{Manner, is_leave_call}
 use Rattle.vocabulary.specs.Settings.{Settings, IsInRange}
 use Rattle.definitions.specs.Calls.{Call, Answer, RemovePid}
 use Rattle.vocabulary.specs.declared.calls.Answer.TheVariants as answer
-use Rattle.definitions.specs.Run.{report_of, run_with, Pattern, Progress, start_at, after_moment, after_call, noted, answered, Ran}
+use Rattle.definitions.specs.Run.{report_of, run_with, Pattern, Progress, start_at, Ran}
 
 ---- Where a run starts
 
@@ -40,44 +40,19 @@ names_any images (name.Master i ∷ es) = is_in images i || names_any images es
 names_any images (name.Worker g k ∷ es) = names_any images es
 names_any images (name.Draining g k ∷ es) = names_any images es
 
-abbrev pub is_leave : Order → Bool
-is_leave (Make call) = is_leave_call call
-is_leave (ForkLacking g) = false
-is_leave (AwaitLacking g) = false
-is_leave (KillLacking g) = false
+-- The executing masters, at a call and after it: those who leave are executing up to and at their Leave, and their heirs from it on.
+abbrev pub executing_at : Call → List ℕ → List ℕ → List ℕ
+executing_at call executing heirs = if is_leave_call call then executing ++ heirs else executing
 
--- The executing masters, at a step and after it: those who leave are executing up to and at their Leave, and their heirs from it on.
-abbrev pub executing_at : Order → List ℕ → List ℕ → List ℕ
-executing_at order executing heirs = if is_leave order then executing ++ heirs else executing
+abbrev pub executing_after : Call → List ℕ → List ℕ → List ℕ
+executing_after call executing heirs = if is_leave_call call then heirs else executing
 
-abbrev pub executing_after : Order → List ℕ → List ℕ → List ℕ
-executing_after order executing heirs = if is_leave order then heirs else executing
-
--- The first moment of the run in which an executing master exits: a pattern with such a moment is refused, with its number.
--- Moments after the run's end aren't looked at.
-abbrev mutual
-  pub refused_from : List ℕ → List ℕ → List ℕ → Tree → Pattern → Progress → Option ℕ
-  refused_from text executing heirs (Ends end) pattern p = None
-  refused_from text executing heirs (Does by order set branches) pattern p =
-      let moment = pattern (p.calls + 1) in
-      let middle = after_moment moment.exits p in
-      let s = answered text by order moment.fate middle in
-      elim (names_any (executing_at order executing heirs) moment.exits) as (λ b. Option ℕ) [
-        | true ↦ Some (p.calls + 1)
-        | false ↦ refused_behind text (executing_after order executing heirs) heirs branches (reply_of set s.answer) pattern (after_call order set s middle)
-      ]
-
-  pub refused_behind : List ℕ → List ℕ → List ℕ → Branches → Reply → Pattern → Progress → Option ℕ
-  refused_behind text executing heirs Nothing r pattern p = None
-  refused_behind text executing heirs (Branch replies said rest more) r pattern p =
-      elim (among replies r) as (λ b. Option ℕ) [
-        | true ↦ refused_from text executing heirs rest pattern (noted said p)
-        | false ↦ refused_behind text executing heirs more r pattern p
-      ]
-
--- The same for a plan of one master, which hands nothing over.
-abbrev pub refused_moment : ℕ → Tree → Pattern → Progress → Option ℕ
-refused_moment image tree pattern p = refused_from [] (image ∷ []) [] tree pattern p
+-- The first moment, of those of these calls after the n-th, in which an executing master exits.
+abbrev pub refused_among : List ℕ → List ℕ → Pattern → ℕ → List Entry → Option ℕ
+refused_among executing heirs pattern n [] = None
+refused_among executing heirs pattern n (e ∷ entries) =
+    if names_any (executing_at e.call executing heirs) (pattern (n + 1)).exits then Some (n + 1)
+    else refused_among (executing_after e.call executing heirs) heirs pattern (n + 1) entries
 
 -- An upgrade's new master takes over.
 abbrev pub heirs_of : Record → Target → List ℕ
@@ -88,16 +63,14 @@ heirs_of r Reopen = []
 heirs_of r (Reload s) = []
 heirs_of r (Stop quick) = []
 
--- The run of a target's plan, and the moment of it that is refused.
+-- The run of a target's plan.
 abbrev pub run_of : Record → Target → Pattern → Table → Ran
 run_of r target pattern t = run_with (text_handed r target) (plan_tree r target) pattern (start_at t r.note)
 
+-- The first moment of the run in which an executing master exits: a pattern with such a moment is refused, with its number.
+-- Moments after the run's end aren't looked at.
 abbrev pub refusal_of : Record → Target → Pattern → Table → Option ℕ
-refusal_of r target pattern t = refused_from (text_handed r target) (r.generation.image ∷ []) (heirs_of r target) (plan_tree r target) pattern (start_at t r.note)
-
--- Process and socket numbers end at 4,294,967,295: whether as many of each are left as the plan's longest path has steps.
-abbrev pub has_numbers_for : Tree → Table → Bool
-has_numbers_for plan t = nat_le (t.next_process + height plan) 4294967296 && nat_le (t.next_socket + height plan) 4294967296
+refusal_of r target pattern t = refused_among (r.generation.image ∷ []) (heirs_of r target) pattern 0 (run_of r target pattern t).entries
 
 ---- How it ends
 
@@ -122,12 +95,14 @@ Says (outcome.Degraded side.Old short) old target t = (1 ≤ short) × IsFewer s
 Says (outcome.Degraded side.Target short) old target t = (1 ≤ short) × IsFewer short target (service t)
 Says outcome.Lost old target t = ⊥
 
--- The record that the report leaves agrees with the last table, and its values are in range. Its note says what the files are.
-pub record AgreesAfter (r : Record) (target : Target) (report : Report) (pid : ℕ) (t : Table) : Type 0 where
+-- The record that the report leaves to the master that reigns agrees with the last table, and its values are in range. Its note
+-- says what the files are. A master of the old image is the old master.
+pub record AgreesAfter (r : Record) (target : Target) (report : Report) (t : Table) : Type 0 where
   pub record_then : Record
-  pub is : record_after r target report pid ≡ Some record_then
+  pub is : next_record r target report t ≡ Some record_then
   pub agrees : Agrees t record_then
   pub record_in_range : IsRecord record_then
+  pub same_master : record_then.generation.image ≡ r.generation.image → record_then.pid ≡ r.pid
 
 -- the removal of the file at one of the paths failed
 abbrev pub is_failed_removal : List FilePath → Call → Answer → Bool
@@ -156,15 +131,15 @@ StopNote InPlace path ran = ⊥
 StopNote AtOldbin path ran = ⊥
 StopNote OldbinLeft path ran = ⊥
 
--- After a stop there is no record, and no master and no worker.
-abbrev pub IsLeft : Record → Target → ℕ → Ran → Type 0
-IsLeft r (Workers n) pid ran = AgreesAfter r (Workers n) (report_of ran) pid ran.last.table
-IsLeft r (Mend overdue) pid ran = AgreesAfter r (Mend overdue) (report_of ran) pid ran.last.table
-IsLeft r Reopen pid ran = AgreesAfter r Reopen (report_of ran) pid ran.last.table
-IsLeft r (Reload s) pid ran = AgreesAfter r (Reload s) (report_of ran) pid ran.last.table
-IsLeft r (Upgrade s) pid ran = AgreesAfter r (Upgrade s) (report_of ran) pid ran.last.table
-IsLeft r (Stop quick) pid ran =
-    (record_after r (Stop quick) (report_of ran) pid ≡ None) × (list_any is_own ran.last.table.rows ≡ false) × StopNote ran.last.note r.pid_path ran
+-- What a run leaves: after a stop there is no record, and no master and no worker.
+abbrev pub IsSucceeded : Record → Target → Ran → Type 0
+IsSucceeded r (Workers n) ran = AgreesAfter r (Workers n) (report_of ran) ran.last.table
+IsSucceeded r (Mend overdue) ran = AgreesAfter r (Mend overdue) (report_of ran) ran.last.table
+IsSucceeded r Reopen ran = AgreesAfter r Reopen (report_of ran) ran.last.table
+IsSucceeded r (Reload s) ran = AgreesAfter r (Reload s) (report_of ran) ran.last.table
+IsSucceeded r (Upgrade s) ran = AgreesAfter r (Upgrade s) (report_of ran) ran.last.table
+IsSucceeded r (Stop quick) ran =
+    (next_record r (Stop quick) (report_of ran) ran.last.table ≡ None) × (list_any is_own ran.last.table.rows ≡ false) × StopNote ran.last.note r.pid_path ran
 
 ---- What is kept throughout
 
@@ -217,11 +192,10 @@ IsPaid retries outcome.Lost p = ⊥
 
 ---- The headline
 
--- The run of a target's plan ends as its report says, and keeps what it has to; `pid` is the process number of the master that
--- reigns then.
-pub record Keeps (t : Table) (r : Record) (target : Target) (pid : ℕ) (ran : Ran) : Type 0 where
+-- The run of a target's plan ends as its report says, and keeps what it has to.
+pub record EndsAsReported (t : Table) (r : Record) (target : Target) (ran : Ran) : Type 0 where
   pub says : Says (report_of ran).outcome (service t) (want r target) ran.last.table
-  pub after : IsLeft r target pid ran
+  pub after : IsSucceeded r target ran
   pub kept : AllByRecursion (λ p. Kept (service t) (want r target) t p.table) ran.passed
   pub blamed : AllByRecursion IsBlamed ran.passed
   pub cause : HasCause (report_of ran).outcome ran.last.cause
@@ -253,15 +227,15 @@ pub record IsAccepted (t : Table) (r : Record) (target : Target) (pattern : Patt
 abbrev pub WorkersHeadline : Type 0
 WorkersHeadline =
     (t : Table) (r : Record) (n : ℕ) (pattern : Pattern) → IsAccepted t r (Workers n) pattern →
-    Keeps t r (Workers n) r.pid (run_of r (Workers n) pattern t) × KeepsFloor t r (Workers n) (run_of r (Workers n) pattern t)
+    EndsAsReported t r (Workers n) (run_of r (Workers n) pattern t) × KeepsFloor t r (Workers n) (run_of r (Workers n) pattern t)
 
 abbrev pub MendHeadline : Type 0
 MendHeadline =
     (t : Table) (r : Record) (overdue : List ℕ) (pattern : Pattern) → IsAccepted t r (Mend overdue) pattern →
-    Keeps t r (Mend overdue) r.pid (run_of r (Mend overdue) pattern t)
+    EndsAsReported t r (Mend overdue) (run_of r (Mend overdue) pattern t)
 
 abbrev pub ReopenHeadline : Type 0
-ReopenHeadline = (t : Table) (r : Record) (pattern : Pattern) → IsAccepted t r Reopen pattern → Keeps t r Reopen r.pid (run_of r Reopen pattern t)
+ReopenHeadline = (t : Table) (r : Record) (pattern : Pattern) → IsAccepted t r Reopen pattern → EndsAsReported t r Reopen (run_of r Reopen pattern t)
 
 -- And keeps the floor: it touches no worker, and starts what is lacking.
 abbrev pub ReopenFloor : Type 0
@@ -270,17 +244,16 @@ ReopenFloor = (t : Table) (r : Record) (pattern : Pattern) → IsAccepted t r Re
 abbrev pub ReloadHeadline : Type 0
 ReloadHeadline =
     (t : Table) (r : Record) (s : Settings) (pattern : Pattern) → IsAccepted t r (Reload s) pattern →
-    Keeps t r (Reload s) r.pid (run_of r (Reload s) pattern t) × KeepsFloor t r (Reload s) (run_of r (Reload s) pattern t)
+    EndsAsReported t r (Reload s) (run_of r (Reload s) pattern t) × KeepsFloor t r (Reload s) (run_of r (Reload s) pattern t)
 
 abbrev pub StopHeadline : Type 0
 StopHeadline =
-    (t : Table) (r : Record) (quick : Bool) (pattern : Pattern) → IsAccepted t r (Stop quick) pattern → Keeps t r (Stop quick) r.pid (run_of r (Stop quick) pattern t)
+    (t : Table) (r : Record) (quick : Bool) (pattern : Pattern) → IsAccepted t r (Stop quick) pattern → EndsAsReported t r (Stop quick) (run_of r (Stop quick) pattern t)
 
--- The master that reigns at the end is the old one or the new one.
 abbrev pub UpgradeHeadline : Type 0
 UpgradeHeadline =
     (t : Table) (r : Record) (s : Settings) (pattern : Pattern) → IsAccepted t r (Upgrade s) pattern →
-    (pid : ℕ) × Keeps t r (Upgrade s) pid (run_of r (Upgrade s) pattern t) × KeepsFloor t r (Upgrade s) (run_of r (Upgrade s) pattern t)
+    EndsAsReported t r (Upgrade s) (run_of r (Upgrade s) pattern t) × KeepsFloor t r (Upgrade s) (run_of r (Upgrade s) pattern t)
 
 -- And its run has the target's manner.
 abbrev pub InManner : Target → Type 0

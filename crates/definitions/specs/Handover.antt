@@ -62,16 +62,16 @@ is_address text = passes (check text)
 
 ---- Reading line by line
 
--- Which lines can come next.
-pub data Place : Type 0 where
-  AtVersion AtOldPid AtGeneration AtFirstListener AtListeners AtWants AtPidFile AtEnd Over : Place
+-- How far a reading has come: which lines can come next.
+pub data Reached : Type 0 where
+  AtVersion AtOldPid AtGeneration AtFirstListener AtListeners AtWants AtPidFile AtEnd Over : Reached
 
 -- what was read so far
 abbrev pub nothing_read : Handover
 nothing_read = record { old_pid = 0; generation = record { image = 0; config = 0 }; listeners = []; want = []; workers = 0; pid_file = None }
 
 abbrev pub Read : Type 0
-Read = Result (Place × Handover) HandoverRefusal
+Read = Result (Reached × Handover) HandoverRefusal
 
 abbrev pub read_version : Handover → List ℕ → Read
 read_version h line = if bytes_eq line (codes "handover 1") then Ok (AtOldPid, h) else Err refusal.Version
@@ -79,11 +79,11 @@ read_version h line = if bytes_eq line (codes "handover 1") then Ok (AtOldPid, h
 abbrev pub with_old_pid : ℕ → Handover → Option ℕ → Read
 with_old_pid n h None = Err (refusal.Line n)
 with_old_pid n h (Some pid) =
-    Ok (AtGeneration, record { old_pid = pid; generation = h.generation; listeners = h.listeners; want = h.want; workers = h.workers; pid_file = h.pid_file })
+    Ok (AtGeneration, record h { old_pid = pid })
 
 abbrev pub with_generation : ℕ → Handover → Option ℕ → Option ℕ → Read
 with_generation n h (Some i) (Some c) =
-    Ok (AtFirstListener, record { old_pid = h.old_pid; generation = record { image = i; config = c }; listeners = h.listeners; want = h.want; workers = h.workers; pid_file = h.pid_file })
+    Ok (AtFirstListener, record h { generation = record { image = i; config = c } })
 with_generation n h None _ = Err (refusal.Line n)
 with_generation n h (Some i) None = Err (refusal.Line n)
 
@@ -105,24 +105,24 @@ with_listener n h None = Err (refusal.Line n)
 with_listener n h (Some l) =
     if not (is_above l.descriptor h.listeners) then Err (refusal.OutOfOrder n)
     else if list_any (λ x. bytes_eq x.address l.address) h.listeners then Err (refusal.Line n)
-    else Ok (AtListeners, record { old_pid = h.old_pid; generation = h.generation; listeners = h.listeners ++ l ∷ []; want = h.want; workers = h.workers; pid_file = h.pid_file })
+    else Ok (AtListeners, record h { listeners = h.listeners ++ l ∷ [] })
 
 -- A new address, the 64th at most.
 abbrev pub with_want : ℕ → Handover → List ℕ → Read
 with_want n h a =
     if is_address a && (not (list_any (λ b. bytes_eq b a) h.want) && nat_lt (length h.want) 64)
-    then Ok (AtWants, record { old_pid = h.old_pid; generation = h.generation; listeners = h.listeners; want = h.want ++ a ∷ []; workers = h.workers; pid_file = h.pid_file })
+    then Ok (AtWants, record h { want = h.want ++ a ∷ [] })
     else Err (refusal.Line n)
 
 abbrev pub with_workers : ℕ → Handover → Option ℕ → Read
 with_workers n h None = Err (refusal.Line n)
 with_workers n h (Some workers) =
-    Ok (AtPidFile, record { old_pid = h.old_pid; generation = h.generation; listeners = h.listeners; want = h.want; workers = workers; pid_file = h.pid_file })
+    Ok (AtPidFile, record h { workers = workers })
 
 abbrev pub with_pid_file : ℕ → Handover → List ℕ → Read
 with_pid_file n h path =
     if is_path path
-    then Ok (AtEnd, record { old_pid = h.old_pid; generation = h.generation; listeners = h.listeners; want = h.want; workers = h.workers; pid_file = Some path })
+    then Ok (AtEnd, record h { pid_file = Some path })
     else Err (refusal.Line n)
 
 abbrev pub read_end : ℕ → Handover → List ℕ → Read
@@ -140,7 +140,7 @@ abbrev pub read_listener : ℕ → Handover → List ℕ → Read → Read
 read_listener n h line otherwise = read_if (after_prefix (codes "listener ") line) (λ rest. with_listener n h (listener_read rest)) otherwise
 
 -- the nth line, without its newline
-abbrev pub read_line : ℕ → Place → Handover → List ℕ → Read
+abbrev pub read_line : ℕ → Reached → Handover → List ℕ → Read
 read_line n AtVersion h line = read_version h line
 read_line n AtOldPid h line = read_if (after_prefix (codes "old-pid ") line) (λ rest. with_old_pid n h (number_within 1 4294967295 rest)) (Err (refusal.Line n))
 read_line n AtGeneration h line =
@@ -153,18 +153,18 @@ read_line n AtPidFile h line = read_if (after_prefix (codes "pid-file ") line) (
 read_line n AtEnd h line = read_end n h line
 read_line n Over h line = Err refusal.Trailing
 
-abbrev pub then_read : Read → (Place → Handover → Result Handover HandoverRefusal) → Result Handover HandoverRefusal
+abbrev pub then_read : Read → (Reached → Handover → Result Handover HandoverRefusal) → Result Handover HandoverRefusal
 then_read (Ok at) next = next at.0 at.1
 then_read (Err e) next = Err e
 
 -- what stands after the last newline: nothing, behind the line `end`
-abbrev pub read_rest : Place → Handover → List ℕ → Result Handover HandoverRefusal
+abbrev pub read_rest : Reached → Handover → List ℕ → Result Handover HandoverRefusal
 read_rest Over h [] = Ok h
 read_rest Over h (c ∷ cs) = Err refusal.Trailing
 read_rest place h rest = Err refusal.Cut
 
 -- Each piece but the last ends in a newline.
-abbrev pub read_pieces : ℕ → Place → Handover → List (List ℕ) → Result Handover HandoverRefusal
+abbrev pub read_pieces : ℕ → Reached → Handover → List (List ℕ) → Result Handover HandoverRefusal
 read_pieces n place h [] = read_rest place h []
 read_pieces n place h (rest ∷ []) = read_rest place h rest
 read_pieces n place h (line ∷ next ∷ more) = then_read (read_line n place h line) (λ place' h'. read_pieces (n + 1) place' h' (next ∷ more))

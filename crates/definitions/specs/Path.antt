@@ -70,9 +70,9 @@ advance t e = record {
   made = t.made + 1;
 }
 
-abbrev pub after : Trail → List Entry → Trail
-after t [] = t
-after t (e ∷ entries) = after (advance t e) entries
+abbrev pub trail_after : Trail → List Entry → Trail
+trail_after t [] = t
+trail_after t (e ∷ entries) = trail_after (advance t e) entries
 
 ---- Paths
 
@@ -121,5 +121,5 @@ EndsGone entries = (front : List Entry) × (last : Entry) × (entries ≡ front 
 -- that, and the report is theirs.
 pub record KeepsPathLaw (tree : Tree) (note : PidNote) (entries : List Entry) (report : Report) : Type 0 where
   pub path : Follows (begin tree note) entries
-  pub report_is : Reports (after (begin tree note) entries) report
+  pub report_is : Reports (trail_after (begin tree note) entries) report
   pub lost : report.outcome ≡ outcome.Lost → EndsGone entries

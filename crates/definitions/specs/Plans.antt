@@ -1,11 +1,11 @@
 -- The tree of each target, from named pieces.
-use Rattle.std.specs.Prelude.{ℕ, zero, suc, not, ◌||◌, nat_lt, Bool, true, false, List, [], ◌∷◌, ◌++◌, Option, Some, None, filter, map, reverse, option_map}
+use Rattle.std.specs.Prelude.{ℕ, zero, suc, not, ◌||◌, nat_lt, Bool, true, false, List, [], ◌∷◌, ◌++◌, Option, Some, None, filter, map, reverse, if◌then◌else◌}
 use Rattle.listener_set.specs.Numbers.{numbers_below, is_in}
 use Rattle.definitions.specs.Table.{Address, FilePath, Generation}
 use Rattle.definitions.specs.Calls.{Call, OpenAt, CloseAt, Fork, AwaitReady, Quit, Kill, Census, AwaitGone, SpawnMaster, Adopt, WritePid, MovePid, RemovePid, Alive, Leave, Usr1, TermMaster}
 use Rattle.definitions.specs.Record.{Record, PidNote, InPlace, AtOldbin, OldbinLeft, Left, NoFile, oldbin, addresses_of}
 use Rattle.definitions.specs.Target.{Target, Workers, Mend, Reopen, Reload, Upgrade, Stop, only_in, reload_generation, upgrade_generation}
-use Rattle.definitions.specs.After.{next_config}
+use Rattle.definitions.specs.After.{lacks_generation}
 use Rattle.definitions.specs.Tree.{Reply, plain_reply, replies_to, Side, End, Done, RolledBack, ShortOld, ShortTarget, Make, ForkLacking, AwaitLacking, KillLacking, Tree, Branches, Ends, Does, Nothing, Branch}
 use Rattle.vocabulary.specs.declared.plans.Side.TheVariants as side
 use Rattle.vocabulary.specs.declared.calls.Reply.TheVariants as reply
@@ -287,12 +287,6 @@ plan_tree r (Reload s) = reload_tree r.generation.image r.generation r.ready r.r
 plan_tree r (Upgrade s) = upgrade_tree r.generation.image r.generation r.ready r.retries r.pid_path r.note (addresses_of r) s.listeners s.workers
 plan_tree r (Stop quick) = stop_tree r.generation.image r.generation r.ready r.pid_path r.note quick
 
--- The plan of a target for a running master. A reload has none where the number of its configuration would pass its limit,
--- and an upgrade is planned apart.
+-- The plan of a target for a running master. There is none where a number of the target's generation would pass its limit.
 abbrev pub planned : Record → Target → Option Tree
-planned r (Workers n) = Some (plan_tree r (Workers n))
-planned r (Mend overdue) = Some (plan_tree r (Mend overdue))
-planned r Reopen = Some (plan_tree r Reopen)
-planned r (Reload s) = option_map (λ g. plan_tree r (Reload s)) (next_config r.generation)
-planned r (Upgrade s) = None
-planned r (Stop quick) = Some (plan_tree r (Stop quick))
+planned r target = if lacks_generation r target then None else Some (plan_tree r target)

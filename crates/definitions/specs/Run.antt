@@ -2,7 +2,7 @@
 use Rattle.std.specs.Prelude.{ℕ, ◌≡◌, ◌+◌, Bool, true, false, List, [], ◌∷◌, Option, Some, None, if◌then◌else◌}
 use Rattle.definitions.specs.Table.{Table}
 use Rattle.definitions.specs.Exits.{Name, after_exits, losses_of}
-use Rattle.definitions.specs.Calls.{Call, Answer, Fate, Stepped, step, step_with}
+use Rattle.definitions.specs.Calls.{Call, Answer, Fate, Stepped, step_with}
 use Rattle.definitions.specs.Tree.{Reply, among, reply_of, same_reply, plain_reply, End, PidNote, Order, call_of, Tree, Branches, Ends, Does, Nothing, Branch}
 use Rattle.definitions.specs.Path.{Report, Outcome, outcome_at, Entry, ready_after, lacking_after, went_wrong, first_cause}
 use Rattle.vocabulary.specs.declared.calls.Answer.TheVariants as answer
@@ -42,41 +42,21 @@ start_at t note = record { table = t; calls = 0; ready = []; lacking = []; fault
 
 -- the middle of a moment, after its exits
 abbrev pub after_moment : List Name → Progress → Progress
-after_moment es p = record {
-  table = after_exits es p.table;
-  calls = p.calls;
-  ready = p.ready;
-  lacking = p.lacking;
-  faults = p.faults;
-  losses = p.losses + losses_of es p.table;
-  cause = p.cause;
-  note = p.note;
-}
+after_moment es p = record p { table = after_exits es p.table; losses = p.losses + losses_of es p.table }
 
 abbrev pub after_call : Order → List ℕ → Stepped → Progress → Progress
-after_call order set s p = record {
+after_call order set s p = record p {
   table = s.table;
   calls = p.calls + 1;
   ready = ready_after s.answer p.ready;
   lacking = lacking_after set s.answer p.lacking;
   faults = if is_plain (call_of order p.lacking) s.answer then p.faults else p.faults + 1;
-  losses = p.losses;
   cause = first_cause p.cause (went_wrong (call_of order p.lacking) (reply_of set s.answer)) (p.calls + 1);
-  note = p.note;
 }
 
 abbrev pub noted : Option PidNote → Progress → Progress
 noted None p = p
-noted (Some n) p = record {
-  table = p.table;
-  calls = p.calls;
-  ready = p.ready;
-  lacking = p.lacking;
-  faults = p.faults;
-  losses = p.losses;
-  cause = p.cause;
-  note = n;
-}
+noted (Some n) p = record p { note = n }
 
 -- what a step's call, which is handed a text, is answered after the exits of its moment
 abbrev pub answered : List ℕ → ℕ → Order → Option Fate → Progress → Stepped
@@ -94,21 +74,17 @@ pub record Ran : Type 0 where
   pub ending : Ending
   pub last : Progress
 
-abbrev pub ended : Ending → Progress → Ran
-ended e p = record { entries = []; passed = p ∷ []; ending = e; last = p }
+-- A run that makes no call.
+abbrev pub ends_at : Ending → Progress → Ran
+ends_at e p = record { entries = []; passed = p ∷ []; ending = e; last = p }
 
 abbrev pub with_entry : Entry → Progress → Progress → Ran → Ran
-with_entry entry before middle rest = record {
-  entries = entry ∷ rest.entries;
-  passed = before ∷ middle ∷ rest.passed;
-  ending = rest.ending;
-  last = rest.last;
-}
+with_entry entry before middle rest = record rest { entries = entry ∷ rest.entries; passed = before ∷ middle ∷ rest.passed }
 
 -- The run of a tree, each call of which is handed a text, and of what is behind the first of some edges that has the reply.
 abbrev mutual
   pub run_with : List ℕ → Tree → Pattern → Progress → Ran
-  run_with text (Ends end) pattern p = ended (At end) p
+  run_with text (Ends end) pattern p = ends_at (At end) p
   run_with text (Does by order set branches) pattern p =
       let moment = pattern (p.calls + 1) in
       let middle = after_moment moment.exits p in
@@ -117,19 +93,12 @@ abbrev mutual
       (goes_with text branches (reply_of set s.answer) pattern (after_call order set s middle))
 
   pub goes_with : List ℕ → Branches → Reply → Pattern → Progress → Ran
-  goes_with text Nothing r pattern p = ended Lost p
+  goes_with text Nothing r pattern p = ends_at Lost p
   goes_with text (Branch replies said rest more) r pattern p =
       elim (among replies r) as (λ b. Ran) [
         | true ↦ run_with text rest pattern (noted said p)
         | false ↦ goes_with text more r pattern p
       ]
-
--- A run of a plan that hands nothing over.
-abbrev pub run : Tree → Pattern → Progress → Ran
-run tree pattern p = run_with [] tree pattern p
-
-abbrev pub goes : Branches → Reply → Pattern → Progress → Ran
-goes branches r pattern p = goes_with [] branches r pattern p
 
 -- the outcome of a run that ends so, by what its last census lacked
 abbrev pub outcome_of : Ending → List ℕ → Outcome
@@ -140,11 +109,11 @@ outcome_of Lost lacking = outcome.Lost
 abbrev pub report_of : Ran → Report
 report_of ran = record { outcome = outcome_of ran.ending ran.last.lacking; cause = ran.last.cause; note = ran.last.note; ready = ran.last.ready }
 
--- From one table to another by these calls, the first being number n + 1 of the pattern: before each the exits of its moment,
--- and each with the one answer that it can have there.
-abbrev pub Replays : Pattern → ℕ → Table → List Entry → Table → Type 0
-Replays pattern n t [] last = t ≡ last
-Replays pattern n t (e ∷ entries) last =
+-- From one table to another by these calls, each of which is handed the text, the first being number n + 1 of the pattern:
+-- before each the exits of its moment, and each with the one answer that it can have there.
+abbrev pub Replays : List ℕ → Pattern → ℕ → Table → List Entry → Table → Type 0
+Replays text pattern n t [] last = t ≡ last
+Replays text pattern n t (e ∷ entries) last =
     let moment = pattern (n + 1) in
-    let s = step e.by e.call moment.fate (after_exits moment.exits t) in
-    (s.answer ≡ e.answer) × Replays pattern (n + 1) s.table entries last
+    let s = step_with text e.by e.call moment.fate (after_exits moment.exits t) in
+    (s.answer ≡ e.answer) × Replays text pattern (n + 1) s.table entries last

@@ -12,7 +12,7 @@ use Rattle.vocabulary.specs.declared.plans.Side.TheVariants as side
 use Rattle.definitions.specs.Plans.{settle, starts, quits, closes, workers_tree, reload_back, full_end, short_end}
 use Rattle.definitions.specs.Target.{reload_generation}
 use Rattle.definitions.specs.Run.{Pattern, Progress, Ending, At, Ran, run_with}
-use Rattle.definitions.specs.Claims.{refused_from}
+use Rattle.definitions.specs.Claims.{refused_among}
 
 -- No live master of the image has another number.
 abbrev pub IsOnly : ℕ → ℕ → Process → Type 0
@@ -55,7 +55,7 @@ abbrev pub SettlesAlways : Type 0
 SettlesAlways =
     (text : List ℕ) (image pid : ℕ) (holds : List Hold) (g : Generation) (set : List ℕ) (side : Side) (rounds : ℕ) (pattern : Pattern) (first : Progress) →
     IsFormed first.table → HasSide first.table image pid holds g set → IsRising set → AllByRecursion (λ k. k < 1024) set →
-    refused_from text (image ∷ []) [] (settle image g set side rounds) pattern first ≡ None →
+    refused_among (image ∷ []) [] pattern first.calls (run_with text (settle image g set side rounds) pattern first).entries ≡ None →
     Settles image pid holds g set side rounds first (run_with text (settle image g set side rounds) pattern first)
 
 ---- The way back
@@ -94,7 +94,7 @@ abbrev pub ReturnsAlways : Type 0
 ReturnsAlways =
     (text : List ℕ) (image pid : ℕ) (holds : List Hold) (opened : List Address) (g : Generation) (set : List ℕ) (new : Generation) (forked : List ℕ) (rounds : ℕ) (pattern : Pattern) (first : Progress) →
     IsFormed first.table → IsOnReturn first.table image pid holds opened g set new forked → IsRising set → AllByRecursion (λ k. k < 1024) set →
-    refused_from text (image ∷ []) [] (back image new forked opened g set rounds) pattern first ≡ None →
+    refused_among (image ∷ []) [] pattern first.calls (run_with text (back image new forked opened g set rounds) pattern first).entries ≡ None →
     Settles image pid (without opened holds) g set side.Old rounds first (run_with text (back image new forked opened g set rounds) pattern first)
 
 -- The plans go back so: from a failed start of a change of the number of workers, and of a reload.

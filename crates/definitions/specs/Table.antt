@@ -164,4 +164,4 @@ owner_at path [] = None
 owner_at path (f ∷ files) = owner_if (bytes_eq f.path path) f.owner (owner_at path files)
 
 abbrev pub with_rows : Table → List Process → Table
-with_rows t rows = record { rows = rows; files = t.files; next_process = t.next_process; next_socket = t.next_socket; limits = t.limits }
+with_rows t rows = record t { rows = rows }

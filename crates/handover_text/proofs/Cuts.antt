@@ -6,7 +6,7 @@ use Rattle.std.proofs.lemmas.Result.{IfOk-at_ok}
 use Rattle.std.proofs.lemmas.List.Splits.{length-slice_split}
 use Rattle.vocabulary.specs.declared.handover.HandoverRefusal.{HandoverRefusal}
 use Rattle.vocabulary.specs.declared.handover.HandoverRefusal.TheVariants as refusal
-use Rattle.definitions.specs.Handover.{Handover, Place, AtVersion, AtOldPid, AtGeneration, AtFirstListener, AtListeners, AtWants, AtPidFile, AtEnd, Over, Read, nothing_read, read_line, then_read, read_rest, read_pieces, reading, spelling}
+use Rattle.definitions.specs.Handover.{Handover, Reached, AtVersion, AtOldPid, AtGeneration, AtFirstListener, AtListeners, AtWants, AtPidFile, AtEnd, Over, Read, nothing_read, read_line, then_read, read_rest, read_pieces, reading, spelling}
 use Rattle.handover_text.specs.Ranges.{IsHandover}
 use Rattle.handover_text.proofs.SoFar.{is_newline, reading_in_range}
 use Rattle.handover_text.proofs.Spelled.{spelling-reading}
@@ -63,7 +63,7 @@ kept_itself (refusal.OutOfOrder n) = refl
 kept_itself refusal.Cut = tt
 kept_itself refusal.Trailing = refl
 
-rest_kept : (n : ℕ) (place : Place) (h : Handover) (rest : List ℕ) (zs : List (List ℕ)) → IsKept (read_rest place h rest) (read_pieces n place h (joined (rest ∷ []) zs))
+rest_kept : (n : ℕ) (place : Reached) (h : Handover) (rest : List ℕ) (zs : List (List ℕ)) → IsKept (read_rest place h rest) (read_pieces n place h (joined (rest ∷ []) zs))
 rest_kept n AtVersion h rest zs = tt
 rest_kept n AtOldPid h rest zs = tt
 rest_kept n AtGeneration h rest zs = tt
@@ -77,18 +77,18 @@ rest_kept n Over h (c ∷ cs) [] = refl
 rest_kept n Over h (c ∷ cs) (z ∷ []) = refl
 rest_kept n Over h (c ∷ cs) (z ∷ y ∷ zs) = refl
 
-line_joined : (n : ℕ) (place : Place) (h : Handover) (line next : List ℕ) (more zs : List (List ℕ)) → read_pieces n place h (line ∷ joined (next ∷ more) zs) ≡ then_read (read_line n place h line) (λ place' h'. read_pieces (n + 1) place' h' (joined (next ∷ more) zs))
+line_joined : (n : ℕ) (place : Reached) (h : Handover) (line next : List ℕ) (more zs : List (List ℕ)) → read_pieces n place h (line ∷ joined (next ∷ more) zs) ≡ then_read (read_line n place h line) (λ place' h'. read_pieces (n + 1) place' h' (joined (next ∷ more) zs))
 line_joined n place h line next [] [] = refl
 line_joined n place h line next [] (z ∷ zs) = refl
 line_joined n place h line next (y ∷ more) zs = refl
 
-pieces_kept : (n : ℕ) (place : Place) (h : Handover) (rest : List ℕ) (pieces zs : List (List ℕ)) → IsKept (read_pieces n place h (rest ∷ pieces)) (read_pieces n place h (joined (rest ∷ pieces) zs))
+pieces_kept : (n : ℕ) (place : Reached) (h : Handover) (rest : List ℕ) (pieces zs : List (List ℕ)) → IsKept (read_pieces n place h (rest ∷ pieces)) (read_pieces n place h (joined (rest ∷ pieces) zs))
 pieces_kept n place h rest [] zs = rest_kept n place h rest zs
 pieces_kept n place h line (next ∷ more) zs =
     subst (IsKept (read_pieces n place h (line ∷ next ∷ more))) (sym (line_joined n place h line next more zs))
     (at (read_line n place h line) (λ place' h'. pieces_kept (n + 1) place' h' next more zs))
   where
-    at : (r : Read) → ((place' : Place) (h' : Handover) → IsKept (read_pieces (n + 1) place' h' (next ∷ more)) (read_pieces (n + 1) place' h' (joined (next ∷ more) zs))) → IsKept (then_read r (λ place' h'. read_pieces (n + 1) place' h' (next ∷ more))) (then_read r (λ place' h'. read_pieces (n + 1) place' h' (joined (next ∷ more) zs)))
+    at : (r : Read) → ((place' : Reached) (h' : Handover) → IsKept (read_pieces (n + 1) place' h' (next ∷ more)) (read_pieces (n + 1) place' h' (joined (next ∷ more) zs))) → IsKept (then_read r (λ place' h'. read_pieces (n + 1) place' h' (next ∷ more))) (then_read r (λ place' h'. read_pieces (n + 1) place' h' (joined (next ∷ more) zs)))
     at (Err e) later = kept_itself e
     at (Ok state) later = later state.0 state.1
 

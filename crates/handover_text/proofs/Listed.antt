@@ -12,7 +12,7 @@ use Rattle.std.proofs.lemmas.List.Sums.{length-filter, count_by-le-length}
 use Rattle.listener_set.specs.AddressList.{blank, has, AreDistinct}
 use Rattle.vocabulary.specs.declared.table.Listener.{Listener}
 use Rattle.definitions.specs.Record.{listeners_from}
-use Rattle.definitions.specs.After.{listens_on, listener_at, opened_from, added, opened, all_opened}
+use Rattle.definitions.specs.After.{listens_on, listener_at, opened_from, added, with_added, all_opened}
 use Rattle.definitions.specs.Handover.{is_above}
 use Rattle.handover_text.specs.Listeners.{AreKept, AreListedFrom, blank_listener}
 
@@ -218,7 +218,7 @@ added-opened_from a ls (b ∷ bs) h =
     ap (λ t. cond (not t) (b ∷ added bs (opened_from 3 a ls)) (added bs (opened_from 3 a ls))) (listens_on-opened_from_other 3 a b ls ne)
     ∙ ap (λ xs. cond (not (listens_on ls b)) (b ∷ xs) xs) (added-opened_from a ls bs parts.1)
 
-pub opened_each-is : (bs : List (List ℕ)) (ls : List Listener) → AreDistinct bs → opened_each bs ls ≡ opened bs ls
+pub opened_each-is : (bs : List (List ℕ)) (ls : List Listener) → AreDistinct bs → opened_each bs ls ≡ with_added bs ls
 opened_each-is [] ls distinct = refl
 opened_each-is (a ∷ bs) ls distinct =
     elim (cases_Bool (listens_on ls a)) [

@@ -17,7 +17,7 @@ use Rattle.listener_set.proofs.AddressLists.{has_address}
 use Rattle.vocabulary.specs.declared.handover.HandoverRefusal.{HandoverRefusal}
 use Rattle.vocabulary.specs.declared.table.Listener.{Listener}
 use Rattle.definitions.specs.After.{listens_on}
-use Rattle.definitions.specs.Handover.{Handover, Place, AtVersion, AtOldPid, AtGeneration, AtFirstListener, AtListeners, AtWants, AtPidFile, AtEnd, Over, Read, after_prefix, nothing_read, then_read, read_rest, read_pieces, reading, is_space, is_address, is_above, listener_read, with_old_pid, with_generation, with_listener, with_want, with_workers, with_pid_file, read_end, read_if, read_line}
+use Rattle.definitions.specs.Handover.{Handover, Reached, AtVersion, AtOldPid, AtGeneration, AtFirstListener, AtListeners, AtWants, AtPidFile, AtEnd, Over, Read, after_prefix, nothing_read, then_read, read_rest, read_pieces, reading, is_space, is_address, is_above, listener_read, with_old_pid, with_generation, with_listener, with_want, with_workers, with_pid_file, read_end, read_if, read_line}
 use Rattle.vocabulary.specs.Settings.{HasSuffixRoom}
 use Rattle.handover_text.specs.Reader.{read_to}
 use Rattle.handover_text.specs.Ranges.{IsHandover, AreParts, IsReadTo, lines_to, is_path_if}
@@ -25,16 +25,16 @@ use Rattle.handover_text.proofs.Listed.{AreListedFrom-push, length-listed}
 use Rattle.handover_text.proofs.LinesRead.{number_most, listener_bounds}
 
 -- a fact of what is read, where it is not refused
-abbrev pub IfRead : (Place → Handover → Type 0) → Read → Type 0
+abbrev pub IfRead : (Reached → Handover → Type 0) → Read → Type 0
 IfRead P (Ok at) = P at.0 at.1
 IfRead P (Err refusal) = ⊤
 
-if_read : (P : Place → Handover → Type 0) (o : Option (List ℕ)) (read : List ℕ → Read) (otherwise : Read) → ((rest : List ℕ) → IfRead P (read rest)) → IfRead P otherwise → IfRead P (read_if o read otherwise)
+if_read : (P : Reached → Handover → Type 0) (o : Option (List ℕ)) (read : List ℕ → Read) (otherwise : Read) → ((rest : List ℕ) → IfRead P (read rest)) → IfRead P otherwise → IfRead P (read_if o read otherwise)
 if_read P None read otherwise some none = none
 if_read P (Some rest) read otherwise some none = some rest
 
 module _ (n : ℕ) (h : Handover) (parts : AreParts h) where
-  abbrev Next : Place → Handover → Type 0
+  abbrev Next : Reached → Handover → Type 0
   Next place told = IsReadTo (n + 1) place told
 
   old_pid_read : (o : Option ℕ) → ((pid : ℕ) → o ≡ Some pid → (1 ≤ pid) × (pid ≤ 4294967295)) → n ≤ 2 + length h.listeners + length h.want → IfRead Next (with_old_pid n h o)
@@ -143,7 +143,7 @@ module _ (n : ℕ) (h : Handover) (parts : AreParts h) where
       (λ refused. tt)
 
 -- each line leaves what was read in range
-pub line_read : (n : ℕ) (place : Place) (h : Handover) (line : List ℕ) → IsReadTo n place h → IfRead (IsReadTo (n + 1)) (read_line n place h line)
+pub line_read : (n : ℕ) (place : Reached) (h : Handover) (line : List ℕ) → IsReadTo n place h → IfRead (IsReadTo (n + 1)) (read_line n place h line)
 line_read n AtVersion h line s =
     cond_both (bytes_eq line (codes "handover 1")) _ _ (IfRead (IsReadTo (n + 1)))
     (λ is. record { parts = s.parts; count = omega (arith, s.count); pid = tt; listener = tt; want = tt })
@@ -182,13 +182,13 @@ line_read n Over h line s = tt
 ---- The whole text
 
 -- so many lines are read at most
-pub number_small : (n : ℕ) (place : Place) (h : Handover) → IsReadTo n place h → n ≤ 135
+pub number_small : (n : ℕ) (place : Reached) (h : Handover) → IsReadTo n place h → n ≤ 135
 number_small n place h s =
     let few = lines_to_few place in
     let listeners = length-listed 3 h.listeners s.parts.listed (omega arith) in
     omega (arith, s.count, few, listeners, s.parts.most)
   where
-    lines_to_few : (p : Place) → lines_to p ≤ 7
+    lines_to_few : (p : Reached) → lines_to p ≤ 7
     lines_to_few AtVersion = omega arith
     lines_to_few AtOldPid = omega arith
     lines_to_few AtGeneration = omega arith
@@ -209,7 +209,7 @@ read_in_range n h s = record {
     suffix_room None is = tt
     suffix_room (Some path) is = leb-true (length path) 100 (and_parts (nat_le (length path) 100) (begins_with_slash path) (and_parts (nat_le (length path) 100 && begins_with_slash path) (list_all is_ascii_graphic path) is).0).0
 
-pub rest_in_range : (n : ℕ) (place : Place) (h : Handover) (rest : List ℕ) → IsReadTo n place h → IfOk (read_rest place h rest) IsHandover
+pub rest_in_range : (n : ℕ) (place : Reached) (h : Handover) (rest : List ℕ) → IsReadTo n place h → IfOk (read_rest place h rest) IsHandover
 rest_in_range n AtVersion h rest s = tt
 rest_in_range n AtOldPid h rest s = tt
 rest_in_range n AtGeneration h rest s = tt
@@ -233,7 +233,7 @@ nothing_in_range = record {
 abbrev pub is_newline : ℕ → Bool
 is_newline c = c == 10
 
-pub pieces_more : (n : ℕ) (place : Place) (h : Handover) (line : List ℕ) (rest : List ℕ) → read_pieces n place h (line ∷ slice_split is_newline rest) ≡ then_read (read_line n place h line) (λ place' h'. read_pieces (n + 1) place' h' (slice_split is_newline rest))
+pub pieces_more : (n : ℕ) (place : Reached) (h : Handover) (line : List ℕ) (rest : List ℕ) → read_pieces n place h (line ∷ slice_split is_newline rest) ≡ then_read (read_line n place h line) (λ place' h'. read_pieces (n + 1) place' h' (slice_split is_newline rest))
 pieces_more n place h line rest = at (slice_split is_newline rest) (length-slice_split is_newline rest)
   where
     at : (pieces : List (List ℕ)) → length pieces ≡ count_by is_newline rest + 1 → read_pieces n place h (line ∷ pieces) ≡ then_read (read_line n place h line) (λ place' h'. read_pieces (n + 1) place' h' pieces)
@@ -241,18 +241,18 @@ pieces_more n place h line rest = at (slice_split is_newline rest) (length-slice
     at (piece ∷ pieces) e = refl
 
 -- a line and what follows it
-pub pieces_line : (n : ℕ) (place : Place) (h : Handover) (rest : List ℕ) → position_or_len is_newline rest < length rest → read_pieces n place h (slice_split is_newline rest) ≡ then_read (read_line n place h (before_first is_newline rest)) (λ place' h'. read_pieces (n + 1) place' h' (slice_split is_newline (after_first is_newline rest)))
+pub pieces_line : (n : ℕ) (place : Reached) (h : Handover) (rest : List ℕ) → position_or_len is_newline rest < length rest → read_pieces n place h (slice_split is_newline rest) ≡ then_read (read_line n place h (before_first is_newline rest)) (λ place' h'. read_pieces (n + 1) place' h' (slice_split is_newline (after_first is_newline rest)))
 pieces_line n place h rest within =
     ap (read_pieces n place h) (slice_split_first is_newline rest 0 within)
     ∙ pieces_more n place h (before_first is_newline rest) (after_first is_newline rest)
 
 -- no newline is left
-pub pieces_last : (n : ℕ) (place : Place) (h : Handover) (rest : List ℕ) → length rest ≤ position_or_len is_newline rest → read_pieces n place h (slice_split is_newline rest) ≡ read_rest place h rest
+pub pieces_last : (n : ℕ) (place : Reached) (h : Handover) (rest : List ℕ) → length rest ≤ position_or_len is_newline rest → read_pieces n place h (slice_split is_newline rest) ≡ read_rest place h rest
 pieces_last n place h rest past =
     ap (read_pieces n place h) (slice_split_none is_newline rest (λ k d lt. fails_before_first is_newline rest k d (omega (arith, lt, past))))
 
 -- what a line leaves to be read
-module _ (n : ℕ) (place : Place) (h : Handover) (state : Place × Handover) (rest : List ℕ) (r : Result (Unit {0}) HandoverRefusal) (within : position_or_len is_newline rest < length rest) (read : read_to r state ≡ read_line n place h (before_first is_newline rest)) where
+module _ (n : ℕ) (place : Reached) (h : Handover) (state : Reached × Handover) (rest : List ℕ) (r : Result (Unit {0}) HandoverRefusal) (within : position_or_len is_newline rest < length rest) (read : read_to r state ≡ read_line n place h (before_first is_newline rest)) where
   line_is : (o : Read) → o ≡ read_to r state → read_pieces n place h (slice_split is_newline rest) ≡ then_read o (λ place' h'. read_pieces (n + 1) place' h' (slice_split is_newline (after_first is_newline rest)))
   line_is o e = pieces_line n place h rest within ∙ ap (λ o'. then_read o' (λ place' h'. read_pieces (n + 1) place' h' (slice_split is_newline (after_first is_newline rest)))) (sym (e ∙ read))
 
@@ -267,13 +267,13 @@ module _ (n : ℕ) (place : Place) (h : Handover) (state : Place × Handover) (r
       let e : Ok state ≡ read_line n place h (before_first is_newline rest) = ap (λ q. read_to q state) (sym ok) ∙ read in
       subst (IfRead (IsReadTo (n + 1))) (sym e) (line_read n place h (before_first is_newline rest) s)
 
-pieces_in_range : (n : ℕ) (place : Place) (h : Handover) (pieces : List (List ℕ)) → IsReadTo n place h → IfOk (read_pieces n place h pieces) IsHandover
+pieces_in_range : (n : ℕ) (place : Reached) (h : Handover) (pieces : List (List ℕ)) → IsReadTo n place h → IfOk (read_pieces n place h pieces) IsHandover
 pieces_in_range n place h [] s = rest_in_range n place h [] s
 pieces_in_range n place h (rest ∷ []) s = rest_in_range n place h rest s
 pieces_in_range n place h (line ∷ next ∷ more) s =
     at (read_line n place h line) (line_read n place h line s) (λ place' h'. pieces_in_range (n + 1) place' h' (next ∷ more))
   where
-    at : (r : Read) → IfRead (IsReadTo (n + 1)) r → ((place' : Place) (h' : Handover) → IsReadTo (n + 1) place' h' → IfOk (read_pieces (n + 1) place' h' (next ∷ more)) IsHandover) → IfOk (then_read r (λ place' h'. read_pieces (n + 1) place' h' (next ∷ more))) IsHandover
+    at : (r : Read) → IfRead (IsReadTo (n + 1)) r → ((place' : Reached) (h' : Handover) → IsReadTo (n + 1) place' h' → IfOk (read_pieces (n + 1) place' h' (next ∷ more)) IsHandover) → IfOk (then_read r (λ place' h'. read_pieces (n + 1) place' h' (next ∷ more))) IsHandover
     at (Err refusal) read later = tt
     at (Ok state) read later = later state.0 state.1 read
 

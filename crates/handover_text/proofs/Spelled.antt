@@ -17,7 +17,7 @@ use Rattle.plain_text.proofs.NumberTextLemmas.{decimal-number_of, decimal-number
 use Rattle.vocabulary.specs.declared.handover.HandoverRefusal.{HandoverRefusal}
 use Rattle.vocabulary.specs.declared.table.Listener.{Listener}
 use Rattle.definitions.specs.After.{listens_on}
-use Rattle.definitions.specs.Handover.{Handover, Place, AtVersion, AtOldPid, AtGeneration, AtFirstListener, AtListeners, AtWants, AtPidFile, AtEnd, Over, Read, nothing_read, line_of, listener_line, want_line, pid_file_line, spelling, after_prefix, is_space, is_address, is_above, listener_if, listener_read, with_old_pid, with_generation, with_listener, with_want, with_workers, with_pid_file, read_version, read_end, read_if, read_line, then_read, read_rest, read_pieces, reading}
+use Rattle.definitions.specs.Handover.{Handover, Reached, AtVersion, AtOldPid, AtGeneration, AtFirstListener, AtListeners, AtWants, AtPidFile, AtEnd, Over, Read, nothing_read, line_of, listener_line, want_line, pid_file_line, spelling, after_prefix, is_space, is_address, is_above, listener_if, listener_read, with_old_pid, with_generation, with_listener, with_want, with_workers, with_pid_file, read_version, read_end, read_if, read_line, then_read, read_rest, read_pieces, reading}
 use Rattle.handover_text.proofs.SoFar.{IfRead}
 
 ---- A line by its parts
@@ -93,7 +93,7 @@ to_pid_file h = to_workers h ++ workers_line h.workers
 abbrev pub to_end : Handover → List ℕ
 to_end h = to_pid_file h ++ pid_file_line h.pid_file
 
-abbrev pub so_far : Place → Handover → List ℕ
+abbrev pub so_far : Reached → Handover → List ℕ
 so_far AtVersion h = []
 so_far AtOldPid h = to_pid
 so_far AtGeneration h = to_generation h
@@ -105,7 +105,7 @@ so_far AtEnd h = to_end h
 so_far Over h = to_end h ++ line_of (codes "end")
 
 -- what is not read yet
-abbrev NoListeners : Place → Handover → Type 0
+abbrev NoListeners : Reached → Handover → Type 0
 NoListeners AtVersion h = h.listeners ≡ []
 NoListeners AtOldPid h = h.listeners ≡ []
 NoListeners AtGeneration h = h.listeners ≡ []
@@ -116,7 +116,7 @@ NoListeners AtPidFile h = ⊤
 NoListeners AtEnd h = ⊤
 NoListeners Over h = ⊤
 
-abbrev NoWants : Place → Handover → Type 0
+abbrev NoWants : Reached → Handover → Type 0
 NoWants AtVersion h = h.want ≡ []
 NoWants AtOldPid h = h.want ≡ []
 NoWants AtGeneration h = h.want ≡ []
@@ -127,7 +127,7 @@ NoWants AtPidFile h = ⊤
 NoWants AtEnd h = ⊤
 NoWants Over h = ⊤
 
-abbrev NoPath : Place → Handover → Type 0
+abbrev NoPath : Reached → Handover → Type 0
 NoPath AtVersion h = h.pid_file ≡ None
 NoPath AtOldPid h = h.pid_file ≡ None
 NoPath AtGeneration h = h.pid_file ≡ None
@@ -138,7 +138,7 @@ NoPath AtPidFile h = h.pid_file ≡ None
 NoPath AtEnd h = ⊤
 NoPath Over h = ⊤
 
-pub record IsText (text : List ℕ) (place : Place) (h : Handover) : Type 0 where
+pub record IsText (text : List ℕ) (place : Reached) (h : Handover) : Type 0 where
   pub stands : so_far place h ≡ text
   pub listeners : NoListeners place h
   pub wants : NoWants place h
@@ -147,7 +147,7 @@ pub record IsText (text : List ℕ) (place : Place) (h : Handover) : Type 0 wher
 ---- Line by line
 
 module _ (n : ℕ) (h : Handover) (line text : List ℕ) where
-  abbrev Went : Place → Handover → Type 0
+  abbrev Went : Reached → Handover → Type 0
   Went place told = IsText (text ++ line_of line) place told
 
   version_went : text ≡ [] → h.listeners ≡ [] → h.want ≡ [] → h.pid_file ≡ None → IfRead Went (read_version h line)
@@ -250,7 +250,7 @@ module _ (n : ℕ) (h : Handover) (line text : List ℕ) where
       (λ refused. tt)
 
 -- a line that is read if it has a prefix, which the reader then knows
-if_prefixed : (P : Place → Handover → Type 0) (p line : List ℕ) (read : List ℕ → Read) (otherwise : Read) → ((rest : List ℕ) → line ≡ p ++ rest → IfRead P (read rest)) → IfRead P otherwise → IfRead P (read_if (after_prefix p line) read otherwise)
+if_prefixed : (P : Reached → Handover → Type 0) (p line : List ℕ) (read : List ℕ → Read) (otherwise : Read) → ((rest : List ℕ) → line ≡ p ++ rest → IfRead P (read rest)) → IfRead P otherwise → IfRead P (read_if (after_prefix p line) read otherwise)
 if_prefixed P p line read otherwise some none = at (after_prefix p line) refl
   where
     at : (o : Option (List ℕ)) → after_prefix p line ≡ o → IfRead P (read_if o read otherwise)
@@ -263,7 +263,7 @@ listener_line_is line rest l is read = ap line_of is ∙ ap (λ r. line_of (code
 number_line_is : (p line rest : List ℕ) (least most n : ℕ) → line ≡ p ++ rest → number_within least most rest ≡ Some n → line ≡ p ++ decimal n
 number_line_is p line rest least most n is read = is ∙ ap (λ r. p ++ r) (decimal-number_within least most rest n read).0
 
-line_went : (n : ℕ) (place : Place) (h : Handover) (line text : List ℕ) → IsText text place h → IfRead (IsText (text ++ line_of line)) (read_line n place h line)
+line_went : (n : ℕ) (place : Reached) (h : Handover) (line text : List ℕ) → IsText text place h → IfRead (IsText (text ++ line_of line)) (read_line n place h line)
 line_went n AtVersion h line text s = version_went n h line text (sym s.stands) s.listeners s.wants s.path
 line_went n AtOldPid h line text s =
     if_prefixed (IsText (text ++ line_of line)) (codes "old-pid ") line _ _
@@ -304,7 +304,7 @@ line_went n Over h line text s = tt
 pub spelled_whole : (h : Handover) → so_far Over h ≡ spelling h
 spelled_whole h = refl
 
-rest_spelled : (place : Place) (h told : Handover) (text rest : List ℕ) → IsText text place h → read_rest place h rest ≡ Ok told → spelling told ≡ text ++ rest
+rest_spelled : (place : Reached) (h told : Handover) (text rest : List ℕ) → IsText text place h → read_rest place h rest ≡ Ok told → spelling told ≡ text ++ rest
 rest_spelled AtVersion h told text rest s e = cc
 rest_spelled AtOldPid h told text rest s e = cc
 rest_spelled AtGeneration h told text rest s e = cc
@@ -318,13 +318,13 @@ rest_spelled Over h told text [] s e =
     ap spelling (sym same) ∙ sym (spelled_whole h) ∙ s.stands ∙ sym (append-nil text)
 rest_spelled Over h told text (c ∷ cs) s e = cc
 
-pieces_spelled : (n : ℕ) (place : Place) (h told : Handover) (text : List ℕ) (pieces : List (List ℕ)) → IsText text place h → read_pieces n place h pieces ≡ Ok told → spelling told ≡ text ++ join_with_byte 10 pieces
+pieces_spelled : (n : ℕ) (place : Reached) (h told : Handover) (text : List ℕ) (pieces : List (List ℕ)) → IsText text place h → read_pieces n place h pieces ≡ Ok told → spelling told ≡ text ++ join_with_byte 10 pieces
 pieces_spelled n place h told text [] s e = rest_spelled place h told text [] s e
 pieces_spelled n place h told text (rest ∷ []) s e = rest_spelled place h told text rest s e
 pieces_spelled n place h told text (line ∷ next ∷ more) s e =
     at (read_line n place h line) (line_went n place h line text s) e (λ place' h'. pieces_spelled (n + 1) place' h' told (text ++ line_of line) (next ∷ more))
   where
-    at : (r : Read) → IfRead (IsText (text ++ line_of line)) r → then_read r (λ place' h'. read_pieces (n + 1) place' h' (next ∷ more)) ≡ Ok told → ((place' : Place) (h' : Handover) → IsText (text ++ line_of line) place' h' → read_pieces (n + 1) place' h' (next ∷ more) ≡ Ok told → spelling told ≡ (text ++ line_of line) ++ join_with_byte 10 (next ∷ more)) → spelling told ≡ text ++ (line ++ 10 ∷ join_with_byte 10 (next ∷ more))
+    at : (r : Read) → IfRead (IsText (text ++ line_of line)) r → then_read r (λ place' h'. read_pieces (n + 1) place' h' (next ∷ more)) ≡ Ok told → ((place' : Reached) (h' : Handover) → IsText (text ++ line_of line) place' h' → read_pieces (n + 1) place' h' (next ∷ more) ≡ Ok told → spelling told ≡ (text ++ line_of line) ++ join_with_byte 10 (next ∷ more)) → spelling told ≡ text ++ (line ++ 10 ∷ join_with_byte 10 (next ∷ more))
     at (Err refusal) went e' later = cc
     at (Ok state) went e' later = later state.0 state.1 went e' ∙ simp append_assoc refl
 

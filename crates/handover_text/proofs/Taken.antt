@@ -22,7 +22,7 @@ use Rattle.listener_set.proofs.AddressGrammar.{graphic_from_reading, digit_apart
 use Rattle.vocabulary.specs.declared.handover.HandoverRefusal.TheVariants as refusal
 use Rattle.vocabulary.specs.declared.table.Listener.{Listener}
 use Rattle.definitions.specs.After.{listens_on}
-use Rattle.definitions.specs.Handover.{Handover, Place, AtVersion, AtOldPid, AtGeneration, AtFirstListener, AtListeners, AtWants, AtPidFile, AtEnd, Over, nothing_read, line_of, listener_line, want_line, pid_file_line, spelling, passes, is_space, is_address, is_above, listener_if, listener_read, with_old_pid, with_generation, with_listener, with_want, with_workers, read_line, then_read, read_pieces, reading}
+use Rattle.definitions.specs.Handover.{Handover, Reached, AtVersion, AtOldPid, AtGeneration, AtFirstListener, AtListeners, AtWants, AtPidFile, AtEnd, Over, nothing_read, line_of, listener_line, want_line, pid_file_line, spelling, passes, is_space, is_address, is_above, listener_if, listener_read, with_old_pid, with_generation, with_listener, with_want, with_workers, read_line, then_read, read_pieces, reading}
 use Rattle.handover_text.specs.Listeners.{AreListedFrom}
 use Rattle.handover_text.specs.Ranges.{IsHandover, is_path_if}
 use Rattle.handover_text.proofs.SoFar.{is_newline, pieces_more}
@@ -87,16 +87,16 @@ listener-decimal l low high address =
 ---- Line by line
 
 -- the reading of a text goes on as that of another text at another place
-pub record Goes (place : Place) (h : Handover) (text : List ℕ) (place' : Place) (h' : Handover) (text' : List ℕ) : Type 0 where
+pub record Goes (place : Reached) (h : Handover) (text : List ℕ) (place' : Reached) (h' : Handover) (text' : List ℕ) : Type 0 where
   pub on : (n : ℕ) → (k : ℕ) × (read_pieces n place h (slice_split is_newline text) ≡ read_pieces k place' h' (slice_split is_newline text'))
 
-goes_then : {p : Place} {h : Handover} {text : List ℕ} {p' : Place} {h' : Handover} {text' : List ℕ} {p'' : Place} {h'' : Handover} {text'' : List ℕ} → Goes p h text p' h' text' → Goes p' h' text' p'' h'' text'' → Goes p h text p'' h'' text''
+goes_then : {p : Reached} {h : Handover} {text : List ℕ} {p' : Reached} {h' : Handover} {text' : List ℕ} {p'' : Reached} {h'' : Handover} {text'' : List ℕ} → Goes p h text p' h' text' → Goes p' h' text' p'' h'' text'' → Goes p h text p'' h'' text''
 goes_then f g = record { on = λ n. let x = f.on n in let y = g.on x.0 in (y.0, x.1 ∙ y.1) }
 
-stays : (p : Place) (h : Handover) (text : List ℕ) → Goes p h text p h text
+stays : (p : Reached) (h : Handover) (text : List ℕ) → Goes p h text p h text
 stays p h text = record { on = λ n. (n, refl) }
 
-goes_line : (place : Place) (h : Handover) (line more : List ℕ) (place' : Place) (h' : Handover) → IsLine line → ((n : ℕ) → read_line n place h line ≡ Ok (place', h')) → Goes place h (line_of line ++ more) place' h' more
+goes_line : (place : Reached) (h : Handover) (line more : List ℕ) (place' : Reached) (h' : Handover) → IsLine line → ((n : ℕ) → read_line n place h line ≡ Ok (place', h')) → Goes place h (line_of line ++ more) place' h' more
 goes_line place h line more place' h' is reads = record {
   on = λ n. (
     n + 1,

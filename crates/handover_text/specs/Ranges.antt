@@ -5,7 +5,7 @@ use Rattle.listener_set.specs.AddressList.{AreDistinct}
 use Rattle.listener_set.specs.PathText.{is_path}
 use Rattle.vocabulary.specs.Settings.{HasSuffixRoom}
 use Rattle.definitions.specs.Table.{FilePath}
-use Rattle.definitions.specs.Handover.{Handover, Place, AtVersion, AtOldPid, AtGeneration, AtFirstListener, AtListeners, AtWants, AtPidFile, AtEnd, Over, is_address}
+use Rattle.definitions.specs.Handover.{Handover, Reached, AtVersion, AtOldPid, AtGeneration, AtFirstListener, AtListeners, AtWants, AtPidFile, AtEnd, Over, is_address}
 use Rattle.handover_text.specs.Listeners.{AreListed}
 
 -- a process number of at least 1, at least one listener, at least one address that is wanted, at most 1024 workers, and
@@ -42,7 +42,7 @@ pub record IsHandover (h : Handover) : Type 0 where
 ---- What is read so far
 
 -- how many lines there are up to a place, besides listeners and wanted addresses
-abbrev pub lines_to : Place → ℕ
+abbrev pub lines_to : Reached → ℕ
 lines_to AtVersion = 1
 lines_to AtOldPid = 2
 lines_to AtGeneration = 3
@@ -53,7 +53,7 @@ lines_to AtPidFile = 5
 lines_to AtEnd = 6
 lines_to Over = 7
 
-abbrev pub HasPid : Place → Handover → Type 0
+abbrev pub HasPid : Reached → Handover → Type 0
 HasPid AtVersion h = ⊤
 HasPid AtOldPid h = ⊤
 HasPid AtGeneration h = 1 ≤ h.old_pid
@@ -64,7 +64,7 @@ HasPid AtPidFile h = 1 ≤ h.old_pid
 HasPid AtEnd h = 1 ≤ h.old_pid
 HasPid Over h = 1 ≤ h.old_pid
 
-abbrev pub HasListener : Place → Handover → Type 0
+abbrev pub HasListener : Reached → Handover → Type 0
 HasListener AtVersion h = ⊤
 HasListener AtOldPid h = ⊤
 HasListener AtGeneration h = ⊤
@@ -75,7 +75,7 @@ HasListener AtPidFile h = 1 ≤ length h.listeners
 HasListener AtEnd h = 1 ≤ length h.listeners
 HasListener Over h = 1 ≤ length h.listeners
 
-abbrev pub HasWant : Place → Handover → Type 0
+abbrev pub HasWant : Reached → Handover → Type 0
 HasWant AtVersion h = ⊤
 HasWant AtOldPid h = ⊤
 HasWant AtGeneration h = ⊤
@@ -87,7 +87,7 @@ HasWant AtEnd h = 1 ≤ length h.want
 HasWant Over h = 1 ≤ length h.want
 
 -- the line of that number can come next, where so much of a handover was read
-pub record IsReadTo (number : ℕ) (place : Place) (h : Handover) : Type 0 where
+pub record IsReadTo (number : ℕ) (place : Reached) (h : Handover) : Type 0 where
   pub parts : AreParts h
   pub count : number ≤ lines_to place + length h.listeners + length h.want
   pub pid : HasPid place h

@@ -2,7 +2,7 @@
 ghost use Rattle.std.specs.Prelude.{◌≡◌, ◌<◌, ◌≤◌, ◌↔◌, ◌+◌, ◌++◌, ◌∷◌, [], false, length, map, insert, IsTrue, slice_get};
 ghost use Rattle.definitions.specs.Record.{listeners_from};
 ghost use Rattle.definitions.specs.Table.{Address as AddressText};
-ghost use Rattle.definitions.specs.After.{listener_at, listens_on, opened_from, kept, opened, reloaded, upgraded};
+ghost use Rattle.definitions.specs.After.{listener_at, listens_on, opened_from, still_wanted, with_added, reloaded, upgraded};
 ghost use Rattle.definitions.specs.Handover.{is_above};
 ghost use Rattle.handover_text.specs.Listeners.{AreListed};
 
@@ -153,7 +153,7 @@ impl Listeners {
 
     /// The listeners whose addresses are in the set; the others are closed.
     pub fn kept(&self, addresses: &ListenerSet) -> Self
-        ensures { result ≡ kept addresses.now self.now }
+        ensures { result ≡ still_wanted addresses.now self.now }
     {
         let mut listeners = Self::new();
         let all = self.as_slice();
@@ -194,7 +194,7 @@ impl Listeners {
     /// Opens the addresses of the set that are not listened on yet, in its order. None where a process would have
     /// more than 64 descriptors.
     fn opened(&self, addresses: &ListenerSet) -> Option<Self>
-        ensures { result ≡ opened addresses.now self.now }
+        ensures { result ≡ with_added addresses.now self.now }
     {
         let mut listeners = *self;
         let all = addresses.as_slice();

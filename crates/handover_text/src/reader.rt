@@ -43,10 +43,10 @@ pub(crate) struct Reader {
 }
 
 impl Model for Reader {
-    ghost use Rattle.definitions.specs.Handover.{Place, Handover as Told};
+    ghost use Rattle.definitions.specs.Handover.{Reached, Handover as Told};
     ghost use Rattle.handover_text.specs.Reader.{place_of};
 
-    ghost Value = { Place × Told };
+    ghost Value = { Reached × Told };
 
     ghost view = { λ r. (place_of r.next, record { old_pid = r.old_pid; generation = r.generation; listeners = r.listeners; want = r.want; workers = r.workers; pid_file = r.pid_file }) };
 }

@@ -3,7 +3,7 @@ use Rattle.std.proofs.Common.{◌≡◌, ℕ, ◌+◌, ◌≤◌, Bool, true, fa
 use Rattle.std.specs.List.{filter_map, list_any}
 use Rattle.std.proofs.lemmas.List.Sums.{sum_by-cons}
 use Rattle.definitions.specs.Table.{Process, Master, Worker, Foreign, owner_if}
-use Rattle.definitions.specs.Calls.{dropped, is_image, is_image_row, is_of_image}
+use Rattle.definitions.specs.Calls.{drop_where, is_image, is_image_row, is_of_image}
 use Rattle.process_table.specs.Seen.{is_number}
 use Rattle.process_table.specs.Edits.{is_of_either}
 use Rattle.process_table.specs.Rows.{master_number}
@@ -44,5 +44,5 @@ ended-alike image all le (Master n q i live hs) = refl
 ended-alike image all le (Worker n q g k s hs) = number-alike image q all le
 ended-alike image all le (Foreign n hs) = refl
 
-pub ended-all : (image : ℕ) (all rows : List Process) → count_by (is_image image) all ≤ 1 → filter_map (dropped (is_of_either image (master_number image all))) rows ≡ filter_map (dropped (is_of_image image all)) rows
-ended-all image all rows le = λ i. filter_map (dropped (λ p. ended-alike image all le p i)) rows
+pub ended-all : (image : ℕ) (all rows : List Process) → count_by (is_image image) all ≤ 1 → filter_map (drop_where (is_of_either image (master_number image all))) rows ≡ filter_map (drop_where (is_of_image image all)) rows
+ended-all image all rows le = λ i. filter_map (drop_where (λ p. ended-alike image all le p i)) rows

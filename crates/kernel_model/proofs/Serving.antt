@@ -1,18 +1,13 @@
 -- Who serves an address.
-use Rattle.std.proofs.Common.{◌≡◌, ℕ, zero, suc, ◌+◌, ◌-◌, ◌<◌, ◌≤◌, Bool, true, false, cond, ◌&&◌, ◌||◌, Option, Some, None, is_some, unwrap_or, count_by, bytes_eq, List, [], ◌∷◌, length, get_or, drop, take, refl, sym, ap, subst, ◌∙◌, inl, inr, ◌⊎◌, ⊎_elim, arith}
-use Rattle.std.specs.Ordering.{is_eq}
+use Rattle.std.proofs.Common.{◌≡◌, ℕ, zero, suc, ◌+◌, ◌-◌, ◌<◌, ◌≤◌, Bool, true, false, cond, ◌&&◌, ◌||◌, Option, Some, None, is_some, count_by, bytes_eq, List, [], ◌∷◌, length, get_or, drop, take, refl, sym, ap, subst, ◌∙◌, inl, inr, ◌⊎◌, ⊎_elim, arith}
 use Rattle.std.specs.Option.{option_map}
 use Rattle.std.specs.List.{list_any, AllByRecursion}
 use Rattle.std.specs.FinMap.{find, put}
-use Rattle.std.specs.FinMap.Entries.{find-put}
 use Rattle.std.proofs.Math.Bool.{or-true, or-false}
 use Rattle.std.proofs.lemmas.Bool.{false≢true}
 use Rattle.std.proofs.lemmas.Bool.Decides.{nat_tests}
 use Rattle.std.proofs.lemmas.List.{at_drop_more}
 use Rattle.std.proofs.lemmas.List.Folds.{list_any_more}
-use Rattle.std.proofs.lemmas.Cmp.{nat_list_eq_equiv}
-use Rattle.std.proofs.lemmas.Map.Text.{is_eq-slice_cmp}
-use Rattle.std.proofs.lemmas.Slice.Eq.{bytes_eq-Decides}
 use Rattle.std.proofs.lemmas.List.Sums.{sum_by-cons, count_by-le-length}
 use Rattle.definitions.specs.Table.{Address, Generation, Hold, Process, Master, Worker, Foreign, same_generation, has_address, number_of, Table}
 use Rattle.definitions.specs.Service.{is_live_with, is_serving, service, IsSame}
@@ -24,25 +19,12 @@ use Rattle.process_table.specs.Holds.{address_of, seen_holds}
 use Rattle.process_table.specs.Room.{HasSockets}
 use Rattle.process_table.specs.Seen.{process_of, seen_rows, seen_holder}
 use Rattle.service_counts.specs.Services.{Counts, Services, address_cmp, generation_cmp, count_at, at}
-use Rattle.service_counts.proofs.Services.{address_total, generation_total, tied-same}
+use Rattle.service_counts.proofs.Services.{tied-same, same-generation, count-put, same-address, at-put}
 
 ---- Counts
 
-same-generation : (g h : Generation) → same_generation g h ≡ true → g ≡ h
-same-generation g h e =
-    let images : g.image ≡ h.image = grind (arith, nat_tests) in
-    let configs : g.config ≡ h.config = grind (arith, nat_tests) in
-    λ i. record { image = images i; config = configs i }
-
 pub same-itself : (g : Generation) → same_generation g g ≡ true
 same-itself g = grind (arith, nat_tests)
-
-count-put : (g q : Generation) (n : ℕ) (counts : Counts) → count_at (put generation_cmp g n counts) q ≡ cond (is_eq (generation_cmp q g)) n (count_at counts q)
-count-put g q n counts = ap (λ o. unwrap_or o 0) (find-put generation_cmp generation_total q g n counts) ∙ at (is_eq (generation_cmp q g))
-  where
-    at : (b : Bool) → unwrap_or (cond b (Some n) (find generation_cmp q counts)) 0 ≡ cond b n (count_at counts q)
-    at true = refl
-    at false = refl
 
 -- one worker more in a generation
 pub count-one : (g q : Generation) (counts : Counts) → count_at (put generation_cmp g (count_at counts g + 1) counts) q ≡ cond (same_generation g q) (count_at counts q + 1) (count_at counts q)
@@ -108,22 +90,9 @@ module _ {A : Type 0} (f : A) (o : Option A) where
   key-added o' L O true before here there = let yes = here refl in yes.1 ∙ rw (yes.0, or-true) refl
   key-added o' L O false before here there = there refl ∙ rw or-false before
 
-same-address : (x a : Address) → bytes_eq x a ≡ true → x ≡ a
-same-address x a e = (bytes_eq-Decides x a).0 e
-
 is_some-map : {A B : Type 0} (f : A → B) (o : Option A) → is_some (option_map f o) ≡ is_some o
 is_some-map f None = refl
 is_some-map f (Some x) = refl
-
-pub at-put : (x a : Address) (counts : Counts) (s : Services) → at (put address_cmp x counts s) a ≡ cond (bytes_eq x a) (Some (count_at counts)) (at s a)
-at-put x a counts s =
-    ap (λ o. option_map count_at o) (find-put address_cmp address_total a x counts s)
-    ∙ ap (λ b. option_map count_at (cond b (Some counts) (find address_cmp a s))) (is_eq-slice_cmp a x ∙ nat_list_eq_equiv.symm a x)
-    ∙ split (bytes_eq x a)
-  where
-    split : (b : Bool) → option_map count_at (cond b (Some counts) (find address_cmp a s)) ≡ cond b (Some (count_at counts)) (at s a)
-    split true = refl
-    split false = refl
 
 module _ (rows : List Process) (addresses : List Address) where
   -- The service of the first addresses.

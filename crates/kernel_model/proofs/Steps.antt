@@ -10,7 +10,7 @@ use Rattle.vocabulary.specs.declared.names.Name.{Name}
 use Rattle.vocabulary.specs.declared.names.Name.TheVariants as name
 use Rattle.definitions.specs.Table.{Address, Generation, Hold, Process, Master, Worker, Foreign, is_active, is_starting, is_draining, is_named, is_worker, is_live_master, is_at, Caller, live_master}
 use Rattle.definitions.specs.Exits.{change, made_exited, worker_exits, draining_exits, kept_if, without_exited, caller_exits, exited, all_exited, first_changed}
-use Rattle.definitions.specs.Calls.{dropped, made_ready, made_draining, with_holds, lacks_address, is_exited_of}
+use Rattle.definitions.specs.Calls.{drop_where, made_ready, made_draining, with_holds, lacks_address, is_exited_of}
 use Rattle.definitions.specs.Formed.{HasParent}
 use Rattle.process_table.proofs.Keeping.{AreKept, Follows, AreKept-becomes, Becomes-filter_map, Becomes-first_changed, says-change, says-dropped}
 
@@ -101,11 +101,11 @@ module _ (test : Process → Bool) (f : Process → Process) (same : (q : ℕ) (
       at false ih = ap (λ b. is_live_master q p || b) ih
 
 module _ (test : Process → Bool) (worker : (q : ℕ) (p : Process) → test p ≡ true → is_live_master q p ≡ false) where
-  live-dropped : (rows : List Process) (q : ℕ) → list_any (is_live_master q) (filter_map (dropped test) rows) ≡ list_any (is_live_master q) rows
+  live-dropped : (rows : List Process) (q : ℕ) → list_any (is_live_master q) (filter_map (drop_where test) rows) ≡ list_any (is_live_master q) rows
   live-dropped [] q = refl
   live-dropped (p ∷ rows) q = at (test p) (worker q p) (live-dropped rows q)
     where
-      at : (b : Bool) → (b ≡ true → is_live_master q p ≡ false) → list_any (is_live_master q) (filter_map (dropped test) rows) ≡ list_any (is_live_master q) rows → list_any (is_live_master q) (cons_option (cond b None (Some p)) (filter_map (dropped test) rows)) ≡ (is_live_master q p || list_any (is_live_master q) rows)
+      at : (b : Bool) → (b ≡ true → is_live_master q p ≡ false) → list_any (is_live_master q) (filter_map (drop_where test) rows) ≡ list_any (is_live_master q) rows → list_any (is_live_master q) (cons_option (cond b None (Some p)) (filter_map (drop_where test) rows)) ≡ (is_live_master q p || list_any (is_live_master q) rows)
       at true w ih = ih ∙ sym (ap (λ b. b || list_any (is_live_master q) rows) (w refl))
       at false w ih = ap (λ b. is_live_master q p || b) ih
 
@@ -130,12 +130,12 @@ module _ (next socket : ℕ) (rows : List Process) (h : AreKept rows next socket
       AreKept-becomes rows rows' next socket socket (Becomes-filter_map (Follows rows rows' socket socket) (change test f) (says-change (Follows rows rows' socket socket) (stays_so rows rows' socket up) test f (says rows' up)) rows) h
 
   -- rows leave, and no live master
-  pub kept-without : (test : Process → Bool) → KeepsMasters rows (filter_map (dropped test) rows) → AreKept (filter_map (dropped test) rows) next socket
+  pub kept-without : (test : Process → Bool) → KeepsMasters rows (filter_map (drop_where test) rows) → AreKept (filter_map (drop_where test) rows) next socket
   kept-without test up =
-      let rows' = filter_map (dropped test) rows in
-      AreKept-becomes rows rows' next socket socket (Becomes-filter_map (Follows rows rows' socket socket) (dropped test) (says-dropped (Follows rows rows' socket socket) (stays_so rows rows' socket up) test) rows) h
+      let rows' = filter_map (drop_where test) rows in
+      AreKept-becomes rows rows' next socket socket (Becomes-filter_map (Follows rows rows' socket socket) (drop_where test) (says-dropped (Follows rows rows' socket socket) (stays_so rows rows' socket up) test) rows) h
 
-  pub kept-dropped : (test : Process → Bool) → ((q : ℕ) (p : Process) → test p ≡ true → is_live_master q p ≡ false) → AreKept (filter_map (dropped test) rows) next socket
+  pub kept-dropped : (test : Process → Bool) → ((q : ℕ) (p : Process) → test p ≡ true → is_live_master q p ≡ false) → AreKept (filter_map (drop_where test) rows) next socket
   kept-dropped test worker = kept-without test (λ q e. live-dropped test worker rows q ∙ e)
 
   kept-worker_exits : (g : Generation) (k : ℕ) → AreKept (worker_exits g k rows) next socket

@@ -2,7 +2,7 @@
 ghost use Rattle.std.specs.Prelude.{◌≡◌, ℕ, List};
 ghost use Rattle.std.specs.List.{list_any};
 ghost use Rattle.definitions.specs.Table.{Table, Caller as LiveMaster, is_worker};
-ghost use Rattle.definitions.specs.Calls.{opened, closed, forked, awaited, quitted, killed, counted, ended, written, moved, unlinked, own_step, fault_if, fault_of, step_with};
+ghost use Rattle.definitions.specs.Calls.{opened, closed, forked, awaited, quitted, killed, counted, awaited_gone, written, moved, unlinked, own_step, fault_if, fault_of, step_with};
 ghost use Rattle.process_table.specs.Seen.{seen, seen_caller, has_stance};
 ghost use Rattle.process_table.specs.Room.{GrowsByOne, HasRoomFor, IsKept};
 ghost use Rattle.process_table.specs.Rows.{IsOwn};
@@ -123,7 +123,7 @@ fn census(store: &mut Store, caller: &Caller, generation: Generation) -> Answer
 
 /// Late while a worker of the name is Starting or Ready; else all of the name leave.
 fn await_gone(store: &mut Store, caller: &Caller, generation: Generation, nr: u32) -> Answer
-    ensures outcome { record { answer = result; table = seen store.new } ≡ ended (seen_caller store.old.addresses.items caller.now) generation nr (seen store.old) }
+    ensures outcome { record { answer = result; table = seen store.new } ≡ awaited_gone (seen_caller store.old.addresses.items caller.now) generation nr (seen store.old) }
     ensures grows { GrowsByOne store.old store.new }
 {
     let name = WorkerName {

@@ -1,7 +1,7 @@
 //! Calls that start, ask for and end masters.
 ghost use Rattle.std.specs.Prelude.{◌≡◌};
 ghost use Rattle.definitions.specs.Table.{live_master};
-ghost use Rattle.definitions.specs.Calls.{spawned, suits, adopted, asked_alive, left, terminated};
+ghost use Rattle.definitions.specs.Calls.{spawned, suits, adopted, asked_alive, departed, terminated};
 ghost use Rattle.definitions.specs.Handover.{reading};
 ghost use Rattle.process_table.specs.Holds.{seen_holds};
 ghost use Rattle.process_table.specs.Seen.{seen, seen_caller};
@@ -69,7 +69,7 @@ pub fn ask_alive(store: &mut Store, image: u32) -> Answer
 
 /// The caller leaves, with its workers; a master whose parent it was gets parent 1.
 pub fn leave(store: &mut Store, caller: &Caller) -> Answer
-    ensures outcome { record { answer = result; table = seen store.new } ≡ left (seen_caller store.old.addresses.items caller.now) (seen store.old) }
+    ensures outcome { record { answer = result; table = seen store.new } ≡ departed (seen_caller store.old.addresses.items caller.now) (seen store.old) }
     ensures grows { GrowsByOne store.old store.new }
 {
     store.edit(&Edit::ExitMaster(caller.number, false));

@@ -1,30 +1,29 @@
 -- What is carried out ends as it reports.
-use Rattle.std.proofs.Common.{◌≡◌, ℕ, ◌+◌, true, Bool, List, [], ◌∷◌, length, Option, Some, None, refl, ◌∙◌, ap, subst}
-use Rattle.std.specs.Prelude.{is_some, option_map}
-use Rattle.std.proofs.lemmas.Option.{none-some, same_Some}
+use Rattle.std.proofs.Common.{◌≡◌, ℕ, ◌+◌, true, false, Bool, List, [], ◌∷◌, length, Option, Some, None, refl, sym, ◌∙◌, ap}
+use Rattle.std.specs.Prelude.{is_some, is_none}
+use Rattle.std.proofs.lemmas.Bool.{false≢true}
 use Rattle.definitions.specs.Table.{Table, Generation}
 use Rattle.definitions.specs.Record.{Record, Agrees}
-use Rattle.definitions.specs.Target.{IsTarget}
+use Rattle.definitions.specs.Target.{IsTarget, text_handed}
 use Rattle.vocabulary.specs.declared.targets.Target.{Target}
 use Rattle.vocabulary.specs.declared.targets.Target.TheVariants.{Workers, Mend, Reopen, Reload, Upgrade, Stop}
-use Rattle.definitions.specs.Tree.{Tree, height}
+use Rattle.definitions.specs.Tree.{height}
 use Rattle.vocabulary.specs.declared.reports.Entry.{Entry}
 use Rattle.vocabulary.specs.declared.reports.Report.{Report}
 use Rattle.kernel_model.specs.Room.{LacksNumbers}
 use Rattle.kernel_model.specs.State.{State}
-use Rattle.definitions.specs.Plans.{planned, plan_tree}
-use Rattle.vocabulary.specs.declared.plans.PidNote.{PidNote}
-use Rattle.definitions.specs.Run.{Pattern, run, start_at, report_of, Replays}
+use Rattle.definitions.specs.Plans.{plan_tree}
+use Rattle.definitions.specs.Run.{Pattern, Ran, report_of, Replays}
 use Rattle.definitions.specs.Path.{KeepsPathLaw}
-use Rattle.definitions.specs.After.{record_after, next_config}
+use Rattle.definitions.specs.After.{record_after, next_record, next_config, next_image}
 use Rattle.word_runner.specs.declared.enactor.Enacted.{Enacted}
-use Rattle.plan_executor.specs.Naming.{first_naming}
+use Rattle.plan_executor.specs.Lawful.{IsWholeRun}
 use Rattle.plan_executor.specs.Enacted.{HasFloor, IsEnacted}
 use Rattle.plan_executor.specs.Range.{HasRange}
-use Rattle.plan_executor.specs.Refusals.{NamesMaster}
+use Rattle.plan_executor.specs.Refusals.{HasPlan, NamesMaster}
 use Rattle.plan_executor.proofs.Reporting.{whole-run}
-use Rattle.plan_executor.proofs.Refused.{refused-is}
-use Rattle.definitions.specs.Claims.{IsStart, IsAccepted, HasDescriptors, refused_moment, Keeps, InManner, WorkersHeadline, MendHeadline, ReopenHeadline, ReopenFloor, ReloadHeadline, StopHeadline}
+use Rattle.plan_executor.proofs.Reigning.{no_upgrade, alone, master-stays}
+use Rattle.definitions.specs.Claims.{IsStart, IsAccepted, HasDescriptors, refused_among, refusal_of, run_of, EndsAsReported, InManner, WorkersHeadline, MendHeadline, ReopenHeadline, ReopenFloor, ReloadHeadline, StopHeadline}
 use Rattle.definitions.specs.Manner.{Manner}
 use Rattle.vocabulary.specs.Settings.{Settings}
 
@@ -42,75 +41,73 @@ pub record Headlines : Type 0 where
   pub stops : StopHeadline
   pub stops_manner : (quick : Bool) → InManner (Stop quick)
 
--- the run of a tree keeps what it has to, where no moment kills the executing master
-abbrev pub IsKept : Table → Record → Target → Pattern → Tree → Type 0
-IsKept t r target pattern tree =
-    refused_moment r.generation.image tree pattern (start_at t r.note) ≡ None →
-    Keeps t r target r.pid (run tree pattern (start_at t r.note)) × HasFloor t r target (run tree pattern (start_at t r.note))
-    × Manner r target (report_of (run tree pattern (start_at t r.note))).outcome t (run tree pattern (start_at t r.note))
+-- the run of a target's plan keeps what it has to
+abbrev pub IsKept : Table → Record → Target → Ran → Type 0
+IsKept t r target ran = EndsAsReported t r target ran × HasFloor t r target ran × Manner r target (report_of ran).outcome t ran
 
--- a reload that is planned has a number
-reload-tree : (g : Option Generation) (made tree : Tree) → option_map (λ _. made) g ≡ Some tree → (is_some g ≡ true) × (made ≡ tree)
-reload-tree None made tree is = absurd (none-some tree is)
-reload-tree (Some g) made tree is = (refl, same_Some made tree is)
+-- a generation that is not lacking is there
+there : (g : Option Generation) → is_none g ≡ false → is_some g ≡ true
+there None h = absurd (false≢true (sym h))
+there (Some g) h = refl
 
-pub keeps : Headlines → (t : Table) (r : Record) (target : Target) (pattern : Pattern) (tree : Tree) → IsStart t r → HasDescriptors t r → IsTarget target → HasRange target → planned r target ≡ Some tree → IsKept t r target pattern tree
-keeps h t r (Workers n) pattern tree start ds within range is =
-    subst (IsKept t r (Workers n) pattern) (same_Some (plan_tree r (Workers n)) tree is)
-    (λ spared. let a : IsAccepted t r (Workers n) pattern = record { start = start; accepts = within; spared = spared } in let k = h.workers t r n pattern a in (k.0, k.1, h.workers_manner n t r pattern a))
-keeps h t r (Mend overdue) pattern tree start ds within range is =
-    subst (IsKept t r (Mend overdue) pattern) (same_Some (plan_tree r (Mend overdue)) tree is)
-    (λ spared. let a : IsAccepted t r (Mend overdue) pattern = record { start = start; accepts = tt; spared = spared } in (h.mends t r overdue pattern a, tt, h.mends_manner overdue t r pattern a))
-keeps h t r Reopen pattern tree start ds within range is =
-    subst (IsKept t r Reopen pattern) (same_Some (plan_tree r Reopen) tree is)
-    (λ spared. let a : IsAccepted t r Reopen pattern = record { start = start; accepts = tt; spared = spared } in (h.reopenings t r pattern a, h.reopenings_floor t r pattern a, h.reopenings_manner t r pattern a))
-keeps h t r (Reload s) pattern tree start ds within range is =
-    let found = reload-tree (next_config r.generation) (plan_tree r (Reload s)) tree is in
-    subst (IsKept t r (Reload s) pattern) found.1
-    (λ spared. let a : IsAccepted t r (Reload s) pattern = record { start = start; accepts = (range, ds, found.0); spared = spared } in let k = h.reloads t r s pattern a in (k.0, k.1, h.reloads_manner s t r pattern a))
-keeps h t r (Upgrade s) pattern tree start ds within range is = absurd (none-some tree is)
-keeps h t r (Stop quick) pattern tree start ds within range is =
-    subst (IsKept t r (Stop quick) pattern) (same_Some (plan_tree r (Stop quick)) tree is)
-    (λ spared. let a : IsAccepted t r (Stop quick) pattern = record { start = start; accepts = tt; spared = spared } in (h.stops t r quick pattern a, tt, h.stops_manner quick t r pattern a))
+pub keeps : Headlines → (t : Table) (r : Record) (target : Target) (pattern : Pattern) → IsStart t r → HasDescriptors t r → IsTarget target → HasRange target → HasPlan r target → refusal_of r target pattern t ≡ None → IsKept t r target (run_of r target pattern t)
+keeps h t r (Workers n) pattern start ds within range plan spared =
+    let a : IsAccepted t r (Workers n) pattern = record { start = start; accepts = within; spared = spared } in
+    let k = h.workers t r n pattern a in (k.0, k.1, h.workers_manner n t r pattern a)
+keeps h t r (Mend overdue) pattern start ds within range plan spared =
+    let a : IsAccepted t r (Mend overdue) pattern = record { start = start; accepts = tt; spared = spared } in (h.mends t r overdue pattern a, tt, h.mends_manner overdue t r pattern a)
+keeps h t r Reopen pattern start ds within range plan spared =
+    let a : IsAccepted t r Reopen pattern = record { start = start; accepts = tt; spared = spared } in (h.reopenings t r pattern a, h.reopenings_floor t r pattern a, h.reopenings_manner t r pattern a)
+keeps h t r (Reload s) pattern start ds within range plan spared =
+    let a : IsAccepted t r (Reload s) pattern = record { start = start; accepts = (range, ds, there (next_config r.generation) plan.0); spared = spared } in
+    let k = h.reloads t r s pattern a in (k.0, k.1, h.reloads_manner s t r pattern a)
+keeps h t r (Upgrade s) pattern start ds within range plan spared = absurd (no_upgrade (next_image r.generation) plan.0 plan.1)
+keeps h t r (Stop quick) pattern start ds within range plan spared =
+    let a : IsAccepted t r (Stop quick) pattern = record { start = start; accepts = tt; spared = spared } in (h.stops t r quick pattern a, tt, h.stops_manner quick t r pattern a)
 
-pub enacted : Headlines → (first last : State) (r : Record) (target : Target) (pattern : Pattern) (tree : Tree) (note : PidNote) (e : Enacted) →
-    IsStart first.table r → HasDescriptors first.table r → IsTarget target → HasRange target → planned r target ≡ Some tree → note ≡ r.note → (LacksNumbers first.table (height tree) → ⊥) →
-    KeepsPathLaw tree note e.log.entries e.report → Replays pattern 0 first.table e.log.entries last.table →
-    last.room + length e.log.entries ≡ height tree →
-    first_naming (r.generation.image ∷ []) [] pattern 0 e.log.entries ≡ None → e.after ≡ record_after r target e.report r.pid →
+-- What is found among the calls is so of the run.
+refusal-is : (r : Record) (target : Target) (pattern : Pattern) (first last : Table) (entries : List Entry) (report : Report) (found : Option ℕ) → HasPlan r target → IsWholeRun r target pattern first entries last report → refused_among (r.generation.image ∷ []) [] pattern 0 entries ≡ found → refusal_of r target pattern first ≡ found
+refusal-is r target pattern first last entries report found plan whole naming =
+    ap (λ heirs. refused_among (r.generation.image ∷ []) heirs pattern 0 (run_of r target pattern first).entries) (alone r target plan).1
+    ∙ (ap (refused_among (r.generation.image ∷ []) [] pattern 0) whole.entries_are ∙ naming)
+
+pub enacted : Headlines → (first last : State) (r : Record) (target : Target) (pattern : Pattern) (e : Enacted) →
+    IsStart first.table r → HasDescriptors first.table r → IsTarget target → HasRange target → HasPlan r target → (LacksNumbers first.table (height (plan_tree r target)) → ⊥) →
+    KeepsPathLaw (plan_tree r target) r.note e.log.entries e.report → Replays (text_handed r target) pattern 0 first.table e.log.entries last.table →
+    last.room + length e.log.entries ≡ height (plan_tree r target) →
+    refused_among (r.generation.image ∷ []) [] pattern 0 e.log.entries ≡ None → e.after ≡ record_after r target e.report r.pid →
     IsEnacted first last r target pattern e
-enacted headlines first last r target pattern tree note e start ds within range is same numbers law replays room spared after =
-    let noted = subst (λ (n : PidNote). KeepsPathLaw tree n e.log.entries e.report) same law in
-    let whole = whole-run tree r.note pattern first.table last.table e.log.entries e.report noted replays in
-    let none = refused-is [] (r.generation.image ∷ []) [] tree pattern (start_at first.table r.note) ∙ (ap (first_naming (r.generation.image ∷ []) [] pattern 0) whole.entries_are ∙ spared) in
-    let kept = keeps headlines first.table r target pattern tree start ds within range is none in
+enacted headlines first last r target pattern e start ds within range plan numbers law replays room spared after =
+    let ran = run_of r target pattern first.table in
+    let whole = whole-run r target pattern first.table last.table e.log.entries e.report law replays in
+    let none = refusal-is r target pattern first.table last.table e.log.entries e.report None plan whole spared in
+    let kept = keeps headlines first.table r target pattern start ds within range plan none in
+    let left : record_after r target (report_of ran) r.pid ≡ next_record r target e.report last.table =
+    sym (master-stays r target plan ran kept.0.after) ∙ (λ i. next_record r target (sym whole.report_is i) (whole.table i)) in
     record {
       agrees = start.agrees;
-      tree = tree;
-      is_planned = is;
+      has_plan = plan;
       numbers = numbers;
       spared = none;
       is_run = whole;
       room = room;
-      after = after;
-      keeps = kept.0;
+      after = after ∙ (ap (λ x. record_after r target x r.pid) whole.report_is ∙ left);
+      ends = kept.0;
       floor = kept.1;
       manner = kept.2;
     }
 
 -- The first moment that kills the executing master is refused.
-pub named : (first last : Table) (r : Record) (target : Target) (pattern : Pattern) (tree : Tree) (note : PidNote) (entries : List Entry) (report : Report) (moment : ℕ) →
-    Agrees first r → planned r target ≡ Some tree → note ≡ r.note → (LacksNumbers first (height tree) → ⊥) →
-    KeepsPathLaw tree note entries report → Replays pattern 0 first entries last →
-    first_naming (r.generation.image ∷ []) [] pattern 0 entries ≡ Some moment →
+pub named : (first last : Table) (r : Record) (target : Target) (pattern : Pattern) (entries : List Entry) (report : Report) (moment : ℕ) →
+    Agrees first r → HasPlan r target → (LacksNumbers first (height (plan_tree r target)) → ⊥) →
+    KeepsPathLaw (plan_tree r target) r.note entries report → Replays (text_handed r target) pattern 0 first entries last →
+    refused_among (r.generation.image ∷ []) [] pattern 0 entries ≡ Some moment →
     NamesMaster first r target pattern moment
-named first last r target pattern tree note entries report moment agrees is same numbers law replays naming =
-    let noted = subst (λ (n : PidNote). KeepsPathLaw tree n entries report) same law in
-    let whole = whole-run tree r.note pattern first last entries report noted replays in
+named first last r target pattern entries report moment agrees plan numbers law replays naming =
+    let whole = whole-run r target pattern first last entries report law replays in
     record {
       agrees = agrees;
-      tree = tree;
-      is_planned = is;
+      has_plan = plan;
       numbers = numbers;
-      first = refused-is [] (r.generation.image ∷ []) [] tree pattern (start_at first r.note) ∙ (ap (first_naming (r.generation.image ∷ []) [] pattern 0) whole.entries_are ∙ naming);
+      first = refusal-is r target pattern first last entries report (Some moment) plan whole naming;
     }

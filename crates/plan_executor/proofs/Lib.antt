@@ -3,6 +3,8 @@ pub mod Running
 pub mod Reporting
 pub mod Replaying
 pub mod Refused
+pub mod Planned
+pub mod Reigning
 pub mod Enacting
 pub mod Exact
 pub mod Truth

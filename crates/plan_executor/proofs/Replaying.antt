@@ -11,23 +11,23 @@ use Rattle.vocabulary.specs.declared.calls.Fate.TheVariants as fate
 use Rattle.listener_set.specs.declared.generation.Generation.{Generation}
 use Rattle.definitions.specs.Table.{Table, Caller, live_master, is_worker, is_active, is_draining, is_starting, is_held, owner_at}
 use Rattle.definitions.specs.Exits.{after_exits}
-use Rattle.definitions.specs.Calls.{Stepped, step, step_by, own_step, fault_of, fault_if, fault_or_own, has_process_room, is_image, asked_alive, moved_if, suits}
+use Rattle.definitions.specs.Calls.{Stepped, step_with, step_by, own_step, fault_of, fault_if, fault_or_own, has_process_room, is_image, asked_alive, moved_if, suits}
 use Rattle.definitions.specs.Handover.{reading}
 use Rattle.definitions.specs.Table.{FilePath}
 use Rattle.definitions.specs.Tree.{is_listed}
 use Rattle.definitions.specs.Run.{Pattern, Replays}
 
 -- what a call under the k-th moment gives
-abbrev pub at_moment : Pattern → ℕ → Entry → Table → Stepped
-at_moment pattern k e t = step e.by e.call (pattern k).fate (after_exits (pattern k).exits t)
+abbrev pub at_moment : List ℕ → Pattern → ℕ → Entry → Table → Stepped
+at_moment text pattern k e t = step_with text e.by e.call (pattern k).fate (after_exits (pattern k).exits t)
 
-pub replays-push : (pattern : Pattern) (entries : List Entry) (n k : ℕ) (t last : Table) (e : Entry) → Replays pattern n t entries last → k ≡ n + length entries + 1 → (at_moment pattern k e last).answer ≡ e.answer → Replays pattern n t (entries ++ e ∷ []) (at_moment pattern k e last).table
-replays-push pattern [] n k t last e same at gives =
+pub replays-push : (text : List ℕ) (pattern : Pattern) (entries : List Entry) (n k : ℕ) (t last : Table) (e : Entry) → Replays text pattern n t entries last → k ≡ n + length entries + 1 → (at_moment text pattern k e last).answer ≡ e.answer → Replays text pattern n t (entries ++ e ∷ []) (at_moment text pattern k e last).table
+replays-push text pattern [] n k t last e same at gives =
     let k_is : k ≡ n + 1 = omega arith in
-    let stepped : at_moment pattern k e last ≡ at_moment pattern (n + 1) e t = λ i. at_moment pattern (k_is i) e (sym same i) in
+    let stepped : at_moment text pattern k e last ≡ at_moment text pattern (n + 1) e t = λ i. at_moment text pattern (k_is i) e (sym same i) in
     (sym (ap (λ (s : Stepped). s.answer) stepped) ∙ gives, sym (ap (λ (s : Stepped). s.table) stepped))
-replays-push pattern (x ∷ entries) n k t last e replays at gives =
-    (replays.0, replays-push pattern entries (n + 1) k (at_moment pattern (n + 1) x t).table last e replays.1 (omega arith) gives)
+replays-push text pattern (x ∷ entries) n k t last e replays at gives =
+    (replays.0, replays-push text pattern entries (n + 1) k (at_moment text pattern (n + 1) x t).table last e replays.1 (omega arith) gives)
 
 ---- The answers that a step gives are listed
 
@@ -168,5 +168,5 @@ step-listed-by text image (Some c) call None t = own-listed text image c call t
 step-listed-by text image (Some c) call (Some f) t = fated-listed text image c call f t
 
 -- A step gives one of the answers that its call can be given.
-pub step-listed : (image : ℕ) (call : Call) (f : Option Fate) (t : Table) → is_listed call (step image call f t).answer ≡ true
-step-listed image call f t = step-listed-by [] image (live_master image t.rows) call f t
+pub step-listed : (text : List ℕ) (image : ℕ) (call : Call) (f : Option Fate) (t : Table) → is_listed call (step_with text image call f t).answer ≡ true
+step-listed text image call f t = step-listed-by text image (live_master image t.rows) call f t

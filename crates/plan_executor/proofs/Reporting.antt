@@ -3,11 +3,15 @@ use Rattle.std.proofs.Common.{◌≡◌, ℕ, List, Option, Some, None, sym, ◌
 use Rattle.vocabulary.specs.declared.reports.Entry.{Entry}
 use Rattle.vocabulary.specs.declared.reports.Report.{Report}
 use Rattle.vocabulary.specs.declared.reports.Outcome.{Outcome}
-use Rattle.vocabulary.specs.declared.plans.PidNote.{PidNote}
 use Rattle.definitions.specs.Table.{Table}
 use Rattle.definitions.specs.Tree.{Tree, Ends, Does}
-use Rattle.definitions.specs.Path.{Trail, begin, after, IsOver, IsOutcome, Reports, KeepsPathLaw}
-use Rattle.definitions.specs.Run.{Pattern, Ran, run, start_at, outcome_of, report_of, Replays}
+use Rattle.definitions.specs.Path.{Trail, begin, trail_after, IsOver, IsOutcome, Reports, KeepsPathLaw}
+use Rattle.definitions.specs.Run.{Pattern, Ran, start_at, outcome_of, report_of, Replays}
+use Rattle.definitions.specs.Record.{Record}
+use Rattle.vocabulary.specs.declared.targets.Target.{Target}
+use Rattle.definitions.specs.Target.{text_handed}
+use Rattle.definitions.specs.Plans.{plan_tree}
+use Rattle.definitions.specs.Claims.{run_of}
 use Rattle.plan_executor.specs.Lawful.{ending_of, IsRun, IsWholeRun}
 use Rattle.plan_executor.proofs.Running.{runs-as}
 
@@ -30,8 +34,9 @@ reported t entries last ran report is h =
     let ready = h.ready ∙ ap (λ (x : Trail). x.ready) (sym is.trail) in
     λ i. record { outcome = outcome i; cause = cause i; note = note i; ready = ready i }
 
-pub whole-run : (tree : Tree) (note : PidNote) (pattern : Pattern) (first last : Table) (entries : List Entry) (report : Report) → KeepsPathLaw tree note entries report → Replays pattern 0 first entries last → IsWholeRun tree note pattern first entries last report
-whole-run tree note pattern first last entries report law replays =
-    let t = after (begin tree note) entries in
-    let is = runs-as entries tree pattern (start_at first note) last law.path (over t.rest t.lacking report.outcome law.report_is.outcome) replays in
-    record { entries_are = is.entries_are; table = is.table; report_is = reported t entries last (run tree pattern (start_at first note)) report is law.report_is }
+-- the run of the target's plan
+pub whole-run : (r : Record) (target : Target) (pattern : Pattern) (first last : Table) (entries : List Entry) (report : Report) → KeepsPathLaw (plan_tree r target) r.note entries report → Replays (text_handed r target) pattern 0 first entries last → IsWholeRun r target pattern first entries last report
+whole-run r target pattern first last entries report law replays =
+    let t = trail_after (begin (plan_tree r target) r.note) entries in
+    let is = runs-as (text_handed r target) entries (plan_tree r target) pattern (start_at first r.note) last law.path (over t.rest t.lacking report.outcome law.report_is.outcome) replays in
+    record { entries_are = is.entries_are; table = is.table; report_is = reported t entries last (run_of r target pattern first) report is law.report_is }

@@ -1,14 +1,14 @@
 -- What words leave on the modelled kernel: the record stays true of it.
-use Rattle.std.proofs.Common.{◌≡◌, inl, inr, ℕ, List, Option, Err, refl, sym, ◌∙◌, ap, subst}
+use Rattle.std.proofs.Common.{◌≡◌, inl, inr, ℕ, List, Option, Err, refl, sym, ◌∙◌, subst}
 use Rattle.vocabulary.specs.Settings.{Settings}
 use Rattle.definitions.specs.Table.{Table}
 use Rattle.definitions.specs.Record.{Record}
 use Rattle.vocabulary.specs.declared.targets.Target.{Target}
-use Rattle.definitions.specs.Run.{Ran as TheRun, run, start_at, report_of}
-use Rattle.definitions.specs.After.{record_after}
+use Rattle.definitions.specs.Run.{Ran as TheRun, report_of}
+use Rattle.definitions.specs.After.{next_record}
 use Rattle.vocabulary.specs.declared.targets.Target.TheVariants.{Workers, Mend, Reopen, Reload, Upgrade, Stop}
 use Rattle.vocabulary.specs.declared.reports.Report.{Report}
-use Rattle.definitions.specs.Claims.{AgreesAfter, IsLeft}
+use Rattle.definitions.specs.Claims.{run_of, AgreesAfter, IsSucceeded}
 use Rattle.kernel_model.specs.State.{State}
 use Rattle.kernel_model.specs.Pattern.{moment_at}
 use Rattle.control_words.specs.declared.words.Word.{Word}
@@ -41,24 +41,24 @@ declined-is patterns first place r target NoNumbers exact = record { why = NoNum
 ---- The record stays true
 
 -- the record that agrees after a run is the one that is left
-agreed : (target : Target) (r : Record) (state : Option Record) (report : Report) (t : Table) → state ≡ record_after r target report r.pid → AgreesAfter r target report r.pid t → IsTrueOf t state
+agreed : (target : Target) (r : Record) (state : Option Record) (report : Report) (t : Table) → state ≡ next_record r target report t → AgreesAfter r target report t → IsTrueOf t state
 agreed target r state report t is after = subst (IsTrueOf t) (sym (is ∙ after.is)) after.agrees
 
-left-true : (target : Target) (r : Record) (state : Option Record) (ran : TheRun) → state ≡ record_after r target (report_of ran) r.pid → IsLeft r target r.pid ran → IsTrueOf ran.last.table state
-left-true (Workers n) r state ran is left = agreed (Workers n) r state (report_of ran) ran.last.table is left
-left-true (Mend overdue) r state ran is left = agreed (Mend overdue) r state (report_of ran) ran.last.table is left
-left-true Reopen r state ran is left = agreed Reopen r state (report_of ran) ran.last.table is left
-left-true (Reload s) r state ran is left = agreed (Reload s) r state (report_of ran) ran.last.table is left
-left-true (Upgrade s) r state ran is left = agreed (Upgrade s) r state (report_of ran) ran.last.table is left
-left-true (Stop quick) r state ran is left = subst (IsTrueOf ran.last.table) (sym (is ∙ left.0)) tt
+left-true : (target : Target) (r : Record) (state : Option Record) (ran : TheRun) → state ≡ next_record r target (report_of ran) ran.last.table → IsSucceeded r target ran → IsTrueOf ran.last.table state
+left-true (Workers n) r state ran is after = agreed (Workers n) r state (report_of ran) ran.last.table is after
+left-true (Mend overdue) r state ran is after = agreed (Mend overdue) r state (report_of ran) ran.last.table is after
+left-true Reopen r state ran is after = agreed Reopen r state (report_of ran) ran.last.table is after
+left-true (Reload s) r state ran is after = agreed (Reload s) r state (report_of ran) ran.last.table is after
+left-true (Upgrade s) r state ran is after = agreed (Upgrade s) r state (report_of ran) ran.last.table is after
+left-true (Stop quick) r state ran is after = subst (IsTrueOf ran.last.table) (sym (is ∙ after.0)) tt
 
 -- a run leaves a record that is true of the kernel
 ran-true : (patterns : List Moments) (place : ℕ) (old : Standing State) (r : Record) (target : Target) (log : Told) (report : Report) (new : Standing State) → HasRun (EnactsAt patterns) place old r target log report new → IsTrueOf new.world.table new.state
 ran-true patterns place old r target log report new h =
     let is = h.enacted in
-    let ran = run is.tree (moment_at (pattern_at patterns place)) (start_at old.world.table r.note) in
-    let left : new.state ≡ record_after r target (report_of ran) r.pid = is.after ∙ ap (λ x. record_after r target x r.pid) is.is_run.report_is in
-    subst (λ (t : Table). IsTrueOf t new.state) is.is_run.table (left-true target r new.state ran left is.keeps.after)
+    let ran = run_of r target (moment_at (pattern_at patterns place)) old.world.table in
+    let left : new.state ≡ next_record r target (report_of ran) ran.last.table = is.after ∙ (λ i. next_record r target (is.is_run.report_is i) (sym is.is_run.table i)) in
+    subst (λ (t : Table). IsTrueOf t new.state) is.is_run.table (left-true target r new.state ran left is.ends.after)
 
 pub done-true : (patterns : List Moments) (settings : Option Settings) (words : List Word) (first : Standing State) (blocks : List Block) (last : Standing State) → AreDone (EnactsAt patterns) (DeclinesAt patterns) settings words 0 first blocks last → IsTrueOf first.world.table first.state → IsTrueOf last.world.table last.state
 done-true patterns settings words first blocks last done true_of =

@@ -1,18 +1,19 @@
 -- What comes of a target that is carried out.
-use Rattle.std.specs.Prelude.{◌≡◌, ◌+◌, length, Some, None, ⊤}
+use Rattle.std.specs.Prelude.{◌≡◌, ◌+◌, length, None, ⊤}
 use Rattle.vocabulary.specs.declared.targets.Target.{Target}
 use Rattle.vocabulary.specs.declared.targets.Target.TheVariants.{Workers, Mend, Reopen, Reload, Upgrade, Stop}
 use Rattle.definitions.specs.Table.{Table}
 use Rattle.definitions.specs.Record.{Record, Agrees}
-use Rattle.definitions.specs.Tree.{Tree, height}
-use Rattle.definitions.specs.Plans.{planned}
-use Rattle.definitions.specs.Run.{Pattern, Ran, run, start_at, report_of}
+use Rattle.definitions.specs.Tree.{height}
+use Rattle.definitions.specs.Plans.{plan_tree}
+use Rattle.definitions.specs.Run.{Pattern, Ran, report_of}
 use Rattle.definitions.specs.Manner.{Manner}
-use Rattle.definitions.specs.After.{record_after}
-use Rattle.definitions.specs.Claims.{refused_moment, Keeps, KeepsFloor}
+use Rattle.definitions.specs.After.{next_record}
+use Rattle.definitions.specs.Claims.{run_of, refusal_of, EndsAsReported, KeepsFloor}
 use Rattle.kernel_model.specs.Room.{LacksNumbers}
 use Rattle.kernel_model.specs.State.{State}
 use Rattle.plan_executor.specs.Lawful.{IsWholeRun}
+use Rattle.plan_executor.specs.Refusals.{HasPlan}
 use Rattle.word_runner.specs.declared.enactor.Enacted.{Enacted}
 
 -- Where a target quits nobody, or only when others are ready, its run keeps the floor. A mend kills first, and a stop leaves none.
@@ -25,18 +26,17 @@ HasFloor t r Reopen ran = KeepsFloor t r Reopen ran
 HasFloor t r (Stop quick) ran = ⊤
 
 -- The record agreed, and the target's plan was run, from the first table to the last, under the pattern: entries and report are
--- those of its run, the record afterwards is the one that the report leaves, and no moment of the run kills the executing
--- master. There were numbers for the longest path, and room is left for what was not called. The run ends as its report says,
--- keeps what it has to, and has the target's manner.
+-- those of its run, the record afterwards is the one that the report leaves to the master that reigns then, and no moment of the
+-- run kills an executing master. There were numbers for the longest path, and room is left for what was not called. The run
+-- ends as its report says, keeps what it has to, and has the target's manner.
 pub record IsEnacted (first last : State) (r : Record) (target : Target) (pattern : Pattern) (e : Enacted) : Type 0 where
   pub agrees : Agrees first.table r
-  pub tree : Tree
-  pub is_planned : planned r target ≡ Some tree
-  pub numbers : LacksNumbers first.table (height tree) → ⊥
-  pub spared : refused_moment r.generation.image tree pattern (start_at first.table r.note) ≡ None
-  pub is_run : IsWholeRun tree r.note pattern first.table e.log.entries last.table e.report
-  pub room : last.room + length e.log.entries ≡ height tree
-  pub after : e.after ≡ record_after r target e.report r.pid
-  pub keeps : Keeps first.table r target r.pid (run tree pattern (start_at first.table r.note))
-  pub floor : HasFloor first.table r target (run tree pattern (start_at first.table r.note))
-  pub manner : Manner r target (report_of (run tree pattern (start_at first.table r.note))).outcome first.table (run tree pattern (start_at first.table r.note))
+  pub has_plan : HasPlan r target
+  pub numbers : LacksNumbers first.table (height (plan_tree r target)) → ⊥
+  pub spared : refusal_of r target pattern first.table ≡ None
+  pub is_run : IsWholeRun r target pattern first.table e.log.entries last.table e.report
+  pub room : last.room + length e.log.entries ≡ height (plan_tree r target)
+  pub after : e.after ≡ next_record r target e.report last.table
+  pub ends : EndsAsReported first.table r target (run_of r target pattern first.table)
+  pub floor : HasFloor first.table r target (run_of r target pattern first.table)
+  pub manner : Manner r target (report_of (run_of r target pattern first.table)).outcome first.table (run_of r target pattern first.table)

@@ -5,8 +5,10 @@ use Rattle.definitions.specs.Tree.{Tree, Ends, Does}
 use Rattle.vocabulary.specs.declared.reports.Entry.{Entry}
 use Rattle.definitions.specs.Path.{Trail}
 use Rattle.vocabulary.specs.declared.reports.Report.{Report}
-use Rattle.vocabulary.specs.declared.plans.PidNote.{PidNote}
-use Rattle.definitions.specs.Run.{Pattern, Progress, Ending, At, Lost, Ran, run, start_at, report_of}
+use Rattle.definitions.specs.Run.{Pattern, Progress, Ending, At, Lost, Ran, report_of}
+use Rattle.definitions.specs.Record.{Record}
+use Rattle.vocabulary.specs.declared.targets.Target.{Target}
+use Rattle.definitions.specs.Claims.{run_of}
 
 -- the trail of a run that has come so far
 abbrev pub trail_at : Option Tree → Progress → Trail
@@ -25,8 +27,8 @@ pub record IsRun (entries : List Entry) (last : Table) (t : Trail) (ran : Ran) :
   pub ending : ran.ending ≡ ending_of t.rest
   pub trail : trail_at t.rest ran.last ≡ t
 
--- These are the entries, the last table and the report of the run of a tree from a table under a pattern.
-pub record IsWholeRun (tree : Tree) (note : PidNote) (pattern : Pattern) (first : Table) (entries : List Entry) (last : Table) (report : Report) : Type 0 where
-  pub entries_are : (run tree pattern (start_at first note)).entries ≡ entries
-  pub table : (run tree pattern (start_at first note)).last.table ≡ last
-  pub report_is : report ≡ report_of (run tree pattern (start_at first note))
+-- These are the entries, the last table and the report of the run of the target's plan from a table under a pattern.
+pub record IsWholeRun (r : Record) (target : Target) (pattern : Pattern) (first : Table) (entries : List Entry) (last : Table) (report : Report) : Type 0 where
+  pub entries_are : (run_of r target pattern first).entries ≡ entries
+  pub table : (run_of r target pattern first).last.table ≡ last
+  pub report_is : report ≡ report_of (run_of r target pattern first)

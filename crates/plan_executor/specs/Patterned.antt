@@ -10,10 +10,11 @@ use Rattle.plan_executor.specs.declared.patterned.Patterned.{Patterned}
 -- and each took one room.
 pub record CallsLed (first : Patterned) (entries : List Entry) (last : Patterned) : Type 0 where
   pub pattern : last.pattern.now ≡ first.pattern.now
+  pub text : last.text.now ≡ first.text.now
   pub number : last.number ≡ first.number + length entries
   pub room : last.kernel.room + length entries ≡ first.kernel.room
-  pub replays : Replays (moment_at first.pattern.now) first.number first.kernel.table entries last.kernel.table
+  pub replays : Replays first.text.now (moment_at first.pattern.now) first.number first.kernel.table entries last.kernel.table
 
 -- where no call was made, nothing changed
 pub CallsLed-none : (p : Patterned) → CallsLed p [] p
-CallsLed-none p = record { pattern = refl; number = omega arith; room = omega arith; replays = refl }
+CallsLed-none p = record { pattern = refl; text = refl; number = omega arith; room = omega arith; replays = refl }

@@ -1,22 +1,27 @@
 -- Why a target is not carried out.
-use Rattle.std.specs.Prelude.{ℕ, ◌≡◌, true, Some}
+use Rattle.std.specs.Prelude.{ℕ, ◌≡◌, true, false, Some}
 use Rattle.definitions.specs.Table.{Table}
 use Rattle.definitions.specs.Record.{Record, Agrees}
 use Rattle.vocabulary.specs.declared.targets.Target.{Target}
-use Rattle.definitions.specs.Tree.{Tree, height}
-use Rattle.definitions.specs.Plans.{planned}
-use Rattle.definitions.specs.Run.{Pattern, start_at}
-use Rattle.definitions.specs.Claims.{refused_moment}
+use Rattle.definitions.specs.After.{lacks_generation}
+use Rattle.definitions.specs.Tree.{height}
+use Rattle.definitions.specs.Plans.{plan_tree}
+use Rattle.definitions.specs.Run.{Pattern}
+use Rattle.definitions.specs.Claims.{refusal_of}
 use Rattle.kernel_model.specs.Room.{LacksNumbers}
-use Rattle.reload_planner.specs.Planning.{is_upgrade, lacks_generation}
+use Rattle.reload_planner.specs.Planning.{is_apart}
 use Rattle.reload_planner.specs.declared.refusal.PlanRefusal.{PlanRefusal}
 use Rattle.reload_planner.specs.declared.refusal.PlanRefusal.TheVariants as planner
 use Rattle.plan_executor.specs.declared.enactment.EnactRefusal.{EnactRefusal}
 use Rattle.plan_executor.specs.declared.enactment.EnactRefusal.TheVariants.{Memory, RecordDisagrees, Plan, MasterNamed, NoNumbers}
 
--- When the planner of one master refuses a target so, want of memory aside: an upgrade, or a reload whose number would pass its limit.
+-- There is a plan: no number of the target's generation would pass its limit, and it is no upgrade, which is planned apart.
+abbrev pub HasPlan : Record → Target → Type 0
+HasPlan r target = (lacks_generation r target ≡ false) × (is_apart r target ≡ false)
+
+-- When the planner of one master refuses a target so, want of memory aside.
 abbrev pub HasNoPlan : Record → Target → PlanRefusal → Type 0
-HasNoPlan r target planner.Unplanned = is_upgrade target ≡ true
+HasNoPlan r target planner.Unplanned = is_apart r target ≡ true
 HasNoPlan r target planner.TooLarge = ⊥
 HasNoPlan r target planner.NoGeneration = lacks_generation r target ≡ true
 HasNoPlan r target planner.Memory = ⊥
@@ -34,18 +39,16 @@ pub record IsUnplanned (t : Table) (r : Record) (target : Target) (refusal : Pla
 -- The record agrees and there is a plan, but fewer process or socket numbers are left than its longest path has steps.
 pub record IsShortOfNumbers (t : Table) (r : Record) (target : Target) : Type 0 where
   pub agrees : Agrees t r
-  pub tree : Tree
-  pub is_planned : planned r target ≡ Some tree
-  pub lacks : LacksNumbers t (height tree)
+  pub has_plan : HasPlan r target
+  pub lacks : LacksNumbers t (height (plan_tree r target))
 
 -- The record agrees and there is a plan, for which enough numbers are left, but the run under the pattern has moments in which
 -- an executing master exits, and this is the first.
 pub record NamesMaster (t : Table) (r : Record) (target : Target) (pattern : Pattern) (moment : ℕ) : Type 0 where
   pub agrees : Agrees t r
-  pub tree : Tree
-  pub is_planned : planned r target ≡ Some tree
-  pub numbers : LacksNumbers t (height tree) → ⊥
-  pub first : refused_moment r.generation.image tree pattern (start_at t r.note) ≡ Some moment
+  pub has_plan : HasPlan r target
+  pub numbers : LacksNumbers t (height (plan_tree r target)) → ⊥
+  pub first : refusal_of r target pattern t ≡ Some moment
 
 -- When a target is refused so, want of memory aside. No two of these hold at once.
 abbrev pub IsRefused : Table → Record → Target → Pattern → EnactRefusal → Type 0

@@ -1,22 +1,23 @@
 //! A target, planned and carried out on the modelled kernel.
-ghost use Rattle.std.specs.Prelude.{◌≡◌, ◌≤◌, ◌↔◌, ◌⊎◌, Some, OnErr, IfOk, IfErr, IsErrOf, IsTrue};
+ghost use Rattle.std.specs.Prelude.{◌≡◌, ◌≤◌, ◌↔◌, ◌⊎◌, OnErr, IfOk, IfErr, IsErrOf, IsTrue};
 ghost use Rattle.definitions.specs.Formed.{IsFormed};
 ghost use Rattle.definitions.specs.Record.{Agrees};
-ghost use Rattle.definitions.specs.Plans.{planned};
+ghost use Rattle.definitions.specs.Plans.{plan_tree};
 ghost use Rattle.vocabulary.specs.Settings.{IsInRange};
-ghost use Rattle.definitions.specs.Target.{IsTarget};
+ghost use Rattle.definitions.specs.Target.{IsTarget, text_handed};
 ghost use Rattle.kernel_model.specs.Pattern.{moment_at};
 ghost use Rattle.kernel_model.specs.Room.{LacksNumbers};
-ghost use Rattle.rollback_plan.specs.Plans.{tree_of, note_of};
+ghost use Rattle.rollback_plan.specs.Plans.{tree_of, note_of, text_of};
 ghost use Rattle.reload_planner.specs.declared.refusal.PlanRefusal.{PlanRefusal as Unplannable};
 ghost use Rattle.plan_executor.specs.Enacted.{IsEnacted};
 ghost use Rattle.plan_executor.specs.Range.{HasRange};
-ghost use Rattle.reload_planner.specs.Planning.{is_upgrade, lacks_generation};
-ghost use Rattle.plan_executor.specs.Refusals.{HasNoPlan, IsPlannable, IsRefused};
+ghost use Rattle.definitions.specs.After.{lacks_generation};
+ghost use Rattle.reload_planner.specs.Planning.{is_apart};
+ghost use Rattle.plan_executor.specs.Refusals.{HasPlan, HasNoPlan, IsPlannable, IsRefused};
 ghost use Rattle.plan_executor.specs.declared.enactment.EnactRefusal.{EnactRefusal as Refusal};
 
 use crate::agreement::agrees;
-use crate::naming::first_naming;
+use crate::naming::refused_among;
 use crate::patterned::Patterned;
 use kernel_model::{Kernel, Pattern, ReserveRefusal};
 use plan_runner::{CallLog, execute};
@@ -59,8 +60,8 @@ impl From<AllocError> for EnactRefusal {
 /// Refusals in their order: E2 the record disagrees with the kernel; E3 there is no plan, with the
 /// planner's own refusal; E5 fewer process or socket numbers are left than the plan's longest path
 /// has steps; E4 a moment of the run kills the executing master, and the first such is named. E1
-/// may come in place of the last two, and never where E2 or E3 is due. After a run the kernel has room for as many calls as the longest path
-/// has steps, less those that were made.
+/// may come in place of the last two, and never where E2 or E3 is due. After a run the kernel has
+/// room for as many calls as the longest path has steps, less those that were made.
 pub fn enact(
     alloc: Global,
     kernel: &mut Kernel,
@@ -83,9 +84,9 @@ pub fn enact(
     let longest = plan.longest();
     let copy = reserved_copy(kernel, longest)?;
     let mut log = CallLog::with_room(alloc, longest)?;
-    let mut calls = Patterned::new(copy, pattern);
+    let mut calls = Patterned::new(copy, pattern, plan.text());
     let report = execute(&plan, &mut calls, &mut log);
-    if let Some(moment) = first_naming(pattern, state.generation.image, log.entries()) {
+    if let Some(moment) = refused_among(pattern, state.generation.image, log.entries()) {
         return Err(EnactRefusal::MasterNamed(moment));
     }
     read_settings(target);
@@ -123,11 +124,13 @@ fn workers_of(settings: &Settings) -> u32
 /// The plan of a target. Want of memory is told only where nothing else is refused.
 fn plan_of(alloc: Global, state: &Record, target: &Target) -> Result<Plan, EnactRefusal>
     requires { IsTarget target.now }
-    ensures tree { IfOk result (λ plan. planned state.now target.now ≡ Some (tree_of plan)) }
+    ensures planned { IfOk result (λ _. HasPlan state.now target.now) }
+    ensures tree { IfOk result (λ plan. tree_of plan ≡ plan_tree state.now target.now) }
     ensures note { IfOk result (λ plan. note_of plan ≡ state.now.note) }
+    ensures text { IfOk result (λ plan. text_of plan ≡ text_handed state.now target.now) }
     ensures refused { IfErr result (λ why.
         (why ≡ EnactRefusal.Memory) ⊎ ((refusal : Unplannable) × (why ≡ EnactRefusal.Plan refusal) × HasNoPlan state.now target.now refusal)) }
-    ensures upgrade { IsErrOf result (EnactRefusal.Plan Unplannable.Unplanned) ↔ IsTrue (is_upgrade target.now) }
+    ensures apart { IsErrOf result (EnactRefusal.Plan Unplannable.Unplanned) ↔ IsTrue (is_apart state.now target.now) }
     ensures numbered { IsErrOf result (EnactRefusal.Plan Unplannable.NoGeneration) ↔ IsTrue (lacks_generation state.now target.now) }
 {
     match reload_planner::plan(alloc, state, target) {

@@ -3,16 +3,17 @@ ghost use Rattle.std.specs.Prelude.{◌≡◌, ◌<◌, ◌∷◌, [], length};
 ghost use Rattle.std.specs.List.{list_any};
 ghost use Rattle.definitions.specs.Manner.{is_leave_call};
 ghost use Rattle.kernel_model.specs.Pattern.{moment_at};
-ghost use Rattle.plan_executor.specs.Naming.{first_naming, is_master};
+ghost use Rattle.definitions.specs.Claims.{refused_among};
+ghost use Rattle.plan_executor.specs.Naming.{is_exit_of};
 
 use kernel_model::Pattern;
 use vocabulary::{Call, Entry, Name};
 
 /// The first moment of these calls in which the master of the image exits, up to its Leave. After
 /// that nobody executes.
-pub(crate) fn first_naming(pattern: &Pattern, image: u32, entries: &[Entry]) -> Option<u32>
+pub(crate) fn refused_among(pattern: &Pattern, image: u32, entries: &[Entry]) -> Option<u32>
     requires { length entries.now < 4294967296 }
-    ensures { result ≡ first_naming (image ∷ []) [] (moment_at pattern.now) 0 entries.now }
+    ensures { result ≡ refused_among (image ∷ []) [] (moment_at pattern.now) 0 entries.now }
 {
     for (place, entry) in entries.iter().enumerate() {
         let number = place as u32 + 1;
@@ -33,13 +34,13 @@ fn is_leave(call: &Call) -> bool
 }
 
 fn names_master(exits: &[Name], image: u32) -> bool
-    ensures { result ≡ list_any (is_master image) exits.now }
+    ensures { result ≡ list_any (is_exit_of image) exits.now }
 {
-    exits.iter().any(|name| is_master(name, image))
+    exits.iter().any(|name| is_exit_of(name, image))
 }
 
-fn is_master(name: &Name, image: u32) -> bool
-    ensures { result ≡ is_master image name.now }
+fn is_exit_of(name: &Name, image: u32) -> bool
+    ensures { result ≡ is_exit_of image name.now }
 {
     match name {
         Name::Master(gone) => image == *gone,

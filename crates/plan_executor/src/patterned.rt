@@ -5,28 +5,28 @@ use kernel_model::{Kernel, Pattern};
 use plan_runner::Calls;
 use vocabulary::{Actor, Answer, Call};
 
-/// A plan of one master hands nothing over.
-const NO_TEXT: &[u8] = &[];
-
-/// A kernel whose calls come with the moments of a pattern, the first with moment 1.
+/// A kernel whose calls come with the moments of a pattern, the first with moment 1, and are each handed a text.
 #[derive(Drop)]
 pub(crate) struct Patterned<'a> {
     kernel: Kernel,
     pattern: &'a Pattern,
+    text: &'a [u8],
     number: u32,
     ghost countable: { number + kernel.room < 2 ^ 32 },
 }
 
 impl<'a> Patterned<'a> {
-    /// A kernel before the first moment of a pattern.
-    pub(crate) fn new(kernel: Kernel, pattern: &'a Pattern) -> Patterned<'a>
+    /// A kernel before the first moment of a pattern, whose calls are each handed the text.
+    pub(crate) fn new(kernel: Kernel, pattern: &'a Pattern, text: &'a [u8]) -> Patterned<'a>
         ensures kernel { result.kernel ≡ kernel }
         ensures pattern { result.pattern.now ≡ pattern.now }
+        ensures text { result.text.now ≡ text.now }
         ensures number { result.number ≡ 0 }
     {
         Patterned {
             kernel,
             pattern,
+            text,
             number: 0,
         }
     }
@@ -38,6 +38,7 @@ impl<'a> Patterned<'a> {
         let Patterned {
             kernel,
             pattern: _,
+            text: _,
             number: _,
         } = self;
         kernel
@@ -61,6 +62,6 @@ impl Calls for Patterned<'_> {
         self.number += 1;
         let pattern = self.pattern;
         let moment = pattern.moment(self.number);
-        self.kernel.call(by, call, NO_TEXT, &moment)
+        self.kernel.call(by, call, self.text, &moment)
     }
 }

@@ -2,14 +2,14 @@
 use Rattle.std.proofs.Common.{◌≡◌, ℕ, ◌≤◌, List, [], ◌∷◌, ◌++◌, refl, arith, Option, Some, None}
 use Rattle.definitions.specs.Tree.{Tree, Ends, Does}
 use Rattle.vocabulary.specs.declared.reports.Entry.{Entry}
-use Rattle.definitions.specs.Path.{Trail, advance, after, Asks, Follows}
+use Rattle.definitions.specs.Path.{Trail, advance, trail_after, Asks, Follows}
 use Rattle.plan_runner.specs.Fit.{height_next}
 
-pub after-push : (t : Trail) (entries : List Entry) (e : Entry) → after t (entries ++ e ∷ []) ≡ advance (after t entries) e
+pub after-push : (t : Trail) (entries : List Entry) (e : Entry) → trail_after t (entries ++ e ∷ []) ≡ advance (trail_after t entries) e
 after-push t [] e = refl
 after-push t (x ∷ entries) e = after-push (advance t x) entries e
 
-pub Follows-push : (t : Trail) (entries : List Entry) (e : Entry) → Follows t entries → Asks (after t entries).rest (after t entries).lacking e → Follows t (entries ++ e ∷ [])
+pub Follows-push : (t : Trail) (entries : List Entry) (e : Entry) → Follows t entries → Asks (trail_after t entries).rest (trail_after t entries).lacking e → Follows t (entries ++ e ∷ [])
 Follows-push t [] e h asks = (asks, tt)
 Follows-push t (x ∷ entries) e h asks = (h.0, Follows-push (advance t x) entries e h.1 asks)
 

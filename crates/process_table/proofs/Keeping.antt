@@ -6,7 +6,7 @@ use Rattle.std.proofs.lemmas.Bool.{false≢true}
 use Rattle.std.proofs.lemmas.List.Sums.{sum_by-cons}
 use Rattle.definitions.specs.Table.{Generation, Process, number_of, is_active, is_worker}
 use Rattle.definitions.specs.Exits.{change, first_changed}
-use Rattle.definitions.specs.Calls.{dropped, is_image}
+use Rattle.definitions.specs.Calls.{drop_where, is_image}
 use Rattle.definitions.specs.Formed.{IsQuiet, HasParent, IsAscending}
 use Rattle.process_table.specs.Room.{HasSockets}
 
@@ -120,7 +120,7 @@ module _ (R : Process → Process → Type 0) (same : (p : Process) → R p p) (
       at false h = same p
 
 -- a row that passes the test leaves
-pub says-dropped : (R : Process → Process → Type 0) (same : (p : Process) → R p p) (test : Process → Bool) (p : Process) → IfSome (dropped test p) (R p)
+pub says-dropped : (R : Process → Process → Type 0) (same : (p : Process) → R p p) (test : Process → Bool) (p : Process) → IfSome (drop_where test p) (R p)
 says-dropped R same test p = at (test p)
   where
     at : (b : Bool) → IfSome (cond b None (Some p)) (R p)

@@ -1,6 +1,6 @@
 -- A reload is the one of its definition.
 use Rattle.std.proofs.Common.{◌≡◌, ℕ, ◌+◌, Bool, true, false, List, Option, Some, None, Result, Ok, Err, nat_lt, refl, sym, ◌∙◌, ap}
-use Rattle.std.specs.Prelude.{if◌then◌else◌, IfOk, IsErrOf, ◌↔◌, option_map}
+use Rattle.std.specs.Prelude.{if◌then◌else◌, IfOk, IsErrOf, ◌↔◌, is_none}
 use Rattle.listener_set.specs.Numbers.{numbers_below}
 use Rattle.listener_set.specs.declared.generation.Generation.{Generation}
 use Rattle.definitions.specs.Table.{Address}
@@ -33,5 +33,5 @@ planned_is r s (Err e) lacks is = tt
 planned_is r s (Ok plan) lacks is = one (next_config r.generation) refl
   where
     one : (o : Option Generation) → next_config r.generation ≡ o → planned r (Reload s) ≡ Some (tree_of plan)
-    one (Some g) e = ap (option_map (λ (h : Generation). plan_tree r (Reload s))) e ∙ ap Some (sym is)
+    one (Some g) e = ap (λ (h : Option Generation). if is_none h then None else Some (plan_tree r (Reload s))) e ∙ ap Some (sym is)
     one None e = let error : IsErrOf {T = Plan} (Ok plan) NoGeneration = lacks.1 e in cc

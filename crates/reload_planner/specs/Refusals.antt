@@ -5,6 +5,6 @@ use Rattle.reload_planner.specs.declared.refusal.PlanRefusal.{PlanRefusal}
 use Rattle.reload_planner.specs.declared.refusal.PlanRefusal.TheVariants.{TooLarge, Memory}
 
 -- the refusal of a plan that a draft's refusal makes
-abbrev pub refusal_of : DraftRefusal → PlanRefusal
-refusal_of draft.TooLarge = TooLarge
-refusal_of draft.Memory = Memory
+abbrev pub plan_refusal : DraftRefusal → PlanRefusal
+plan_refusal draft.TooLarge = TooLarge
+plan_refusal draft.Memory = Memory

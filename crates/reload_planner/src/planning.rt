@@ -1,20 +1,22 @@
 //! The plan of a target.
 ghost use Rattle.std.specs.Prelude.{◌≡◌, ◌≤◌, ◌↔◌, [], Some, length, IfOk, IsErrOf, IsTrue};
 ghost use Rattle.definitions.specs.Target.{IsTarget};
+ghost use Rattle.definitions.specs.After.{lacks_generation};
 ghost use Rattle.definitions.specs.Plans.{planned};
 ghost use Rattle.rollback_plan.specs.Plans.{tree_of, note_of, text_of, trees_in};
-ghost use Rattle.reload_planner.specs.Planning.{most_steps, is_upgrade, lacks_generation};
+ghost use Rattle.reload_planner.specs.Planning.{most_steps, is_apart};
 
 use crate::{PlanRefusal, Scene, plan_mend, plan_reload, plan_reopen, plan_stop, plan_workers};
 use rollback_plan::Plan;
-use service_state::Record;
+use service_state::{Record, next_image};
 use std::alloc::Global;
 use vocabulary::{Actor, Target};
 
 /// Plans a target for a running master: what it does, and what it does instead where a call fails.
 ///
-/// `Unplanned` (P2) exactly for an upgrade, which is planned apart. `NoGeneration` (P3) exactly for
-/// a reload from configuration 4,294,967,295. No plan is too large: with `n` workers that are ready
+/// `NoGeneration` (P3) exactly where a number of the target's generation would pass 4,294,967,295: the
+/// configuration of a reload or an upgrade, or the image of an upgrade. `Unplanned` (P2) exactly for
+/// every other upgrade, which is planned apart. No plan is too large: with `n` workers that are ready
 /// or wanted before and after, and `a` addresses before and after, it has at most
 /// `6 n + 3 a + 12 retries + 40` steps.
 pub fn plan(alloc: Global, state: &Record, target: &Target) -> Result<Plan, PlanRefusal>
@@ -23,7 +25,7 @@ pub fn plan(alloc: Global, state: &Record, target: &Target) -> Result<Plan, Plan
     ensures note { IfOk result (λ plan. note_of plan ≡ state.now.note) }
     ensures text { IfOk result (λ plan. text_of plan ≡ []) }
     ensures few { IfOk result (λ plan. length (trees_in plan) ≤ most_steps state.now target.now) }
-    ensures unplanned { IsErrOf result PlanRefusal.Unplanned ↔ IsTrue (is_upgrade target.now) }
+    ensures unplanned { IsErrOf result PlanRefusal.Unplanned ↔ IsTrue (is_apart state.now target.now) }
     ensures numbered { IsErrOf result PlanRefusal.NoGeneration ↔ IsTrue (lacks_generation state.now target.now) }
     ensures not_large { IsErrOf result PlanRefusal.TooLarge → ⊥ }
 {
@@ -41,7 +43,10 @@ pub fn plan(alloc: Global, state: &Record, target: &Target) -> Result<Plan, Plan
         Target::Reload(settings) => {
             plan_reload(alloc, &scene, &state.listeners.addresses(), settings, note)
         }
-        Target::Upgrade(_) => Err(PlanRefusal::Unplanned),
+        Target::Upgrade(_) => match next_image(state.generation) {
+            None => Err(PlanRefusal::NoGeneration),
+            Some(_) => Err(PlanRefusal::Unplanned),
+        },
         Target::Stop { quick } => plan_stop(alloc, &scene, state.pid_path, note, *quick),
     }
 }

@@ -52,9 +52,9 @@ impl Error for PlanRefusal {}
 
 impl From<DraftRefusal> for PlanRefusal {
     ghost use Rattle.std.specs.Prelude.{◌≡◌};
-    ghost use Rattle.reload_planner.specs.Refusals.{refusal_of};
+    ghost use Rattle.reload_planner.specs.Refusals.{plan_refusal};
 
-    ghost from_gives = { λ d e. e ≡ refusal_of d };
+    ghost from_gives = { λ d e. e ≡ plan_refusal d };
 
     fn from(refusal: DraftRefusal) -> PlanRefusal {
         match refusal {

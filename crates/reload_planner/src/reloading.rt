@@ -15,6 +15,7 @@ use crate::{PlanRefusal, Scene};
 use listener_set::{Address, Generation, ListenerSet, Numbers};
 use plan_pieces::{add_closes, add_opens, add_quits, add_starts, listed};
 use rollback_plan::{Draft, DraftRefusal, Edge, Place, Plan, Undone};
+use service_state::next_config;
 use std::alloc::Global;
 use vocabulary::{Actor, Call, Order, PidNote, Reply, Settings, Side};
 
@@ -30,19 +31,6 @@ struct Renewal<'a> {
     added: &'a [Address],
     /// The addresses that are listened on no more.
     dropped: &'a [Address],
-}
-
-/// The generation of a reload; none where the number of its configuration would pass its limit.
-fn next_config(generation: Generation) -> Option<Generation>
-    ensures { result ≡ after.next_config generation }
-{
-    if generation.config == u32::MAX {
-        return None;
-    }
-    Some(Generation {
-        image: generation.image,
-        config: generation.config + 1,
-    })
 }
 
 /// Adds what follows where the new workers are ready: the old ones quit, the last first, what is

@@ -1,9 +1,12 @@
-//! What a running master knows of itself, and what it knows after a plan has ended.
+//! What a running master knows of itself, what a target wants of it, and what it knows after a plan has ended.
 #![tactic(auto)]
 
 mod record;
 mod setup;
+mod wanting;
 
 pub use handover_text::Listeners;
 pub use record::Record;
+pub use setup::{next_config, next_image};
 pub use vocabulary::{Outcome, PidNote, Report, Settings, Side, Target};
+pub use wanting::want;

@@ -60,8 +60,8 @@ fn next_number(number: u32) -> Option<u32>
     }
 }
 
-/// The generation of a reload.
-pub(crate) fn next_config(generation: Generation) -> Option<Generation>
+/// The generation of a reload: the next configuration. None where its number would pass 4,294,967,295.
+pub fn next_config(generation: Generation) -> Option<Generation>
     ensures { result ≡ next_config generation }
 {
     Some(Generation {
@@ -70,8 +70,9 @@ pub(crate) fn next_config(generation: Generation) -> Option<Generation>
     })
 }
 
-/// The generation of an upgrade.
-pub(crate) fn next_image(generation: Generation) -> Option<Generation>
+/// The generation of an upgrade: the next image and the next configuration. None where a number would pass
+/// 4,294,967,295.
+pub fn next_image(generation: Generation) -> Option<Generation>
     ensures { result ≡ next_image generation }
 {
     Some(Generation {

@@ -159,7 +159,7 @@ fn a_stop_notes_its_removals(rt: HostRuntime) -> Result<(), Fail> {
     Ok(())
 }
 
-/// What is planned elsewhere, and a configuration whose number has no successor.
+/// What is planned elsewhere, and a configuration or an image whose number has no successor.
 #[test]
 fn an_upgrade_and_a_configuration_beyond_the_last_are_refused(rt: HostRuntime) -> Result<(), Fail> {
     let settings = settings(&["0.0.0.0:8080"], 1)?;
@@ -169,7 +169,16 @@ fn an_upgrade_and_a_configuration_beyond_the_last_are_refused(rt: HostRuntime) -
     state.generation.config = u32::MAX - 1;
     assert!(rt; plan(rt.alloc(), &state, &Target::Reload(settings)).is_ok());
     state.generation.config = u32::MAX;
-    let refused = plan(rt.alloc(), &state, &Target::Reload(settings)).err();
+    for target in [Target::Reload(settings), Target::Upgrade(settings)] {
+        let refused = plan(rt.alloc(), &state, &target).err();
+        assert_eq!(rt; refused, Some(PlanRefusal::NoGeneration));
+    }
+    state.generation = Generation {
+        image: u32::MAX,
+        config: 1,
+    };
+    assert!(rt; plan(rt.alloc(), &state, &Target::Reload(settings)).is_ok());
+    let refused = plan(rt.alloc(), &state, &Target::Upgrade(settings)).err();
     assert_eq!(rt; refused, Some(PlanRefusal::NoGeneration));
     Ok(())
 }

@@ -1,6 +1,6 @@
 //! What a master knows of itself after plans.
 use listener_set::{Address, FilePath, ListenerSet, Numbers};
-use service_state::{Listeners, Record};
+use service_state::{Listeners, Record, want};
 use std::test::Fail;
 use vocabulary::{Outcome, PidNote, Report, Settings, Target};
 
@@ -88,6 +88,28 @@ fn an_upgrade_closes_first_and_then_opens(rt: HostRuntime) -> Result<(), Fail> {
     assert_eq!(rt; record.timeout, 7);
     assert_eq!(rt; record.pid, 102);
     assert!(rt; record.note == PidNote::AtOldbin);
+    Ok(())
+}
+
+#[test]
+fn a_target_wants_its_count_at_each_address(rt: HostRuntime) -> Result<(), Fail> {
+    let state = running(&["0.0.0.0:8080", "0.0.0.0:7070"])?;
+    let (first, second) = (
+        Address::read(b"0.0.0.0:7070")?,
+        Address::read(b"0.0.0.0:8080")?,
+    );
+    let three = want(rt.alloc(), &state, &Target::Workers(3))?;
+    assert_eq!(rt;
+        (three.address(0), three.address(1)),
+        (Some(first), Some(second))
+    );
+    assert_eq!(rt; three.address(2), None);
+    assert_eq!(rt; three.entry(1, 0), Some((state.generation, 3)));
+    assert_eq!(rt; three.entry(1, 1), None);
+    let bare = want(rt.alloc(), &state, &Target::Workers(0))?;
+    assert_eq!(rt; (bare.address(1), bare.entry(1, 0)), (Some(second), None));
+    let stopped = want(rt.alloc(), &state, &Target::Stop { quick: true })?;
+    assert_eq!(rt; stopped.address(0), None);
     Ok(())
 }
 

@@ -13,7 +13,7 @@ use Rattle.vocabulary.specs.declared.calls.Fate.{Fate}
 use Rattle.definitions.specs.Table.{Hold, Process, Master, Worker, Foreign, Table, Caller, owner_at, live_master, is_live_master, is_held, is_worker, is_active, is_starting, is_exited, is_any, is_draining, is_named}
 use Rattle.definitions.specs.Exits.{change, made_exited, first_changed, caller_exits, without_exited, exited, all_exited, after_exits}
 use Rattle.definitions.specs.Handover.{reading}
-use Rattle.definitions.specs.Calls.{Stepped, gives, each_row, dropped, suits, moved_if, asked_alive, is_image, is_of_image, without_master, with_holds, put_hold, lacks_address, lowest_free, with_new_socket, with_new_row, is_row, is_of, is_exited_of, made_ready, made_draining, has_process_room, own_step, fault_at, fault_or_own, step_by, step_with}
+use Rattle.definitions.specs.Calls.{Stepped, gives, each_row, drop_where, suits, moved_if, asked_alive, is_image, is_of_image, without_master, with_holds, put_hold, lacks_address, lowest_free, with_new_socket, with_new_row, is_row, is_of, is_exited_of, made_ready, made_draining, has_process_room, own_step, fault_at, fault_or_own, step_by, step_with}
 use Rattle.theorems.proofs.Rows.{FitsIn, every-filter_map, every-append, pick}
 use Rattle.theorems.proofs.Taken.{IsOther, gone-lasts}
 
@@ -25,8 +25,8 @@ module _ (n : ℕ) where
   changed : (test : Process → Bool) (f : Process → Process) → ((p : Process) → IsOther n p → IsOther n (f p)) → (rows : List Process) → AllByRecursion (IsOther n) rows → AllByRecursion (IsOther n) (filter_map (change test f) rows)
   changed test f h rows all = every-filter_map (IsOther n) (IsOther n) (change test f) (λ p x. pick (IsOther n) (test p) (f p) p (λ e. h p x) (λ e. x)) rows all
 
-  fewer : (test : Process → Bool) (rows : List Process) → AllByRecursion (IsOther n) rows → AllByRecursion (IsOther n) (filter_map (dropped test) rows)
-  fewer test rows all = every-filter_map (IsOther n) (IsOther n) (dropped test) (λ p x. pick (FitsIn (IsOther n)) (test p) None (Some p) (λ e. tt) (λ e. x)) rows all
+  fewer : (test : Process → Bool) (rows : List Process) → AllByRecursion (IsOther n) rows → AllByRecursion (IsOther n) (filter_map (drop_where test) rows)
+  fewer test rows all = every-filter_map (IsOther n) (IsOther n) (drop_where test) (λ p x. pick (FitsIn (IsOther n)) (test p) None (Some p) (λ e. tt) (λ e. x)) rows all
 
   first : (test : Process → Bool) (rows : List Process) → AllByRecursion (IsOther n) rows → AllByRecursion (IsOther n) (first_changed test made_exited rows)
   first test [] all = tt
@@ -78,13 +78,13 @@ module _ (n : ℕ) where
   own text by c (AwaitReady g x) t h =
       pick (λ (st : Stepped). A st.table) (list_any (is_worker is_active c.number g x) t.rows) _ _
       (λ e. absent-each (change (is_worker is_starting c.number g x) made_ready) t (every-filter_map (IsOther n) (IsOther n) (change (is_worker is_starting c.number g x) made_ready) (λ p z. pick (IsOther n) (is_worker is_starting c.number g x p) (made_ready p) p (λ e. (gone-lasts 0 n).readies c.number g x p e z) (λ e. z)) t.rows) h)
-      (λ e. absent-each (dropped (is_worker is_exited c.number g x)) t (fewer (is_worker is_exited c.number g x) t.rows) h)
+      (λ e. absent-each (drop_where (is_worker is_exited c.number g x)) t (fewer (is_worker is_exited c.number g x) t.rows) h)
   own text by c (Quit g x) t h = absent-each (change (is_worker is_active c.number g x) made_draining) t (every-filter_map (IsOther n) (IsOther n) (change (is_worker is_active c.number g x) made_draining) (λ p z. pick (IsOther n) (is_worker is_active c.number g x p) (made_draining p) p (λ e. (gone-lasts c.number n).drains g x p tt e z) (λ e. z)) t.rows) h
-  own text by c (Kill g x) t h = absent-each (dropped (is_worker is_any c.number g x)) t (fewer (is_worker is_any c.number g x) t.rows) h
-  own text by c (Census g) t h = absent-each (dropped (is_exited_of c.number)) t (fewer (is_exited_of c.number) t.rows) h
+  own text by c (Kill g x) t h = absent-each (drop_where (is_worker is_any c.number g x)) t (fewer (is_worker is_any c.number g x) t.rows) h
+  own text by c (Census g) t h = absent-each (drop_where (is_exited_of c.number)) t (fewer (is_exited_of c.number) t.rows) h
   own text by c (AwaitGone g x) t h =
       pick (λ (st : Stepped). A st.table) (list_any (is_worker is_active c.number g x) t.rows) _ _ (λ e. h)
-      (λ e. absent-each (dropped (is_worker is_any c.number g x)) t (fewer (is_worker is_any c.number g x) t.rows) h)
+      (λ e. absent-each (drop_where (is_worker is_any c.number g x)) t (fewer (is_worker is_any c.number g x) t.rows) h)
   own text by c (SpawnMaster i) t h =
       let done = gives answer.Spawned (with_new_row t (λ k. Master k c.number i true c.holds)) in
       pick (λ (st : Stepped). A st.table) (list_any (is_image i) t.rows) (gives answer.Again t) (if has_process_room t then done else gives answer.Again t) (λ e. h)
@@ -101,10 +101,10 @@ module _ (n : ℕ) where
     where
       go : (o : Option Caller) → A (asked_alive o i t).table
       go (Some other) = h
-      go None = absent-each (dropped (is_image i)) t (fewer (is_image i) t.rows) h
+      go None = absent-each (drop_where (is_image i)) t (fewer (is_image i) t.rows) h
   own text by c Leave t h = absent-each (without_master c.number) t (every-filter_map (IsOther n) (IsOther n) (without_master c.number) (left-row c.number) t.rows) h
   own text by c (Usr1 g x) t h = h
-  own text by c (TermMaster i) t h = absent-each (dropped (is_of_image i t.rows)) t (fewer (is_of_image i t.rows) t.rows) h
+  own text by c (TermMaster i) t h = absent-each (drop_where (is_of_image i t.rows)) t (fewer (is_of_image i t.rows) t.rows) h
 
   pub absent-steps : (text : List ℕ) (by : ℕ) (call : Call) (fate : Option Fate) (t : Table) → A t → A (step_with text by call fate t).table
   absent-steps text by call fate t h = go (live_master by t.rows)

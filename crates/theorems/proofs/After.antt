@@ -3,10 +3,10 @@ use Rattle.std.proofs.Common.{◌≡◌, ℕ, ◌<◌, ◌≤◌, Bool, true, fa
 use Rattle.std.specs.List.{filter_map, AllByRecursion, list_any}
 use Rattle.std.specs.Prelude.{◌||◌, map, nat_lt, ◌&&◌, if◌then◌else◌}
 use Rattle.std.proofs.lemmas.Bool.Decides.{nat_tests}
-use Rattle.definitions.specs.Table.{Hold, Process, Master, Worker, Foreign, Table, is_worker, is_ready, is_master}
+use Rattle.definitions.specs.Table.{Process, Master, Worker, Foreign, Table, is_worker, is_ready, is_master}
 use Rattle.vocabulary.specs.declared.table.Stance.TheVariants.{Starting, Ready, Draining, Exited}
 use Rattle.listener_set.specs.declared.generation.Generation.{Generation}
-use Rattle.definitions.specs.Calls.{is_exited_of, dropped, census_of}
+use Rattle.definitions.specs.Calls.{is_exited_of, drop_where, census_of}
 use Rattle.listener_set.specs.Numbers.{is_in}
 use Rattle.definitions.specs.Record.{Record, Agrees, FilesAre, IsRunning, listener_of}
 use Rattle.theorems.proofs.Rows.{one, weigh-same, every-more, count-weigh}
@@ -16,11 +16,11 @@ use Rattle.theorems.proofs.Counts.{census-in, census-all, ready-row}
 use Rattle.theorems.proofs.Services.{Sole, sole-fine}
 
 -- what is dropped passes no test that fails on it
-any-dropped : (test drop : Process → Bool) → ((p : Process) → drop p ≡ true → test p ≡ false) → (rows : List Process) → list_any test (filter_map (dropped drop) rows) ≡ list_any test rows
+any-dropped : (test drop : Process → Bool) → ((p : Process) → drop p ≡ true → test p ≡ false) → (rows : List Process) → list_any test (filter_map (drop_where drop) rows) ≡ list_any test rows
 any-dropped test drop h [] = refl
 any-dropped test drop h (p ∷ rows) = go (drop p) refl (any-dropped test drop h rows)
   where
-    go : (b : Bool) → drop p ≡ b → list_any test (filter_map (dropped drop) rows) ≡ list_any test rows → list_any test (Rattle.std.specs.List.cons_option (if b then None else Some p) (filter_map (dropped drop) rows)) ≡ (test p || list_any test rows)
+    go : (b : Bool) → drop p ≡ b → list_any test (filter_map (drop_where drop) rows) ≡ list_any test rows → list_any test (Rattle.std.specs.List.cons_option (if b then None else Some p) (filter_map (drop_where drop) rows)) ≡ (test p || list_any test rows)
     go true e ih = rw (h p e) ih
     go false e ih = ap (λ z. test p || z) ih
 
@@ -41,7 +41,7 @@ none-of test P h (p ∷ rows) all = go (test p) refl (none-of test P h rows all.
     go false e ih = ih
 
 -- after a census its answer is exactly what is Ready
-pub census-exact : (v : View) (g : Generation) (rows : List Process) → ((k : ℕ) → v.ready g k ≡ true → k < 1024) → Looks (idle v) rows → (k : ℕ) → list_any (is_worker is_ready v.number g k) (filter_map (dropped (is_exited_of v.number)) rows) ≡ is_in (census_of v.number g rows) k
+pub census-exact : (v : View) (g : Generation) (rows : List Process) → ((k : ℕ) → v.ready g k ≡ true → k < 1024) → Looks (idle v) rows → (k : ℕ) → list_any (is_worker is_ready v.number g k) (filter_map (drop_where (is_exited_of v.number)) rows) ≡ is_in (census_of v.number g rows) k
 census-exact v g rows bound looks k =
     any-dropped (is_worker is_ready v.number g k) (is_exited_of v.number) (exited-not-ready v.number g k) rows ∙ go (nat_lt k 1024) refl
   where

@@ -6,7 +6,7 @@ use Rattle.std.proofs.lemmas.Bool.Decides.{nat_tests}
 use Rattle.definitions.specs.Table.{same_generation, Process, Master, Worker, Foreign, is_worker, is_ready}
 use Rattle.vocabulary.specs.declared.table.Stance.TheVariants.{Starting, Ready, Draining, Exited}
 use Rattle.listener_set.specs.declared.generation.Generation.{Generation}
-use Rattle.definitions.specs.Calls.{is_exited_of, dropped, census_below, census_of}
+use Rattle.definitions.specs.Calls.{is_exited_of, drop_where, census_below, census_of}
 use Rattle.listener_set.specs.Numbers.{numbers_below, is_in, lacks}
 use Rattle.theorems.proofs.Rows.{one, weigh, change-same, weigh-le-all, weigh-same, weigh-add, every-any, every-more, every-both, any-none, any-some, and-right, both-true}
 use Rattle.theorems.proofs.Views.{Row, master_of, Names, named, View, Fine, Looks, live_named, ready_in, eqb-refl, eqb-is}
@@ -124,7 +124,7 @@ ready-bound v g limit bound (Foreign n hs) h k e = absurd (cc e)
 pub ready-row : (v : View) (g : Generation) (limit : ℕ) → ((k : ℕ) → v.ready g k ≡ true → k < limit) → (p : Process) → Row (idle v) p → (k : ℕ) → is_worker is_ready v.number g k p ≡ true → k < limit
 ready-row v g limit bound p h k e = ⊎_elim (λ f. ready-bound v g limit bound p f k e) (λ o. let off = mine-worker is_ready v.number g k (idle v) p refl o in absurd (cc)) h
 
-pub census-looks : (v : View) (g : Generation) (rows : List Process) → ((k : ℕ) → v.ready g k ≡ true → k < 1024) → Looks (idle v) rows → Looks (idle (after_census g (census_of v.number g rows) v)) (filter_map (dropped (is_exited_of v.number)) rows)
+pub census-looks : (v : View) (g : Generation) (rows : List Process) → ((k : ℕ) → v.ready g k ≡ true → k < 1024) → Looks (idle v) rows → Looks (idle (after_census g (census_of v.number g rows) v)) (filter_map (drop_where (is_exited_of v.number)) rows)
 census-looks v g rows bound looks =
     let m = v.number in
     let cs = census_of m g rows in
@@ -134,8 +134,8 @@ census-looks v g rows bound looks =
     (every-both (Row (idle v)) (λ p. (k : ℕ) → is_worker is_ready m g k p ≡ true → list_any (is_worker is_ready m g k) rows ≡ true) rows looks.fine (every-any_of (λ k. is_worker is_ready m g k) rows)) in
     dropped-looks (λ p. Row (idle v) p × Seen m g cs p) (idle w) (is_exited_of m) rows seen (λ p h e. ⊎_elim (λ f. inl (census-fine v g cs p (f, h.1))) (λ o. inr (other-allows (idle v) (idle w) refl refl (λ n e. e) p o)) h.0) (exited-masters m) looks.alone looks.once
 
-pub census-weigh : (m m' : ℕ) (test : Names) (rows : List Process) → weigh (ready_in m' test) (filter_map (dropped (is_exited_of m)) rows) ≡ weigh (ready_in m' test) rows
-census-weigh m m' test rows = change-same (λ p. ⊤) (ready_in m' test) (dropped (is_exited_of m)) (λ p t. worth-dropped-same (ready_in m' test) (is_exited_of m p) p (exited-unready m m' test p)) rows (every-any rows)
+pub census-weigh : (m m' : ℕ) (test : Names) (rows : List Process) → weigh (ready_in m' test) (filter_map (drop_where (is_exited_of m)) rows) ≡ weigh (ready_in m' test) rows
+census-weigh m m' test rows = change-same (λ p. ⊤) (ready_in m' test) (drop_where (is_exited_of m)) (λ p t. worth-dropped-same (ready_in m' test) (is_exited_of m p) p (exited-unready m m' test p)) rows (every-any rows)
 
 ---- Counting a set
 

@@ -9,7 +9,7 @@ use Rattle.vocabulary.specs.declared.names.Name.TheVariants as name
 use Rattle.definitions.specs.Table.{Hold, Process, Master, Worker, Foreign, Caller, number_of, bears, live_master, caller_if, is_live_master, is_active, is_ready, is_named, is_draining}
 use Rattle.definitions.specs.Formed.{IsAscending}
 use Rattle.definitions.specs.Exits.{change, made_exited, first_changed, caller_exits, without_exited, kept_if, exited, all_exited}
-use Rattle.definitions.specs.Calls.{dropped, is_image, is_image_row, is_of_image, without_master}
+use Rattle.definitions.specs.Calls.{drop_where, is_image, is_image_row, is_of_image, without_master}
 use Rattle.theorems.proofs.Rows.{one, weigh, worth, FitsIn, change-same, every-filter_map, every-both, every-more, every-append, weigh-append, pick}
 use Rattle.theorems.proofs.Views.{Names, View, Fine, Other, Row, Looks, live_named, ready_in, master_of, finds, eqb-refl, eqb-off, eqb-is}
 use Rattle.theorems.proofs.Effects.{Mine, StaysOther, none}
@@ -191,7 +191,7 @@ framed-change v m test f rows ne mine stays looks = record {
   same = λ t. change-same (Row v) (ready_in v.number t) (change test f) (λ p h. (changed-row v m test f ne mine stays p h).1 (ready_in v.number t) (other-unready v t)) rows looks.fine;
 }
 
-dropped-row : (v : View) (m : ℕ) (test : Process → Bool) → v.number ≢ m → OnlyOf m test → (u : Process → ℕ) → ((p : Process) → Other v p → u p ≡ 0) → (p : Process) → Row v p → worth u (dropped test p) ≡ u p
+dropped-row : (v : View) (m : ℕ) (test : Process → Bool) → v.number ≢ m → OnlyOf m test → (u : Process → ℕ) → ((p : Process) → Other v p → u p ≡ 0) → (p : Process) → Row v p → worth u (drop_where test p) ≡ u p
 dropped-row v m test ne mine u z p h = ⊎_elim (λ a. stays (test p) (misses v m test ne mine p a)) (λ o. goes (test p) (z p o)) h
   where
     stays : (b : Bool) → b ≡ false → worth u (if b then None else Some p) ≡ u p
@@ -202,14 +202,14 @@ dropped-row v m test ne mine u z p h = ⊎_elim (λ a. stays (test p) (misses v 
     goes true e = sym e
     goes false e = refl
 
-pub framed-drop : (v : View) (m : ℕ) (test : Process → Bool) (rows : List Process) → v.number ≢ m → OnlyOf m test → Looks v rows → Framed v rows (filter_map (dropped test) rows)
+pub framed-drop : (v : View) (m : ℕ) (test : Process → Bool) (rows : List Process) → v.number ≢ m → OnlyOf m test → Looks v rows → Framed v rows (filter_map (drop_where test) rows)
 framed-drop v m test rows ne mine looks = record {
   looks = record {
-    fine = every-filter_map (Row v) (Row v) (dropped test) (λ p h. pick (FitsIn (Row v)) (test p) None (Some p) (λ e. tt) (λ e. h)) rows looks.fine;
-    alone = change-same (Row v) (master_of v.number) (dropped test) (dropped-row v m test ne mine (master_of v.number) (other-masters v)) rows looks.fine ∙ looks.alone;
-    once = λ g k. omega (arith, looks.once g k, change-same (Row v) (live_named v.number g k) (dropped test) (dropped-row v m test ne mine (live_named v.number g k) (other-named v g k)) rows looks.fine);
+    fine = every-filter_map (Row v) (Row v) (drop_where test) (λ p h. pick (FitsIn (Row v)) (test p) None (Some p) (λ e. tt) (λ e. h)) rows looks.fine;
+    alone = change-same (Row v) (master_of v.number) (drop_where test) (dropped-row v m test ne mine (master_of v.number) (other-masters v)) rows looks.fine ∙ looks.alone;
+    once = λ g k. omega (arith, looks.once g k, change-same (Row v) (live_named v.number g k) (drop_where test) (dropped-row v m test ne mine (live_named v.number g k) (other-named v g k)) rows looks.fine);
   };
-  same = λ t. change-same (Row v) (ready_in v.number t) (dropped test) (dropped-row v m test ne mine (ready_in v.number t) (other-unready v t)) rows looks.fine;
+  same = λ t. change-same (Row v) (ready_in v.number t) (drop_where test) (dropped-row v m test ne mine (ready_in v.number t) (other-unready v t)) rows looks.fine;
 }
 
 pub framed-grow : (v : View) (m n : ℕ) (g : Generation) (x : ℕ) (hs : List Hold) (rows : List Process) → v.number ≢ m → v.others m ≡ true → Looks v rows → Framed v rows (rows ++ Worker n m g x Starting hs ∷ [])
@@ -270,10 +270,10 @@ beside-change w m test f rows ne mine stays l =
     ⊎_elim (λ x. of-framed w rows _ (framed-change w m test f rows ne mine stays x))
     (λ d. of-dead w rows _ d (every-filter_map (Dead w) (Dead w) (change test f) (dead-change w m test f ne mine stays) rows d)) l
 
-pub beside-drop : (w : View) (m : ℕ) (test : Process → Bool) (rows : List Process) → w.number ≢ m → OnlyOf m test → Lives w rows → Beside w rows (filter_map (dropped test) rows)
+pub beside-drop : (w : View) (m : ℕ) (test : Process → Bool) (rows : List Process) → w.number ≢ m → OnlyOf m test → Lives w rows → Beside w rows (filter_map (drop_where test) rows)
 beside-drop w m test rows ne mine l =
     ⊎_elim (λ x. of-framed w rows _ (framed-drop w m test rows ne mine x))
-    (λ d. of-dead w rows _ d (every-filter_map (Dead w) (Dead w) (dropped test) (λ p h. pick (FitsIn (Dead w)) (test p) None (Some p) (λ e. tt) (λ e. h)) rows d)) l
+    (λ d. of-dead w rows _ d (every-filter_map (Dead w) (Dead w) (drop_where test) (λ p h. pick (FitsIn (Dead w)) (test p) None (Some p) (λ e. tt) (λ e. h)) rows d)) l
 
 pub beside-grow : (w : View) (m n : ℕ) (g : Generation) (x : ℕ) (hs : List Hold) (rows : List Process) → w.number ≢ m → w.others m ≡ true → Lives w rows → Beside w rows (rows ++ Worker n m g x Starting hs ∷ [])
 beside-grow w m n g x hs rows ne on l =
@@ -374,7 +374,7 @@ ended-rows w rows l =
     of-corpse (Foreign n hs) h = tt
 
 -- v's master is of another image than the one that ends
-term-row : (v : View) (m image : ℕ) (all : List Process) → OneOther v m → v.image ≢ image → list_any (is_image_row image v.number) all ≡ false → (p : Process) → Row v p × Ended m image all p → Leaves v (dropped (is_of_image image all)) p
+term-row : (v : View) (m image : ℕ) (all : List Process) → OneOther v m → v.image ≢ image → list_any (is_image_row image v.number) all ≡ false → (p : Process) → Row v p × Ended m image all p → Leaves v (drop_where (is_of_image image all)) p
 term-row v m image all one ne none (Master n q i live hs) h =
     ⊎_elim (λ f. subst (λ b. Leaves v (λ p. if b then None else Some p) (Master n q i live hs)) (sym (eqb-off i image (λ e. ne (sym f.1 ∙ e)))) (inl f, refl, (λ g k. refl), (λ t. refl)))
     (λ o. subst (λ b. Leaves v (λ p. if b then None else Some p) (Master n q i live hs)) (sym (eqb-refl i image (h.1 (one.1 n o.1)))) (is-gone v (Master n q i live hs) o)) h.0
@@ -400,9 +400,9 @@ none-of-image v image (Master n q i live hs ∷ rows) ne fine =
 none-of-image v image (Worker n q g k s hs ∷ rows) ne fine = none-of-image v image rows ne fine.1
 none-of-image v image (Foreign n hs ∷ rows) ne fine = none-of-image v image rows ne fine.1
 
-pub alone-terminated : (v w : View) (rows : List Process) → OneOther v w.number → v.image ≢ w.image → Lives w rows → Looks v rows → Alone v rows (filter_map (dropped (is_of_image w.image rows)) rows)
+pub alone-terminated : (v w : View) (rows : List Process) → OneOther v w.number → v.image ≢ w.image → Lives w rows → Looks v rows → Alone v rows (filter_map (drop_where (is_of_image w.image rows)) rows)
 alone-terminated v w rows one ne l looks =
-    alone-by v (λ p. Row v p × Ended w.number w.image rows p) (dropped (is_of_image w.image rows)) rows
+    alone-by v (λ p. Row v p × Ended w.number w.image rows p) (drop_where (is_of_image w.image rows)) rows
     (term-row v w.number w.image rows one ne (none-of-image v w.image rows ne looks.fine))
     (every-both (Row v) (Ended w.number w.image rows) rows looks.fine (ended-rows w rows l)) looks
 
@@ -413,7 +413,7 @@ no-corpse v image ne (Master n q i live hs) f = eqb-off i image (λ e. ne (sym f
 no-corpse v image ne (Worker n q g k s hs) f = refl
 no-corpse v image ne (Foreign n hs) f = refl
 
-corpse-row : (v : View) (image : ℕ) → v.image ≢ image → (u : Process → ℕ) → ((p : Process) → Other v p → u p ≡ 0) → (p : Process) → Row v p → worth u (dropped (is_image image) p) ≡ u p
+corpse-row : (v : View) (image : ℕ) → v.image ≢ image → (u : Process → ℕ) → ((p : Process) → Other v p → u p ≡ 0) → (p : Process) → Row v p → worth u (drop_where (is_image image) p) ≡ u p
 corpse-row v image ne u z p h = ⊎_elim (λ f. stays (is_image image p) (no-corpse v image ne p f)) (λ o. goes (is_image image p) (z p o)) h
   where
     stays : (b : Bool) → b ≡ false → worth u (if b then None else Some p) ≡ u p
@@ -424,18 +424,18 @@ corpse-row v image ne u z p h = ⊎_elim (λ f. stays (is_image image p) (no-cor
     goes true e = sym e
     goes false e = refl
 
-pub asked-looks : (v : View) (image : ℕ) (rows : List Process) → v.image ≢ image → Looks v rows → Framed v rows (filter_map (dropped (is_image image)) rows)
+pub asked-looks : (v : View) (image : ℕ) (rows : List Process) → v.image ≢ image → Looks v rows → Framed v rows (filter_map (drop_where (is_image image)) rows)
 asked-looks v image rows ne looks = record {
   looks = record {
-    fine = every-filter_map (Row v) (Row v) (dropped (is_image image)) (λ p h. pick (FitsIn (Row v)) (is_image image p) None (Some p) (λ e. tt) (λ e. h)) rows looks.fine;
-    alone = change-same (Row v) (master_of v.number) (dropped (is_image image)) (corpse-row v image ne (master_of v.number) (other-masters v)) rows looks.fine ∙ looks.alone;
-    once = λ g k. omega (arith, looks.once g k, change-same (Row v) (live_named v.number g k) (dropped (is_image image)) (corpse-row v image ne (live_named v.number g k) (other-named v g k)) rows looks.fine);
+    fine = every-filter_map (Row v) (Row v) (drop_where (is_image image)) (λ p h. pick (FitsIn (Row v)) (is_image image p) None (Some p) (λ e. tt) (λ e. h)) rows looks.fine;
+    alone = change-same (Row v) (master_of v.number) (drop_where (is_image image)) (corpse-row v image ne (master_of v.number) (other-masters v)) rows looks.fine ∙ looks.alone;
+    once = λ g k. omega (arith, looks.once g k, change-same (Row v) (live_named v.number g k) (drop_where (is_image image)) (corpse-row v image ne (live_named v.number g k) (other-named v g k)) rows looks.fine);
   };
-  same = λ t. change-same (Row v) (ready_in v.number t) (dropped (is_image image)) (corpse-row v image ne (ready_in v.number t) (other-unready v t)) rows looks.fine;
+  same = λ t. change-same (Row v) (ready_in v.number t) (drop_where (is_image image)) (corpse-row v image ne (ready_in v.number t) (other-unready v t)) rows looks.fine;
 }
 
-pub asked-dead : (w : View) (image : ℕ) (rows : List Process) → AllByRecursion (Dead w) rows → AllByRecursion (Dead w) (filter_map (dropped (is_image image)) rows)
-asked-dead w image rows d = every-filter_map (Dead w) (Dead w) (dropped (is_image image)) (λ p h. pick (FitsIn (Dead w)) (is_image image p) None (Some p) (λ e. tt) (λ e. h)) rows d
+pub asked-dead : (w : View) (image : ℕ) (rows : List Process) → AllByRecursion (Dead w) rows → AllByRecursion (Dead w) (filter_map (drop_where (is_image image)) rows)
+asked-dead w image rows d = every-filter_map (Dead w) (Dead w) (drop_where (is_image image)) (λ p h. pick (FitsIn (Dead w)) (is_image image p) None (Some p) (λ e. tt) (λ e. h)) rows d
 
 ---- A second master comes
 

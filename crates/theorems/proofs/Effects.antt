@@ -6,7 +6,7 @@ use Rattle.definitions.specs.Table.{same_generation, Hold, Process, Master, Work
 use Rattle.vocabulary.specs.declared.table.Stance.{Stance}
 use Rattle.vocabulary.specs.declared.table.Stance.TheVariants.{Starting, Ready, Draining, Exited}
 use Rattle.listener_set.specs.declared.generation.Generation.{Generation}
-use Rattle.definitions.specs.Calls.{is_exited_of, dropped, made_ready, made_draining, is_of, is_row, put_hold, with_holds, lacks_address}
+use Rattle.definitions.specs.Calls.{is_exited_of, drop_where, made_ready, made_draining, is_of, is_row, put_hold, with_holds, lacks_address}
 use Rattle.definitions.specs.Exits.{change}
 use Rattle.theorems.proofs.Rows.{one, weigh, worth, FitsIn, change-le, change-same, weigh-append, weigh-same, weigh-filter_map, every-filter_map, every-any, every-append, every-more, every-both, any-none, any-some, weigh-add, pick, and-left, and-right, both-true, or-left, or-right}
 use Rattle.theorems.proofs.Views.{eqb-off, Row, Other, master_of, Names, View, Fine, Looks, live_named, ready_in, eqb-refl, eqb-is}
@@ -301,21 +301,21 @@ exited-unready m g x test (Worker n q g' k Exited hs) e = refl
 exited-unready m g x test (Foreign n hs) e = refl
 
 -- rows that are dropped, where those that stay are fine
-pub dropped-looks : (P : Process → Type 0) (w : View) (test : Process → Bool) (rows : List Process) → AllByRecursion P rows → ((p : Process) → P p → test p ≡ false → Row w p) → ((p : Process) → test p ≡ true → master_of w.number p ≡ 0) → weigh (master_of w.number) rows ≡ 1 → ((g : Generation) (k : ℕ) → weigh (live_named w.number g k) rows ≤ 1) → Looks w (filter_map (dropped test) rows)
+pub dropped-looks : (P : Process → Type 0) (w : View) (test : Process → Bool) (rows : List Process) → AllByRecursion P rows → ((p : Process) → P p → test p ≡ false → Row w p) → ((p : Process) → test p ≡ true → master_of w.number p ≡ 0) → weigh (master_of w.number) rows ≡ 1 → ((g : Generation) (k : ℕ) → weigh (live_named w.number g k) rows ≤ 1) → Looks w (filter_map (drop_where test) rows)
 dropped-looks P w test rows all fine no_master alone once = record {
-  fine = every-filter_map P (Row w) (dropped test) (λ p h. fits-dropped (Row w) (test p) p (fine p h)) rows all;
-  alone = change-same (λ p. ⊤) (master_of w.number) (dropped test) (λ p h. worth-dropped-same (master_of w.number) (test p) p (no_master p)) rows (every-any rows) ∙ alone;
-  once = λ g k. omega (arith, once g k, change-le (λ p. ⊤) (live_named w.number g k) (dropped test) (λ p h. worth-dropped-le (live_named w.number g k) (test p) p) rows (every-any rows));
+  fine = every-filter_map P (Row w) (drop_where test) (λ p h. fits-dropped (Row w) (test p) p (fine p h)) rows all;
+  alone = change-same (λ p. ⊤) (master_of w.number) (drop_where test) (λ p h. worth-dropped-same (master_of w.number) (test p) p (no_master p)) rows (every-any rows) ∙ alone;
+  once = λ g k. omega (arith, once g k, change-le (λ p. ⊤) (live_named w.number g k) (drop_where test) (λ p h. worth-dropped-le (live_named w.number g k) (test p) p) rows (every-any rows));
 }
 
-pub gone-looks : (v : View) (g : Generation) (x : ℕ) (rows : List Process) → list_any (is_worker is_active v.number g x) rows ≡ false → Looks v rows → Looks (after_loss g x v) (filter_map (dropped (is_worker is_exited v.number g x)) rows)
+pub gone-looks : (v : View) (g : Generation) (x : ℕ) (rows : List Process) → list_any (is_worker is_active v.number g x) rows ≡ false → Looks v rows → Looks (after_loss g x v) (filter_map (drop_where (is_worker is_exited v.number g x)) rows)
 gone-looks v g x rows off looks =
     dropped-looks (λ p. Row v p × (is_worker is_active v.number g x p ≡ false)) (after_loss g x v) (is_worker is_exited v.number g x) rows
     (every-both (Row v) (λ p. is_worker is_active v.number g x p ≡ false) rows looks.fine (any-every (is_worker is_active v.number g x) rows off))
     (λ p h e. ⊎_elim (λ f. inl (gone-fine v g x p (f, h.1))) (λ o. inr (other-allows v (after_loss g x v) refl refl (λ n e. e) p o)) h.0) (worker-masters is_exited v.number g x) looks.alone looks.once
 
-pub gone-weigh : (m : ℕ) (g : Generation) (x : ℕ) (test : Names) (rows : List Process) → weigh (ready_in m test) (filter_map (dropped (is_worker is_exited m g x)) rows) ≡ weigh (ready_in m test) rows
-gone-weigh m g x test rows = change-same (λ p. ⊤) (ready_in m test) (dropped (is_worker is_exited m g x)) (λ p t. worth-dropped-same (ready_in m test) (is_worker is_exited m g x p) p (exited-unready m g x test p)) rows (every-any rows)
+pub gone-weigh : (m : ℕ) (g : Generation) (x : ℕ) (test : Names) (rows : List Process) → weigh (ready_in m test) (filter_map (drop_where (is_worker is_exited m g x)) rows) ≡ weigh (ready_in m test) rows
+gone-weigh m g x test rows = change-same (λ p. ⊤) (ready_in m test) (drop_where (is_worker is_exited m g x)) (λ p t. worth-dropped-same (ready_in m test) (is_worker is_exited m g x p) p (exited-unready m g x test p)) rows (every-any rows)
 
 ---- Kill of a name that is not Ready
 
@@ -335,15 +335,15 @@ kill-unready v g x test off (Worker n q g' k Draining hs) f e = refl
 kill-unready v g x test off (Worker n q g' k Exited hs) f e = refl
 kill-unready v g x test off (Foreign n hs) f e = refl
 
-pub kill-looks : (v : View) (g : Generation) (x : ℕ) (rows : List Process) → Looks v rows → Looks (after_loss g x v) (filter_map (dropped (is_worker is_any v.number g x)) rows)
+pub kill-looks : (v : View) (g : Generation) (x : ℕ) (rows : List Process) → Looks v rows → Looks (after_loss g x v) (filter_map (drop_where (is_worker is_any v.number g x)) rows)
 kill-looks v g x rows looks =
     dropped-looks (Row v) (after_loss g x v) (is_worker is_any v.number g x) rows looks.fine (λ p h e. ⊎_elim (λ f. inl (kill-fine v g x p f e)) (λ o. inr (other-allows v (after_loss g x v) refl refl (λ n e. e) p o)) h) (worker-masters is_any v.number g x) looks.alone looks.once
 
 kill-row : (v : View) (g : Generation) (x : ℕ) (test : Names) → v.ready g x ≡ false → (p : Process) → Row v p → is_worker is_any v.number g x p ≡ true → ready_in v.number test p ≡ 0
 kill-row v g x test off p h e = ⊎_elim (λ f. kill-unready v g x test off p f e) (λ o. absurd (off-true _ (mine-worker is_any v.number g x v p refl o) e)) h
 
-pub kill-weigh : (v : View) (g : Generation) (x : ℕ) (test : Names) (rows : List Process) → v.ready g x ≡ false → Looks v rows → weigh (ready_in v.number test) (filter_map (dropped (is_worker is_any v.number g x)) rows) ≡ weigh (ready_in v.number test) rows
-kill-weigh v g x test rows off looks = change-same (Row v) (ready_in v.number test) (dropped (is_worker is_any v.number g x)) (λ p f. worth-dropped-same (ready_in v.number test) (is_worker is_any v.number g x p) p (kill-row v g x test off p f)) rows looks.fine
+pub kill-weigh : (v : View) (g : Generation) (x : ℕ) (test : Names) (rows : List Process) → v.ready g x ≡ false → Looks v rows → weigh (ready_in v.number test) (filter_map (drop_where (is_worker is_any v.number g x)) rows) ≡ weigh (ready_in v.number test) rows
+kill-weigh v g x test rows off looks = change-same (Row v) (ready_in v.number test) (drop_where (is_worker is_any v.number g x)) (λ p f. worth-dropped-same (ready_in v.number test) (is_worker is_any v.number g x p) p (kill-row v g x test off p f)) rows looks.fine
 
 ---- Quit
 
@@ -485,7 +485,7 @@ cut-fine v g x (Worker n q g' k Draining hs) h e = h
 cut-fine v g x (Worker n q g' k Exited hs) h e = h
 cut-fine v g x (Foreign n hs) h e = tt
 
-pub cut-looks : (v : View) (g : Generation) (x : ℕ) (rows : List Process) → Looks v rows → Looks (after_removal g x v) (filter_map (dropped (is_worker is_any v.number g x)) rows)
+pub cut-looks : (v : View) (g : Generation) (x : ℕ) (rows : List Process) → Looks v rows → Looks (after_removal g x v) (filter_map (drop_where (is_worker is_any v.number g x)) rows)
 cut-looks v g x rows looks =
     dropped-looks (Row v) (after_removal g x v) (is_worker is_any v.number g x) rows looks.fine (λ p h e. ⊎_elim (λ f. inl (cut-fine v g x p f e)) (λ o. inr (other-allows v (after_removal g x v) refl refl (λ n e. e) p o)) h) (worker-masters is_any v.number g x) looks.alone looks.once
 
@@ -499,5 +499,5 @@ cut-unready m g x test off (Master n q i live hs) e = refl
 cut-unready m g x test off (Worker n q g' k s hs) e = off-two (is_ready s) (q == m) (test g' k) (off-name g x g' k test off (and-right (q == m) _ e))
 cut-unready m g x test off (Foreign n hs) e = refl
 
-pub cut-weigh : (m : ℕ) (g : Generation) (x : ℕ) (test : Names) (rows : List Process) → test g x ≡ false → weigh (ready_in m test) (filter_map (dropped (is_worker is_any m g x)) rows) ≡ weigh (ready_in m test) rows
-cut-weigh m g x test rows off = change-same (λ p. ⊤) (ready_in m test) (dropped (is_worker is_any m g x)) (λ p t. worth-dropped-same (ready_in m test) (is_worker is_any m g x p) p (cut-unready m g x test off p)) rows (every-any rows)
+pub cut-weigh : (m : ℕ) (g : Generation) (x : ℕ) (test : Names) (rows : List Process) → test g x ≡ false → weigh (ready_in m test) (filter_map (drop_where (is_worker is_any m g x)) rows) ≡ weigh (ready_in m test) rows
+cut-weigh m g x test rows off = change-same (λ p. ⊤) (ready_in m test) (drop_where (is_worker is_any m g x)) (λ p t. worth-dropped-same (ready_in m test) (is_worker is_any m g x p) p (cut-unready m g x test off p)) rows (every-any rows)

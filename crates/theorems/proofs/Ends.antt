@@ -1,12 +1,12 @@
 -- What the last census says of the service, and of the record that is left.
 use Rattle.std.proofs.Common.{◌≡◌, ℕ, ◌+◌, ◌<◌, ◌≤◌, Bool, true, false, List, [], ◌∷◌, length, Some, None, ⊎_elim, refl, sym, ap, ◌∙◌, subst, arith, nat_lt}
-use Rattle.std.specs.Prelude.{nat_le, is_some, map, ◌&&◌, ◌||◌, ◌==◌, if◌then◌else◌, bytes_eq, count_by, Option}
+use Rattle.std.specs.Prelude.{nat_le, is_some, option_map, option_and_then, map, ◌&&◌, ◌||◌, ◌==◌, if◌then◌else◌, bytes_eq, count_by, Option}
 use Rattle.std.specs.List.{AllByRecursion, list_any}
 use Rattle.std.proofs.lemmas.Bool.Decides.{nat_tests}
 use Rattle.listener_set.specs.Numbers.{is_in, first_from}
 use Rattle.listener_set.specs.declared.generation.Generation.{Generation}
 use Rattle.vocabulary.specs.declared.table.Limits.{Limits}
-use Rattle.definitions.specs.Table.{Address, same_generation, Hold, Process, Master, Worker, Foreign, Table, File, FilePath, is_worker, is_ready, has_address}
+use Rattle.definitions.specs.Table.{Address, Caller, same_generation, Hold, Process, Master, Worker, Foreign, Table, File, FilePath, is_worker, is_ready, has_address}
 use Rattle.definitions.specs.Service.{is_live_with, is_serving, service, uniform, IsSame}
 use Rattle.vocabulary.specs.declared.table.Stance.TheVariants.{Starting, Ready, Draining, Exited}
 use Rattle.vocabulary.specs.declared.plans.PidNote.{PidNote}
@@ -15,7 +15,7 @@ use Rattle.definitions.specs.Record.{Record, IsRecord, Agrees, FilesAre, address
 use Rattle.vocabulary.specs.declared.targets.Target.{Target}
 use Rattle.listener_set.specs.AddressList.{has}
 use Rattle.definitions.specs.Target.{reload_generation, upgrade_generation}
-use Rattle.definitions.specs.After.{next_config, next_image, numbered, Setup, setup_after, recorded, record_from, record_if, keeps_rules}
+use Rattle.definitions.specs.After.{next_config, next_image, numbered, Setup, setup_after, recorded, record_from, record_if, record_after, keeps_rules, master_of, reigning}
 use Rattle.definitions.specs.Run.{Ending, Progress, outcome_of}
 use Rattle.vocabulary.specs.declared.reports.Report.{Report}
 use Rattle.definitions.specs.Claims.{IsStart, IsFewer, AgreesAfter, is_ready_with, ready_with}
@@ -128,29 +128,23 @@ keeps r listens most none_above pid =
     let c : nat_le 1 r.pid ≡ true = grind (arith, nat_tests) in
     rw (a, b, c, none_above)
 
--- A record that keeps all but its count, its ready numbers and its note.
-pub kept-after : (r : Record) (target : Target) (report : Report) (t : Table) (wanted : ℕ) → setup_after report.outcome r target ≡ Some (resized r wanted) → IsRecord r → wanted ≤ 1024 → ((k : ℕ) → is_in report.ready k ≡ true → k < wanted) → Agrees t (recorded (resized r wanted) r.pid_path report r.pid) → AgreesAfter r target report r.pid t
-kept-after r target report t wanted is range most below agrees =
-    let all = all-below wanted report.ready below in
-    let next = recorded (resized r wanted) r.pid_path report r.pid in
-    record {
-      record_then = next;
-      is = ap (λ o. record_from o r.pid_path report r.pid) is ∙ ap (λ b. record_if b next) (keeps next range.listens most all.0 range.pid);
-      agrees = agrees;
-      record_in_range = record { listens = range.listens; wanted = most; ready = all.1; retries = range.retries; timeout_least = range.timeout_least; timeout_most = range.timeout_most; pid_path = range.pid_path; pid = range.pid };
-    }
-
 -- A record that moves to another setup, run by the master of a process number.
-pub moved-after : (r : Record) (target : Target) (report : Report) (t : Table) (setup : Setup) (pid : ℕ) → setup_after report.outcome r target ≡ Some setup → 1 ≤ length setup.listeners → setup.wanted ≤ 1024 → setup.retries ≤ 8 → 1 ≤ setup.timeout → setup.timeout ≤ 86400 → IsRecord r → 1 ≤ pid → ((k : ℕ) → is_in report.ready k ≡ true → k < setup.wanted) → Agrees t (recorded setup r.pid_path report pid) → AgreesAfter r target report pid t
-moved-after r target report t setup pid is listens most retries least longest range some below agrees =
+pub moved-after : (r : Record) (target : Target) (report : Report) (t : Table) (setup : Setup) (pid : ℕ) → setup_after report.outcome r target ≡ Some setup → 1 ≤ length setup.listeners → setup.wanted ≤ 1024 → setup.retries ≤ 8 → 1 ≤ setup.timeout → setup.timeout ≤ 86400 → IsRecord r → 1 ≤ pid → (setup.generation.image ≡ r.generation.image → pid ≡ r.pid) → ((k : ℕ) → is_in report.ready k ≡ true → k < setup.wanted) → Agrees t (recorded setup r.pid_path report pid) → AgreesAfter r target report t
+moved-after r target report t setup pid is listens most retries least longest range some same below agrees =
     let all = all-below setup.wanted report.ready below in
     let next = recorded setup r.pid_path report pid in
+    let reigns : reigning r target report.outcome t ≡ Some pid = ap (λ o. master_of o t) is ∙ ap (option_map (λ (c : Caller). c.number)) agrees.lives in
     record {
       record_then = next;
-      is = ap (λ o. record_from o r.pid_path report pid) is ∙ ap (λ b. record_if b next) (keeps next listens most all.0 some);
+      is = ap (option_and_then (record_after r target report)) reigns ∙ (ap (λ o. record_from o r.pid_path report pid) is ∙ ap (λ b. record_if b next) (keeps next listens most all.0 some));
       agrees = agrees;
       record_in_range = record { listens = listens; wanted = most; ready = all.1; retries = retries; timeout_least = least; timeout_most = longest; pid_path = range.pid_path; pid = some };
+      same_master = same;
     }
+
+-- A record that keeps all but its count, its ready numbers and its note.
+pub kept-after : (r : Record) (target : Target) (report : Report) (t : Table) (wanted : ℕ) → setup_after report.outcome r target ≡ Some (resized r wanted) → IsRecord r → wanted ≤ 1024 → ((k : ℕ) → is_in report.ready k ≡ true → k < wanted) → Agrees t (recorded (resized r wanted) r.pid_path report r.pid) → AgreesAfter r target report t
+kept-after r target report t wanted is range most below agrees = moved-after r target report t (resized r wanted) r.pid is range.listens most range.retries range.timeout_least range.timeout_most range range.pid (λ e. refl) below agrees
 
 -- The next configuration, where there is one.
 pub next-is : (g : Generation) → is_some (next_config g) ≡ true → next_config g ≡ Some (reload_generation g)

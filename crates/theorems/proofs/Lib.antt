@@ -8,6 +8,7 @@ pub mod Small
 pub mod Services
 pub mod Begins
 pub mod After
+pub mod Refusals
 pub mod Logic
 pub mod Heights
 pub mod Rules

@@ -15,13 +15,14 @@ use Rattle.vocabulary.specs.declared.plans.Order.{Order}
 use Rattle.vocabulary.specs.declared.plans.Order.TheVariants.{Make, ForkLacking, AwaitLacking, KillLacking}
 use Rattle.definitions.specs.Table.{Table, Caller, live_master}
 use Rattle.definitions.specs.Exits.{after_exits}
-use Rattle.definitions.specs.Calls.{gives, each_row, dropped, is_exited_of, census_of, step_by, step_with}
+use Rattle.definitions.specs.Calls.{gives, each_row, drop_where, is_exited_of, census_of, step_by, step_with}
 use Rattle.definitions.specs.Path.{lacking_after, went_wrong, first_cause}
 use Rattle.definitions.specs.Tree.{Tree, Branches, Ends, Does, Nothing, Branch, among, reply_of, full_or_short, call_of, lowest}
 use Rattle.definitions.specs.Plans.{settle, round, full_end, short_end, fork_edges, await_any_edges, then_edge, census_edges, census}
 use Rattle.definitions.specs.Manner.{is_leave_call}
 use Rattle.definitions.specs.Run.{Progress, Ending, At, Lost, noted, after_call, after_moment, answered}
-use Rattle.definitions.specs.Claims.{names_any, is_leave}
+use Rattle.definitions.specs.Claims.{names_any}
+use Rattle.theorems.proofs.Refusals.{is_leave}
 use Rattle.theorems.proofs.Exits.{Spares, spares-each}
 use Rattle.theorems.proofs.Logic.{Exiting, Asked, Course, course_after, Along, Behind, fork-cases, await-cases}
 use Rattle.theorems.proofs.Sets.{in-here, in-filter-of}
@@ -42,8 +43,8 @@ pub record Light (image : ℕ) (mild : Exiting) (due : Asked) : Type 1 where
   pub forks : (g : Generation) (x : ℕ) → Gentle (Fork g x)
   pub waits : (g : Generation) (x : ℕ) → Gentle (AwaitReady g x)
   pub censuses : (g : Generation) → Gentle (Census g)
-  pub counted : (text : List ℕ) (g : Generation) (fate : Option Fate) (t : Table) → Holds t → step_with text image (Census g) fate t ≡ gives (answer.Counted (census_of number g t.rows)) (each_row (dropped (is_exited_of number)) t)
-  pub lacking : (g : Generation) (S : List ℕ) (t : Table) (x : ℕ) → Fits g S → Holds t → is_in S x ≡ true → is_in (census_of number g t.rows) x ≡ false → May g x (each_row (dropped (is_exited_of number)) t)
+  pub counted : (text : List ℕ) (g : Generation) (fate : Option Fate) (t : Table) → Holds t → step_with text image (Census g) fate t ≡ gives (answer.Counted (census_of number g t.rows)) (each_row (drop_where (is_exited_of number)) t)
+  pub lacking : (g : Generation) (S : List ℕ) (t : Table) (x : ℕ) → Fits g S → Holds t → is_in S x ≡ true → is_in (census_of number g t.rows) x ≡ false → May g x (each_row (drop_where (is_exited_of number)) t)
   pub may_exits : (es : List Name) (t : Table) (g : Generation) (x : ℕ) → Spares image es → mild es t.rows → Holds t → May g x t → May g x (after_exits es t)
   pub may_steps : (text : List ℕ) (call : Call) (fate : Option Fate) (t : Table) (g : Generation) (x : ℕ) → Gentle call → Holds t → May g x t → May g x (step_with text image call fate t).table
   pub kill_due : (g : Generation) (x : ℕ) (t : Table) → Holds t → May g x t → due (Kill g x) t
@@ -164,7 +165,7 @@ module _ (image : ℕ) (mild : Exiting) (due : Asked) (light : Light image mild 
       (λ q h e. light.idles (Census g) q.table (light.censuses g) h)
       (λ q fate h e.
       let cs = census_of light.number g q.table.rows in
-      let t' = each_row (dropped (is_exited_of light.number)) q.table in
+      let t' = each_row (drop_where (is_exited_of light.number)) q.table in
       let st = gives (answer.Counted cs) t' in
       let is = light.counted co.text g fate q.table h in
       let h' : light.Holds t' = subst (λ s. light.Holds s.table) is (light.steps co.text (Census g) fate q.table (light.censuses g) h) in

@@ -11,7 +11,7 @@ use Rattle.definitions.specs.Table.{Address, Hold, has_address}
 use Rattle.definitions.specs.Calls.{free_from, lowest_free, put_hold, lacks_address}
 use Rattle.definitions.specs.Record.{listener_of}
 use Rattle.definitions.specs.Target.{only_in}
-use Rattle.definitions.specs.After.{listens_on, listener_at, opened_from, all_opened, added, kept}
+use Rattle.definitions.specs.After.{listens_on, listener_at, opened_from, all_opened, added, still_wanted}
 use Rattle.theorems.proofs.Rows.{pick, or-right, every-more}
 use Rattle.theorems.proofs.Addresses.{has-lacks, same-address, address-sym, address-refl, stands-filter}
 use Rattle.theorems.proofs.Views.{eqb-is, eqb-off}
@@ -109,11 +109,11 @@ all-closed-is (a ∷ more) hs =
     both true y = refl
     both false y = refl
 
-kept-is : (f : Hold → Bool) (wanted : List Address) (hs : List Hold) → AllByRecursion (λ h. f h ≡ has wanted h.address) hs → map listener_of (filter f hs) ≡ kept wanted (map listener_of hs)
+kept-is : (f : Hold → Bool) (wanted : List Address) (hs : List Hold) → AllByRecursion (λ h. f h ≡ has wanted h.address) hs → map listener_of (filter f hs) ≡ still_wanted wanted (map listener_of hs)
 kept-is f wanted [] all = refl
 kept-is f wanted (x ∷ hs) all = go (f x) (has wanted x.address) all.0 (kept-is f wanted hs all.1)
   where
-    go : (b c : Bool) → b ≡ c → map listener_of (filter f hs) ≡ kept wanted (map listener_of hs) → map listener_of (cond b (x ∷ filter f hs) (filter f hs)) ≡ cond c (listener_of x ∷ kept wanted (map listener_of hs)) (kept wanted (map listener_of hs))
+    go : (b c : Bool) → b ≡ c → map listener_of (filter f hs) ≡ still_wanted wanted (map listener_of hs) → map listener_of (cond b (x ∷ filter f hs) (filter f hs)) ≡ cond c (listener_of x ∷ still_wanted wanted (map listener_of hs)) (still_wanted wanted (map listener_of hs))
     go true true e ih = ap (λ l. listener_of x ∷ l) ih
     go true false e ih = absurd (cc)
     go false true e ih = absurd (cc)
@@ -132,7 +132,7 @@ every-hold P (x ∷ hs) h = (h x.address (on (bytes_eq x.address x.address) (has
     or-on false c e = e
 
 -- When all that is dropped is closed, what is wanted is kept.
-pub closed-kept : (old wanted : List Address) (hs : List Hold) → ((a : Address) → has_address a hs ≡ (has (only_in wanted old) a || has old a)) → map listener_of (all_closed (only_in old wanted) hs) ≡ kept wanted (map listener_of hs)
+pub closed-kept : (old wanted : List Address) (hs : List Hold) → ((a : Address) → has_address a hs ≡ (has (only_in wanted old) a || has old a)) → map listener_of (all_closed (only_in old wanted) hs) ≡ still_wanted wanted (map listener_of hs)
 closed-kept old wanted hs has_it =
     ap (map listener_of) (all-closed-is (only_in old wanted) hs)
     ∙ kept-is (λ h. not (has (only_in old wanted) h.address)) wanted hs (every-hold (λ a. not (has (only_in old wanted) a) ≡ has wanted a) hs (λ a e.
@@ -174,7 +174,7 @@ some-held [] (a ∷ wanted) keys le = absurd (no (bytes_eq a a) (has wanted a) (
     no false c e f = cc
 
 -- When what is dropped is closed first, what is wanted of the rest is kept.
-pub closed-first : (old wanted : List Address) (hs : List Hold) → ((a : Address) → has_address a hs ≡ has old a) → map listener_of (all_closed (only_in old wanted) hs) ≡ kept wanted (map listener_of hs)
+pub closed-first : (old wanted : List Address) (hs : List Hold) → ((a : Address) → has_address a hs ≡ has old a) → map listener_of (all_closed (only_in old wanted) hs) ≡ still_wanted wanted (map listener_of hs)
 closed-first old wanted hs has_it =
     ap (map listener_of) (all-closed-is (only_in old wanted) hs)
     ∙ kept-is (λ h. not (has (only_in old wanted) h.address)) wanted hs (every-hold (λ a. not (has (only_in old wanted) a) ≡ has wanted a) hs (λ a e.
@@ -216,11 +216,11 @@ pub rises-closed : (l : List Address) (hs : List Hold) → RisesFrom 3 (fds hs) 
 rises-closed l hs rises = subst (λ k. RisesFrom 3 (fds k)) (sym (all-closed-is l hs)) (rises-filter 3 (λ h. not (has l h.address)) hs rises)
 
 -- What an upgrade opens is what its kept listeners lack.
-listens-kept : (wanted : List Address) (a : Address) (ls : List Listener) → has wanted a ≡ true → listens_on (kept wanted ls) a ≡ has (map (λ (l : Listener). l.address) ls) a
+listens-kept : (wanted : List Address) (a : Address) (ls : List Listener) → has wanted a ≡ true → listens_on (still_wanted wanted ls) a ≡ has (map (λ (l : Listener). l.address) ls) a
 listens-kept wanted a [] on = refl
 listens-kept wanted a (l ∷ ls) on = go (has wanted l.address) refl (bytes_eq l.address a) refl (listens-kept wanted a ls on)
   where
-    go : (b : Bool) → has wanted l.address ≡ b → (e : Bool) → bytes_eq l.address a ≡ e → listens_on (kept wanted ls) a ≡ has (map (λ (l : Listener). l.address) ls) a → listens_on (cond b (l ∷ kept wanted ls) (kept wanted ls)) a ≡ (e || has (map (λ (l : Listener). l.address) ls) a)
+    go : (b : Bool) → has wanted l.address ≡ b → (e : Bool) → bytes_eq l.address a ≡ e → listens_on (still_wanted wanted ls) a ≡ has (map (λ (l : Listener). l.address) ls) a → listens_on (cond b (l ∷ still_wanted wanted ls) (still_wanted wanted ls)) a ≡ (e || has (map (λ (l : Listener). l.address) ls) a)
     go true is e same ih = rw same (ap (λ z. e || z) ih)
     go false is true same ih = absurd (let off : has wanted a ≡ false = subst (λ z. has wanted z ≡ false) (same-address l.address a same) is in cc)
     go false is false same ih = ih
@@ -233,7 +233,7 @@ all-stand : (l : List Address) → AllByRecursion (λ a. has l a ≡ true) l
 all-stand [] = tt
 all-stand (x ∷ l) = (rw (address-refl x) refl, every-more (λ a. has l a ≡ true) (λ a. has (x ∷ l) a ≡ true) (λ a e. or-right (bytes_eq x a) (has l a) e) l (all-stand l))
 
-pub upgrade-added : (wanted : List Address) (ls : List Listener) → only_in wanted (map (λ (l : Listener). l.address) ls) ≡ added wanted (kept wanted ls)
+pub upgrade-added : (wanted : List Address) (ls : List Listener) → only_in wanted (map (λ (l : Listener). l.address) ls) ≡ added wanted (still_wanted wanted ls)
 upgrade-added wanted ls =
-    filter-here (λ a. not (has (map (λ (l : Listener). l.address) ls) a)) (λ a. not (listens_on (kept wanted ls) a)) wanted
-    (every-more (λ a. has wanted a ≡ true) (λ a. not (has (map (λ (l : Listener). l.address) ls) a) ≡ not (listens_on (kept wanted ls) a)) (λ a e. sym (ap not (listens-kept wanted a ls e))) wanted (all-stand wanted))
+    filter-here (λ a. not (has (map (λ (l : Listener). l.address) ls) a)) (λ a. not (listens_on (still_wanted wanted ls) a)) wanted
+    (every-more (λ a. has wanted a ≡ true) (λ a. not (has (map (λ (l : Listener). l.address) ls) a) ≡ not (listens_on (still_wanted wanted ls) a)) (λ a e. sym (ap not (listens-kept wanted a ls e))) wanted (all-stand wanted))

@@ -1,11 +1,11 @@
 -- A logic for plans of one master: what holds along a run, and a rule for each kind of step.
-use Rattle.std.proofs.Common.{[], ◌∷◌, ◌≡◌, List, ℕ, ◌+◌, Bool, true, false, Option, Some, None, refl, nat_lt, length}
+use Rattle.std.proofs.Common.{[], ◌∷◌, ◌≡◌, List, ℕ, ◌+◌, Bool, true, false, Option, Some, None, refl, ◌∙◌, nat_lt, length}
 use Rattle.std.specs.Prelude.{⊤, if◌then◌else◌}
 use Rattle.std.specs.List.{AllByRecursion, list_any}
 use Rattle.definitions.specs.Table.{is_any, is_draining, FilePath, owner_at, Process, Master, Worker, Table, Caller, is_worker, is_active, is_starting, is_exited, Address, is_held}
 use Rattle.vocabulary.specs.declared.table.Stance.TheVariants.{Starting}
 use Rattle.listener_set.specs.declared.generation.Generation.{Generation}
-use Rattle.definitions.specs.Calls.{suits, is_image, with_file, moved_if, with_files, without_file, Stepped, gives, step_by, fault_if, fault_or_own, own_step, with_new_row, each_row, has_process_room, dropped, made_ready, lowest_free, with_new_socket}
+use Rattle.definitions.specs.Calls.{suits, is_image, with_file, moved_if, with_files, without_file, Stepped, gives, step_by, fault_if, fault_or_own, own_step, with_new_row, each_row, has_process_room, drop_where, made_ready, lowest_free, with_new_socket}
 use Rattle.vocabulary.specs.declared.calls.Fate.{Fate}
 use Rattle.definitions.specs.Handover.{reading}
 use Rattle.definitions.specs.Exits.{change}
@@ -16,7 +16,8 @@ use Rattle.definitions.specs.Tree.{call_of, Tree, Branches, Ends, Does, Nothing,
 use Rattle.vocabulary.specs.declared.plans.Order.{Order}
 use Rattle.vocabulary.specs.declared.reports.Entry.{Entry}
 use Rattle.vocabulary.specs.declared.calls.Reply.{Reply}
-use Rattle.definitions.specs.Claims.{names_any, executing_at, executing_after, refused_from, refused_behind}
+use Rattle.definitions.specs.Claims.{names_any, refused_among}
+use Rattle.theorems.proofs.Refusals.{acting_at, acting_after, refused_from, refused_behind, refused-is}
 use Rattle.vocabulary.specs.declared.names.Name.{Name}
 use Rattle.definitions.specs.Run.{Pattern, Progress, Ran, after_moment, after_call, noted, answered, Ending, At, Lost, run_with, goes_with}
 use Rattle.theorems.proofs.Rows.{pick}
@@ -36,7 +37,7 @@ pub record Course : Type 0 where
   pub heirs : List ℕ
 
 abbrev pub course_after : Order → Course → Course
-course_after order co = record { text = co.text; pattern = co.pattern; executing = executing_after order co.executing co.heirs; heirs = co.heirs }
+course_after order co = record co { executing = acting_after order co.executing co.heirs }
 
 -- what is asked of each call with the table that it meets
 abbrev pub Asked : Type 1
@@ -51,7 +52,7 @@ abbrev mutual
       let moment = co.pattern (p.calls + 1) in
       let middle = after_moment moment.exits p in
       let s = answered co.text by order moment.fate middle in
-      names_any (executing_at order co.executing co.heirs) moment.exits ≡ false → mild moment.exits p.table.rows →
+      names_any (acting_at order co.executing co.heirs) moment.exits ≡ false → mild moment.exits p.table.rows →
       inv p × inv middle × due (call_of order middle.lacking) middle.table × Behind inv post mild due (course_after order co) branches (reply_of set s.answer) (after_call order set s middle)
 
   pub Behind : (Progress → Type 0) → (Ending → Progress → Type 0) → Exiting → Asked → Course → Branches → Reply → Progress → Type 0
@@ -80,11 +81,16 @@ abbrev mutual
         | false ↦ AreMildBehind mild co more r p
       ]
 
-abbrev pub refused_in : Course → Tree → Progress → Option ℕ
-refused_in co tree p = refused_from co.text co.executing co.heirs tree co.pattern p
-
 abbrev pub run_in : Course → Tree → Progress → Ran
 run_in co tree p = run_with co.text tree co.pattern p
+
+-- the first moment of the run in which an executing master exits
+abbrev pub refused_in : Course → Tree → Progress → Option ℕ
+refused_in co tree p = refused_among co.executing co.heirs co.pattern p.calls (run_in co tree p).entries
+
+-- the same, found along the tree
+abbrev pub refused_by : Course → Tree → Progress → Option ℕ
+refused_by co tree p = refused_from co.text co.executing co.heirs tree co.pattern p
 
 -- what is asked of each call, with its middle table
 abbrev pub AllDue : Asked → List Entry → List Progress → Type 0
@@ -99,38 +105,41 @@ pub record Holding (inv : Progress → Type 0) (post : Ending → Progress → T
   pub last : post ran.ending ran.last
   pub dues : AllDue due ran.entries ran.passed
 
--- What holds along a tree holds of its run.
 mutual
-  pub from-along : (inv : Progress → Type 0) (post : Ending → Progress → Type 0) (mild : Exiting) (due : Asked) (co : Course) (t : Tree) (p : Progress) → Along inv post mild due co t p → refused_in co t p ≡ None → AreMild mild co t p → Holding inv post due (run_in co t p)
-  from-along inv post mild due co (Ends end) p a e m = record { always = (a.0, tt); last = a.1; dues = tt }
-  from-along inv post mild due co (Does by order set branches) p a e m =
+  tree-along : (inv : Progress → Type 0) (post : Ending → Progress → Type 0) (mild : Exiting) (due : Asked) (co : Course) (t : Tree) (p : Progress) → Along inv post mild due co t p → refused_by co t p ≡ None → AreMild mild co t p → Holding inv post due (run_in co t p)
+  tree-along inv post mild due co (Ends end) p a e m = record { always = (a.0, tt); last = a.1; dues = tt }
+  tree-along inv post mild due co (Does by order set branches) p a e m =
       let moment = co.pattern (p.calls + 1) in
       let middle = after_moment moment.exits p in
       let st = answered co.text by order moment.fate middle in
       let next = after_call order set st middle in
       let r = reply_of set st.answer in
-      elim (names_any (executing_at order co.executing co.heirs) moment.exits) as (λ b.
+      elim (names_any (acting_at order co.executing co.heirs) moment.exits) as (λ b.
       (b ≡ false → mild moment.exits p.table.rows → inv p × inv middle × due (call_of order middle.lacking) middle.table × Behind inv post mild due (course_after order co) branches r next) →
-      elim b as (λ c. Option ℕ) [ true ↦ Some (p.calls + 1) | false ↦ refused_behind co.text (executing_after order co.executing co.heirs) co.heirs branches r co.pattern next ] ≡ None →
+      elim b as (λ c. Option ℕ) [ true ↦ Some (p.calls + 1) | false ↦ refused_behind co.text (acting_after order co.executing co.heirs) co.heirs branches r co.pattern next ] ≡ None →
       Holding inv post due (run_in co (Does by order set branches) p)) [
         | true ↦ λ a e. absurd (cc)
         | false ↦ λ a e.
             let now = a refl m.0 in
-            let rest = from-behind inv post mild due (course_after order co) branches r next now.3 e m.1 in
+            let rest = tree-behind inv post mild due (course_after order co) branches r next now.3 e m.1 in
             record { always = (now.0, (now.1, rest.always)); last = rest.last; dues = (now.2, rest.dues) }
       ] a e
 
-  from-behind : (inv : Progress → Type 0) (post : Ending → Progress → Type 0) (mild : Exiting) (due : Asked) (co : Course) (bs : Branches) (r : Reply) (p : Progress) → Behind inv post mild due co bs r p → refused_behind co.text co.executing co.heirs bs r co.pattern p ≡ None → AreMildBehind mild co bs r p → Holding inv post due (goes_with co.text bs r co.pattern p)
-  from-behind inv post mild due co Nothing r p a e m = record { always = (a.0, tt); last = a.1; dues = tt }
-  from-behind inv post mild due co (Branch replies said rest more) r p a e m =
+  tree-behind : (inv : Progress → Type 0) (post : Ending → Progress → Type 0) (mild : Exiting) (due : Asked) (co : Course) (bs : Branches) (r : Reply) (p : Progress) → Behind inv post mild due co bs r p → refused_behind co.text co.executing co.heirs bs r co.pattern p ≡ None → AreMildBehind mild co bs r p → Holding inv post due (goes_with co.text bs r co.pattern p)
+  tree-behind inv post mild due co Nothing r p a e m = record { always = (a.0, tt); last = a.1; dues = tt }
+  tree-behind inv post mild due co (Branch replies said rest more) r p a e m =
       elim (among replies r) as (λ b.
       elim b as (λ c. Type 0) [ true ↦ Along inv post mild due co rest (noted said p) | false ↦ Behind inv post mild due co more r p ] →
-      elim b as (λ c. Option ℕ) [ true ↦ refused_in co rest (noted said p) | false ↦ refused_behind co.text co.executing co.heirs more r co.pattern p ] ≡ None →
+      elim b as (λ c. Option ℕ) [ true ↦ refused_by co rest (noted said p) | false ↦ refused_behind co.text co.executing co.heirs more r co.pattern p ] ≡ None →
       elim b as (λ c. Type 0) [ true ↦ AreMild mild co rest (noted said p) | false ↦ AreMildBehind mild co more r p ] →
       Holding inv post due (elim b as (λ c. Ran) [ true ↦ run_in co rest (noted said p) | false ↦ goes_with co.text more r co.pattern p ])) [
-        | true ↦ λ a e m. from-along inv post mild due co rest (noted said p) a e m
-        | false ↦ λ a e m. from-behind inv post mild due co more r p a e m
+        | true ↦ λ a e m. tree-along inv post mild due co rest (noted said p) a e m
+        | false ↦ λ a e m. tree-behind inv post mild due co more r p a e m
       ] a e m
+
+-- What holds along a tree holds of its run.
+pub from-along : (inv : Progress → Type 0) (post : Ending → Progress → Type 0) (mild : Exiting) (due : Asked) (co : Course) (t : Tree) (p : Progress) → Along inv post mild due co t p → refused_in co t p ≡ None → AreMild mild co t p → Holding inv post due (run_in co t p)
+from-along inv post mild due co t p a e m = tree-along inv post mild due co t p a (refused-is co.text co.executing co.heirs t co.pattern p ∙ e) m
 
 -- Nothing is asked of a call.
 abbrev pub Unasked : Asked
@@ -176,14 +185,14 @@ fork-cases text image c g x (Some fate.NoMemory) t P again memory ok = memory
 fork-cases text image c g x (Some fate.Again) t P again memory ok = again
 fork-cases text image c g x (Some fate.Late) t P again memory ok = fork-own text image c g x t P again ok
 
-await-own : (text : List ℕ) (image : ℕ) (c : Caller) (g : Generation) (x : ℕ) (t : Table) (P : Stepped → Type 0) → (list_any (is_worker is_active c.number g x) t.rows ≡ true → P (gives IsReady (each_row (change (is_worker is_starting c.number g x) made_ready) t))) → (list_any (is_worker is_active c.number g x) t.rows ≡ false → P (gives Gone (each_row (dropped (is_worker is_exited c.number g x)) t))) → P (own_step text image c (AwaitReady g x) t)
+await-own : (text : List ℕ) (image : ℕ) (c : Caller) (g : Generation) (x : ℕ) (t : Table) (P : Stepped → Type 0) → (list_any (is_worker is_active c.number g x) t.rows ≡ true → P (gives IsReady (each_row (change (is_worker is_starting c.number g x) made_ready) t))) → (list_any (is_worker is_active c.number g x) t.rows ≡ false → P (gives Gone (each_row (drop_where (is_worker is_exited c.number g x)) t))) → P (own_step text image c (AwaitReady g x) t)
 await-own text image c g x t P ok gone = pick P (list_any (is_worker is_active c.number g x) t.rows) _ _ ok gone
 
 late-or : (b : Bool) (text : List ℕ) (image : ℕ) (c : Caller) (call : Call) (t : Table) (P : Stepped → Type 0) → P (gives Late t) → P (own_step text image c call t) → P (fault_or_own (fault_if b Late) text image c call t)
 late-or true text image c call t P late h = late
 late-or false text image c call t P late h = h
 
-pub await-cases : (text : List ℕ) (image : ℕ) (c : Caller) (g : Generation) (x : ℕ) (fate : Option Fate) (t : Table) (P : Stepped → Type 0) → P (gives Late t) → (list_any (is_worker is_active c.number g x) t.rows ≡ true → P (gives IsReady (each_row (change (is_worker is_starting c.number g x) made_ready) t))) → (list_any (is_worker is_active c.number g x) t.rows ≡ false → P (gives Gone (each_row (dropped (is_worker is_exited c.number g x)) t))) → P (step_by text image (Some c) (AwaitReady g x) fate t)
+pub await-cases : (text : List ℕ) (image : ℕ) (c : Caller) (g : Generation) (x : ℕ) (fate : Option Fate) (t : Table) (P : Stepped → Type 0) → P (gives Late t) → (list_any (is_worker is_active c.number g x) t.rows ≡ true → P (gives IsReady (each_row (change (is_worker is_starting c.number g x) made_ready) t))) → (list_any (is_worker is_active c.number g x) t.rows ≡ false → P (gives Gone (each_row (drop_where (is_worker is_exited c.number g x)) t))) → P (step_by text image (Some c) (AwaitReady g x) fate t)
 await-cases text image c g x None t P late ok gone = await-own text image c g x t P ok gone
 await-cases text image c g x (Some fate.NoImage) t P late ok gone = await-own text image c g x t P ok gone
 await-cases text image c g x (Some fate.Refused) t P late ok gone = await-own text image c g x t P ok gone
@@ -243,10 +252,10 @@ open-cases text image c a (Some fate.NoMemory) t P used many denied memory ok = 
 open-cases text image c a (Some fate.Again) t P used many denied memory ok = open-own text image c a t P used many ok
 open-cases text image c a (Some fate.Late) t P used many denied memory ok = open-own text image c a t P used many ok
 
-gone-own : (text : List ℕ) (image : ℕ) (c : Caller) (g : Generation) (x : ℕ) (t : Table) (P : Stepped → Type 0) → P (gives Late t) → P (gives Gone (each_row (dropped (is_worker is_any c.number g x)) t)) → P (own_step text image c (AwaitGone g x) t)
+gone-own : (text : List ℕ) (image : ℕ) (c : Caller) (g : Generation) (x : ℕ) (t : Table) (P : Stepped → Type 0) → P (gives Late t) → P (gives Gone (each_row (drop_where (is_worker is_any c.number g x)) t)) → P (own_step text image c (AwaitGone g x) t)
 gone-own text image c g x t P late gone = pick P (list_any (is_worker is_active c.number g x) t.rows) _ _ (λ e. late) (λ e. gone)
 
-pub gone-cases : (text : List ℕ) (image : ℕ) (c : Caller) (g : Generation) (x : ℕ) (fate : Option Fate) (t : Table) (P : Stepped → Type 0) → P (gives Late t) → P (gives Gone (each_row (dropped (is_worker is_any c.number g x)) t)) → P (step_by text image (Some c) (AwaitGone g x) fate t)
+pub gone-cases : (text : List ℕ) (image : ℕ) (c : Caller) (g : Generation) (x : ℕ) (fate : Option Fate) (t : Table) (P : Stepped → Type 0) → P (gives Late t) → P (gives Gone (each_row (drop_where (is_worker is_any c.number g x)) t)) → P (step_by text image (Some c) (AwaitGone g x) fate t)
 gone-cases text image c g x None t P late gone = gone-own text image c g x t P late gone
 gone-cases text image c g x (Some fate.NoImage) t P late gone = gone-own text image c g x t P late gone
 gone-cases text image c g x (Some fate.Refused) t P late gone = gone-own text image c g x t P late gone

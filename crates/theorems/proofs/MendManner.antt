@@ -12,7 +12,7 @@ use Rattle.vocabulary.specs.declared.calls.Fate.{Fate}
 use Rattle.vocabulary.specs.declared.calls.Reply.TheVariants as reply
 use Rattle.vocabulary.specs.declared.calls.Answer.TheVariants as answer
 use Rattle.definitions.specs.Table.{Process, Table, Caller, number_of, bears, is_worker, is_any}
-use Rattle.definitions.specs.Calls.{gives, each_row, dropped, step_by, step_with}
+use Rattle.definitions.specs.Calls.{gives, each_row, drop_where, step_by, step_with}
 use Rattle.definitions.specs.Record.{Record}
 use Rattle.definitions.specs.Tree.{Tree, reply_of, among, Nothing}
 use Rattle.definitions.specs.Plans.{plan_tree, mend_tree, kills, starts_any, settle, then_edge}
@@ -119,7 +119,7 @@ module _ (t : Table) (r : Record) (overdue : List ℕ) (pattern : Pattern) (s : 
   abbrev Named : Table → Type 0
   Named t' = Fact r.pid g.image p (OnlyOurs r.pid g.image p g k low (InAny r.pid g.image p g k low)) t'
 
-  kill-step : (text : List ℕ) (x : ℕ) (fate : Option Fate) (t' : Table) → Named t' → step_with text g.image (Kill g x) fate t' ≡ gives answer.Fine (each_row (dropped (is_worker is_any r.pid g x)) t')
+  kill-step : (text : List ℕ) (x : ℕ) (fate : Option Fate) (t' : Table) → Named t' → step_with text g.image (Kill g x) fate t' ≡ gives answer.Fine (each_row (drop_where (is_worker is_any r.pid g x)) t')
   kill-step text x fate t' named =
       let (hs, found) = one-found r.pid g.image t'.rows named.one.all named.one.some in
       ap (λ (o : Option Caller). step_by text g.image o (Kill g x) fate t') found ∙ unfailing text g.image (record { number = r.pid; holds = hs }) (Kill g x) fate t' tt
@@ -132,7 +132,7 @@ module _ (t : Table) (r : Record) (overdue : List ℕ) (pattern : Pattern) (s : 
       let after = subst (λ st. Named st.table) (kill-step text k fate t' named) (still-named text k fate t' named) in
       subst (λ st. Fact r.pid g.image p (IsOther p) st.table) (sym (kill-step text k fate t' named)) (record {
         one = after.one;
-        all = every-filter_map (OnlyOurs r.pid g.image p g k low (InAny r.pid g.image p g k low)) (IsOther p) (dropped (is_worker is_any r.pid g k)) (λ row h. pick (FitsIn (IsOther p)) (is_worker is_any r.pid g k row) None (Some row) (λ e. tt) (λ e. not-killed r.pid g.image p g k low row h e)) t'.rows named.all;
+        all = every-filter_map (OnlyOurs r.pid g.image p g k low (InAny r.pid g.image p g k low)) (IsOther p) (drop_where (is_worker is_any r.pid g k)) (λ row h. pick (FitsIn (IsOther p)) (is_worker is_any r.pid g k row) None (Some row) (λ e. tt) (λ e. not-killed r.pid g.image p g k low row h e)) t'.rows named.all;
         below = after.below;
         above = after.above;
       })

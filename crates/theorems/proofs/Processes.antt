@@ -15,7 +15,7 @@ use Rattle.vocabulary.specs.declared.calls.Fate.{Fate}
 use Rattle.definitions.specs.Table.{Hold, Process, Master, Worker, Foreign, Table, Caller, owner_at, live_master, caller_if, is_live_master, is_worker, is_named, is_active, is_starting, is_draining, is_exited, is_any, is_held}
 use Rattle.definitions.specs.Exits.{without_exited, kept_if, change, made_exited, first_changed, caller_exits, exited, all_exited, after_exits}
 use Rattle.definitions.specs.Handover.{reading}
-use Rattle.definitions.specs.Calls.{suits, moved_if, is_image, is_image_row, is_of_image, census_of, Stepped, gives, each_row, dropped, with_holds, put_hold, lacks_address, is_row, is_of, is_exited_of, made_ready, made_draining, with_new_row, with_new_socket, lowest_free, has_process_room, own_step, fault_at, fault_or_own, step_by, step_with}
+use Rattle.definitions.specs.Calls.{suits, moved_if, is_image, is_image_row, is_of_image, census_of, Stepped, gives, each_row, drop_where, with_holds, put_hold, lacks_address, is_row, is_of, is_exited_of, made_ready, made_draining, with_new_row, with_new_socket, lowest_free, has_process_room, own_step, fault_at, fault_or_own, step_by, step_with}
 use Rattle.theorems.proofs.Rows.{weigh-append, one, weigh, worth, FitsIn, change-same, every-filter_map, every-append, every-any, pick}
 use Rattle.theorems.proofs.Views.{master_of, eqb-refl, eqb-off, eqb-is}
 use Rattle.theorems.proofs.Logic.{unfailing}
@@ -115,8 +115,8 @@ module _ (m n : ℕ) (P : Process → Type 0) (Quits : Generation → ℕ → Ty
       go None e = all
       go (Some c) e = every-filter_map P P (without_exited c.number (λ q. list_any (is_live_master q) rows)) (λ p x. lasts.leaves c.number (λ q. list_any (is_live_master q) rows) p (other-number m image i rows is one c e) x) rows all
 
-every-dropped : (P : Process → Type 0) (test : Process → Bool) (rows : List Process) → AllByRecursion P rows → AllByRecursion P (filter_map (dropped test) rows)
-every-dropped P test rows all = every-filter_map P P (dropped test) (λ p x. pick (FitsIn P) (test p) None (Some p) (λ e. tt) (λ e. x)) rows all
+every-dropped : (P : Process → Type 0) (test : Process → Bool) (rows : List Process) → AllByRecursion P rows → AllByRecursion P (filter_map (drop_where test) rows)
+every-dropped P test rows all = every-filter_map P P (drop_where test) (λ p x. pick (FitsIn P) (test p) None (Some p) (λ e. tt) (λ e. x)) rows all
 
 -- The masters' own fact lasts, but for new masters.
 abbrev pub OfLasts : ℕ → ℕ → Type 0
@@ -163,8 +163,8 @@ of-lasts m image = (of-exited, of-holds, of-ready, of-draining, of-left)
 masters-changed : (m : ℕ) (test : Process → Bool) (f : Process → Process) → ((p : Process) → master_of m (f p) ≡ master_of m p) → (rows : List Process) → weigh (master_of m) (filter_map (change test f) rows) ≡ weigh (master_of m) rows
 masters-changed m test f same rows = change-same (λ p. ⊤) (master_of m) (change test f) (λ p x. pick (λ p'. master_of m p' ≡ master_of m p) (test p) (f p) p (λ e. same p) (λ e. refl)) rows (every-any rows)
 
-masters-dropped : (m : ℕ) (test : Process → Bool) → ((p : Process) → test p ≡ true → master_of m p ≡ 0) → (rows : List Process) → weigh (master_of m) (filter_map (dropped test) rows) ≡ weigh (master_of m) rows
-masters-dropped m test none rows = change-same (λ p. ⊤) (master_of m) (dropped test) (λ p x. pick (λ o. worth (master_of m) o ≡ master_of m p) (test p) None (Some p) (λ e. sym (none p e)) (λ e. refl)) rows (every-any rows)
+masters-dropped : (m : ℕ) (test : Process → Bool) → ((p : Process) → test p ≡ true → master_of m p ≡ 0) → (rows : List Process) → weigh (master_of m) (filter_map (drop_where test) rows) ≡ weigh (master_of m) rows
+masters-dropped m test none rows = change-same (λ p. ⊤) (master_of m) (drop_where test) (λ p x. pick (λ o. worth (master_of m) o ≡ master_of m p) (test p) None (Some p) (λ e. sym (none p e)) (λ e. refl)) rows (every-any rows)
 
 no-master : (stance : Stance → Bool) (m c : ℕ) (g : Generation) (x : ℕ) (p : Process) → is_worker stance c g x p ≡ true → master_of m p ≡ 0
 no-master stance m c g x (Master n q i live hs) e = absurd (cc e)
@@ -269,7 +269,7 @@ module _ (m image n : ℕ) (P : Process → Type 0) (Quits : Generation → ℕ 
     above = fact.above;
   }
 
-  fact-dropped : (test : Process → Bool) (t : Table) → ((p : Process) → test p ≡ true → master_of m p ≡ 0) → F t → F (each_row (dropped test) t)
+  fact-dropped : (test : Process → Bool) (t : Table) → ((p : Process) → test p ≡ true → master_of m p ≡ 0) → F t → F (each_row (drop_where test) t)
   fact-dropped test t none fact = record {
     one = record { all = every-dropped (IsOf m image) test t.rows fact.one.all; some = omega (arith, fact.one.some, masters-dropped m test none t.rows) };
     all = every-dropped P test t.rows fact.all;
@@ -314,7 +314,7 @@ module _ (m image n : ℕ) (P : Process → Type 0) (Quits : Generation → ℕ 
   own-keeps text _ t lets fact = absurd lets
 
   -- what another image's end takes
-  kept-of-image : (i : ℕ) (rows : List Process) → i ≢ image → (p : Process) → IsOf m image p → worth (master_of m) (dropped (is_of_image i rows) p) ≡ master_of m p
+  kept-of-image : (i : ℕ) (rows : List Process) → i ≢ image → (p : Process) → IsOf m image p → worth (master_of m) (drop_where (is_of_image i rows) p) ≡ master_of m p
   kept-of-image i rows ne (Master k q j live zs) h =
       pick (λ o. worth (master_of m) o ≡ one (k == m)) (j == i) None (Some (Master k q j live zs))
       (λ e. ⊎_elim (λ o. absurd (ne (sym (eqb-is j i e) ∙ o.1))) (λ o. sym (ap one (eqb-off k m o.0))) h) (λ e. refl)
@@ -364,7 +364,7 @@ module _ (m image n : ℕ) (P : Process → Type 0) (Quits : Generation → ℕ 
       pick (λ (st : Stepped). F st.table) (list_any (is_image i) t.rows) (gives answer.Again t) (if has_process_room t then done else gives answer.Again t) (λ e. fact)
       (λ e. pick (λ (st : Stepped). F st.table) (has_process_room t) done (gives answer.Again t) (λ e. spawned) (λ e. fact))
   any-keeps text by c (TermMaster i) t any fact = record {
-    one = record { all = every-dropped (IsOf m image) (is_of_image i t.rows) t.rows fact.one.all; some = omega (arith, fact.one.some, change-same (IsOf m image) (master_of m) (dropped (is_of_image i t.rows)) (kept-of-image i t.rows any) t.rows fact.one.all) };
+    one = record { all = every-dropped (IsOf m image) (is_of_image i t.rows) t.rows fact.one.all; some = omega (arith, fact.one.some, change-same (IsOf m image) (master_of m) (drop_where (is_of_image i t.rows)) (kept-of-image i t.rows any) t.rows fact.one.all) };
     all = every-dropped P (is_of_image i t.rows) t.rows fact.all;
     below = fact.below;
     above = fact.above;
@@ -396,7 +396,7 @@ fact-steps m image n P Quits lasts text call fate t lets fact =
     (fault-or m image n P Quits lasts hs (fault_at me call fate t) text call t fact (own-keeps m image n P Quits lasts hs text call t lets fact))
 
 -- What a census is answered.
-pub fact-census : (m image n : ℕ) (P : Process → Type 0) (text : List ℕ) (g : Generation) (fate : Option Fate) (t : Table) → Fact m image n P t → step_with text image (Census g) fate t ≡ gives (answer.Counted (census_of m g t.rows)) (each_row (dropped (is_exited_of m)) t)
+pub fact-census : (m image n : ℕ) (P : Process → Type 0) (text : List ℕ) (g : Generation) (fate : Option Fate) (t : Table) → Fact m image n P t → step_with text image (Census g) fate t ≡ gives (answer.Counted (census_of m g t.rows)) (each_row (drop_where (is_exited_of m)) t)
 fact-census m image n P text g fate t fact =
     let (hs, found) = one-found m image t.rows fact.one.all fact.one.some in
     ap (λ (o : Option Caller). step_by text image o (Census g) fate t) found ∙ unfailing text image (record { number = m; holds = hs }) (Census g) fate t tt

@@ -12,7 +12,7 @@ use Rattle.listener_set.specs.AddressList.{has}
 use Rattle.definitions.specs.Target.{only_in, reload_generation, want}
 use Rattle.vocabulary.specs.declared.targets.Target.TheVariants.{Reload}
 use Rattle.vocabulary.specs.Settings.{Settings, IsInRange}
-use Rattle.definitions.specs.After.{Setup, setup_after, recorded, renewed, reloaded, opened, all_opened, kept, next_config}
+use Rattle.definitions.specs.After.{Setup, setup_after, recorded, renewed, reloaded, with_added, all_opened, still_wanted, next_config}
 use Rattle.theorems.proofs.Listeners.{fds, opens-on, all_closed, closed-kept, added-is, fds-listed, some-held}
 use Rattle.theorems.proofs.Ends.{next-is, moved-after, resized, report_at, service-of, service-short, first-keys, first-service, first-held, first-few, census-within, files-still, kept-after}
 use Rattle.vocabulary.specs.declared.plans.Side.TheVariants.{Old, Target}
@@ -159,7 +159,7 @@ module _ (t : Table) (rec : Record) (st : Settings) (pattern : Pattern) (s : IsS
   inv q = Kept old target t q.table × Level q × IsBlamed q
 
   abbrev post : Ending → Progress → Type 0
-  post e q = Says (outcome_of e q.lacking) old target q.table × IsPaid rec.retries (outcome_of e q.lacking) q × HasCause (outcome_of e q.lacking) q.cause × AgreesAfter rec (Reload st) (report_at e q) rec.pid q.table
+  post e q = Says (outcome_of e q.lacking) old target q.table × IsPaid rec.retries (outcome_of e q.lacking) q × HasCause (outcome_of e q.lacking) q.cause × AgreesAfter rec (Reload st) (report_at e q) q.table
 
   abbrev Goes : Tree → Progress → Type 0
   Goes tree q = Along inv post Anyhow Unasked co tree q
@@ -270,8 +270,8 @@ module _ (t : Table) (rec : Record) (st : Settings) (pattern : Pattern) (s : IsS
   within-new : (hs : List Hold) (r : Names) (q : Progress) → Only new (numbers_below n) r → Looks (view (same hs) none r) q.table.rows → Exactly new q → (k : ℕ) → is_in q.ready k ≡ true → k < n
   within-new hs r q only looks exact k e = below-of n k (census-within (same hs) (λ n. refl) new (numbers_below n) r q.table.rows q.ready only looks exact k e)
 
-  moved-left : (hs : List Hold) → ((a : Address) → has_address a hs ≡ has wanted a) → (e : Ending) (q : Progress) → setup_after (outcome_of e q.lacking) rec (Reload st) ≡ Some (moved hs) → ((k : ℕ) → is_in q.ready k ≡ true → k < n) → Agrees q.table (recorded (moved hs) rec.pid_path (report_at e q) rec.pid) → AgreesAfter rec (Reload st) (report_at e q) rec.pid q.table
-  moved-left hs keys e q is below agrees = moved-after rec (Reload st) (report_at e q) q.table (moved hs) rec.pid is (some-held hs wanted keys range.listens) low range.retries range.timeout_least range.timeout_most s.record_in_range s.record_in_range.pid below agrees
+  moved-left : (hs : List Hold) → ((a : Address) → has_address a hs ≡ has wanted a) → (e : Ending) (q : Progress) → setup_after (outcome_of e q.lacking) rec (Reload st) ≡ Some (moved hs) → ((k : ℕ) → is_in q.ready k ≡ true → k < n) → Agrees q.table (recorded (moved hs) rec.pid_path (report_at e q) rec.pid) → AgreesAfter rec (Reload st) (report_at e q) q.table
+  moved-left hs keys e q is below agrees = moved-after rec (Reload st) (report_at e q) q.table (moved hs) rec.pid is (some-held hs wanted keys range.listens) low range.retries range.timeout_least range.timeout_most s.record_in_range s.record_in_range.pid (λ e. refl) below agrees
 
   new-full : (hs : List Hold) → Lists hs → ((a : Address) → has_address a hs ≡ has wanted a) → (r : Names) (q : Progress) (c : ℕ) (w : Bool) → (false ≡ true → w ≡ true) → Only new (numbers_below n) r → Band (same hs) sc none r (named new (is_in (numbers_below n))) (length (numbers_below n)) c w [] q → ready_of (same hs) (named new (is_in (numbers_below n))) q + length q.lacking ≡ length (numbers_below n) → Exactly new q → post (At Done) q
   new-full hs lists keys r q c w up only b saw exact = (
@@ -493,10 +493,10 @@ module _ (t : Table) (rec : Record) (st : Settings) (pattern : Pattern) (s : IsS
   put-common : (h : Hold) (hs : List Hold) → Common hs → Common (put_hold h hs)
   put-common h hs common a c = stays-put h a H0 hs (common a c)
 
-  opening : (todo l : List Address) (hs : List Hold) → (all_opened todo (map listener_of hs) ≡ opened st.listeners rec.listeners) × RisesFrom 3 (fds hs) → AllByRecursion (λ a. has_address a H0 ≡ false) todo → From H0 Common l hs → ((a : Address) → (has l a || has todo a) ≡ has added a) → Common hs → (r : Names) (c : ℕ) (q : Progress) → Only g R r → Band (both hs) sc none r (named g (is_in R)) (length R) c false [] q → Goes (opens g.image todo l (λ opened. starts g.image new (numbers_below n) (census g.image new (numbers_below n) (census_edges way_on (reload_back g.image g R rec.retries opened (reverse (numbers_below n))))) (λ forked. reload_back g.image g R rec.retries opened forked)) (λ opened. closes g.image opened (settle g.image g R Old rec.retries))) q
+  opening : (todo l : List Address) (hs : List Hold) → (all_opened todo (map listener_of hs) ≡ with_added st.listeners rec.listeners) × RisesFrom 3 (fds hs) → AllByRecursion (λ a. has_address a H0 ≡ false) todo → From H0 Common l hs → ((a : Address) → (has l a || has todo a) ≡ has added a) → Common hs → (r : Names) (c : ℕ) (q : Progress) → Only g R r → Band (both hs) sc none r (named g (is_in R)) (length R) c false [] q → Goes (opens g.image todo l (λ with_added. starts g.image new (numbers_below n) (census g.image new (numbers_below n) (census_edges way_on (reload_back g.image g R rec.retries with_added (reverse (numbers_below n))))) (λ forked. reload_back g.image g R rec.retries with_added forked)) (λ with_added. closes g.image with_added (settle g.image g R Old rec.retries))) q
   opening [] l hs listing off o in_all common r c q only b =
       let keys : (a : Address) → has_address a hs ≡ (has added a || has_address a H0) = λ a. from-has H0 Common l hs o a ∙ ap (λ z. z || has_address a H0) (sym (or-false (has l a)) ∙ in_all a) in
-      let lists : Lists (all_closed dropped hs) = ap (λ o. option_map (kept wanted) o) (sym listing.0) ∙ ap (λ ls. Some ls) (sym (closed-kept A0 wanted hs (λ a. keys a ∙ ap (λ z. has added a || z) (first-keys t rec s a)))) in
+      let lists : Lists (all_closed dropped hs) = ap (λ o. option_map (still_wanted wanted) o) (sym listing.0) ∙ ap (λ ls. Some ls) (sym (closed-kept A0 wanted hs (λ a. keys a ∙ ap (λ z. has added a || z) (first-keys t rec s a)))) in
       after-opens l hs lists o keys common r c q only b
     where
       or-false : (z : Bool) → (z || false) ≡ z
@@ -504,7 +504,7 @@ module _ (t : Table) (rec : Record) (st : Settings) (pattern : Pattern) (s : IsS
       or-false false = refl
   opening (x ∷ todo) l hs listing off o in_all common r c q only b =
       rule-open inv post co (both hs) acts sc (good-both hs common) _ _ x r (named g (is_in R)) (length R) c false [] q
-      (λ h q' is fd room fresh b'. opening todo (x ∷ l) (put_hold h hs) (opens-on t.limits.descriptors h hs todo (opened st.listeners rec.listeners) ds.limit listing.1 fd room (subst (λ z. all_opened (z ∷ todo) (map listener_of hs) ≡ opened st.listeners rec.listeners) (sym is) listing.0)) off.1 (record { hold = h; before = hs; is = refl; names = is; fresh = fresh; apart = off.0; common = common; rest = o }) (λ a. move (bytes_eq x a) (has l a) (has todo a) ∙ in_all a) (put-common h hs common) r c q' only (record {
+      (λ h q' is fd room fresh b'. opening todo (x ∷ l) (put_hold h hs) (opens-on t.limits.descriptors h hs todo (with_added st.listeners rec.listeners) ds.limit listing.1 fd room (subst (λ z. all_opened (z ∷ todo) (map listener_of hs) ≡ with_added st.listeners rec.listeners) (sym is) listing.0)) off.1 (record { hold = h; before = hs; is = refl; names = is; fresh = fresh; apart = off.0; common = common; rest = o }) (λ a. move (bytes_eq x a) (has l a) (has todo a) ∙ in_all a) (put-common h hs common) r c q' only (record {
         looks = looks-allows (view (after_open h (both hs)) none r) (view (both (put_hold h hs)) none r) (record {
           number = refl;
           others = λ n e. e;
@@ -530,7 +530,7 @@ module _ (t : Table) (rec : Record) (st : Settings) (pattern : Pattern) (s : IsS
       move true false t = refl
       move false p t = refl
 
-  first-listing : (all_opened added (map listener_of H0) ≡ opened st.listeners rec.listeners) × RisesFrom 3 (fds H0)
+  first-listing : (all_opened added (map listener_of H0) ≡ with_added st.listeners rec.listeners) × RisesFrom 3 (fds H0)
   first-listing = (
     ap (λ ls. all_opened added ls) s.agrees.listeners ∙ ap (λ l. all_opened l rec.listeners) (sym (added-is st.listeners rec.listeners)),
     subst (λ l. RisesFrom 3 l) (sym (fds-listed H0 ∙ ap (map (λ (l : Listener). l.descriptor)) s.agrees.listeners)) ds.descriptors,

@@ -6,7 +6,7 @@ use Rattle.vocabulary.specs.declared.table.Limits.{Limits}
 use Rattle.definitions.specs.Table.{same_generation, Hold, Process, Master, Worker, Foreign, File, Table, bears, Caller, with_rows, is_worker, is_active, is_ready, is_starting, is_exited, is_any, Address, is_at}
 use Rattle.vocabulary.specs.declared.table.Stance.TheVariants.{Starting}
 use Rattle.listener_set.specs.declared.generation.Generation.{Generation}
-use Rattle.definitions.specs.Calls.{Stepped, gives, step_by, own_step, with_new_row, each_row, is_exited_of, dropped, made_ready, made_draining, census_of, is_of, with_holds, lacks_address, lowest_free, with_new_socket, is_row, put_hold}
+use Rattle.definitions.specs.Calls.{Stepped, gives, step_by, own_step, with_new_row, each_row, is_exited_of, drop_where, made_ready, made_draining, census_of, is_of, with_holds, lacks_address, lowest_free, with_new_socket, is_row, put_hold}
 use Rattle.vocabulary.specs.declared.calls.Fate.{Fate}
 use Rattle.vocabulary.specs.declared.names.Name.{Name}
 use Rattle.definitions.specs.Exits.{is_active_worker, change, losses_of, all_exited, after_exits}
@@ -20,7 +20,8 @@ use Rattle.vocabulary.specs.declared.plans.Order.{Order}
 use Rattle.vocabulary.specs.declared.plans.Order.TheVariants.{Make, ForkLacking, AwaitLacking, KillLacking}
 use Rattle.vocabulary.specs.declared.calls.Reply.{Reply}
 use Rattle.vocabulary.specs.declared.plans.PidNote.{PidNote}
-use Rattle.definitions.specs.Claims.{names_any, is_leave}
+use Rattle.definitions.specs.Claims.{names_any}
+use Rattle.theorems.proofs.Refusals.{is_leave}
 use Rattle.vocabulary.specs.declared.calls.Reply.TheVariants as reply
 use Rattle.vocabulary.specs.declared.calls.Answer.TheVariants as answer
 use Rattle.definitions.specs.Run.{Progress, after_moment, after_call, Ending, At, answered}
@@ -125,7 +126,7 @@ pub record Scene (m image : ℕ) : Type 1 where
   pub Holds : List Process → ℕ → ℕ → Type 0
   pub exits : (es : List Name) (rows : List Process) (losses more faults : ℕ) → Spares image es → Mild es rows → more + weigh live_any (all_exited es rows) ≡ weigh live_any rows → Holds rows losses faults → Holds (all_exited es rows) (losses + more) faults
   pub changes : (test : Process → Bool) (f : Process → Process) (rows : List Process) (losses faults : ℕ) → Mine m test × ((n : ℕ) (hs : List Hold) → test (Foreign n hs) ≡ false) → StaysOther f → Holds rows losses faults → Holds (filter_map (change test f) rows) losses faults
-  pub drops : (test : Process → Bool) (rows : List Process) (losses faults : ℕ) → Mine m test × ((n : ℕ) (hs : List Hold) → test (Foreign n hs) ≡ false) → Holds rows losses faults → Holds (filter_map (dropped test) rows) losses faults
+  pub drops : (test : Process → Bool) (rows : List Process) (losses faults : ℕ) → Mine m test × ((n : ℕ) (hs : List Hold) → test (Foreign n hs) ≡ false) → Holds rows losses faults → Holds (filter_map (drop_where test) rows) losses faults
   pub grows : (n : ℕ) (g : Generation) (x : ℕ) (hs : List Hold) (rows : List Process) (losses faults : ℕ) → Holds rows losses faults → Holds (rows ++ Worker n m g x Starting hs ∷ []) losses faults
   pub fails : (rows : List Process) (losses faults : ℕ) → Holds rows losses faults → Holds rows losses (faults + 1)
 
@@ -317,7 +318,7 @@ module _ (inv : Progress → Type 0) (post : Ending → Progress → Type 0) (co
       }))
       (λ gone.
       let same = gone-weigh u.number g x t q.table.rows in
-      on_bad (after_call order [] (gives Gone (each_row (dropped (is_worker is_exited u.number g x)) q.table)) q) (record {
+      on_bad (after_call order [] (gives Gone (each_row (drop_where (is_worker is_exited u.number g x)) q.table)) q) (record {
         looks = gone-looks (view u s r) g x q.table.rows gone b'.looks;
         enough = b'.enough;
         secured = λ e. omega (arith, b'.secured e, same);
@@ -325,7 +326,7 @@ module _ (inv : Progress → Type 0) (post : Ending → Progress → Type 0) (co
         lacking = b'.lacking;
         still = b'.still;
         marks = marks-wrong w q.faults (q.faults + 1) q.losses (q.calls + 1) q.cause (omega arith) b'.marks;
-        beside = sc.fails (filter_map (dropped (is_worker is_exited u.number g x)) q.table.rows) q.losses q.faults (sc.drops (is_worker is_exited u.number g x) q.table.rows q.losses q.faults (mine-worker is_exited u.number g x, λ z zs. refl) b'.beside);
+        beside = sc.fails (filter_map (drop_where (is_worker is_exited u.number g x)) q.table.rows) q.losses q.faults (sc.drops (is_worker is_exited u.number g x) q.table.rows q.losses q.faults (mine-worker is_exited u.number g x, λ z zs. refl) b'.beside);
       })))
 
   ---- Quit
@@ -410,7 +411,7 @@ module _ (inv : Progress → Type 0) (post : Ending → Progress → Type 0) (co
       let bs = census_edges ok short in
       rule-step order T bs none r t n c w ls p refl b (λ q b' fate.
       let cs = census_of u.number g q.table.rows in
-      let rows' = filter_map (dropped (is_exited_of u.number)) q.table.rows in
+      let rows' = filter_map (drop_where (is_exited_of u.number)) q.table.rows in
       let same = census-weigh u.number u.number t q.table.rows in
       let seen_now = count-set (view u none r) g q.table.rows cs b'.looks T dT (every-in (λ k. list_any (is_worker is_ready u.number g k) q.table.rows ≡ is_in cs k) T (λ k e. sym (census-in u.number g q.table.rows k (below_T k e)))) in
       let same' = census-weigh u.number u.number (named g (is_in T)) q.table.rows in
@@ -669,7 +670,7 @@ module _ (inv : Progress → Type 0) (post : Ending → Progress → Type 0) (co
       (λ s' r' w' c' q'' sub_s sub_r up b3. next s' r' w' c' q'' (λ h k e. and-left (s h k) _ (sub_s h k e)) (λ h k e. and-left (r h k) _ (sub_r h k e)) (λ e. up refl) b3) (c + 1) b'')
       (band-failed s r t n c w ls q b'))
       (let same = cut-weigh u.number g x t q.table.rows (off x (in-here x x ks refl)) in
-      rule-waits rest g ks (minus s g x) (minus r g x) t n w ls (after_call order [] (gives answer.Gone (each_row (dropped (is_worker is_any u.number g x)) q.table)) q) off'
+      rule-waits rest g ks (minus s g x) (minus r g x) t n w ls (after_call order [] (gives answer.Gone (each_row (drop_where (is_worker is_any u.number g x)) q.table)) q) off'
       (λ s' r' w' c' q'' sub_s sub_r up b3. next s' r' w' c' q'' (λ h k e. and-left (s h k) _ (sub_s h k e)) (λ h k e. and-left (r h k) _ (sub_r h k e)) up b3) c
       (record {
         looks = cut-looks (view u s r) g x q.table.rows b'.looks;

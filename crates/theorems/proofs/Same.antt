@@ -15,7 +15,7 @@ use Rattle.vocabulary.specs.declared.plans.End.TheVariants.{Done, RolledBack, Sh
 use Rattle.definitions.specs.Tree.{Tree}
 use Rattle.definitions.specs.After.{setup_after, recorded}
 use Rattle.definitions.specs.Run.{Pattern, Progress, Ending, At, Ran, start_at, outcome_of, report_of}
-use Rattle.definitions.specs.Claims.{IsStart, Says, Kept, IsBlamed, HasCause, IsPaid, IsCommon, has_socket, ready_with, AgreesAfter, IsLeft, Keeps}
+use Rattle.definitions.specs.Claims.{IsStart, Says, Kept, IsBlamed, HasCause, IsPaid, IsCommon, has_socket, ready_with, AgreesAfter, IsSucceeded, EndsAsReported}
 use Rattle.theorems.proofs.Rows.{every-more}
 use Rattle.theorems.proofs.Views.{Names, named, View, Looks}
 use Rattle.theorems.proofs.Effects.{none}
@@ -42,7 +42,7 @@ pub record Like (rec : Record) (target : Target) : Type 0 where
   pub short : (m : ℕ) → setup_after (outcome.Degraded New m) rec target ≡ Some (resized rec wanted)
   pub rolled_back : setup_after outcome.RolledBack rec target ≡ Some (resized rec rec.wanted)
   pub short_old : (m : ℕ) → setup_after (outcome.Degraded Old m) rec target ≡ Some (resized rec rec.wanted)
-  pub leaves : (ran : Ran) → AgreesAfter rec target (report_of ran) rec.pid ran.last.table → IsLeft rec target rec.pid ran
+  pub leaves : (ran : Ran) → AgreesAfter rec target (report_of ran) ran.last.table → IsSucceeded rec target ran
 
 module _ (t : Table) (rec : Record) (target : Target) (pattern : Pattern) (s : IsStart t rec) (like : Like rec target) where
   abbrev g : Generation
@@ -71,7 +71,7 @@ module _ (t : Table) (rec : Record) (target : Target) (pattern : Pattern) (s : I
   inv q = Kept (service t) (want rec target) t q.table × Level q × IsBlamed q
 
   abbrev pub post : Ending → Progress → Type 0
-  post e q = Says (outcome_of e q.lacking) (service t) (want rec target) q.table × IsPaid rec.retries (outcome_of e q.lacking) q × HasCause (outcome_of e q.lacking) q.cause × AgreesAfter rec target (report_at e q) rec.pid q.table
+  post e q = Says (outcome_of e q.lacking) (service t) (want rec target) q.table × IsPaid rec.retries (outcome_of e q.lacking) q × HasCause (outcome_of e q.lacking) q.cause × AgreesAfter rec target (report_at e q) q.table
 
   abbrev pub Goes : Tree → Progress → Type 0
   Goes tree q = Along inv post Anyhow Unasked course tree q
@@ -151,7 +151,7 @@ module _ (t : Table) (rec : Record) (target : Target) (pattern : Pattern) (s : I
 
   pub whole : (tree : Tree) → Goes tree (start_at t rec.note) → refused_in course tree (start_at t rec.note) ≡ None →
       let ran = run_in course tree (start_at t rec.note) in
-      Keeps t rec target rec.pid ran × AllByRecursion Level ran.passed
+      EndsAsReported t rec target ran × AllByRecursion Level ran.passed
   whole tree goes spared =
       let ran = run_in course tree (start_at t rec.note) in
       let all = from-along inv post Anyhow Unasked course tree (start_at t rec.note) goes spared (are-mild-anyhow course tree (start_at t rec.note)) in (

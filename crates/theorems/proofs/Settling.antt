@@ -14,6 +14,7 @@ use Rattle.vocabulary.specs.declared.calls.Reply.{Reply}
 use Rattle.definitions.specs.Table.{Address, has_address, Hold, Process, Master, Worker, Foreign, Table, Caller, live_master, caller_if, is_worker, is_active, is_ready, same_generation}
 use Rattle.definitions.specs.Formed.{IsFormed, IsQuiet, IsAscending}
 use Rattle.definitions.specs.Record.{IsRunning}
+use Rattle.vocabulary.specs.declared.reports.Entry.{Entry}
 use Rattle.definitions.specs.Tree.{Tree, Branches, Ends, Does, Nothing, Branch, among, reply_of, full_or_short, call_of}
 use Rattle.vocabulary.specs.declared.plans.Order.TheVariants.{Make, ForkLacking, AwaitLacking, KillLacking}
 use Rattle.vocabulary.specs.declared.calls.Call.TheVariants.{Census, CloseAt, Quit}
@@ -22,7 +23,7 @@ use Rattle.vocabulary.specs.declared.calls.Answer.TheVariants as answer
 use Rattle.definitions.specs.Plans.{settle, round, census, quits, closes, census_edges, fork_edges, await_any_edges, then_edge, full_end, short_end}
 use Rattle.definitions.specs.Run.{Pattern, Progress, Ending, At, Ran, run_with, goes_with, noted, after_call, after_moment, answered, is_plain}
 use Rattle.definitions.specs.Path.{first_cause, went_wrong}
-use Rattle.definitions.specs.Claims.{names_any, executing_at, executing_after, refused_from, refused_behind}
+use Rattle.definitions.specs.Claims.{refused_among}
 use Rattle.definitions.specs.Settling.{PlansGoBack, IsOnly, HasSide, missing, Settles, SettlesAlways, IsReturning, back, without, ReturnsAlways}
 use Rattle.theorems.proofs.Rows.{one, weigh, every-more, every-both, count-weigh, and-left, and-right, both-true, or-left, or-right}
 use Rattle.theorems.proofs.Views.{Row, Names, master_of, named, View, Looks, ready_in, finds, eqb-refl, eqb-off, eqb-is}
@@ -123,49 +124,29 @@ fault-more : (b : Bool) (f n d : ℕ) → f ≡ n + d → (if b then f else f + 
 fault-more true f n d e = e
 fault-more false f n d e = omega (arith, e)
 
--- it ends alike, with so many faults more
+-- it makes the same calls and ends alike, with so many faults more
 abbrev Twin : ℕ → Ran → Ran → Type 0
-Twin d ran ran' = (ran'.ending ≡ ran.ending) × (f : ℕ) × (c : Option ℕ) × (ran'.last ≡ recounted ran.last f c) × (f ≡ ran.last.faults + d)
+Twin d ran ran' = (ran'.ending ≡ ran.ending) × (f : ℕ) × (c : Option ℕ) × (ran'.last ≡ recounted ran.last f c) × (f ≡ ran.last.faults + d) × (ran'.entries ≡ ran.entries)
 
 mutual
   twins : (d : ℕ) (text : List ℕ) (tree : Tree) (pattern : Pattern) (p : Progress) (f : ℕ) (c : Option ℕ) → f ≡ p.faults + d → Twin d (run_with text tree pattern p) (run_with text tree pattern (recounted p f c))
-  twins d text (Ends end) pattern p f c e = (refl, f, c, refl, e)
+  twins d text (Ends end) pattern p f c e = (refl, f, c, refl, e, refl)
   twins d text (Does by order set branches) pattern p f c e =
       let moment = pattern (p.calls + 1) in
       let middle = after_moment moment.exits p in
       let s = answered text by order moment.fate middle in
       let b = is_plain (call_of order p.lacking) s.answer in
-      twins-behind d text branches (reply_of set s.answer) pattern (after_call order set s middle) (if b then f else f + 1) (first_cause c (went_wrong (call_of order p.lacking) (reply_of set s.answer)) (p.calls + 1)) (fault-more b f p.faults d e)
+      let rest = twins-behind d text branches (reply_of set s.answer) pattern (after_call order set s middle) (if b then f else f + 1) (first_cause c (went_wrong (call_of order p.lacking) (reply_of set s.answer)) (p.calls + 1)) (fault-more b f p.faults d e) in
+      let entry : Entry = record { by = by; call = call_of order middle.lacking; answer = s.answer } in
+      (rest.0, rest.1, rest.2, rest.3, rest.4, ap (λ es. entry ∷ es) rest.5)
 
   twins-behind : (d : ℕ) (text : List ℕ) (bs : Branches) (r : Reply) (pattern : Pattern) (p : Progress) (f : ℕ) (c : Option ℕ) → f ≡ p.faults + d → Twin d (goes_with text bs r pattern p) (goes_with text bs r pattern (recounted p f c))
-  twins-behind d text Nothing r pattern p f c e = (refl, f, c, refl, e)
+  twins-behind d text Nothing r pattern p f c e = (refl, f, c, refl, e, refl)
   twins-behind d text (Branch replies said rest more) r pattern p f c e =
       let here : Twin d (run_with text rest pattern (noted said p)) (run_with text rest pattern (noted said (recounted p f c))) =
       subst (λ x. Twin d (run_with text rest pattern (noted said p)) (run_with text rest pattern x)) (sym (noted-recounted said p f c)) (twins d text rest pattern (noted said p) f c (e ∙ ap (λ n. n + d) (sym (noted-faults said p)))) in
       let there = twins-behind d text more r pattern p f c e in
       elim (among replies r) as (λ b. Twin d (elim b as (λ c. Ran) [ true ↦ run_with text rest pattern (noted said p) | false ↦ goes_with text more r pattern p ]) (elim b as (λ c. Ran) [ true ↦ run_with text rest pattern (noted said (recounted p f c)) | false ↦ goes_with text more r pattern (recounted p f c) ])) [
-        | true ↦ here
-        | false ↦ there
-      ]
-
-mutual
-  refused-twin : (text executing heirs : List ℕ) (tree : Tree) (pattern : Pattern) (p : Progress) (f : ℕ) (c : Option ℕ) → refused_from text executing heirs tree pattern (recounted p f c) ≡ refused_from text executing heirs tree pattern p
-  refused-twin text executing heirs (Ends end) pattern p f c = refl
-  refused-twin text executing heirs (Does by order set branches) pattern p f c =
-      let moment = pattern (p.calls + 1) in
-      let middle = after_moment moment.exits p in
-      let s = answered text by order moment.fate middle in
-      let b = is_plain (call_of order p.lacking) s.answer in
-      let rest = refused-twin-behind text (executing_after order executing heirs) heirs branches (reply_of set s.answer) pattern (after_call order set s middle) (if b then f else f + 1) (first_cause c (went_wrong (call_of order p.lacking) (reply_of set s.answer)) (p.calls + 1)) in
-      ap (λ (o : Option ℕ). elim (names_any (executing_at order executing heirs) moment.exits) as (λ b. Option ℕ) [ true ↦ Some (p.calls + 1) | false ↦ o ]) rest
-
-  refused-twin-behind : (text executing heirs : List ℕ) (bs : Branches) (r : Reply) (pattern : Pattern) (p : Progress) (f : ℕ) (c : Option ℕ) → refused_behind text executing heirs bs r pattern (recounted p f c) ≡ refused_behind text executing heirs bs r pattern p
-  refused-twin-behind text executing heirs Nothing r pattern p f c = refl
-  refused-twin-behind text executing heirs (Branch replies said rest more) r pattern p f c =
-      let here : refused_from text executing heirs rest pattern (noted said (recounted p f c)) ≡ refused_from text executing heirs rest pattern (noted said p) =
-      ap (λ x. refused_from text executing heirs rest pattern x) (noted-recounted said p f c) ∙ refused-twin text executing heirs rest pattern (noted said p) f c in
-      let there = refused-twin-behind text executing heirs more r pattern p f c in
-      elim (among replies r) as (λ b. elim b as (λ c. Option ℕ) [ true ↦ refused_from text executing heirs rest pattern (noted said (recounted p f c)) | false ↦ refused_behind text executing heirs more r pattern (recounted p f c) ] ≡ elim b as (λ c. Option ℕ) [ true ↦ refused_from text executing heirs rest pattern (noted said p) | false ↦ refused_behind text executing heirs more r pattern p ]) [
         | true ↦ here
         | false ↦ there
       ]
@@ -437,12 +418,12 @@ module _ (image pid : ℕ) (holds : List Hold) (g : Generation) (S : List ℕ) w
     settle-goes below r w ls q only b = rule-settle inv post co u acts sc (λ t n w q a b c d e. tt) side g S refl dS below (owed + rounds) false full short rounds owed refl w (λ e. absurd (cc e)) r ls q only b
 
     -- what goes along a tree from there is so of its run
-    settles-by : (tree : Tree) → AlwaysNamed text pattern S tree → Goes tree begun → refused_from text (image ∷ []) [] tree pattern p ≡ None → Settles image pid holds g S side rounds p (run_with text tree pattern p)
+    settles-by : (tree : Tree) → AlwaysNamed text pattern S tree → Goes tree begun → refused_among (image ∷ []) [] pattern p.calls (run_with text tree pattern p).entries ≡ None → Settles image pid holds g S side rounds p (run_with text tree pattern p)
     settles-by tree always goes spared =
         let ran = run_with text tree pattern p in
         let ran' = run_with text tree pattern begun in
-        let all = from-along inv post Anyhow Unasked co tree begun goes (refused-twin text (image ∷ []) [] tree pattern p (p.faults + more) (Some 0) ∙ spared) (are-mild-anyhow co tree begun) in
         let twin = twins more text tree pattern p (p.faults + more) (Some 0) refl in
+        let all = from-along inv post Anyhow Unasked co tree begun goes (ap (refused_among (image ∷ []) [] pattern p.calls) twin.5 ∙ spared) (are-mild-anyhow co tree begun) in
         let end : post ran.ending (recounted ran.last twin.1 twin.2) = subst (λ (q : Progress). post ran.ending q) twin.3 (subst (λ (e : Ending). post e ran'.last) twin.0 all.last) in
         let said : (e : End) → ran.ending ≡ At e → ran.last.lacking ≡ missing pid g S ran.last.table = λ e is.
         always p e is ∙ filter-same (λ k. not (is_in ran.last.ready k)) (λ k. not (list_any (is_worker is_ready pid g k) ran.last.table.rows)) S (every-in (λ k. not (is_in ran.last.ready k) ≡ not (list_any (is_worker is_ready pid g k) ran.last.table.rows)) S (λ k e. ap not (sym (end.1 k)))) in

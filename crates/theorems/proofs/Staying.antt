@@ -15,7 +15,7 @@ use Rattle.vocabulary.specs.declared.calls.Fate.{Fate}
 use Rattle.definitions.specs.Table.{Hold, Process, Master, Worker, Foreign, Table, Caller, owner_at, live_master, number_of, bears, is_worker, is_ready, is_active, is_starting, is_exited, is_any, is_held}
 use Rattle.definitions.specs.Exits.{without_exited, kept_if, change, made_exited, all_exited, after_exits}
 use Rattle.definitions.specs.Handover.{reading}
-use Rattle.definitions.specs.Calls.{suits, moved_if, is_image, is_image_row, is_of_image, Stepped, gives, with_holds, put_hold, lacks_address, is_row, is_of, made_ready, made_draining, is_exited_of, dropped, census_of, with_new_row, with_new_socket, lowest_free, has_process_room, own_step, fault_at, fault_or_own, step_by, step_with}
+use Rattle.definitions.specs.Calls.{suits, moved_if, is_image, is_image_row, is_of_image, Stepped, gives, with_holds, put_hold, lacks_address, is_row, is_of, made_ready, made_draining, is_exited_of, drop_where, census_of, with_new_row, with_new_socket, lowest_free, has_process_room, own_step, fault_at, fault_or_own, step_by, step_with}
 use Rattle.definitions.specs.Manner.{is_active_process}
 use Rattle.theorems.proofs.Rows.{FitsIn, pick, and-left, and-right, or-right}
 use Rattle.theorems.proofs.Views.{eqb-is}
@@ -97,11 +97,11 @@ module _ (m image n : ℕ) (g0 : Generation) (k0 : ℕ) (low : k0 < 1024) where
       go true is e ih = rw (h p is) refl
       go false is e ih = or-right (is_it (if test p then f p else p)) (list_any is_it (filter_map (change test f) rows)) (ih e)
 
-  has-dropped : (test : Process → Bool) → ((p : Process) → is_it p ≡ true → test p ≡ false) → (rows : List Process) → Has rows → Has (filter_map (dropped test) rows)
+  has-dropped : (test : Process → Bool) → ((p : Process) → is_it p ≡ true → test p ≡ false) → (rows : List Process) → Has rows → Has (filter_map (drop_where test) rows)
   has-dropped test h [] e = e
   has-dropped test h (p ∷ rows) e = go (is_it p) refl (test p) refl e (has-dropped test h rows)
     where
-      go : (b : Bool) → is_it p ≡ b → (c : Bool) → test p ≡ c → (b || list_any is_it rows) ≡ true → (Has rows → Has (filter_map (dropped test) rows)) → list_any is_it (cons_option (if c then None else Some p) (filter_map (dropped test) rows)) ≡ true
+      go : (b : Bool) → is_it p ≡ b → (c : Bool) → test p ≡ c → (b || list_any is_it rows) ≡ true → (Has rows → Has (filter_map (drop_where test) rows)) → list_any is_it (cons_option (if c then None else Some p) (filter_map (drop_where test) rows)) ≡ true
       go true is true t e ih = let off = h p is in absurd (cc)
       go true is false t e ih = rw is refl
       go false is true t e ih = ih e

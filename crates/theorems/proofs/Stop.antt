@@ -32,7 +32,7 @@ use Rattle.theorems.proofs.Sets.{in-here}
 use Rattle.theorems.proofs.Services.{sole-fine}
 use Rattle.theorems.proofs.Notes.{LeftByFault, SaidBy, left-by}
 use Rattle.theorems.proofs.Ends.{report_at}
-use Rattle.definitions.specs.After.{record_after}
+use Rattle.definitions.specs.After.{next_record}
 use Rattle.vocabulary.specs.declared.calls.Reply.{Reply}
 use Rattle.theorems.proofs.Begins.{first_view, begin}
 use Rattle.theorems.proofs.Logic.{Unasked, course_after, Behind, Course, Anyhow, Along, from-along, are-mild-anyhow, remove-cases, unfailing}
@@ -333,7 +333,7 @@ stop-note OldbinLeft path ran files failed removed = absurd files
 -- A stop is done, whatever is answered.
 abbrev AllDone : Table → Record → Bool → Ending → Progress → Type 0
 AllDone t rec quick e q =
-    Says (outcome_of e q.lacking) (service t) (want rec (Stop quick)) q.table × (record_after rec (Stop quick) (report_at e q) rec.pid ≡ None) × HasCause (outcome_of e q.lacking) q.cause × IsPaid rec.retries (outcome_of e q.lacking) q
+    Says (outcome_of e q.lacking) (service t) (want rec (Stop quick)) q.table × (next_record rec (Stop quick) (report_at e q) q.table ≡ None) × HasCause (outcome_of e q.lacking) q.cause × IsPaid rec.retries (outcome_of e q.lacking) q
 
 all-done : (t : Table) (rec : Record) (quick : Bool) (pattern : Pattern) (s : IsStart t rec) (e : Ending) (q : Progress) → post t rec quick pattern s e q → AllDone t rec quick e q × Ended e × (list_any is_own q.table.rows ≡ false) × FilesThen q.note rec.pid_path q.table.files
 all-done t rec quick pattern s (At Done) q h = ((h.0, refl, tt, tt), tt, h.1, h.2)

@@ -13,7 +13,7 @@ use Rattle.vocabulary.specs.declared.calls.Call.{Call}
 use Rattle.vocabulary.specs.declared.calls.Call.TheVariants.{OpenAt, CloseAt, Fork, AwaitReady, Quit, Kill, Census, Usr1}
 use Rattle.definitions.specs.Table.{Hold, Process, Master, Worker, Foreign, Table, number_of, bears, is_worker, is_ready, is_active, is_any}
 use Rattle.definitions.specs.Exits.{without_exited, kept_if, made_exited, after_exits}
-use Rattle.definitions.specs.Calls.{with_holds, made_ready, made_draining, is_exited_of, dropped, each_row, census_of, Stepped, step_with}
+use Rattle.definitions.specs.Calls.{with_holds, made_ready, made_draining, is_exited_of, drop_where, each_row, census_of, Stepped, step_with}
 use Rattle.definitions.specs.Manner.{is_process_of}
 use Rattle.theorems.proofs.Rows.{FitsIn, every-filter_map, every-both, every-more, pick, and-right, both-true}
 use Rattle.theorems.proofs.Views.{eqb-is, eqb-refl, eqb-off}
@@ -198,10 +198,10 @@ module _ (m image n : ℕ) (g0 : Generation) (k0 : ℕ) (low : k0 < 1024) where
       absurd (cc)
   left-out (Foreign k hs) h e = h.0
 
-  pub lacks-ours : (g : Generation) (t : Table) (x : ℕ) → Close t → is_in (census_of m g t.rows) x ≡ false → May g x (each_row (dropped (is_exited_of m)) t)
+  pub lacks-ours : (g : Generation) (t : Table) (x : ℕ) → Close t → is_in (census_of m g t.rows) x ≡ false → May g x (each_row (drop_where (is_exited_of m)) t)
   lacks-ours g t x close off = go (bears g x g0 k0) refl
     where
-      go : (b : Bool) → bears g x g0 k0 ≡ b → May g x (each_row (dropped (is_exited_of m)) t)
+      go : (b : Bool) → bears g x g0 k0 ≡ b → May g x (each_row (drop_where (is_exited_of m)) t)
       go false e = inl e
       go true e =
           let is = bears-is g x g0 k0 e in
@@ -211,7 +211,7 @@ module _ (m image n : ℕ) (g0 : Generation) (k0 : ℕ) (low : k0 < 1024) where
           let dropped_now = subst (λ (st : Stepped). Close st.table) (fact-census m image n (OnlyOurs IsUntouched) [] g None t close) kept in
           inr (record {
             one = dropped_now.one;
-            all = every-filter_map (λ p. OnlyOurs IsUntouched p × (is_worker is_ready m g0 k0 p ≡ false)) (IsOther n) (dropped (is_exited_of m)) (λ p h. pick (FitsIn (IsOther n)) (is_exited_of m p) None (Some p) (λ e. tt) (λ e. left-out p h e)) t.rows both;
+            all = every-filter_map (λ p. OnlyOurs IsUntouched p × (is_worker is_ready m g0 k0 p ≡ false)) (IsOther n) (drop_where (is_exited_of m)) (λ p h. pick (FitsIn (IsOther n)) (is_exited_of m p) None (Some p) (λ e. tt) (λ e. left-out p h e)) t.rows both;
             below = dropped_now.below;
             above = dropped_now.above;
           })

@@ -1,5 +1,5 @@
 -- What holds along a run of each call with what was done before it, and of the end with all that was done.
-use Rattle.std.proofs.Common.{◌≡◌, ℕ, ◌+◌, Bool, true, false, List, [], ◌∷◌, ◌++◌, Option, Some, None, refl, sym, ap, subst, append_assoc}
+use Rattle.std.proofs.Common.{◌≡◌, ℕ, ◌+◌, Bool, true, false, List, [], ◌∷◌, ◌++◌, Option, Some, None, refl, sym, ◌∙◌, ap, subst, append_assoc}
 use Rattle.std.specs.Prelude.{⊤, ◌&&◌, ◌||◌, if◌then◌else◌}
 use Rattle.std.specs.List.{list_any}
 use Rattle.vocabulary.specs.declared.calls.Call.{Call}
@@ -16,8 +16,9 @@ use Rattle.definitions.specs.Calls.{step_with}
 use Rattle.definitions.specs.Manner.{is_leave_call, one_then}
 use Rattle.definitions.specs.Tree.{Tree, Branches, Ends, Does, Nothing, Branch, among, reply_of, call_of}
 use Rattle.definitions.specs.Run.{Progress, Ran, Ending, At, Lost, noted, after_call, after_moment, answered, goes_with}
-use Rattle.definitions.specs.Claims.{names_any, executing_at, executing_after, refused_behind, is_leave}
-use Rattle.theorems.proofs.Logic.{Exiting, Asked, Course, course_after, Along, Behind, AreMild, AreMildBehind, refused_in, run_in}
+use Rattle.definitions.specs.Claims.{names_any}
+use Rattle.theorems.proofs.Refusals.{acting_at, acting_after, refused_behind, refused-is, is_leave}
+use Rattle.theorems.proofs.Logic.{Exiting, Asked, Course, course_after, Along, Behind, AreMild, AreMildBehind, refused_in, refused_by, run_in}
 use Rattle.theorems.proofs.Lights.{no_claim}
 use Rattle.theorems.proofs.Rows.{or-right}
 
@@ -38,7 +39,7 @@ abbrev mutual
       let moment = co.pattern (p.calls + 1) in
       let middle = after_moment moment.exits p in
       let s = answered co.text by order moment.fate middle in
-      names_any (executing_at order co.executing co.heirs) moment.exits ≡ false → mild moment.exits p.table.rows →
+      names_any (acting_at order co.executing co.heirs) moment.exits ≡ false → mild moment.exits p.table.rows →
       due past (call_of order middle.lacking) middle.table × TracedBehind due post mild (course_after order co) (past ++ entry_of by (call_of order middle.lacking) s.answer ∷ []) branches (reply_of set s.answer) (after_call order set s middle)
 
   pub TracedBehind : Asking → Finally → Exiting → Course → List Entry → Branches → Reply → Progress → Type 0
@@ -64,40 +65,43 @@ pub append-nil : (l : List Entry) → l ++ [] ≡ l
 append-nil [] = refl
 append-nil (e ∷ l) = ap (λ x. e ∷ x) (append-nil l)
 
--- What is traced along a tree is so of its run.
 mutual
-  pub from-traced : (due : Asking) (post : Finally) (mild : Exiting) (co : Course) (past : List Entry) (t : Tree) (p : Progress) → Traced due post mild co past t p → refused_in co t p ≡ None → AreMild mild co t p → Tracing due post past (run_in co t p)
-  from-traced due post mild co past (Ends end) p a e m = record { dues = tt; last = subst (λ l. post l (At end) p) (sym (append-nil past)) a }
-  from-traced due post mild co past (Does by order set branches) p a e m =
+  tree-traced : (due : Asking) (post : Finally) (mild : Exiting) (co : Course) (past : List Entry) (t : Tree) (p : Progress) → Traced due post mild co past t p → refused_by co t p ≡ None → AreMild mild co t p → Tracing due post past (run_in co t p)
+  tree-traced due post mild co past (Ends end) p a e m = record { dues = tt; last = subst (λ l. post l (At end) p) (sym (append-nil past)) a }
+  tree-traced due post mild co past (Does by order set branches) p a e m =
       let moment = co.pattern (p.calls + 1) in
       let middle = after_moment moment.exits p in
       let st = answered co.text by order moment.fate middle in
       let next = after_call order set st middle in
       let r = reply_of set st.answer in
       let here = entry_of by (call_of order middle.lacking) st.answer in
-      elim (names_any (executing_at order co.executing co.heirs) moment.exits) as (λ b.
+      elim (names_any (acting_at order co.executing co.heirs) moment.exits) as (λ b.
       (b ≡ false → mild moment.exits p.table.rows → due past (call_of order middle.lacking) middle.table × TracedBehind due post mild (course_after order co) (past ++ here ∷ []) branches r next) →
-      elim b as (λ c. Option ℕ) [ true ↦ Some (p.calls + 1) | false ↦ refused_behind co.text (executing_after order co.executing co.heirs) co.heirs branches r co.pattern next ] ≡ None →
+      elim b as (λ c. Option ℕ) [ true ↦ Some (p.calls + 1) | false ↦ refused_behind co.text (acting_after order co.executing co.heirs) co.heirs branches r co.pattern next ] ≡ None →
       Tracing due post past (run_in co (Does by order set branches) p)) [
         | true ↦ λ a e. absurd (cc)
         | false ↦ λ a e.
             let now = a refl m.0 in
-            let rest = from-traced-behind due post mild (course_after order co) (past ++ here ∷ []) branches r next now.1 e m.1 in
+            let rest = tree-traced-behind due post mild (course_after order co) (past ++ here ∷ []) branches r next now.1 e m.1 in
             let ran = goes_with co.text branches r co.pattern next in
             record { dues = (now.0, rest.dues); last = subst (λ l. post l ran.ending ran.last) (append_assoc past (here ∷ []) ran.entries) rest.last }
       ] a e
 
-  from-traced-behind : (due : Asking) (post : Finally) (mild : Exiting) (co : Course) (past : List Entry) (bs : Branches) (r : Reply) (p : Progress) → TracedBehind due post mild co past bs r p → refused_behind co.text co.executing co.heirs bs r co.pattern p ≡ None → AreMildBehind mild co bs r p → Tracing due post past (goes_with co.text bs r co.pattern p)
-  from-traced-behind due post mild co past Nothing r p a e m = record { dues = tt; last = subst (λ l. post l Lost p) (sym (append-nil past)) a }
-  from-traced-behind due post mild co past (Branch replies said rest more) r p a e m =
+  tree-traced-behind : (due : Asking) (post : Finally) (mild : Exiting) (co : Course) (past : List Entry) (bs : Branches) (r : Reply) (p : Progress) → TracedBehind due post mild co past bs r p → refused_behind co.text co.executing co.heirs bs r co.pattern p ≡ None → AreMildBehind mild co bs r p → Tracing due post past (goes_with co.text bs r co.pattern p)
+  tree-traced-behind due post mild co past Nothing r p a e m = record { dues = tt; last = subst (λ l. post l Lost p) (sym (append-nil past)) a }
+  tree-traced-behind due post mild co past (Branch replies said rest more) r p a e m =
       elim (among replies r) as (λ b.
       elim b as (λ c. Type 0) [ true ↦ Traced due post mild co past rest (noted said p) | false ↦ TracedBehind due post mild co past more r p ] →
-      elim b as (λ c. Option ℕ) [ true ↦ refused_in co rest (noted said p) | false ↦ refused_behind co.text co.executing co.heirs more r co.pattern p ] ≡ None →
+      elim b as (λ c. Option ℕ) [ true ↦ refused_by co rest (noted said p) | false ↦ refused_behind co.text co.executing co.heirs more r co.pattern p ] ≡ None →
       elim b as (λ c. Type 0) [ true ↦ AreMild mild co rest (noted said p) | false ↦ AreMildBehind mild co more r p ] →
       Tracing due post past (elim b as (λ c. Ran) [ true ↦ run_in co rest (noted said p) | false ↦ goes_with co.text more r co.pattern p ])) [
-        | true ↦ λ a e m. from-traced due post mild co past rest (noted said p) a e m
-        | false ↦ λ a e m. from-traced-behind due post mild co past more r p a e m
+        | true ↦ λ a e m. tree-traced due post mild co past rest (noted said p) a e m
+        | false ↦ λ a e m. tree-traced-behind due post mild co past more r p a e m
       ] a e m
+
+-- What is traced along a tree is so of its run.
+pub from-traced : (due : Asking) (post : Finally) (mild : Exiting) (co : Course) (past : List Entry) (t : Tree) (p : Progress) → Traced due post mild co past t p → refused_in co t p ≡ None → AreMild mild co t p → Tracing due post past (run_in co t p)
+from-traced due post mild co past t p a e m = tree-traced due post mild co past t p a (refused-is co.text co.executing co.heirs t co.pattern p ∙ e) m
 
 said-table : (said : Option PidNote) (p : Progress) → (noted said p).table ≡ p.table
 said-table None p = refl

@@ -150,12 +150,10 @@ upgrade_headline t rec st pattern a =
     let tree = plan_tree rec (Upgrade st) in
     let all = from-along (inv c) (post c) Anyhow Unasked (co c) tree at (goes c) a.spared (are-mild-anyhow (co c) tree at) in
     let ran = run_of rec (Upgrade st) pattern t in
-    let target = want rec (Upgrade st) in
-    let (pid, after) = all.last.3 in (
-      pid,
+    let target = want rec (Upgrade st) in (
       record {
         says = all.last.0;
-        after = after;
+        after = all.last.3;
         kept = every-more (inv c) (λ q. Kept (service t) target t q.table) (λ q h. h.0) ran.passed all.always;
         blamed = every-more (inv c) IsBlamed (λ q h. h.2) ran.passed all.always;
         cause = all.last.2;

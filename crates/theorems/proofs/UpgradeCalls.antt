@@ -9,14 +9,14 @@ use Rattle.vocabulary.specs.declared.table.Listener.{Listener}
 use Rattle.vocabulary.specs.declared.calls.Call.{Call}
 use Rattle.vocabulary.specs.declared.calls.Call.TheVariants.{Adopt, CloseAt, OpenAt, Fork, AwaitReady, WritePid, Census}
 use Rattle.definitions.specs.Table.{Address, FilePath, File, Hold, bears, same_generation, owner_at, is_at, has_address, is_worker, is_ready}
-use Rattle.definitions.specs.Calls.{each_row, dropped, with_file, put_hold, lacks_address, is_exited_of, census_of}
+use Rattle.definitions.specs.Calls.{each_row, drop_where, with_file, put_hold, lacks_address, is_exited_of, census_of}
 use Rattle.definitions.specs.Record.{FilesAre, oldbin, listener_of}
 use Rattle.definitions.specs.Target.{only_in}
 use Rattle.definitions.specs.Tree.{Tree, full_or_short}
 use Rattle.definitions.specs.Plans.{tries, tries_all, pid_calls, new_calls}
 use Rattle.definitions.specs.Path.{first_cause, went_wrong}
 use Rattle.definitions.specs.Run.{Progress}
-use Rattle.definitions.specs.After.{all_opened, kept, upgraded}
+use Rattle.definitions.specs.After.{all_opened, still_wanted, upgraded}
 use Rattle.theorems.proofs.Rows.{and-left, and-right, both-true}
 use Rattle.theorems.proofs.Views.{Names, named}
 use Rattle.theorems.proofs.Effects.{same-is, none, bears-is, bears-refl, looks-allows, mine-exited}
@@ -189,7 +189,7 @@ module _ (c : Given) (m : ℕ) (ne : m ≢ c.rec.pid) (r0 : Names) (only0 : Only
       (λ q' b' looks fate.
       let rows = q'.table.rows in
       let cs = census_of m (new c) rows in
-      let t' = each_row (dropped (is_exited_of m)) q'.table in
+      let t' = each_row (drop_where (is_exited_of m)) q'.table in
       let framed = framed-drop (view (v c m ne r0 only0) none r0) m (is_exited_of m) rows (apart c m ne r0 only0) (mine-exited m, λ k zs. refl) b'.looks in
       let count = count-set (w c m hs none T) (new c) rows cs looks S (below-distinct (n c)) (every-in (λ k. list_any (is_worker is_ready m (new c) k) rows ≡ is_in cs k) S (λ k e. sym (census-in m (new c) rows k (omega (arith, below-of (n c) k e, low c))))) in
       let same = census-weigh m m T rows in
@@ -231,7 +231,7 @@ module _ (c : Given) (m : ℕ) (ne : m ≢ c.rec.pid) (r0 : Names) (only0 : Only
 
   first-listing : (all_opened added_here (map listener_of (all_closed dropped_here (H0 c))) ≡ upgraded c.st.listeners c.rec.listeners) × RisesFrom 3 (fds (all_closed dropped_here (H0 c)))
   first-listing = (
-    ap (λ ls. all_opened added_here ls) (closed-first (A0 c) (wanted c) (H0 c) (first-keys c.t c.rec c.start) ∙ ap (kept (wanted c)) c.start.agrees.listeners) ∙ ap (λ l. all_opened l (kept (wanted c) c.rec.listeners)) (upgrade-added (wanted c) c.rec.listeners),
+    ap (λ ls. all_opened added_here ls) (closed-first (A0 c) (wanted c) (H0 c) (first-keys c.t c.rec c.start) ∙ ap (still_wanted (wanted c)) c.start.agrees.listeners) ∙ ap (λ l. all_opened l (still_wanted (wanted c) c.rec.listeners)) (upgrade-added (wanted c) c.rec.listeners),
     rises-closed dropped_here (H0 c) (subst (λ l. RisesFrom 3 l) (sym (fds-listed (H0 c) ∙ ap (map (λ (l : Listener). l.descriptor)) c.start.agrees.listeners)) c.ds.descriptors),
   )
 

@@ -19,13 +19,14 @@ use Rattle.vocabulary.specs.declared.calls.Reply.{Reply}
 use Rattle.vocabulary.specs.Settings.{Settings}
 use Rattle.definitions.specs.Table.{Table, Caller, bears, is_worker, is_any}
 use Rattle.definitions.specs.Exits.{after_exits}
-use Rattle.definitions.specs.Calls.{Stepped, gives, each_row, dropped, step_by, step_with}
+use Rattle.definitions.specs.Calls.{Stepped, gives, each_row, drop_where, step_by, step_with}
 use Rattle.definitions.specs.Tree.{Tree, Branches, Ends, Does, Nothing, Branch, among, reply_of, call_of}
 use Rattle.vocabulary.specs.declared.calls.Reply.TheVariants as reply
 use Rattle.definitions.specs.Plans.{on, hand_over, back_late, plan_tree, settle, quits, awaits_gone, gone_edges, then_edge, does}
 use Rattle.definitions.specs.Run.{Progress, Lost, start_at, outcome_of, noted, after_call}
 use Rattle.definitions.specs.Manner.{has_ready, is_lost, is_old_side, is_process_of, is_quit_of, is_wait_of, is_wait_call, is_late, is_leave_call, was_late, IsKillDue, KillsAreDue}
-use Rattle.definitions.specs.Claims.{names_any, is_leave, run_of, InManner}
+use Rattle.definitions.specs.Claims.{names_any, run_of, InManner}
+use Rattle.theorems.proofs.Refusals.{is_leave}
 use Rattle.theorems.proofs.Rows.{FitsIn, every-filter_map, pick, both-true}
 use Rattle.theorems.proofs.Exits.{spares-each}
 use Rattle.theorems.proofs.Effects.{bears-refl}
@@ -165,7 +166,7 @@ module _ (c : Given) (p k : ℕ) (on : has_ready c.t p k ≡ true) where
 
   -- what is left when a name is killed, or was waited for
   abbrev Cut : ℕ → Table → Table
-  Cut x t = each_row (dropped (is_worker is_any c.rec.pid (g c) x)) t
+  Cut x t = each_row (drop_where (is_worker is_any c.rec.pid (g c) x)) t
 
   kill-is : (text : List ℕ) (x : ℕ) (fate : Option Fate) (t : Table) → Loose t → step_with text c.rec.generation.image (Kill (g c) x) fate t ≡ gives answer.Fine (Cut x t)
   kill-is text x fate t h =
@@ -177,7 +178,7 @@ module _ (c : Given) (p k : ℕ) (on : has_ready c.t p k ≡ true) where
 
   cut-absent : (t : Table) → Loose t → Absent p (Cut k t)
   cut-absent t h = record {
-    all = every-filter_map (OnlyOurs c.rec.pid c.rec.generation.image p c.rec.generation k low (InAny c.rec.pid c.rec.generation.image p c.rec.generation k low)) (IsOther p) (dropped (is_worker is_any c.rec.pid (g c) k)) (λ row x. pick (FitsIn (IsOther p)) (is_worker is_any c.rec.pid (g c) k row) None (Some row) (λ e. tt) (λ e. not-killed c.rec.pid c.rec.generation.image p c.rec.generation k low row x e)) t.rows h.all;
+    all = every-filter_map (OnlyOurs c.rec.pid c.rec.generation.image p c.rec.generation k low (InAny c.rec.pid c.rec.generation.image p c.rec.generation k low)) (IsOther p) (drop_where (is_worker is_any c.rec.pid (g c) k)) (λ row x. pick (FitsIn (IsOther p)) (is_worker is_any c.rec.pid (g c) k row) None (Some row) (λ e. tt) (λ e. not-killed c.rec.pid c.rec.generation.image p c.rec.generation k low row x e)) t.rows h.all;
     below = h.below;
   }
 

@@ -12,14 +12,15 @@ use Rattle.vocabulary.specs.declared.calls.Answer.TheVariants as answer
 use Rattle.vocabulary.specs.declared.calls.Reply.TheVariants as reply
 use Rattle.vocabulary.specs.declared.plans.Order.TheVariants.{Make}
 use Rattle.definitions.specs.Table.{Address, FilePath, File, Hold, Worker, Table, Caller, bears, same_generation, is_worker, is_starting, is_exited}
-use Rattle.definitions.specs.Calls.{Stepped, gives, step_by, own_step, each_row, dropped, with_files, with_file, with_new_row, with_new_socket, with_holds, put_hold, lacks_address, lowest_free, is_of, is_row, made_ready}
+use Rattle.definitions.specs.Calls.{Stepped, gives, step_by, own_step, each_row, drop_where, with_files, with_file, with_new_row, with_new_socket, with_holds, put_hold, lacks_address, lowest_free, is_of, is_row, made_ready}
 use Rattle.definitions.specs.Exits.{change}
 use Rattle.definitions.specs.Manner.{is_leave_call}
 use Rattle.definitions.specs.Tree.{Tree, Branches, Nothing, plain_reply, replies_to, reply_of}
 use Rattle.definitions.specs.Plans.{on, others, tries, back_from}
 use Rattle.definitions.specs.Path.{first_cause}
 use Rattle.definitions.specs.Run.{Ending, Progress, after_moment, after_call, answered}
-use Rattle.definitions.specs.Claims.{names_any, is_leave}
+use Rattle.definitions.specs.Claims.{names_any}
+use Rattle.theorems.proofs.Refusals.{is_leave}
 use Rattle.theorems.proofs.Rows.{and-left, and-right, both-true}
 use Rattle.theorems.proofs.Views.{Names, named, View, Looks, finds, eqb-refl}
 use Rattle.theorems.proofs.Effects.{after_wait, after_open, none, bears-is, same-refl, looks-allows, mine-of, mine-row, mine-worker, holds-stay, ready-stays, close-looks, close-weigh, open-looks, fork-looks, fork-weigh, await-looks, await-gains, gone-looks, gone-weigh}
@@ -240,7 +241,7 @@ module _ (c : Given) (m : ℕ) (ne : m ≢ c.rec.pid) (r0 : Names) (only0 : Only
         omega (arith, b'.beside.1, gain, more),
       )))
       (λ gone.
-      let t' = each_row (dropped (is_worker is_exited m (new c) k)) q'.table in
+      let t' = each_row (drop_where (is_worker is_exited m (new c) k)) q'.table in
       let framed = framed-drop (view v none r0) m (is_worker is_exited m (new c) k) q'.table.rows apart (mine-worker is_exited m (new c) k, λ j zs. refl) b'.looks in
       let z = with_starting x (minus s (new c) k) in
       goes-back z 1 [] (failed_with t' q') aside (held-failed x z t' q' b' b'.still.files_stay refl framed

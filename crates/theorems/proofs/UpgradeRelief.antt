@@ -12,7 +12,7 @@ use Rattle.vocabulary.specs.declared.calls.Call.TheVariants.{Alive, Leave, Remov
 use Rattle.vocabulary.specs.declared.calls.Answer.TheVariants as answer
 use Rattle.vocabulary.specs.declared.calls.Reply.TheVariants as reply
 use Rattle.definitions.specs.Table.{Address, FilePath, File, Hold, Caller, has_address, owner_at}
-use Rattle.definitions.specs.Calls.{Stepped, gives, step_by, each_row, dropped, is_image, asked_alive, with_files, without_file, without_master}
+use Rattle.definitions.specs.Calls.{Stepped, gives, step_by, each_row, drop_where, is_image, asked_alive, with_files, without_file, without_master}
 use Rattle.definitions.specs.Record.{FilesAre, oldbin}
 use Rattle.definitions.specs.Tree.{Tree, Nothing, reply_of}
 use Rattle.definitions.specs.Plans.{on, does, then_edge, note_edges, awaits_gone, settle, remove_oldbin, hand_over, back_late, relieve}
@@ -155,7 +155,7 @@ module _ (c : Given) (m : ℕ) (ne : m ≢ c.rec.pid) (some : 1 ≤ m) (r0 : Nam
       (record { looks = h'.looks; enough = h'.enough; secured = λ e. absurd (omega (arith, e)); budget = omega arith; lacking = h'.lacking; marks = marks-plain b p.faults p.losses (p.calls + 1) p.cause h'.marks; still = h'.still; beside = h'.beside })))
       (λ dead. subst answered_by (sym (dead-none second p.table.rows dead))
       (let framed = asked-looks (view v none none) (new c).image p.table.rows (λ e. absurd (omega (arith, e))) h'.looks in
-      goes-back-late c m ne hs none r common 0 [] files (after_call order [] (gives answer.Gone (each_row (dropped (is_image (new c).image)) p.table)) p) aside
+      goes-back-late c m ne hs none r common 0 [] files (after_call order [] (gives answer.Gone (each_row (drop_where (is_image (new c).image)) p.table)) p) aside
       (record {
         looks = framed.looks;
         enough = omega arith;

@@ -107,7 +107,7 @@ module _ (c : Given) where
   abbrev pub post : Ending → Progress → Type 0
   post e q =
       Says (outcome_of e q.lacking) old target q.table × IsPaid c.rec.retries (outcome_of e q.lacking) q × HasCause (outcome_of e q.lacking) q.cause
-      × ((pid : ℕ) × AgreesAfter c.rec (Upgrade c.st) (report_at e q) pid q.table)
+      × AgreesAfter c.rec (Upgrade c.st) (report_at e q) q.table
 
   abbrev pub Goes : Course → Tree → Progress → Type 0
   Goes x tree q = Along inv post Anyhow Unasked x tree q
@@ -227,7 +227,7 @@ module _ (c : Given) where
       λ a. service-of u (λ n. refl) g R (addresses_of c.rec) refl (first-keys c.t c.rec c.start) r (length R) q.table only looks (omega (arith, saw, ap length full)) a ∙ sym (first-service c.t c.rec c.start a),
       tt,
       caused,
-      (c.rec.pid, kept-after c.rec (Upgrade c.st) (report_at (At RolledBack) q) q.table c.rec.wanted refl c.start.record_in_range c.start.record_in_range.wanted (within-old r q only looks exact) (agrees-old r q only looks exact still (At RolledBack))),
+      kept-after c.rec (Upgrade c.st) (report_at (At RolledBack) q) q.table c.rec.wanted refl c.start.record_in_range c.start.record_in_range.wanted (within-old r q only looks exact) (agrees-old r q only looks exact still (At RolledBack)),
     )
 
     pub old-short : (r : Names) (q : Progress) (x : ℕ) (xs : List ℕ) → Only g R r → Looks (view u none r) q.table.rows → q.lacking ≡ x ∷ xs → is_some q.cause ≡ true → Still files note c.t.limits q.table.files q.note q.table.limits → length R + c.rec.retries ≤ weigh (ready_in c.rec.pid (named g (is_in R))) q.table.rows + q.losses + q.faults → Saw c.rec.pid g R q → Exactly c.rec.pid g q → post (At ShortOld) q
@@ -238,7 +238,7 @@ module _ (c : Given) where
       ),
       omega (arith, budget, saw),
       caused,
-      (c.rec.pid, kept-after c.rec (Upgrade c.st) (report_at (At ShortOld) q) q.table c.rec.wanted refl c.start.record_in_range c.start.record_in_range.wanted (within-old r q only looks exact) (agrees-old r q only looks exact still (At ShortOld))),
+      kept-after c.rec (Upgrade c.st) (report_at (At ShortOld) q) q.table c.rec.wanted refl c.start.record_in_range c.start.record_in_range.wanted (within-old r q only looks exact) (agrees-old r q only looks exact still (At ShortOld)),
     )
 
   ---- The ends on the target's side
@@ -259,9 +259,9 @@ module _ (c : Given) where
   moved-is hs lists = ap (λ ls. renewed c.st ls (next_image c.rec.generation)) lists ∙ ap (λ o. renewed c.st (Some (map listener_of hs)) o) (next-image-is c.rec.generation c.numbered)
 
   module _ (m : ℕ) (some : 1 ≤ m) (hs : List Hold) (lists : Lists hs) (keys : (a : Address) → has_address a hs ≡ has wanted a) (files : List File) (note : PidNote) (are : FilesAre note c.rec.pid_path m files) where
-    moved-left : (r : Names) (q : Progress) → Only new (numbers_below n) r → Looks (view (x m hs r) none r) q.table.rows → Exactly m new q → Still files note c.t.limits q.table.files q.note q.table.limits → (e : Ending) → setup_after (outcome_of e q.lacking) c.rec (Upgrade c.st) ≡ Some (moved hs) → AgreesAfter c.rec (Upgrade c.st) (report_at e q) m q.table
+    moved-left : (r : Names) (q : Progress) → Only new (numbers_below n) r → Looks (view (x m hs r) none r) q.table.rows → Exactly m new q → Still files note c.t.limits q.table.files q.note q.table.limits → (e : Ending) → setup_after (outcome_of e q.lacking) c.rec (Upgrade c.st) ≡ Some (moved hs) → AgreesAfter c.rec (Upgrade c.st) (report_at e q) q.table
     moved-left r q only looks exact still e is =
-        moved-after c.rec (Upgrade c.st) (report_at e q) q.table (moved hs) m is (some-held hs wanted keys c.range.listens) low c.range.retries c.range.timeout_least c.range.timeout_most c.start.record_in_range some
+        moved-after c.rec (Upgrade c.st) (report_at e q) q.table (moved hs) m is (some-held hs wanted keys c.range.listens) low c.range.retries c.range.timeout_least c.range.timeout_most c.start.record_in_range some (λ e. absurd (omega (arith, e)))
         (λ k on. below-of n k (census-within (x m hs r) (λ n. refl) new (numbers_below n) r q.table.rows q.ready only looks exact k on))
         (agrees-after (view (x m hs r) none r) new q.table _ (λ n. refl) refl (λ h k on. (only h k on).0) looks exact refl refl refl refl (files-still note q.note c.rec.pid_path m files q.table.files c.t.limits q.table.limits are still))
 
@@ -270,7 +270,7 @@ module _ (c : Given) where
       service-of (x m hs r) (λ n. refl) new (numbers_below n) wanted refl keys r n q.table only looks (omega (arith, saw, ap length full, below-length n)),
       tt,
       tt,
-      (m, moved-left r q only looks exact still (At Done) (moved-is hs lists)),
+      moved-left r q only looks exact still (At Done) (moved-is hs lists),
     )
 
     pub new-short : (r : Names) (q : Progress) (y : ℕ) (ys : List ℕ) → Only new (numbers_below n) r → Looks (view (x m hs r) none r) q.table.rows → q.lacking ≡ y ∷ ys → is_some q.cause ≡ true → Still files note c.t.limits q.table.files q.note q.table.limits → length (numbers_below n) + c.rec.retries ≤ weigh (ready_in m (named new (is_in (numbers_below n)))) q.table.rows + q.losses + q.faults → Saw m new (numbers_below n) q → Exactly m new q → post (At ShortTarget) q
@@ -278,5 +278,5 @@ module _ (c : Given) where
       (omega (arith, ap length short), service-short (x m hs r) (λ n. refl) new (numbers_below n) wanted refl keys r n (length q.lacking) q.table only looks (omega (arith, saw, below-length n))),
       omega (arith, budget, saw),
       caused,
-      (m, moved-left r q only looks exact still (At ShortTarget) (moved-is hs lists)),
+      moved-left r q only looks exact still (At ShortTarget) (moved-is hs lists),
     )

@@ -17,7 +17,7 @@ use Rattle.definitions.specs.Tree.{height}
 use Rattle.definitions.specs.Plans.{plan_tree}
 use Rattle.definitions.specs.Run.{Pattern, Ran, run_with, start_at, report_of}
 use Rattle.definitions.specs.After.{record_after}
-use Rattle.definitions.specs.Claims.{run_of, refused_from}
+use Rattle.definitions.specs.Claims.{run_of, refused_among}
 use Rattle.theorems.specs.Examples.{first, reloaded, upgraded, port, other_port, pid_file, two_workers, two_without_file, full_table, other_held, record_with, two_ready, two_ready_without_file, settings_of, no_fault, fails, exits, m1, m2, report, Gives, serving}
 
 -- the record after a reload to no workers
@@ -48,7 +48,7 @@ abbrev pub upgrade_run : List ℕ → Pattern → Ran
 upgrade_run text pattern = run_with text (plan_tree (two_ready 3) same_upgrade) pattern (start_at two_workers InPlace)
 
 abbrev pub refused_with : List ℕ → Pattern → Option ℕ
-refused_with text pattern = refused_from text (1 ∷ []) (2 ∷ []) (plan_tree (two_ready 3) same_upgrade) pattern (start_at two_workers InPlace)
+refused_with text pattern = refused_among (1 ∷ []) (2 ∷ []) pattern 0 (upgrade_run text pattern).entries
 
 -- The whole of an upgrade.
 abbrev pub Upgrades : List ℕ → Type 0

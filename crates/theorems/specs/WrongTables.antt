@@ -18,7 +18,7 @@ use Rattle.definitions.specs.Target.{want}
 use Rattle.definitions.specs.Run.{Progress, Ran, At, start_at}
 use Rattle.definitions.specs.Settling.{IsSettled, HasSide}
 use Rattle.definitions.specs.Manner.{Stays, Goes, KillsOnlyLate, LeavesLast}
-use Rattle.definitions.specs.Claims.{Says, Kept, Floor, IsBlamed, HasCause, IsPaid, StopNote, IsLeft}
+use Rattle.definitions.specs.Claims.{Says, Kept, Floor, IsBlamed, HasCause, IsPaid, StopNote, IsSucceeded}
 use Rattle.theorems.specs.Examples.{first, port, other_port, pid_file, holds, two_workers, two_without_file, two_ready, table_with, pid_files, own_rows, m1}
 
 ---- Tables
@@ -93,7 +93,7 @@ pub record WrongTables : Type 0 where
   -- The removal failed, and yet the file is gone.
   pub file_gone : Refuted (StopNote Left (Some pid_file) (ran_from two_workers (m1 (RemovePid pid_file) answer.IoFault) two_without_file))
   -- After a stop the master is still there.
-  pub stopped : Refuted (IsLeft (two_ready 3) (Stop true) 100 (ran_from two_workers (m1 (Kill first 1) answer.Fine) none_left))
+  pub stopped : Refuted (IsSucceeded (two_ready 3) (Stop true) (ran_from two_workers (m1 (Kill first 1) answer.Fine) none_left))
   -- A fault without a cause, and a cause without a fault or a loss.
   pub blamed : Refuted (IsBlamed (progress two_workers 1 0 None))
   pub blamed_falsely : Refuted (IsBlamed (progress two_workers 0 0 (Some 1)))

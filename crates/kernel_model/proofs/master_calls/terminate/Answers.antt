@@ -2,7 +2,7 @@ use Rattle.std.proofs.Common.{ap, ◌∙◌}
 use Rattle.std.specs.List.{filter_map}
 use Rattle.vocabulary.specs.declared.calls.Answer.TheVariants as answer
 use Rattle.definitions.specs.Table.{with_rows}
-use Rattle.definitions.specs.Calls.{dropped, gives}
+use Rattle.definitions.specs.Calls.{drop_where, gives}
 use Rattle.process_table.specs.Edits.{is_of_either}
 use Rattle.process_table.specs.Seen.{seen}
 use Rattle.kernel_model.proofs.Ended.{ended-all}
@@ -13,5 +13,5 @@ returns-clause-outcome c =
     let t = seen c.args.store.now in
     ap (gives answer.Fine)
     (c.edit.ensures.table
-    ∙ ap (λ n. with_rows t (filter_map (dropped (is_of_either c.args.image n)) t.rows)) c.master_number-master.ensures
+    ∙ ap (λ n. with_rows t (filter_map (drop_where (is_of_either c.args.image n)) t.rows)) c.master_number-master.ensures
     ∙ ap (with_rows t) (ended-all c.args.image t.rows t.rows (c.requires.masters c.args.image)))

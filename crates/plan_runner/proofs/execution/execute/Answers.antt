@@ -1,7 +1,7 @@
 use Rattle.std.proofs.Common.{◌∷◌, [], List, length, arith, sym, ◌∙◌, ap, subst, length-append}
 use Rattle.vocabulary.specs.declared.calls.Answer.TheVariants.{MasterGone}
 use Rattle.vocabulary.specs.declared.reports.Entry.{Entry}
-use Rattle.definitions.specs.Path.{Trail, begin, after, advance, Asks, Follows}
+use Rattle.definitions.specs.Path.{Trail, begin, trail_after, advance, Asks, Follows}
 use Rattle.rollback_plan.specs.Plans.{tree_of, note_of}
 use Rattle.plan_runner.specs.Walk.{trail_of}
 use Rattle.plan_runner.proofs.Paths.{after-push, Follows-push, asks_height}
@@ -31,7 +31,7 @@ loop-due-preserved g c =
     let asks = subst (λ (t : Trail). Asks t.rest t.lacking e) kept.trail (c.in-Some.ensures.some c.make-answer.result) in
     record {
       path = subst (Follows start) (sym pushed) (Follows-push start old e kept.path asks);
-      trail = c.after-walk.ensures.trail ∙ (ap (λ t. advance t e) kept.trail ∙ (sym (after-push start old e) ∙ ap (after start) (sym pushed)));
+      trail = c.after-walk.ensures.trail ∙ (ap (λ t. advance t e) kept.trail ∙ (sym (after-push start old e) ∙ ap (trail_after start) (sym pushed)));
       follows = subst (λ (es : List Entry). g.C.Calls.follows c.args.calls.now es c.make-answer.new.self) (sym pushed) (c.make-answer.ensures.follows c.args.calls.now old kept.follows);
       lost = λ none. (old, e, pushed, c.after-walk.ensures.lost none);
       longest = omega (arith, ap length pushed, length-append old (e ∷ []), kept.longest, c.after-walk.ensures.lower);

@@ -1,6 +1,6 @@
 use Rattle.std.proofs.Common.{◌≡◌, ◌≤◌, ◌+◌, length, None}
 use Rattle.definitions.specs.Tree.{height}
-use Rattle.definitions.specs.Path.{begin, after, Follows, EndsGone}
+use Rattle.definitions.specs.Path.{begin, trail_after, Follows, EndsGone}
 use Rattle.rollback_plan.specs.Plans.{tree_of, note_of}
 use Rattle.plan_runner.specs.Fit.{height_next}
 use Rattle.plan_runner.specs.Walk.{trail_of}
@@ -12,7 +12,7 @@ invariant-loop-due g l =
     let left = height_next (trail_of l.walk).rest in
     record {
       path : Follows start l.log.entries;
-      trail : trail_of l.walk ≡ after start l.log.entries;
+      trail : trail_of l.walk ≡ trail_after start l.log.entries;
       follows : g.C.Calls.follows l.fn.calls l.log.entries l.calls;
       lost : (trail_of l.walk).rest ≡ None → EndsGone l.log.entries;
       longest : length l.log.entries + left ≤ height (tree_of l.plan);

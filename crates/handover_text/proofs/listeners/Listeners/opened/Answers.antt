@@ -1,7 +1,7 @@
 use Rattle.std.proofs.Common.{◌+◌, ◌<◌, length, drop, ap, sym, ◌∙◌, arith}
 use Rattle.std.proofs.lemmas.List.{drop_all}
 use Rattle.listener_set.specs.AddressList.{AreDistinct}
-use Rattle.definitions.specs.After.{opened}
+use Rattle.definitions.specs.After.{with_added}
 use Rattle.handover_text.proofs.Listed.{opened_each, opened_each-is, skipped_one, opened_one, none_left}
 use Rattle.handover_text.proofs.listeners.Listeners.opened.Goals as goal
 use Rattle.handover_text.proofs.listeners.Listeners.opened.Goals.{then-not-holds+else-len-eq-MOST_DESCRIPTORS, else-not-holds}
@@ -29,7 +29,7 @@ returns-then-len-eq-MOST_DESCRIPTORS c =
     sym (none_left all c.loop-address.listeners c.loop-address.address-index c.address-item.result c.loop-address-test.true c.address-item.is (sym c.holds.ensures ∙ c.if-not-holds.true) (sym c.len.ensures.count ∙ c.if-len-eq-MOST_DESCRIPTORS.true))
     ∙ c.loop-address.invariant
     ∙ opened_each-is all c.args.self.now distinct
-    ∙ ap (λ bs. opened bs c.args.self.now) c.as_slice-all.ensures.items
+    ∙ ap (λ bs. with_added bs c.args.self.now) c.as_slice-all.ensures.items
 
 pub returns : goal.returns
 returns c =
@@ -38,4 +38,4 @@ returns c =
     ap (λ more. opened_each more c.loop-address.listeners) (sym (drop_all c.loop-address.address-index all c.loop-address-test.false))
     ∙ c.loop-address.invariant
     ∙ opened_each-is all c.args.self.now distinct
-    ∙ ap (λ bs. opened bs c.args.self.now) c.as_slice-all.ensures.items
+    ∙ ap (λ bs. with_added bs c.args.self.now) c.as_slice-all.ensures.items

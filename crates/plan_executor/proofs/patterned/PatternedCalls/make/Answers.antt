@@ -3,7 +3,7 @@ use Rattle.std.proofs.lemmas.List.{length-append}
 use Rattle.vocabulary.specs.declared.reports.Entry.{Entry}
 use Rattle.vocabulary.specs.declared.calls.Answer.{Answer}
 use Rattle.definitions.specs.Exits.{after_exits}
-use Rattle.definitions.specs.Calls.{Stepped, step}
+use Rattle.definitions.specs.Calls.{Stepped, step_with}
 use Rattle.definitions.specs.Run.{Moment, Replays}
 use Rattle.definitions.specs.Tree.{is_listed}
 use Rattle.kernel_model.specs.Pattern.{moment_at, seen_moment}
@@ -15,8 +15,8 @@ returns-clause-listed c =
     let call = c.args.call.now in
     let fate = c.moment-moment.result.fate in
     let exits = c.moment-moment.result.exits.now in
-    let answer : c.call.result ≡ (step c.args.by call fate (after_exits exits c.args.self.now.kernel.table)).answer = ap (λ (s : Stepped). s.answer) c.call.ensures.step in
-    subst (λ (a : Answer). is_listed call a ≡ true) (sym answer) (step-listed c.args.by call fate (after_exits exits c.args.self.now.kernel.table))
+    let answer : c.call.result ≡ (step_with c.args.self.now.text.now c.args.by call fate (after_exits exits c.args.self.now.kernel.table)).answer = ap (λ (s : Stepped). s.answer) c.call.ensures.step in
+    subst (λ (a : Answer). is_listed call a ≡ true) (sym answer) (step-listed c.args.self.now.text.now c.args.by call fate (after_exits exits c.args.self.now.kernel.table))
 
 pub returns-clause-follows : goal.returns-clause-follows
 returns-clause-follows c first entries h =
@@ -25,18 +25,21 @@ returns-clause-follows c first entries h =
     let last = c.args.self.now.kernel.table in
     let k = c.args.self.now.number + 1 in
     let at = moment_at first.pattern.now in
+    let text = first.text.now in
     let number = h.number in
     let room = h.room in
     let took = c.call.ensures.room in
     let longer : length (entries ++ e ∷ []) ≡ length entries + 1 = length-append entries (e ∷ []) in
     let moment : seen_moment c.moment-moment.result ≡ at k = c.moment-moment.ensures ∙ ap (λ p. moment_at p k) h.pattern in
-    let stepped : record { answer = c.call.result; table = c.call.new.self.table } ≡ step c.args.by call (at k).fate (after_exits (at k).exits last) =
-    c.call.ensures.step ∙ ap (λ (m : Moment). step c.args.by call m.fate (after_exits m.exits last)) moment in
+    let stepped : record { answer = c.call.result; table = c.call.new.self.table } ≡ step_with text c.args.by call (at k).fate (after_exits (at k).exits last) =
+    c.call.ensures.step ∙ (ap (λ (m : Moment). step_with c.args.self.now.text.now c.args.by call m.fate (after_exits m.exits last)) moment
+    ∙ ap (λ handed. step_with handed c.args.by call (at k).fate (after_exits (at k).exits last)) h.text) in
     record {
       pattern = h.pattern;
+      text = h.text;
       number = omega (arith, number, longer);
       room = omega (arith, room, took, longer);
       replays =
-          subst (Replays at first.number first.kernel.table (entries ++ e ∷ [])) (sym (ap (λ (s : Stepped). s.table) stepped))
-          (replays-push at entries first.number k first.kernel.table last e h.replays (omega (arith, number)) (sym (ap (λ (s : Stepped). s.answer) stepped)));
+          subst (Replays text at first.number first.kernel.table (entries ++ e ∷ [])) (sym (ap (λ (s : Stepped). s.table) stepped))
+          (replays-push text at entries first.number k first.kernel.table last e h.replays (omega (arith, number)) (sym (ap (λ (s : Stepped). s.answer) stepped)));
     }
