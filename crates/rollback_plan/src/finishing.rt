@@ -3,7 +3,8 @@ ghost use Rattle.std.specs.Prelude.{◌≡◌, ◌+◌, ◌≤◌, ◌<◌, ◌^
 ghost use Rattle.std.specs.List.{list_all};
 ghost use Rattle.definitions.specs.Tree.{is_fit};
 ghost use Rattle.rollback_plan.specs.Steps.{all_below};
-ghost use Rattle.rollback_plan.specs.Numbering.{edge_numbered, AreNumbers, AreDistinct, IsNumbered, AllNumbered, IsNumbering, all_within};
+ghost use Rattle.rollback_plan.specs.Numbering.{edge_numbered, all_within};
+ghost use Rattle.rollback_plan.specs.Numbering.{AreNumbers, AreDistinct, IsNumbered, AllNumbered, IsNumbering};
 
 use crate::layers::by_depth;
 use crate::numbering::{depths_from, heights_of};
