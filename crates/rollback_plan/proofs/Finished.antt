@@ -68,7 +68,7 @@ all_back n m (s ∷ steps) e h =
     let parts = and_parts (leads_back n s) (all_lead_back (suc n) steps) h in
     and_from (all_below m s.edges.items) _ (all_below-le n m s.edges.items (omega arith) parts.0) (all_back (suc n) m steps (omega arith) parts.1)
 
-found_in : (ks : List ℕ) (i p : ℕ) → slice_get ks i ≡ Some p → is_in ks p ≡ true
+pub found_in : (ks : List ℕ) (i p : ℕ) → slice_get ks i ≡ Some p → is_in ks p ≡ true
 found_in [] i p at = cc
 found_in (x ∷ ks) zero p at = let is : x ≡ p = cc in or_left (nat_eq x p) (is_in ks p) (eq-eqb x p is)
 found_in (x ∷ ks) (suc i) p at = or_right (nat_eq x p) (is_in ks p) (found_in ks i p at)

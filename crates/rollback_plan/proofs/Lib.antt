@@ -10,4 +10,5 @@ pub mod LayerLists
 pub mod Ordered
 pub mod Unfolded
 pub mod Finished
+pub mod Distinct
 pub mod PlanTrees

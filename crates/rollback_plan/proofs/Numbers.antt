@@ -1,7 +1,8 @@
 -- Places get numbers.
-use Rattle.std.proofs.Common.{◌≡◌, ◌≢◌, inl, inr, ℕ, zero, suc, ◌+◌, ◌-◌, ◌<◌, ◌≤◌, true, List, [], ◌∷◌, ◌++◌, length, get_or, set, take, refl, sym, ◌∙◌, ap, subst, arith, Some, slice_get, nat_lt}
+use Rattle.std.proofs.Common.{◌≡◌, ◌≢◌, inl, inr, ℕ, zero, suc, ◌+◌, ◌-◌, ◌<◌, ◌≤◌, true, List, [], ◌∷◌, ◌++◌, length, get_or, set, take, refl, sym, ◌∙◌, ap, subst, arith, Some, slice_get, nat_lt, Bool}
 use Rattle.std.proofs.lemmas.Bool.{cases_eq, ltb-true, and_parts}
 use Rattle.std.proofs.lemmas.List.{take_more, length-set, get_or-set_same, get_or-set_other}
+use Rattle.std.specs.List.{list_all}
 use Rattle.listener_set.specs.Numbers.{is_in}
 use Rattle.rollback_plan.specs.declared.step.Step.{Step}
 use Rattle.rollback_plan.specs.Numbering.{IsNumbered, AllNumbered, all_within, are_laid}
@@ -21,6 +22,12 @@ pub within_at : (n : ℕ) (places : List ℕ) (i : ℕ) → all_within n places 
 within_at n [] i h low = absurd (omega arith)
 within_at n (x ∷ places) zero h low = ltb-true x n (and_parts (nat_lt x n) (all_within n places) h).0
 within_at n (x ∷ places) (suc i) h low = within_at n places i (and_parts (nat_lt x n) (all_within n places) h).1 (omega arith)
+
+-- a test of all steps holds of each
+pub all_at : {X : Type 0} (test : X → Bool) (xs : List X) (i : ℕ) (x : X) → list_all test xs ≡ true → slice_get xs i ≡ Some x → test x ≡ true
+all_at test [] i x h at = cc
+all_at test (y ∷ xs) zero x h at = let is : y ≡ x = cc in subst (λ z. test z ≡ true) is (and_parts (test y) (list_all test xs) h).0
+all_at test (y ∷ xs) (suc i) x h at = all_at test xs i x (and_parts (test y) (list_all test xs) h).1 at
 
 pub laid_depth : (depths places : List ℕ) (i : ℕ) → are_laid depths places ≡ true → i < length places → 1 ≤ get_or depths (get_or places i 0) 0
 laid_depth depths [] i h low = absurd (omega arith)

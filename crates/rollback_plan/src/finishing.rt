@@ -3,13 +3,15 @@ ghost use Rattle.std.specs.Prelude.{◌≡◌, ◌+◌, ◌≤◌, ◌<◌, ◌^
 ghost use Rattle.std.specs.List.{list_all};
 ghost use Rattle.definitions.specs.Tree.{is_fit};
 ghost use Rattle.rollback_plan.specs.Steps.{all_below};
-ghost use Rattle.rollback_plan.specs.Numbering.{edge_numbered, AreNumbers, IsNumbered, AllNumbered, IsNumbering, all_within};
+ghost use Rattle.rollback_plan.specs.Numbering.{edge_numbered, all_within};
+ghost use Rattle.rollback_plan.specs.Numbering.{AreNumbers, AreDistinct, IsNumbered, AllNumbered, IsNumbering};
 
 use crate::layers::by_depth;
 use crate::numbering::{depths_from, heights_of};
 use crate::walking::walk;
 use crate::{Draft, Edge, Next, Place, Plan, Step};
 use std::alloc::{AllocError, Global};
+use std::mem;
 use vocabulary::PidNote;
 
 impl Draft {
@@ -28,16 +30,17 @@ impl Draft {
         ensures few { IfOk result (λ plan. length (trees_in plan) ≤ length (trees_of self)) }
         ensures numbered { IfOk result (λ plan. IsNumbering (steps_in self) first.0 (steps_of plan)) }
     {
-        let alloc = *self.steps.allocator();
-        let draft: &[Step] = &self.steps;
+        let Draft { steps } = self;
+        let alloc = *steps.allocator();
+        let draft: &[Step] = &steps;
         let heights = heights_of(alloc, draft)?;
         let depths = depths_from(alloc, draft, first)?;
         let met = walk(alloc, draft, first)?;
         let order = by_depth(alloc, &met, &depths)?;
         let numbers = numbers_of(alloc, &order, draft.len())?;
-        let steps = numbered(alloc, draft, &order, &numbers)?;
+        let plan = numbered(alloc, steps, &order, &numbers)?;
         Ok(Plan {
-            steps,
+            steps: plan,
             longest: heights[first.0 as usize],
             note,
             text,
@@ -58,35 +61,39 @@ fn numbers_of(alloc: Global, order: &[u32], places: usize) -> Result<Vec<u32>, A
     Ok(numbers)
 }
 
-/// The steps in this order, with these numbers for their places.
+/// The steps in this order, taken out of a draft, with these numbers for their places.
 fn numbered(
     alloc: Global,
-    steps: &[Step],
+    mut steps: Vec<Step>,
     order: &[u32],
     numbers: &[u32],
 ) -> Result<Vec<Step>, AllocError>
-    requires within { IsTrue (all_within (length steps.now) order.now) }
-    requires numbers { length numbers.now ≡ length steps.now }
-    requires back { IsTrue (list_all (λ s. all_below (length steps.now) s.edges.items) steps.now) }
-    ensures { IfOk result (λ plan. AllNumbered numbers.now steps.now order.now plan.items) }
+    requires within { IsTrue (all_within (length steps.items) order.now) }
+    requires distinct { AreDistinct order.now }
+    requires numbers { length numbers.now ≡ length steps.items }
+    requires back { IsTrue (list_all (λ s. all_below (length steps.items) s.edges.items) steps.items) }
+    ensures { IfOk result (λ plan. AllNumbered numbers.now steps.items order.now plan.items) }
 {
     let mut plan = Vec::with_capacity(alloc, order.len())?;
     for place in order {
-        plan.push(step_numbered(alloc, &steps[*place as usize], numbers)?)?;
+        let step = &mut steps[*place as usize];
+        plan.push(take_numbered(alloc, step, numbers)?)?;
     }
     Ok(plan)
 }
 
-/// This step, with these numbers for its places.
-fn step_numbered(alloc: Global, step: &Step, numbers: &[u32]) -> Result<Step, AllocError>
-    requires { IsTrue (all_below (length numbers.now) step.now.edges.items) }
-    ensures { IfOk result (IsNumbered numbers.now step.now) }
+/// This step, with these numbers for its places. Its edges are taken out of it: they are gone before those of the
+/// next one are numbered, so that no more than one step's stand in memory twice.
+fn take_numbered(alloc: Global, step: &mut Step, numbers: &[u32]) -> Result<Step, AllocError>
+    requires { IsTrue (all_below (length numbers.now) step.old.edges.items) }
+    ensures { IfOk result (IsNumbered numbers.now step.old) }
 {
+    let edges = mem::replace(&mut step.edges, Vec::new(alloc));
     Ok(Step {
         by: step.by,
         order: step.order.copy(alloc)?,
         set: step.set.copy(alloc)?,
-        edges: edges_numbered(alloc, &step.edges, numbers)?,
+        edges: edges_numbered(alloc, &edges, numbers)?,
     })
 }
 

@@ -2,9 +2,10 @@ use Rattle.std.proofs.Common.{◌≡◌, [], ℕ, List, length, map, true, false
 use Rattle.definitions.specs.Tree.{is_fit, height}
 use Rattle.rollback_plan.specs.declared.step.Step.{Step}
 use Rattle.rollback_plan.specs.Steps.{trees_after, all_lead_back}
-use Rattle.rollback_plan.specs.Numbering.{are_laid, all_within}
+use Rattle.rollback_plan.specs.Numbering.{AreDistinct, AllNumbered, are_laid, all_within}
 use Rattle.rollback_plan.proofs.StepTrees.{length-trees, length-trees_from}
 use Rattle.rollback_plan.proofs.Finished.{ordered, finished, numbering_of, met_laid, order_few, order_within, all_back, height_of}
+use Rattle.rollback_plan.proofs.Distinct.{order_distinct}
 use Rattle.rollback_plan.proofs.draft.Draft.finish.Goals as goal
 
 pub depths_from-requires-clause-first : goal.depths_from-requires-clause-first
@@ -39,13 +40,24 @@ numbered-requires-clause-within c =
     let back = subst (λ (xs : List Step). all_lead_back 0 xs ≡ true) (sym c.deref-draft.ensures.value) c.args.self.back in
     let o = ordered draft c.args.first.0 c.in_ok-depths.depths.items c.deref-2.result.now c.in_ok-met.met.items c.deref.result.now c.in_ok-order.order.items c.deref-2.ensures.value c.deref.ensures.value back
     (omega (arith, c.requires.made, length-trees c.args.self.steps.items, ap length c.deref-draft.ensures.value)) c.in_ok-depths.ensures c.in_ok-met.ensures c.in_ok-order.ensures in
-    subst (λ (ks : List ℕ). all_within (length draft) ks ≡ true) (sym c.deref-4.ensures.value) (order_within draft c.args.first.0 c.in_ok-depths.depths.items c.in_ok-met.met.items c.in_ok-order.order.items o)
+    subst (λ (xs : List Step). all_within (length xs) c.deref-4.result.now ≡ true) c.deref-draft.ensures.value
+    (subst (λ (ks : List ℕ). all_within (length draft) ks ≡ true) (sym c.deref-4.ensures.value) (order_within draft c.args.first.0 c.in_ok-depths.depths.items c.in_ok-met.met.items c.in_ok-order.order.items o))
+
+pub numbered-requires-clause-distinct : goal.numbered-requires-clause-distinct
+numbered-requires-clause-distinct c =
+    let draft = c.deref-draft.result.now in
+    let back = subst (λ (xs : List Step). all_lead_back 0 xs ≡ true) (sym c.deref-draft.ensures.value) c.args.self.back in
+    let o = ordered draft c.args.first.0 c.in_ok-depths.depths.items c.deref-2.result.now c.in_ok-met.met.items c.deref.result.now c.in_ok-order.order.items c.deref-2.ensures.value c.deref.ensures.value back
+    (omega (arith, c.requires.made, length-trees c.args.self.steps.items, ap length c.deref-draft.ensures.value)) c.in_ok-depths.ensures c.in_ok-met.ensures c.in_ok-order.ensures in
+    subst AreDistinct (sym c.deref-4.ensures.value) (order_distinct draft c.args.first.0 c.in_ok-depths.depths.items c.in_ok-met.met.items c.in_ok-order.order.items o.walk.in_turn o.sorted)
+
+pub numbered-requires-clause-numbers : goal.numbered-requires-clause-numbers
+numbered-requires-clause-numbers c = omega (arith, ap length c.deref-5.ensures.value, c.in_ok-numbers.ensures.count, ap length c.deref-draft.ensures.value)
 
 pub numbered-requires-clause-back : goal.numbered-requires-clause-back
 numbered-requires-clause-back c =
-    let draft = c.deref-draft.result.now in
-    let back = subst (λ (xs : List Step). all_lead_back 0 xs ≡ true) (sym c.deref-draft.ensures.value) c.args.self.back in
-    all_back 0 (length draft) draft (omega arith) back
+    let steps = c.args.self.steps.items in
+    all_back 0 (length steps) steps (omega arith) c.args.self.back
 
 pub invariant_of-result : goal.invariant_of-result
 invariant_of-result c =
@@ -57,8 +69,9 @@ invariant_of-result c =
     let back = subst (λ (xs : List Step). all_lead_back 0 xs ≡ true) (sym c.deref-draft.ensures.value) c.args.self.back in
     let o = ordered draft first depths c.deref-2.result.now met c.deref.result.now order c.deref-2.ensures.value c.deref.ensures.value back
     (omega (arith, c.requires.made, length-trees c.args.self.steps.items, ap length c.deref-draft.ensures.value)) c.in_ok-depths.ensures c.in_ok-met.ensures c.in_ok-order.ensures in
-    let plan = finished c.args.self.steps.items draft first depths met order c.deref-3.result.now c.deref-4.result.now c.in_ok-numbers.numbers.items c.deref-5.result.now c.in_ok-steps.steps.items
-    c.deref-draft.ensures.value o c.deref-3.ensures.value c.deref-4.ensures.value c.deref-5.ensures.value c.in_ok-numbers.ensures c.in_ok-steps.ensures in
+    let plan = finished c.args.self.steps.items draft first depths met order c.deref-3.result.now c.deref-4.result.now c.in_ok-numbers.numbers.items c.deref-5.result.now c.in_ok-plan.plan.items
+    c.deref-draft.ensures.value o c.deref-3.ensures.value c.deref-4.ensures.value c.deref-5.ensures.value c.in_ok-numbers.ensures
+    (subst (λ (xs : List Step). AllNumbered c.deref-5.result.now xs c.deref-4.result.now c.in_ok-plan.plan.items) (sym c.deref-draft.ensures.value) c.in_ok-plan.ensures) in
     record {
       begins = omega (arith, plan.begins);
       leads_on = plan.on;
@@ -78,8 +91,9 @@ returns-clause-tree c =
     let back = subst (λ (xs : List Step). all_lead_back 0 xs ≡ true) (sym c.deref-draft.ensures.value) c.args.self.back in
     let o = ordered draft first depths c.deref-2.result.now met c.deref.result.now order c.deref-2.ensures.value c.deref.ensures.value back
     (omega (arith, c.requires.made, length-trees c.args.self.steps.items, ap length c.deref-draft.ensures.value)) c.in_ok-depths.ensures c.in_ok-met.ensures c.in_ok-order.ensures in
-    let plan = finished c.args.self.steps.items draft first depths met order c.deref-3.result.now c.deref-4.result.now c.in_ok-numbers.numbers.items c.deref-5.result.now c.in_ok-steps.steps.items
-    c.deref-draft.ensures.value o c.deref-3.ensures.value c.deref-4.ensures.value c.deref-5.ensures.value c.in_ok-numbers.ensures c.in_ok-steps.ensures in
+    let plan = finished c.args.self.steps.items draft first depths met order c.deref-3.result.now c.deref-4.result.now c.in_ok-numbers.numbers.items c.deref-5.result.now c.in_ok-plan.plan.items
+    c.deref-draft.ensures.value o c.deref-3.ensures.value c.deref-4.ensures.value c.deref-5.ensures.value c.in_ok-numbers.ensures
+    (subst (λ (xs : List Step). AllNumbered c.deref-5.result.now xs c.deref-4.result.now c.in_ok-plan.plan.items) (sym c.deref-draft.ensures.value) c.in_ok-plan.ensures) in
     plan.tree
 
 pub returns-clause-few : goal.returns-clause-few
@@ -92,9 +106,10 @@ returns-clause-few c =
     let back = subst (λ (xs : List Step). all_lead_back 0 xs ≡ true) (sym c.deref-draft.ensures.value) c.args.self.back in
     let o = ordered draft first depths c.deref-2.result.now met c.deref.result.now order c.deref-2.ensures.value c.deref.ensures.value back
     (omega (arith, c.requires.made, length-trees c.args.self.steps.items, ap length c.deref-draft.ensures.value)) c.in_ok-depths.ensures c.in_ok-met.ensures c.in_ok-order.ensures in
-    let plan = finished c.args.self.steps.items draft first depths met order c.deref-3.result.now c.deref-4.result.now c.in_ok-numbers.numbers.items c.deref-5.result.now c.in_ok-steps.steps.items
-    c.deref-draft.ensures.value o c.deref-3.ensures.value c.deref-4.ensures.value c.deref-5.ensures.value c.in_ok-numbers.ensures c.in_ok-steps.ensures in
-    omega (arith, plan.few, length-trees_from 1 c.in_ok-steps.steps.items, length-trees c.args.self.steps.items)
+    let plan = finished c.args.self.steps.items draft first depths met order c.deref-3.result.now c.deref-4.result.now c.in_ok-numbers.numbers.items c.deref-5.result.now c.in_ok-plan.plan.items
+    c.deref-draft.ensures.value o c.deref-3.ensures.value c.deref-4.ensures.value c.deref-5.ensures.value c.in_ok-numbers.ensures
+    (subst (λ (xs : List Step). AllNumbered c.deref-5.result.now xs c.deref-4.result.now c.in_ok-plan.plan.items) (sym c.deref-draft.ensures.value) c.in_ok-plan.ensures) in
+    omega (arith, plan.few, length-trees_from 1 c.in_ok-plan.plan.items, length-trees c.args.self.steps.items)
 
 pub returns-clause-numbered : goal.returns-clause-numbered
 returns-clause-numbered c =
@@ -106,5 +121,6 @@ returns-clause-numbered c =
     let back = subst (λ (xs : List Step). all_lead_back 0 xs ≡ true) (sym c.deref-draft.ensures.value) c.args.self.back in
     let o = ordered draft first depths c.deref-2.result.now met c.deref.result.now order c.deref-2.ensures.value c.deref.ensures.value back
     (omega (arith, c.requires.made, length-trees c.args.self.steps.items, ap length c.deref-draft.ensures.value)) c.in_ok-depths.ensures c.in_ok-met.ensures c.in_ok-order.ensures in
-    numbering_of c.args.self.steps.items draft first depths met order c.deref-3.result.now c.deref-4.result.now c.in_ok-numbers.numbers.items c.deref-5.result.now c.in_ok-steps.steps.items
-    c.deref-draft.ensures.value o c.deref-3.ensures.value c.deref-4.ensures.value c.deref-5.ensures.value c.in_ok-numbers.ensures c.in_ok-steps.ensures
+    numbering_of c.args.self.steps.items draft first depths met order c.deref-3.result.now c.deref-4.result.now c.in_ok-numbers.numbers.items c.deref-5.result.now c.in_ok-plan.plan.items
+    c.deref-draft.ensures.value o c.deref-3.ensures.value c.deref-4.ensures.value c.deref-5.ensures.value c.in_ok-numbers.ensures
+    (subst (λ (xs : List Step). AllNumbered c.deref-5.result.now xs c.deref-4.result.now c.in_ok-plan.plan.items) (sym c.deref-draft.ensures.value) c.in_ok-plan.ensures)
