@@ -1,6 +1,6 @@
 -- What an exit or a fate that is added makes of a pattern.
-use Rattle.std.proofs.Common.{◌≡◌, ℕ, ◌<◌, ◌≤◌, cond, nat_eq, Option, Some, None, List, [], ◌∷◌, ◌++◌, map, length, get_or, set, sym, ap, ◌∙◌}
-use Rattle.std.specs.List.{insert}
+use Rattle.std.proofs.Common.{◌≡◌, ℕ, ◌<◌, ◌≤◌, cond, nat_eq, nat_le, Option, Some, None, List, [], ◌∷◌, ◌++◌, map, length, get_or, set, sym, ap, ◌∙◌}
+use Rattle.std.specs.List.{insert, position_or_len}
 use Rattle.std.proofs.Math.Seq.{map-set_same}
 use Rattle.std.proofs.lemmas.List.{get_or_default}
 use Rattle.vocabulary.specs.declared.names.Name.{Name}
@@ -23,8 +23,20 @@ within-push [] name h is = (is, tt)
 within-push (x ∷ xs) name h is = (h.0, within-push xs name h.1 is)
 
 -- two reads of one element
-pub same-read : (es : List Event) (k : ℕ) (a b : Event) → k < length es → a ≡ get_or es k a → b ≡ get_or es k b → a ≡ b
+same-read : (es : List Event) (k : ℕ) (a b : Event) → k < length es → a ≡ get_or es k a → b ≡ get_or es k b → a ≡ b
 same-read es k a b lt p q = p ∙ get_or_default es k a b lt ∙ sym q
+
+-- the event that a search led to, which was read
+pub listed-at : (es : List Event) (k : ℕ) (e read : Event) (n : ℕ) → IsListed es k e → read ≡ get_or es k read → read.number ≡ n → e.number ≡ n
+listed-at es k e read n h there is = ap (λ (d : Event). d.number) (same-read es k e read h.within h.there there) ∙ is
+
+-- a search found no event of the number: the one at its place, if there is one, has another
+pub unlisted-at : (es searched : List Event) (k n : ℕ) → IsPattern (map seen_event es) → searched ≡ es → k ≡ position_or_len (λ e. nat_le n e.number) searched → (k < length es → (read : Event) × (read ≡ get_or es k read) × (read.number ≡ n → ⊥)) → IsUnlisted es k n
+unlisted-at es searched k n pattern same first other = record {
+  pattern = pattern;
+  first = first ∙ ap (λ (xs : List Event). position_or_len (λ e. nat_le n e.number) xs) same;
+  other = λ d lt is. let o = other lt in o.2 (ap (λ (e : Event). e.number) (o.1 ∙ get_or_default es k o.0 d lt) ∙ is);
+}
 
 -- A pattern, with a moment of its own at one number.
 pub record Becomes (es : List Event) (n : ℕ) (x : Moment) (after : List Event) : Type 0 where

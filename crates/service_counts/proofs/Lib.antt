@@ -1,2 +1,3 @@
 pub mod OrderedKeys
 pub mod Services
+pub mod ServedPlaces

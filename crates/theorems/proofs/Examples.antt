@@ -3,15 +3,17 @@ use Rattle.std.proofs.Common.{◌≡◌, ℕ, ◌+◌, ◌≤◌, Bool, true, fa
 use Rattle.std.specs.Prelude.{◌&&◌, ◌==◌, count_by}
 use Rattle.std.proofs.lemmas.Bool.Decides.{nat_tests}
 use Rattle.listener_set.specs.declared.generation.Generation.{Generation}
-use Rattle.definitions.specs.Table.{same_generation, is_worker, is_active, is_ready}
+use Rattle.definitions.specs.Table.{File, same_generation, is_worker, is_active, is_ready}
 use Rattle.std.specs.List.{list_any}
-use Rattle.std.specs.Prelude.{Some, [], ◌∷◌}
-use Rattle.vocabulary.specs.declared.plans.PidNote.TheVariants.{AtOldbin}
+use Rattle.std.specs.Prelude.{Some, List, [], ◌∷◌}
+use Rattle.vocabulary.specs.declared.plans.PidNote.{PidNote}
+use Rattle.vocabulary.specs.declared.plans.PidNote.TheVariants.{InPlace, AtOldbin}
 use Rattle.listener_set.specs.Numbers.{is_in}
 use Rattle.definitions.specs.Formed.{IsFormed}
+use Rattle.definitions.specs.Record.{FilesAre}
 use Rattle.definitions.specs.Settling.{HasSide}
 use Rattle.definitions.specs.Claims.{IsStart}
-use Rattle.theorems.specs.Examples.{two_ready, two_workers, two_with_stale_file, two_masters, record_with, pid_file, first, holds, HasStart}
+use Rattle.theorems.specs.Examples.{table_with, own_rows, pid_files, two_ready, two_workers, two_with_stale_file, two_masters, record_with, pid_file, first, holds, HasStart}
 use Rattle.theorems.proofs.Rows.{one, count-weigh}
 
 at-most : (x s a b : Bool) → (a ≡ true → b ≡ false) → one (x && (s && a)) + (one (x && (s && b)) + 0) ≤ 1
@@ -28,8 +30,9 @@ apart k e = grind (arith, nat_tests)
 once : (q : ℕ) (h : Generation) (k : ℕ) → count_by (is_worker is_active q h k) two_workers.rows ≤ 1
 once q h k = subst (λ n. n ≤ 1) (sym (count-weigh (is_worker is_active q h k) two_workers.rows)) (omega (arith, at-most (100 == q) (same_generation first h) (0 == k) (1 == k) (apart k)))
 
-start : IsStart two_workers (two_ready 3)
-start = record {
+-- The two workers and their master, with the files that go with the note.
+start_with : (files : List File) (note : PidNote) → FilesAre note (Some pid_file) 100 files → IsStart (table_with own_rows files 65535) (record_with (0 ∷ 1 ∷ []) 2 3 (Some pid_file) note)
+start_with files note files_are = record {
   formed = record {
     once = once;
     quiet = (tt, (tt, (tt, tt)));
@@ -43,7 +46,7 @@ start = record {
     listeners = refl;
     running = (tt, ((λ e. (refl, refl)), ((λ e. (refl, refl)), tt)));
     ready = λ k. refl;
-    files = (refl, refl);
+    files = files_are;
   };
   record_in_range = record {
     listens = omega arith;
@@ -58,36 +61,12 @@ start = record {
   rising = (omega arith, (omega arith, tt));
 }
 
+start : IsStart two_workers (two_ready 3)
+start = start_with pid_files InPlace (refl, refl)
+
 -- With a stale file at the path too.
 stale : IsStart two_with_stale_file (record_with (0 ∷ 1 ∷ []) 2 3 (Some pid_file) AtOldbin)
-stale = record {
-  formed = record {
-    once = once;
-    quiet = (tt, (tt, (tt, tt)));
-    parents = (tt, (refl, (refl, tt)));
-    ascending = (omega arith, (omega arith, (omega arith, omega arith)));
-  };
-  agrees = record {
-    holds = holds;
-    lives = refl;
-    alone = refl;
-    listeners = refl;
-    running = (tt, ((λ e. (refl, refl)), ((λ e. (refl, refl)), tt)));
-    ready = λ k. refl;
-    files = refl;
-  };
-  record_in_range = record {
-    listens = omega arith;
-    wanted = omega arith;
-    ready = (omega arith, (omega arith, tt));
-    retries = omega arith;
-    timeout_least = omega arith;
-    timeout_most = omega arith;
-    pid_path = omega arith;
-    pid = omega arith;
-  };
-  rising = (omega arith, (omega arith, tt));
-}
+stale = start_with two_with_stale_file.files AtOldbin refl
 
 -- Beside another master too.
 once_beside : (q : ℕ) (h : Generation) (k : ℕ) → count_by (is_worker is_active q h k) two_masters.rows ≤ 1

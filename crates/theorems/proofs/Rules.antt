@@ -10,8 +10,9 @@ use Rattle.definitions.specs.Calls.{Stepped, gives, step_by, own_step, with_new_
 use Rattle.vocabulary.specs.declared.calls.Fate.{Fate}
 use Rattle.vocabulary.specs.declared.names.Name.{Name}
 use Rattle.definitions.specs.Exits.{is_active_worker, change, losses_of, all_exited, after_exits}
+use Rattle.vocabulary.specs.declared.calls.Call.{Call}
 use Rattle.vocabulary.specs.declared.calls.Call.TheVariants.{AwaitGone, Fork, AwaitReady, Quit, Kill, Census, CloseAt, OpenAt, Usr1}
-use Rattle.vocabulary.specs.declared.calls.Answer.TheVariants.{Forked, IsReady, Again, NoMemory, Gone, Late, InUse, TooMany, Denied, Opened}
+use Rattle.vocabulary.specs.declared.calls.Answer.TheVariants.{IsReady, Gone, Opened}
 use Rattle.definitions.specs.Tree.{Tree, Branches, Ends, Does, full_or_short, lowest, call_of, reply_of}
 use Rattle.listener_set.specs.Numbers.{is_in, lacks}
 use Rattle.definitions.specs.Plans.{awaits_gone, gone_edges, usr1s, open_edges, fork_any_edges, kills, forks_any, awaits_any, fork_edges, await_edges, then_edge, census_edges, does, census, forks, awaits, starts, quits, settle, round, full_end, short_end, await_any_edges}
@@ -23,7 +24,6 @@ use Rattle.vocabulary.specs.declared.plans.PidNote.{PidNote}
 use Rattle.definitions.specs.Claims.{names_any}
 use Rattle.theorems.proofs.Refusals.{is_leave}
 use Rattle.vocabulary.specs.declared.calls.Reply.TheVariants as reply
-use Rattle.vocabulary.specs.declared.calls.Answer.TheVariants as answer
 use Rattle.definitions.specs.Run.{Progress, after_moment, after_call, Ending, At, answered}
 use Rattle.definitions.specs.Path.{went_wrong, first_cause}
 use Rattle.theorems.proofs.Rows.{one, weigh, weigh-le-all, count-weigh, and-left, and-right, both-true, or-left, or-right}
@@ -33,7 +33,7 @@ use Rattle.theorems.proofs.Effects.{Mine, mine-worker, mine-exited, StaysOther, 
 use Rattle.theorems.proofs.Counts.{census-looks, census-weigh, census-in, count-set, Distinct}
 use Rattle.theorems.proofs.Sets.{in-here, in-there, in-cases, every-in}
 use Rattle.theorems.proofs.After.{census-exact}
-use Rattle.theorems.proofs.Logic.{Unasked, Exiting, Anyhow, Course, course_after, Along, Behind, fork-cases, await-cases, unfailing, open-cases, gone-cases}
+use Rattle.theorems.proofs.Logic.{Unasked, Unfailing, Exiting, Anyhow, Course, course_after, Along, Behind, fork-cases, await-cases, unfailing, open-cases, gone-cases}
 
 -- the view with these names
 abbrev pub view : View → Names → Names → View
@@ -226,10 +226,33 @@ module _ (inv : Progress → Type 0) (post : Ending → Progress → Type 0) (co
 
   -- A call failed, and all is as it was.
   abbrev pub failed_at : Progress → Progress
-  failed_at q = record { table = q.table; calls = q.calls + 1; ready = q.ready; lacking = q.lacking; faults = q.faults + 1; losses = q.losses; cause = first_cause q.cause true (q.calls + 1); note = q.note }
+  failed_at q = record q { calls = q.calls + 1; faults = q.faults + 1; cause = first_cause q.cause true (q.calls + 1) }
 
   pub band-failed : (s r t : Names) (n c : ℕ) (w : Bool) (ls : List ℕ) (q : Progress) → Band u sc s r t n c w ls q → Band u sc s r t n (c + 1) true ls (failed_at q)
   band-failed s r t n c w ls q b = record { looks = b.looks; enough = b.enough; secured = b.secured; budget = omega (arith, b.budget); lacking = b.lacking; still = b.still; marks = marks-wrong w q.faults (q.faults + 1) q.losses (q.calls + 1) q.cause (omega arith) b.marks; beside = sc.fails q.table.rows q.losses q.faults b.beside }
+
+  -- A call went well, and left this table.
+  abbrev passed_at : Table → Progress → Progress
+  passed_at t q = record q { table = t; calls = q.calls + 1; cause = first_cause q.cause false (q.calls + 1) }
+
+  -- Of the names of t as many are Ready as before the call.
+  band-passed : (s s' r r' t : Names) (n c : ℕ) (w : Bool) (ls : List ℕ) (after : Table) (q : Progress) → Looks (view u s' r') after.rows → weigh (ready_in u.number t) after.rows ≡ ready_of u t q → Still sc.files sc.note sc.limits after.files q.note after.limits → sc.Holds after.rows q.losses q.faults → Band u sc s r t n c w ls q → Band u sc s' r' t n c w ls (passed_at after q)
+  band-passed s s' r r' t n c w ls after q looks same still beside b = record {
+    looks = looks;
+    enough = b.enough;
+    secured = λ e. omega (arith, b.secured e, same);
+    budget = omega (arith, b.budget, same);
+    lacking = b.lacking;
+    still = still;
+    marks = marks-plain w q.faults q.losses (q.calls + 1) q.cause b.marks;
+    beside = beside;
+  }
+
+  -- A step whose call nothing makes fail.
+  rule-sure : (call : Call) (rest : Tree) (s r t : Names) (n c : ℕ) (w : Bool) (ls : List ℕ) (p : Progress) → is_leave (Make call) ≡ false → Unfailing call → ((q : Progress) → Band u sc s r t n c w ls q → Answers (Make call) [] (then_edge rest) q (own_step co.text u.image me call q.table)) → Band u sc s r t n c w ls p → Runs (does u.image call (then_edge rest)) p
+  rule-sure call rest s r t n c w ls p stays sure next b =
+      rule-step (Make call) [] (then_edge rest) s r t n c w ls p stays b (λ q b' fate.
+      subst (λ st. Answers (Make call) [] (then_edge rest) q st) (sym (unfailing co.text u.image me call fate q.table sure)) (next q b'))
 
   -- more names may be Starting
   pub band-still : (s s' r t : Names) (n c : ℕ) (w : Bool) (ls : List ℕ) (p : Progress) → Sub s s' → Band u sc s r t n c w ls p → Band u sc s' r t n c w ls p
@@ -250,44 +273,30 @@ module _ (inv : Progress → Type 0) (post : Ending → Progress → Type 0) (co
   rule-fork-on bs g x s r t n c w ls p same on_ok on_bad b =
       let order = Make (Fork g x) in
       rule-step order [] bs s r t n c w ls p refl b (λ q b' fate.
+      let failed = on_bad (failed_at q) (band-failed s r t n c w ls q b') in
       fork-cases co.text u.image me g x fate q.table (λ st. Answers order [] bs q st)
-      ((on_bad (after_call order [] (gives Again q.table) q) (record { looks = b'.looks; enough = b'.enough; secured = b'.secured; budget = omega (arith, b'.budget); lacking = b'.lacking; still = b'.still; marks = marks-wrong w q.faults (q.faults + 1) q.losses (q.calls + 1) q.cause (omega arith) b'.marks; beside = sc.fails q.table.rows q.losses q.faults b'.beside }))).0
-      ((on_bad (after_call order [] (gives NoMemory q.table) q) (record { looks = b'.looks; enough = b'.enough; secured = b'.secured; budget = omega (arith, b'.budget); lacking = b'.lacking; still = b'.still; marks = marks-wrong w q.faults (q.faults + 1) q.losses (q.calls + 1) q.cause (omega arith) b'.marks; beside = sc.fails q.table.rows q.losses q.faults b'.beside }))).1
+      failed.0 failed.1
       (λ off.
       let k = q.table.next_process in
-      let same_weight = fork-weigh u.number g t x k u.holds q.table.rows in
-      on_ok (after_call order [] (gives Forked (with_new_row q.table (λ j. Worker j u.number g x Starting u.holds))) q) (record {
-        looks = fork-looks (view u s r) g x k q.table.rows same off b'.looks;
-        enough = b'.enough;
-        secured = λ e. omega (arith, b'.secured e, same_weight);
-        budget = omega (arith, b'.budget, same_weight);
-        lacking = b'.lacking;
-        still = b'.still;
-        marks = marks-plain w q.faults q.losses (q.calls + 1) q.cause b'.marks;
-        beside = sc.grows k g x u.holds q.table.rows q.losses q.faults b'.beside;
-      })))
+      let after = with_new_row q.table (λ j. Worker j u.number g x Starting u.holds) in
+      on_ok (passed_at after q) (band-passed s (plus s g x) r r t n c w ls after q
+      (fork-looks (view u s r) g x k q.table.rows same off b'.looks) (fork-weigh u.number g t x k u.holds q.table.rows)
+      b'.still (sc.grows k g x u.holds q.table.rows q.losses q.faults b'.beside) b')))
 
   pub rule-fork : (ok bad : Tree) (g : Generation) (x : ℕ) (s r t : Names) (n c : ℕ) (w : Bool) (ls : List ℕ) (p : Progress) → u.held g ≡ u.holds → ((q : Progress) → Band u sc (plus s g x) r t n c w ls q → Runs ok q) → ((q : Progress) → Band u sc s r t n (c + 1) true ls q → Runs bad q) → Band u sc s r t n c w ls p → Runs (does u.image (Fork g x) (fork_edges ok bad)) p
   rule-fork ok bad g x s r t n c w ls p same on_ok on_bad b =
       rule-fork-on (fork_edges ok bad) g x s r t n c w ls p same on_ok (λ q b'. let h = on_bad q b' in (h, h)) b
 
+  drops-name : (g : Generation) (x : ℕ) (q : Progress) → sc.Holds q.table.rows q.losses q.faults → sc.Holds (filter_map (drop_where (is_worker is_any u.number g x)) q.table.rows) q.losses q.faults
+  drops-name g x q beside = sc.drops (is_worker is_any u.number g x) q.table.rows q.losses q.faults (mine-worker is_any u.number g x, λ z zs. refl) beside
+
   pub rule-kill : (rest : Tree) (g : Generation) (x : ℕ) (s r t : Names) (n c : ℕ) (w : Bool) (ls : List ℕ) (p : Progress) → r g x ≡ false → ((q : Progress) → Band u sc (minus s g x) r t n c w ls q → Runs rest q) → Band u sc s r t n c w ls p → Runs (does u.image (Kill g x) (then_edge rest)) p
   rule-kill rest g x s r t n c w ls p off next b =
-      let order = Make (Kill g x) in
-      let bs = then_edge rest in
-      rule-step order [] bs s r t n c w ls p refl b (λ q b' fate.
-      let same = kill-weigh (view u s r) g x t q.table.rows off b'.looks in
-      subst (λ st. Answers order [] bs q st) (sym (unfailing co.text u.image me (Kill g x) fate q.table tt))
-      (next (after_call order [] (own_step co.text u.image me (Kill g x) q.table) q) (record {
-        looks = kill-looks (view u s r) g x q.table.rows b'.looks;
-        enough = b'.enough;
-        secured = λ e. omega (arith, b'.secured e, same);
-        budget = omega (arith, b'.budget, same);
-        lacking = b'.lacking;
-        still = b'.still;
-        marks = marks-plain w q.faults q.losses (q.calls + 1) q.cause b'.marks;
-        beside = sc.drops (is_worker is_any u.number g x) q.table.rows q.losses q.faults (mine-worker is_any u.number g x, λ z zs. refl) b'.beside;
-      })))
+      rule-sure (Kill g x) rest s r t n c w ls p refl tt (λ q b'.
+      let after = each_row (drop_where (is_worker is_any u.number g x)) q.table in
+      next (passed_at after q) (band-passed s (minus s g x) r r t n c w ls after q
+      (kill-looks (view u s r) g x q.table.rows b'.looks) (kill-weigh (view u s r) g x t q.table.rows off b'.looks)
+      b'.still (drops-name g x q b'.beside) b')) b
 
   -- the name that became Ready joins the names of t
   pub record Joins (g : Generation) (x : ℕ) (t t' : Names) (n n' c c' : ℕ) : Type 0 where
@@ -302,7 +311,7 @@ module _ (inv : Progress → Type 0) (post : Ending → Progress → Type 0) (co
       let order = Make (AwaitReady g x) in
       rule-step order [] bs s r t n c w ls p refl b (λ q b' fate.
       await-cases co.text u.image me g x fate q.table (λ st. Answers order [] bs q st)
-      (on_late (after_call order [] (gives Late q.table) q) (record { looks = b'.looks; enough = b'.enough; secured = b'.secured; budget = omega (arith, b'.budget); lacking = b'.lacking; still = b'.still; marks = marks-wrong w q.faults (q.faults + 1) q.losses (q.calls + 1) q.cause (omega arith) b'.marks; beside = sc.fails q.table.rows q.losses q.faults b'.beside }))
+      (on_late (failed_at q) (band-failed s r t n c w ls q b'))
       (λ live.
       let gain = await-gains (view u s r) g t' x q.table.rows j.has off live b'.looks in
       let sub = weigh-sub u.number t t' j.sub q.table.rows in
@@ -333,21 +342,11 @@ module _ (inv : Progress → Type 0) (post : Ending → Progress → Type 0) (co
 
   pub rule-quit : (rest : Tree) (g : Generation) (x : ℕ) (s r t : Names) (n c : ℕ) (w : Bool) (ls : List ℕ) (p : Progress) → t g x ≡ false → ((q : Progress) → Band u sc (minus s g x) (minus r g x) t n c w ls q → Runs rest q) → Band u sc s r t n c w ls p → Runs (does u.image (Quit g x) (then_edge rest)) p
   rule-quit rest g x s r t n c w ls p off next b =
-      let order = Make (Quit g x) in
-      let bs = then_edge rest in
-      rule-step order [] bs s r t n c w ls p refl b (λ q b' fate.
-      let same = quit-weigh u.number g x t q.table.rows off in
-      subst (λ st. Answers order [] bs q st) (sym (unfailing co.text u.image me (Quit g x) fate q.table tt))
-      (next (after_call order [] (own_step co.text u.image me (Quit g x) q.table) q) (record {
-        looks = quit-looks (view u s r) g x q.table.rows b'.looks;
-        enough = b'.enough;
-        secured = λ e. omega (arith, b'.secured e, same);
-        budget = omega (arith, b'.budget, same);
-        lacking = b'.lacking;
-        still = b'.still;
-        marks = marks-plain w q.faults q.losses (q.calls + 1) q.cause b'.marks;
-        beside = sc.changes (is_worker is_active u.number g x) made_draining q.table.rows q.losses q.faults (mine-worker is_active u.number g x, λ z zs. refl) draining-stays b'.beside;
-      })))
+      rule-sure (Quit g x) rest s r t n c w ls p refl tt (λ q b'.
+      let after = each_row (change (is_worker is_active u.number g x) made_draining) q.table in
+      next (passed_at after q) (band-passed s (minus s g x) r (minus r g x) t n c w ls after q
+      (quit-looks (view u s r) g x q.table.rows b'.looks) (quit-weigh u.number g x t q.table.rows off) b'.still
+      (sc.changes (is_worker is_active u.number g x) made_draining q.table.rows q.losses q.faults (mine-worker is_active u.number g x, λ z zs. refl) draining-stays b'.beside) b')) b
 
   ---- OpenAt, CloseAt
 
@@ -355,11 +354,9 @@ module _ (inv : Progress → Type 0) (post : Ending → Progress → Type 0) (co
   rule-open ok bad a r t n c w ls p on_ok on_bad b =
       let order = Make (OpenAt a) in
       rule-step order [] (open_edges ok bad) none r t n c w ls p refl b (λ q b' fate.
+      let failed = on_bad (failed_at q) (band-failed none r t n c w ls q b') in
       open-cases co.text u.image me a fate q.table (λ st. Answers order [] (open_edges ok bad) q st)
-      (on_bad (after_call order [] (gives InUse q.table) q) (record { looks = b'.looks; enough = b'.enough; secured = b'.secured; budget = omega (arith, b'.budget); lacking = b'.lacking; still = b'.still; marks = marks-wrong w q.faults (q.faults + 1) q.losses (q.calls + 1) q.cause (omega arith) b'.marks; beside = sc.fails q.table.rows q.losses q.faults b'.beside }))
-      (on_bad (after_call order [] (gives TooMany q.table) q) (record { looks = b'.looks; enough = b'.enough; secured = b'.secured; budget = omega (arith, b'.budget); lacking = b'.lacking; still = b'.still; marks = marks-wrong w q.faults (q.faults + 1) q.losses (q.calls + 1) q.cause (omega arith) b'.marks; beside = sc.fails q.table.rows q.losses q.faults b'.beside }))
-      (on_bad (after_call order [] (gives Denied q.table) q) (record { looks = b'.looks; enough = b'.enough; secured = b'.secured; budget = omega (arith, b'.budget); lacking = b'.lacking; still = b'.still; marks = marks-wrong w q.faults (q.faults + 1) q.losses (q.calls + 1) q.cause (omega arith) b'.marks; beside = sc.fails q.table.rows q.losses q.faults b'.beside }))
-      (on_bad (after_call order [] (gives NoMemory q.table) q) (record { looks = b'.looks; enough = b'.enough; secured = b'.secured; budget = omega (arith, b'.budget); lacking = b'.lacking; still = b'.still; marks = marks-wrong w q.faults (q.faults + 1) q.losses (q.calls + 1) q.cause (omega arith) b'.marks; beside = sc.fails q.table.rows q.losses q.faults b'.beside }))
+      failed failed failed failed
       (λ off room.
       let h : Hold = record { fd = lowest_free u.holds; socket = q.table.next_socket; address = a } in
       let same = open-weigh u.number t h q.table.rows in
@@ -376,11 +373,9 @@ module _ (inv : Progress → Type 0) (post : Ending → Progress → Type 0) (co
 
   pub rule-close : (rest : Tree) (a : Address) (r t : Names) (n c : ℕ) (w : Bool) (ls : List ℕ) (p : Progress) → ((q : Progress) → Band (after_close a u) sc none r t n c w ls q → Runs rest q) → Band u sc none r t n c w ls p → Runs (does u.image (CloseAt a) (then_edge rest)) p
   rule-close rest a r t n c w ls p next b =
-      rule-step (Make (CloseAt a)) [] (then_edge rest) none r t n c w ls p refl b (λ q b' fate.
-      let order = Make (CloseAt a) in
+      rule-sure (CloseAt a) rest none r t n c w ls p refl tt (λ q b'.
       let same = close-weigh u.number t a q.table.rows in
-      subst (λ st. Answers order [] (then_edge rest) q st) (sym (unfailing co.text u.image me (CloseAt a) fate q.table tt))
-      (next (after_call order [] (own_step co.text u.image me (CloseAt a) q.table) q) (record {
+      next (passed_at (each_row (change (is_of u.number) (with_holds (lacks_address a))) q.table) q) (record {
         looks = close-looks (view u none r) a q.table.rows b'.looks;
         enough = b'.enough;
         secured = λ e. omega (arith, b'.secured e, same);
@@ -389,7 +384,7 @@ module _ (inv : Progress → Type 0) (post : Ending → Progress → Type 0) (co
         still = b'.still;
         marks = marks-plain w q.faults q.losses (q.calls + 1) q.cause b'.marks;
         beside = sc.changes (is_of u.number) (with_holds (lacks_address a)) q.table.rows q.losses q.faults (mine-of u.number, λ z zs. refl) (holds-stay (lacks_address a)) b'.beside;
-      })))
+      })) b
 
   ---- Census
 
@@ -614,40 +609,23 @@ module _ (inv : Progress → Type 0) (post : Ending → Progress → Type 0) (co
   pub rule-usr1s : (rest : Tree) (g : Generation) (ks : List ℕ) (s r t : Names) (n c : ℕ) (w : Bool) (ls : List ℕ) (p : Progress) → ((q : Progress) → Band u sc s r t n c w ls q → Runs rest q) → Band u sc s r t n c w ls p → Runs (usr1s u.image g ks rest) p
   rule-usr1s rest g [] s r t n c w ls p next b = next p b
   rule-usr1s rest g (x ∷ ks) s r t n c w ls p next b =
-      let order = Make (Usr1 g x) in
-      let bs = then_edge (usr1s u.image g ks rest) in
-      rule-step order [] bs s r t n c w ls p refl b (λ q b' fate.
-      subst (λ st. Answers order [] bs q st) (sym (unfailing co.text u.image me (Usr1 g x) fate q.table tt))
-      (rule-usr1s rest g ks s r t n c w ls (after_call order [] (gives answer.Fine q.table) q) next (record {
-        looks = b'.looks;
-        enough = b'.enough;
-        secured = b'.secured;
-        budget = b'.budget;
-        lacking = b'.lacking;
-        still = b'.still;
-        marks = marks-plain w q.faults q.losses (q.calls + 1) q.cause b'.marks;
-        beside = b'.beside;
-      })))
+      rule-sure (Usr1 g x) (usr1s u.image g ks rest) s r t n c w ls p refl tt (λ q b'.
+      rule-usr1s rest g ks s r t n c w ls (passed_at q.table q) next (band-passed s s r r t n c w ls q.table q b'.looks refl b'.still b'.beside b')) b
 
   ---- Start whatever is answered
 
+  -- the workers of the name are gone
+  abbrev cut_at : Generation → ℕ → Progress → Progress
+  cut_at g x q = passed_at (each_row (drop_where (is_worker is_any u.number g x)) q.table) q
+
+  band-cut : (g : Generation) (x : ℕ) (s r t : Names) (n c : ℕ) (w : Bool) (ls : List ℕ) (q : Progress) → t g x ≡ false → Band u sc s r t n c w ls q → Band u sc (minus s g x) (minus r g x) t n c w ls (cut_at g x q)
+  band-cut g x s r t n c w ls q off b =
+      band-passed s (minus s g x) r (minus r g x) t n c w ls (cut_at g x q).table q
+      (cut-looks (view u s r) g x q.table.rows b.looks) (cut-weigh u.number g x t q.table.rows off) b.still (drops-name g x q b.beside) b
+
   pub rule-cut : (rest : Tree) (g : Generation) (x : ℕ) (s r t : Names) (n c : ℕ) (w : Bool) (ls : List ℕ) (p : Progress) → t g x ≡ false → ((q : Progress) → Band u sc (minus s g x) (minus r g x) t n c w ls q → Runs rest q) → Band u sc s r t n c w ls p → Runs (does u.image (Kill g x) (then_edge rest)) p
   rule-cut rest g x s r t n c w ls p off next b =
-      let order = Make (Kill g x) in
-      let bs = then_edge rest in
-      rule-step order [] bs s r t n c w ls p refl b (λ q b' fate.
-      let same = cut-weigh u.number g x t q.table.rows off in
-      subst (λ st. Answers order [] bs q st) (sym (unfailing co.text u.image me (Kill g x) fate q.table tt))
-      (next (after_call order [] (own_step co.text u.image me (Kill g x) q.table) q) (record {
-        looks = cut-looks (view u s r) g x q.table.rows b'.looks;
-        enough = b'.enough;
-        secured = λ e. omega (arith, b'.secured e, same);
-        budget = omega (arith, b'.budget, same);
-        lacking = b'.lacking;
-        still = b'.still;
-        marks = marks-plain w q.faults q.losses (q.calls + 1) q.cause b'.marks;
-        beside = sc.drops (is_worker is_any u.number g x) q.table.rows q.losses q.faults (mine-worker is_any u.number g x, λ z zs. refl) b'.beside;
-      })))
+      rule-sure (Kill g x) rest s r t n c w ls p refl tt (λ q b'. next (cut_at g x q) (band-cut g x s r t n c w ls q off b')) b
 
   pub rule-kills : (rest : Tree) (g : Generation) (ks : List ℕ) (s r t : Names) (n c : ℕ) (w : Bool) (ls : List ℕ) (p : Progress) → ((k : ℕ) → is_in ks k ≡ true → t g k ≡ false) → ((s' r' : Names) (q : Progress) → Less g s ks s' → Less g r ks r' → Band u sc s' r' t n c w ls q → Runs rest q) → Band u sc s r t n c w ls p → Runs (kills u.image g ks rest) p
   rule-kills rest g [] s r t n c w ls p off next b = next s r p (λ h k e. (e, λ is. refl)) (λ h k e. (e, λ is. refl)) b
@@ -669,19 +647,9 @@ module _ (inv : Progress → Type 0) (post : Ending → Progress → Type 0) (co
       (λ q' b''. rule-waits rest g ks (minus s g x) (minus r g x) t n true ls q' off'
       (λ s' r' w' c' q'' sub_s sub_r up b3. next s' r' w' c' q'' (λ h k e. and-left (s h k) _ (sub_s h k e)) (λ h k e. and-left (r h k) _ (sub_r h k e)) (λ e. up refl) b3) (c + 1) b'')
       (band-failed s r t n c w ls q b'))
-      (let same = cut-weigh u.number g x t q.table.rows (off x (in-here x x ks refl)) in
-      rule-waits rest g ks (minus s g x) (minus r g x) t n w ls (after_call order [] (gives answer.Gone (each_row (drop_where (is_worker is_any u.number g x)) q.table)) q) off'
+      (rule-waits rest g ks (minus s g x) (minus r g x) t n w ls (cut_at g x q) off'
       (λ s' r' w' c' q'' sub_s sub_r up b3. next s' r' w' c' q'' (λ h k e. and-left (s h k) _ (sub_s h k e)) (λ h k e. and-left (r h k) _ (sub_r h k e)) up b3) c
-      (record {
-        looks = cut-looks (view u s r) g x q.table.rows b'.looks;
-        enough = b'.enough;
-        secured = λ e. omega (arith, b'.secured e, same);
-        budget = omega (arith, b'.budget, same);
-        lacking = b'.lacking;
-        still = b'.still;
-        marks = marks-plain w q.faults q.losses (q.calls + 1) q.cause b'.marks;
-        beside = sc.drops (is_worker is_any u.number g x) q.table.rows q.losses q.faults (mine-worker is_any u.number g x, λ z zs. refl) b'.beside;
-      })))
+      (band-cut g x s r t n c w ls q (off x (in-here x x ks refl)) b')))
 
   -- Only these may be Starting beside those of s.
   abbrev pub Within_or : Generation → List ℕ → Names → Names → Type 0

@@ -26,7 +26,7 @@ use Rattle.definitions.specs.Path.{first_cause, went_wrong}
 use Rattle.definitions.specs.Claims.{refused_among}
 use Rattle.definitions.specs.Settling.{PlansGoBack, IsOnly, HasSide, missing, Settles, SettlesAlways, IsReturning, back, without, ReturnsAlways}
 use Rattle.theorems.proofs.Rows.{one, weigh, every-more, every-both, count-weigh, and-left, and-right, both-true, or-left, or-right}
-use Rattle.theorems.proofs.Views.{Row, Names, master_of, named, View, Looks, ready_in, finds, eqb-refl, eqb-off, eqb-is}
+use Rattle.theorems.proofs.Views.{Row, Fine, FineLive, Other, Names, master_of, named, View, Looks, ready_in, finds, eqb-refl, eqb-off, eqb-is}
 use Rattle.theorems.proofs.Effects.{none, same-is, bears-is, same-refl, after_close, looks-allows}
 use Rattle.theorems.proofs.Counts.{Distinct, count-set, every-any_of, in-filter}
 use Rattle.theorems.proofs.Sets.{in-here, every-in}
@@ -258,6 +258,19 @@ module _ (text : List ℕ) (pattern : Pattern) (set : List ℕ) where
 eqb-not : (n k : ℕ) → (n == k) ≡ false → n ≢ k
 eqb-not n k off e = let on = eqb-refl n k e in absurd (cc)
 
+-- a row is the master's or another's
+own-or-other : (v : View) (p : Process) (owner : ℕ) → (owner ≡ v.number → Fine v p) → (owner ≢ v.number → Other v p) → Row v p
+own-or-other v p owner own other = go (owner == v.number) refl
+  where
+    go : (b : Bool) → (owner == v.number) ≡ b → Row v p
+    go true e = inl (own (eqb-is owner v.number e))
+    go false e = inr (other (eqb-not owner v.number e))
+
+master-row : (v : View) (n q i : ℕ) (live : Bool) (hs : List Hold) → v.others n ≡ true → Ours v.image (record { number = v.number; holds = v.holds }) (Master n q i live hs) → Row v (Master n q i live hs)
+master-row v n q i live hs known ours =
+    own-or-other v (Master n q i live hs) n (λ is. let o = ours.0 is in (is, o.0, o.1, o.2))
+    (λ off. (off, known, ⊎_elim (λ a. inl a) (λ a. inr (λ x. off (a x))) ours.1))
+
 module _ (image pid : ℕ) (holds : List Hold) (g : Generation) (S : List ℕ) where
   abbrev u : View
   u = record { number = pid; others = λ n. true; image = image; holds = holds; starting = none; ready = named g (is_in S); held = λ h. holds }
@@ -270,31 +283,18 @@ module _ (image pid : ℕ) (holds : List Hold) (g : Generation) (S : List ℕ) w
   Known p = Ours image me p × IsRunning pid g holds p × IsQuiet p × ((k : ℕ) → is_worker is_ready pid g k p ≡ true → is_in S k ≡ true)
 
   first-row : (p : Process) → Known p → Row u p
-  first-row (Master n q i live hs) h = go (n == pid) refl
+  first-row (Master n q i live hs) h = master-row u n q i live hs refl h.0
+  first-row (Worker n q g' k st hs) h = own-or-other u (Worker n q g' k st hs) q (λ e. (e, on e st h)) (λ off. (off, refl))
     where
-      go : (b : Bool) → (n == pid) ≡ b → Row u (Master n q i live hs)
-      go true e =
-          let is = eqb-is n pid e in
-          let o = h.0.0 is in
-          inl (is, o.0, o.1, o.2)
-      go false e =
-          let off = eqb-not n pid e in
-          inr (off, refl, ⊎_elim (λ a. inl a) (λ a. inr (λ x. off (a x))) h.0.1)
-  first-row (Worker n q g' k st hs) h = go (q == pid) refl
-    where
-      on : (e : q ≡ pid) (st : Stance) → Known (Worker n q g' k st hs) → Row u (Worker n q g' k st hs)
+      on : (e : q ≡ pid) (st : Stance) → Known (Worker n q g' k st hs) → FineLive u st g' k hs
       on e Starting h = absurd (h.1 e)
       on e Ready h =
           let is = h.1 e in
           let name : same_generation g' g ≡ true = subst (λ f. same_generation f g ≡ true) (sym is.0) (same-refl g) in
           let in_it = h.3 k (both-true (q == pid) _ (eqb-refl q pid e) (both-true (same_generation g' g) (k == k) name (eqb-refl k k refl))) in
-          inl (e, (both-true (same_generation g' g) (is_in S k) name in_it, is.1))
-      on e Draining h = inl (e, h.2)
-      on e Exited h = inl (e, h.2)
-
-      go : (b : Bool) → (q == pid) ≡ b → Row u (Worker n q g' k st hs)
-      go true e = on (eqb-is q pid e) st h
-      go false e = inr (eqb-not q pid e, refl)
+          (both-true (same_generation g' g) (is_in S k) name in_it, is.1)
+      on e Draining h = h.2
+      on e Exited h = h.2
   first-row (Foreign n hs) h = inl tt
 
   first-looks : (t : Table) → IsFormed t → HasSide t image pid holds g S → Looks u t.rows
@@ -494,31 +494,18 @@ module _ (image pid : ℕ) (holds : List Hold) (opened : List Address) (g : Gene
   Found p = Ours image (record { number = pid; holds = holds }) p × IsReturning pid holds opened g S new forked p × IsQuiet p
 
   back-row : (p : Process) → Found p → Row wide p
-  back-row (Master n q i live hs) h = go (n == pid) refl
+  back-row (Master n q i live hs) h = master-row wide n q i live hs refl h.0
+  back-row (Worker n q f k st hs) h = own-or-other wide (Worker n q f k st hs) q (λ e. (e, on e st h)) (λ off. (off, refl))
     where
-      go : (b : Bool) → (n == pid) ≡ b → Row wide (Master n q i live hs)
-      go true e =
-          let is = eqb-is n pid e in
-          let o = h.0.0 is in
-          inl (is, o.0, o.1, o.2)
-      go false e =
-          let off = eqb-not n pid e in
-          inr (off, refl, ⊎_elim (λ a. inl a) (λ a. inr (λ x. off (a x))) h.0.1)
-  back-row (Worker n q f k st hs) h = go (q == pid) refl
-    where
-      on : (e : q ≡ pid) (st : Stance) → Found (Worker n q f k st hs) → Row wide (Worker n q f k st hs)
+      on : (e : q ≡ pid) (st : Stance) → Found (Worker n q f k st hs) → FineLive wide st f k hs
       on e Starting h =
           let c = h.1 e in
-          inl (e, (named-on new forked f k c.0 c.1, c.2 ∙ sym (ap held_by c.0 ∙ held-new)))
+          (named-on new forked f k c.0 c.1, c.2 ∙ sym (ap held_by c.0 ∙ held-new))
       on e Ready h =
-          ⊎_elim (λ c. inl (e, (or-left (named g (is_in S) f k) (named new (is_in forked) f k) (named-on g S f k c.0 c.1), c.2 ∙ sym (ap held_by c.0 ∙ held-old))))
-          (λ c. inl (e, (or-right (named g (is_in S) f k) (named new (is_in forked) f k) (named-on new forked f k c.0 c.1), c.2 ∙ sym (ap held_by c.0 ∙ held-new)))) (h.1 e)
-      on e Draining h = inl (e, h.2)
-      on e Exited h = inl (e, h.2)
-
-      go : (b : Bool) → (q == pid) ≡ b → Row wide (Worker n q f k st hs)
-      go true e = on (eqb-is q pid e) st h
-      go false e = inr (eqb-not q pid e, refl)
+          ⊎_elim (λ c. (or-left (named g (is_in S) f k) (named new (is_in forked) f k) (named-on g S f k c.0 c.1), c.2 ∙ sym (ap held_by c.0 ∙ held-old)))
+          (λ c. (or-right (named g (is_in S) f k) (named new (is_in forked) f k) (named-on new forked f k c.0 c.1), c.2 ∙ sym (ap held_by c.0 ∙ held-new))) (h.1 e)
+      on e Draining h = h.2
+      on e Exited h = h.2
   back-row (Foreign n hs) h = inl tt
 
   back-looks : (t : Table) → IsFormed t → live_master image t.rows ≡ Some (record { number = pid; holds = holds }) → AllByRecursion (IsOnly image pid) t.rows → AllByRecursion (IsReturning pid holds opened g S new forked) t.rows → Looks wide t.rows

@@ -17,7 +17,7 @@ use Rattle.vocabulary.specs.declared.calls.Fate.{Fate}
 use Rattle.vocabulary.specs.declared.reports.Entry.{Entry}
 use Rattle.definitions.specs.Table.{FilePath, File, Table, Caller, owner_at, live_master}
 use Rattle.definitions.specs.Exits.{after_exits}
-use Rattle.definitions.specs.Calls.{Stepped, gives, step_by, step_with, with_files, without_file}
+use Rattle.definitions.specs.Calls.{Stepped, gives, own_step, step_by, step_with, with_files, without_file}
 use Rattle.definitions.specs.Record.{Record, FilesAre, oldbin}
 use Rattle.definitions.specs.Tree.{Tree, Branches, Ends, Does, reply_of}
 use Rattle.definitions.specs.Plans.{does, then_edge, gone_edges, note_edges, quits, kills, awaits_gone, removes, remove_oldbin_too, has_oldbin, stopped, stop_tree, plan_tree}
@@ -27,7 +27,7 @@ use Rattle.definitions.specs.Claims.{names_any, is_failed_removal, was_failed, f
 use Rattle.definitions.specs.Manner.{is_leave_call}
 use Rattle.theorems.proofs.Files.{gone-file, other-removed, oldbin-other, other-oldbin}
 use Rattle.theorems.proofs.Addresses.{address-refl}
-use Rattle.theorems.proofs.Logic.{Course, course_after, Anyhow, are-mild-anyhow, gone-cases, remove-cases, unfailing}
+use Rattle.theorems.proofs.Logic.{Course, course_after, Anyhow, are-mild-anyhow, Unfailing, gone-cases, remove-cases, unfailing}
 use Rattle.theorems.proofs.Traces.{entry_of, Asking, Finally, TracedBehind, Good, AllGood, all-good, good-step, from-traced}
 use Rattle.theorems.proofs.WorkersManner.{own_course}
 
@@ -91,42 +91,37 @@ module _ (path : FilePath) (owner : Option ℕ) (co : Course) where
 
   ---- Calls that leave the file alone
 
+  abbrev StaysAt : Stepped → Table → Type 0
+  StaysAt st t = owner_at path st.table.files ≡ owner_at path t.files
+
+  -- a step leaves the file alone where it does so for each caller
+  stays-by : (call : Call) → ((by : ℕ) (c : Caller) (fate : Option Fate) (t : Table) → StaysAt (step_by co.text by (Some c) call fate t) t) → (by : ℕ) (o : Option Caller) (fate : Option Fate) (t : Table) → StaysAt (step_by co.text by o call fate t) t
+  stays-by call h by None fate t = refl
+  stays-by call h by (Some c) fate t = h by c fate t
+
+  stays-sure : (call : Call) → Unfailing call → ((by : ℕ) (c : Caller) (t : Table) → StaysAt (own_step co.text by c call t) t) → (by : ℕ) (o : Option Caller) (fate : Option Fate) (t : Table) → StaysAt (step_by co.text by o call fate t) t
+  stays-sure call sure h = stays-by call (λ by c fate t. subst (λ (st : Stepped). StaysAt st t) (sym (unfailing co.text by c call fate t sure)) (h by c t))
+
   quit-calm : (g : Generation) (x : ℕ) → IsCalm (Quit g x)
-  quit-calm g x = ((λ a. refl), go)
-    where
-      go : (by : ℕ) (o : Option Caller) (fate : Option Fate) (t : Table) → owner_at path (step_by co.text by o (Quit g x) fate t).table.files ≡ owner_at path t.files
-      go by None fate t = refl
-      go by (Some c) fate t = subst (λ (st : Stepped). owner_at path st.table.files ≡ owner_at path t.files) (sym (unfailing co.text by c (Quit g x) fate t tt)) refl
+  quit-calm g x = ((λ a. refl), stays-sure (Quit g x) tt (λ by c t. refl))
 
   kill-calm : (g : Generation) (x : ℕ) → IsCalm (Kill g x)
-  kill-calm g x = ((λ a. refl), go)
-    where
-      go : (by : ℕ) (o : Option Caller) (fate : Option Fate) (t : Table) → owner_at path (step_by co.text by o (Kill g x) fate t).table.files ≡ owner_at path t.files
-      go by None fate t = refl
-      go by (Some c) fate t = subst (λ (st : Stepped). owner_at path st.table.files ≡ owner_at path t.files) (sym (unfailing co.text by c (Kill g x) fate t tt)) refl
+  kill-calm g x = ((λ a. refl), stays-sure (Kill g x) tt (λ by c t. refl))
 
   wait-calm : (g : Generation) (x : ℕ) → IsCalm (AwaitGone g x)
-  wait-calm g x = ((λ a. refl), go)
-    where
-      go : (by : ℕ) (o : Option Caller) (fate : Option Fate) (t : Table) → owner_at path (step_by co.text by o (AwaitGone g x) fate t).table.files ≡ owner_at path t.files
-      go by None fate t = refl
-      go by (Some c) fate t = gone-cases co.text by c g x fate t (λ (st : Stepped). owner_at path st.table.files ≡ owner_at path t.files) refl refl
+  wait-calm g x = ((λ a. refl), stays-by (AwaitGone g x) (λ by c fate t. gone-cases co.text by c g x fate t (λ (st : Stepped). StaysAt st t) refl refl))
 
-  leave-files : (by : ℕ) (o : Option Caller) (fate : Option Fate) (t : Table) → owner_at path (step_by co.text by o Leave fate t).table.files ≡ owner_at path t.files
-  leave-files by None fate t = refl
-  leave-files by (Some c) fate t = subst (λ (st : Stepped). owner_at path st.table.files ≡ owner_at path t.files) (sym (unfailing co.text by c Leave fate t tt)) refl
+  leave-files : (by : ℕ) (o : Option Caller) (fate : Option Fate) (t : Table) → StaysAt (step_by co.text by o Leave fate t) t
+  leave-files = stays-sure Leave tt (λ by c t. refl)
 
   -- the removal of another file
   other-calm : (other : FilePath) → bytes_eq path other ≡ false → bytes_eq other path ≡ false → IsCalm (RemovePid other)
-  other-calm other off off' = (fails, go)
+  other-calm other off off' =
+      (fails, stays-by (RemovePid other) (λ by c fate t. remove-cases co.text by c other fate t (λ (st : Stepped). StaysAt st t) refl (other-removed other path t.files off')))
     where
       fails : (a : Answer) → is_failed_removal paths (RemovePid other) a ≡ false
       fails answer.IoFault = rw off refl
       fails _ = refl
-
-      go : (by : ℕ) (o : Option Caller) (fate : Option Fate) (t : Table) → owner_at path (step_by co.text by o (RemovePid other) fate t).table.files ≡ owner_at path t.files
-      go by None fate t = refl
-      go by (Some c) fate t = remove-cases co.text by c other fate t (λ (st : Stepped). owner_at path st.table.files ≡ owner_at path t.files) refl (other-removed other path t.files off')
 
   ---- The removal
 

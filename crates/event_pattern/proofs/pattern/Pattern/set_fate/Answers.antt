@@ -1,9 +1,6 @@
-use Rattle.std.proofs.Common.{◌<◌, nat_le, List, length, refl, ◌∙◌, ap, arith}
-use Rattle.std.specs.List.{position_or_len}
-use Rattle.std.proofs.lemmas.List.{get_or_default}
-use Rattle.event_pattern.specs.declared.pattern.Event.{Event}
-use Rattle.event_pattern.proofs.Patterns.{rising-from, IsListed, IsUnlisted}
-use Rattle.event_pattern.proofs.PatternEdits.{same-read, fate-replaced, fate-added}
+use Rattle.std.proofs.Common.{◌<◌, length, refl, ap, arith}
+use Rattle.event_pattern.proofs.Patterns.{rising-from, IsListed}
+use Rattle.event_pattern.proofs.PatternEdits.{listed-at, unlisted-at, fate-replaced, fate-added}
 use Rattle.event_pattern.proofs.pattern.Pattern.set_fate.Goals as goal
 use Rattle.event_pattern.proofs.pattern.Pattern.set_fate.Goals.{else-place-len-via-then-place-len+else-index-n, else-place-len-via-else-place-len}
 
@@ -17,8 +14,8 @@ invariant_of-self c =
     let e = c.index_mut-event.result.now in
     let within : k < length es = omega (arith, c.deref.ensures.len, ap length c.deref.ensures.value) in
     let listed : IsListed es k e = record { pattern = c.self.invariant; within = within; there = c.index_mut-event.ensures.value } in
-    let same = same-read es k e c.index.result.now within c.index_mut-event.ensures.value c.index.ensures in
-    (fate-replaced es k e _ listed refl c.args.n (ap (λ (d : Event). d.number) same ∙ c.if-index-n.true) c.args.fate refl refl).pattern
+    let same = listed-at es k e c.index.result.now c.args.n listed c.index.ensures c.if-index-n.true in
+    (fate-replaced es k e _ listed refl c.args.n same c.args.fate refl refl).pattern
 
 pub returns-then-index-n-clause-ok : goal.returns-then-index-n-clause-ok
 returns-then-index-n-clause-ok c =
@@ -27,22 +24,18 @@ returns-then-index-n-clause-ok c =
     let e = c.index_mut-event.result.now in
     let within : k < length es = omega (arith, c.deref.ensures.len, ap length c.deref.ensures.value) in
     let listed : IsListed es k e = record { pattern = c.self.invariant; within = within; there = c.index_mut-event.ensures.value } in
-    let same = same-read es k e c.index.result.now within c.index_mut-event.ensures.value c.index.ensures in
-    rw (← c.self.view_is) ((fate-replaced es k e _ listed refl c.args.n (ap (λ (d : Event). d.number) same ∙ c.if-index-n.true) c.args.fate refl refl).moments)
+    let same = listed-at es k e c.index.result.now c.args.n listed c.index.ensures c.if-index-n.true in
+    rw (← c.self.view_is) ((fate-replaced es k e _ listed refl c.args.n same c.args.fate refl refl).moments)
 
 pub invariant_of-self-2 : goal.invariant_of-self-2
 invariant_of-self-2 c =
     let es = c.self.inside.events.items in
     let k = c.first_from-place.result in
     let n = c.args.n in
-    let unlisted : IsUnlisted es k n = record {
-      pattern = c.self.invariant;
-      first = c.first_from-place.ensures.place ∙ ap (λ (xs : List Event). position_or_len (λ e. nat_le n e.number) xs) c.deref.ensures.value;
-      other = λ d lt same. elim c.else-place-len.branch [
-        | else-place-len-via-then-place-len+else-index-n w ↦ w.if-index-n.false (ap (λ (e : Event). e.number) (w.index.ensures ∙ get_or_default es k w.index.result.now d lt) ∙ same)
-        | else-place-len-via-else-place-len w ↦ absurd (omega (arith, c.deref.ensures.len, ap length c.deref.ensures.value))
-      ];
-    } in
+    let unlisted = unlisted-at es _ k n c.self.invariant c.deref.ensures.value c.first_from-place.ensures.place (λ lt. elim c.else-place-len.branch [
+      | else-place-len-via-then-place-len+else-index-n w ↦ (w.index.result.now, w.index.ensures, w.if-index-n.false)
+      | else-place-len-via-else-place-len w ↦ absurd (omega (arith, c.deref.ensures.len, ap length c.deref.ensures.value))
+    ]) in
     rw c.in_ok-insert.ensures.items ((fate-added es k n _ unlisted c.requires refl c.args.fate c.new.ensures.items refl).pattern)
 
 pub returns-clause-ok : goal.returns-clause-ok
@@ -50,12 +43,8 @@ returns-clause-ok c =
     let es = c.self.inside.events.items in
     let k = c.first_from-place.result in
     let n = c.args.n in
-    let unlisted : IsUnlisted es k n = record {
-      pattern = c.self.invariant;
-      first = c.first_from-place.ensures.place ∙ ap (λ (xs : List Event). position_or_len (λ e. nat_le n e.number) xs) c.deref.ensures.value;
-      other = λ d lt same. elim c.else-place-len.branch [
-        | else-place-len-via-then-place-len+else-index-n w ↦ w.if-index-n.false (ap (λ (e : Event). e.number) (w.index.ensures ∙ get_or_default es k w.index.result.now d lt) ∙ same)
-        | else-place-len-via-else-place-len w ↦ absurd (omega (arith, c.deref.ensures.len, ap length c.deref.ensures.value))
-      ];
-    } in
+    let unlisted = unlisted-at es _ k n c.self.invariant c.deref.ensures.value c.first_from-place.ensures.place (λ lt. elim c.else-place-len.branch [
+      | else-place-len-via-then-place-len+else-index-n w ↦ (w.index.result.now, w.index.ensures, w.if-index-n.false)
+      | else-place-len-via-else-place-len w ↦ absurd (omega (arith, c.deref.ensures.len, ap length c.deref.ensures.value))
+    ]) in
     rw (c.in_ok-insert.ensures.items, ← c.self.view_is) ((fate-added es k n _ unlisted c.requires refl c.args.fate c.new.ensures.items refl).moments)
