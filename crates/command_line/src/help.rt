@@ -38,7 +38,8 @@ TTOU        one worker less, down to none
 WINCH       no workers
 HUP         go over to the configuration of --to
 USR1        reopen the logs
-USR2        go over to a new master (has no plan yet: refused)
+USR2        go over to a new master, of the new executable and
+            configuration
 QUIT        stop, once requests in progress are finished
 INT, TERM   stop at once
 beat K NOW  worker K is alive at the moment NOW

@@ -15,19 +15,20 @@ use Rattle.kernel_model.specs.State.{State}
 use Rattle.definitions.specs.Plans.{plan_tree}
 use Rattle.definitions.specs.Run.{Pattern, Ran, report_of, Replays}
 use Rattle.definitions.specs.Path.{KeepsPathLaw}
-use Rattle.definitions.specs.After.{record_after, next_record, next_config, next_image}
+use Rattle.definitions.specs.After.{next_record, next_config, next_image}
 use Rattle.word_runner.specs.declared.enactor.Enacted.{Enacted}
 use Rattle.plan_executor.specs.Lawful.{IsWholeRun}
 use Rattle.plan_executor.specs.Enacted.{HasFloor, IsEnacted}
 use Rattle.plan_executor.specs.Range.{HasRange}
 use Rattle.plan_executor.specs.Refusals.{HasPlan, NamesMaster}
 use Rattle.plan_executor.proofs.Reporting.{whole-run}
-use Rattle.plan_executor.proofs.Reigning.{no_upgrade, alone, master-stays}
-use Rattle.definitions.specs.Claims.{IsStart, IsAccepted, HasDescriptors, refused_among, refusal_of, run_of, EndsAsReported, InManner, WorkersHeadline, MendHeadline, ReopenHeadline, ReopenFloor, ReloadHeadline, StopHeadline}
+use Rattle.plan_executor.specs.Naming.{listed, heir_of}
+use Rattle.plan_executor.proofs.Reigning.{heirs}
+use Rattle.definitions.specs.Claims.{IsStart, IsAccepted, HasDescriptors, refused_among, refusal_of, run_of, EndsAsReported, InManner, WorkersHeadline, MendHeadline, ReopenHeadline, ReopenFloor, ReloadHeadline, UpgradeHeadline, StopHeadline}
 use Rattle.definitions.specs.Manner.{Manner}
 use Rattle.vocabulary.specs.Settings.{Settings}
 
--- what the theorems say of each target of one master
+-- what the theorems say of each target
 pub record Headlines : Type 0 where
   pub workers : WorkersHeadline
   pub workers_manner : (n : ℕ) → InManner (Workers n)
@@ -38,6 +39,8 @@ pub record Headlines : Type 0 where
   pub reopenings_floor : ReopenFloor
   pub reloads : ReloadHeadline
   pub reloads_manner : (s : Settings) → InManner (Reload s)
+  pub upgrades : UpgradeHeadline
+  pub upgrades_manner : (s : Settings) → InManner (Upgrade s)
   pub stops : StopHeadline
   pub stops_manner : (quick : Bool) → InManner (Stop quick)
 
@@ -59,31 +62,30 @@ keeps h t r (Mend overdue) pattern start ds within range plan spared =
 keeps h t r Reopen pattern start ds within range plan spared =
     let a : IsAccepted t r Reopen pattern = record { start = start; accepts = tt; spared = spared } in (h.reopenings t r pattern a, h.reopenings_floor t r pattern a, h.reopenings_manner t r pattern a)
 keeps h t r (Reload s) pattern start ds within range plan spared =
-    let a : IsAccepted t r (Reload s) pattern = record { start = start; accepts = (range, ds, there (next_config r.generation) plan.0); spared = spared } in
+    let a : IsAccepted t r (Reload s) pattern = record { start = start; accepts = (range, ds, there (next_config r.generation) plan); spared = spared } in
     let k = h.reloads t r s pattern a in (k.0, k.1, h.reloads_manner s t r pattern a)
-keeps h t r (Upgrade s) pattern start ds within range plan spared = absurd (no_upgrade (next_image r.generation) plan.0 plan.1)
+keeps h t r (Upgrade s) pattern start ds within range plan spared =
+    let a : IsAccepted t r (Upgrade s) pattern = record { start = start; accepts = (range, ds, there (next_image r.generation) plan); spared = spared } in
+    let k = h.upgrades t r s pattern a in (k.0, k.1, h.upgrades_manner s t r pattern a)
 keeps h t r (Stop quick) pattern start ds within range plan spared =
     let a : IsAccepted t r (Stop quick) pattern = record { start = start; accepts = tt; spared = spared } in (h.stops t r quick pattern a, tt, h.stops_manner quick t r pattern a)
 
 -- What is found among the calls is so of the run.
-refusal-is : (r : Record) (target : Target) (pattern : Pattern) (first last : Table) (entries : List Entry) (report : Report) (found : Option ℕ) → HasPlan r target → IsWholeRun r target pattern first entries last report → refused_among (r.generation.image ∷ []) [] pattern 0 entries ≡ found → refusal_of r target pattern first ≡ found
+refusal-is : (r : Record) (target : Target) (pattern : Pattern) (first last : Table) (entries : List Entry) (report : Report) (found : Option ℕ) → HasPlan r target → IsWholeRun r target pattern first entries last report → refused_among (r.generation.image ∷ []) (listed (heir_of r target)) pattern 0 entries ≡ found → refusal_of r target pattern first ≡ found
 refusal-is r target pattern first last entries report found plan whole naming =
-    ap (λ heirs. refused_among (r.generation.image ∷ []) heirs pattern 0 (run_of r target pattern first).entries) (alone r target plan).1
-    ∙ (ap (refused_among (r.generation.image ∷ []) [] pattern 0) whole.entries_are ∙ naming)
+    ap (λ images. refused_among (r.generation.image ∷ []) images pattern 0 (run_of r target pattern first).entries) (sym (heirs r target plan))
+    ∙ (ap (refused_among (r.generation.image ∷ []) (listed (heir_of r target)) pattern 0) whole.entries_are ∙ naming)
 
 pub enacted : Headlines → (first last : State) (r : Record) (target : Target) (pattern : Pattern) (e : Enacted) →
     IsStart first.table r → HasDescriptors first.table r → IsTarget target → HasRange target → HasPlan r target → (LacksNumbers first.table (height (plan_tree r target)) → ⊥) →
     KeepsPathLaw (plan_tree r target) r.note e.log.entries e.report → Replays (text_handed r target) pattern 0 first.table e.log.entries last.table →
     last.room + length e.log.entries ≡ height (plan_tree r target) →
-    refused_among (r.generation.image ∷ []) [] pattern 0 e.log.entries ≡ None → e.after ≡ record_after r target e.report r.pid →
+    refused_among (r.generation.image ∷ []) (listed (heir_of r target)) pattern 0 e.log.entries ≡ None → e.after ≡ next_record r target e.report last.table →
     IsEnacted first last r target pattern e
 enacted headlines first last r target pattern e start ds within range plan numbers law replays room spared after =
-    let ran = run_of r target pattern first.table in
     let whole = whole-run r target pattern first.table last.table e.log.entries e.report law replays in
     let none = refusal-is r target pattern first.table last.table e.log.entries e.report None plan whole spared in
     let kept = keeps headlines first.table r target pattern start ds within range plan none in
-    let left : record_after r target (report_of ran) r.pid ≡ next_record r target e.report last.table =
-    sym (master-stays r target plan ran kept.0.after) ∙ (λ i. next_record r target (sym whole.report_is i) (whole.table i)) in
     record {
       agrees = start.agrees;
       has_plan = plan;
@@ -91,17 +93,17 @@ enacted headlines first last r target pattern e start ds within range plan numbe
       spared = none;
       is_run = whole;
       room = room;
-      after = after ∙ (ap (λ x. record_after r target x r.pid) whole.report_is ∙ left);
+      after = after;
       ends = kept.0;
       floor = kept.1;
       manner = kept.2;
     }
 
--- The first moment that kills the executing master is refused.
+-- The first moment that kills an executing master is refused.
 pub named : (first last : Table) (r : Record) (target : Target) (pattern : Pattern) (entries : List Entry) (report : Report) (moment : ℕ) →
     Agrees first r → HasPlan r target → (LacksNumbers first (height (plan_tree r target)) → ⊥) →
     KeepsPathLaw (plan_tree r target) r.note entries report → Replays (text_handed r target) pattern 0 first entries last →
-    refused_among (r.generation.image ∷ []) [] pattern 0 entries ≡ Some moment →
+    refused_among (r.generation.image ∷ []) (listed (heir_of r target)) pattern 0 entries ≡ Some moment →
     NamesMaster first r target pattern moment
 named first last r target pattern entries report moment agrees plan numbers law replays naming =
     let whole = whole-run r target pattern first last entries report law replays in

@@ -1,5 +1,5 @@
 -- At most one refusal fits, and none where a target is carried out.
-use Rattle.std.proofs.Common.{◌≡◌, ◌⊎◌, inl, inr, Option, Some, None, Result, Ok, Err, refl, sym, ◌∙◌, ap, subst}
+use Rattle.std.proofs.Common.{◌≡◌, ◌⊎◌, inl, inr, Result, Ok, Err, refl, sym, ◌∙◌, ap, subst}
 use Rattle.std.specs.Prelude.{◌↔◌}
 use Rattle.std.specs.Result.{IsErrOf}
 use Rattle.std.proofs.lemmas.Option.{none-some, same_Some}
@@ -8,12 +8,9 @@ use Rattle.definitions.specs.Record.{Record, Agrees}
 use Rattle.vocabulary.specs.declared.targets.Target.{Target}
 use Rattle.definitions.specs.Tree.{height}
 use Rattle.definitions.specs.Plans.{plan_tree}
-use Rattle.definitions.specs.After.{next_image, lacks_generation}
-use Rattle.definitions.specs.Table.{Generation}
+use Rattle.definitions.specs.After.{lacks_generation}
 use Rattle.std.proofs.lemmas.Bool.{false≢true}
-use Rattle.std.specs.Prelude.{is_none, is_some, true}
-use Rattle.reload_planner.specs.Planning.{is_apart}
-use Rattle.vocabulary.specs.declared.targets.Target.TheVariants.{Workers, Mend, Reopen, Reload, Upgrade, Stop}
+use Rattle.std.specs.Prelude.{true}
 use Rattle.definitions.specs.Run.{Pattern}
 use Rattle.kernel_model.specs.Room.{LacksNumbers}
 use Rattle.kernel_model.specs.State.{State}
@@ -31,33 +28,17 @@ IsExact t r target pattern result = (why : EnactRefusal) → IsErrOf result Memo
 
 ---- One refusal alone
 
--- no upgrade both lacks a generation and has one
-not_both : (r : Record) (target : Target) → is_apart r target ≡ true → lacks_generation r target ≡ true → ⊥
-not_both r (Workers n) apart lacks = false≢true apart
-not_both r (Mend overdue) apart lacks = false≢true apart
-not_both r Reopen apart lacks = false≢true apart
-not_both r (Reload s) apart lacks = false≢true apart
-not_both r (Upgrade s) apart lacks = none (next_image r.generation) apart lacks
-  where
-    none : (g : Option Generation) → is_some g ≡ true → is_none g ≡ true → ⊥
-    none None is lacks = false≢true is
-    none (Some g) is lacks = false≢true lacks
-not_both r (Stop quick) apart lacks = false≢true apart
-
 -- a planner that refuses a target makes no plan of it
 pub no_plan : (r : Record) (target : Target) (p : PlanRefusal) → HasNoPlan r target p → HasPlan r target → ⊥
-no_plan r target planner.Unplanned none plan = false≢true (sym plan.1 ∙ none)
+no_plan r target planner.Unplanned none plan = none
 no_plan r target planner.TooLarge none plan = none
-no_plan r target planner.NoGeneration none plan = false≢true (sym plan.0 ∙ none)
+no_plan r target planner.NoGeneration none plan = false≢true (sym plan ∙ none)
 no_plan r target planner.Memory none plan = none
 
 one_planless : (r : Record) (target : Target) (p q : PlanRefusal) → HasNoPlan r target p → HasNoPlan r target q → p ≡ q
-one_planless r target planner.Unplanned planner.Unplanned none also = refl
-one_planless r target planner.Unplanned planner.TooLarge none also = absurd also
-one_planless r target planner.Unplanned planner.NoGeneration none also = absurd (not_both r target none also)
-one_planless r target planner.Unplanned planner.Memory none also = absurd also
+one_planless r target planner.Unplanned q none also = absurd none
 one_planless r target planner.TooLarge q none also = absurd none
-one_planless r target planner.NoGeneration planner.Unplanned none also = absurd (not_both r target also none)
+one_planless r target planner.NoGeneration planner.Unplanned none also = absurd also
 one_planless r target planner.NoGeneration planner.TooLarge none also = absurd also
 one_planless r target planner.NoGeneration planner.NoGeneration none also = refl
 one_planless r target planner.NoGeneration planner.Memory none also = absurd also
@@ -119,9 +100,8 @@ exact-short t r target pattern because agrees plan (inr h) =
     subst (λ (e : EnactRefusal). IsExact t r target pattern (Err e)) (sym h.0) (exact-refused t r target pattern NoNumbers (record { agrees = agrees; has_plan = plan; lacks = h.1 }))
 
 -- where a planner wants memory it refuses nothing
-pub unspared : {T : Type 0} (r : Record) (target : Target) (result : Result T EnactRefusal) → (IsErrOf result (Plan planner.Unplanned) ↔ (is_apart r target ≡ true)) →
-    (IsErrOf result (Plan planner.NoGeneration) ↔ (lacks_generation r target ≡ true)) → IsErrOf result Memory → (p : PlanRefusal) → HasNoPlan r target p → ⊥
-unspared r target result apart numbered memory planner.Unplanned none = let planless = apart.1 none in cc
-unspared r target result apart numbered memory planner.TooLarge none = none
-unspared r target result apart numbered memory planner.NoGeneration none = let planless = numbered.1 none in cc
-unspared r target result apart numbered memory planner.Memory none = none
+pub unspared : {T : Type 0} (r : Record) (target : Target) (result : Result T EnactRefusal) → (IsErrOf result (Plan planner.NoGeneration) ↔ (lacks_generation r target ≡ true)) → IsErrOf result Memory → (p : PlanRefusal) → HasNoPlan r target p → ⊥
+unspared r target result numbered memory planner.Unplanned none = none
+unspared r target result numbered memory planner.TooLarge none = none
+unspared r target result numbered memory planner.NoGeneration none = let planless = numbered.1 none in cc
+unspared r target result numbered memory planner.Memory none = none

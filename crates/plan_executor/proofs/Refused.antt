@@ -1,12 +1,11 @@
--- The first moment that names an executing master, found call by call.
-use Rattle.std.proofs.Common.{◌≡◌, ℕ, ◌+◌, ◌||◌, nat_eq, Bool, true, false, cond, List, [], ◌∷◌, ◌++◌, Option, Some, None, refl, ◌∙◌, ap}
+-- Whose exits are looked at, call by call.
+use Rattle.std.proofs.Common.{◌≡◌, ℕ, ◌||◌, nat_eq, Bool, true, false, List, [], ◌∷◌, ◌++◌, refl, ◌∙◌}
+use Rattle.std.specs.Prelude.{◌&&◌, if◌then◌else◌}
 use Rattle.std.specs.List.{list_any}
 use Rattle.vocabulary.specs.declared.names.Name.{Name}
 use Rattle.vocabulary.specs.declared.names.Name.TheVariants as name
-use Rattle.vocabulary.specs.declared.reports.Entry.{Entry}
-use Rattle.definitions.specs.Manner.{is_leave_call}
-use Rattle.definitions.specs.Run.{Pattern}
-use Rattle.definitions.specs.Claims.{names_any, refused_among}
+use Rattle.listener_set.specs.Numbers.{is_in}
+use Rattle.definitions.specs.Claims.{names_any}
 use Rattle.plan_executor.specs.Naming.{is_exit_of}
 
 or_false : (b : Bool) {one other : Bool} → one ≡ other → (b || one) ≡ ((b || false) || other)
@@ -20,39 +19,39 @@ names_any-list_any image (name.Master i ∷ es) = or_false (nat_eq image i) (nam
 names_any-list_any image (name.Worker g k ∷ es) = names_any-list_any image es
 names_any-list_any image (name.Draining g k ∷ es) = names_any-list_any image es
 
-nobody : (es : List Name) → names_any [] es ≡ false
+pub nobody : (es : List Name) → names_any [] es ≡ false
 nobody [] = refl
 nobody (name.Master i ∷ es) = nobody es
 nobody (name.Worker g k ∷ es) = nobody es
 nobody (name.Draining g k ∷ es) = nobody es
 
--- nobody executes any more
-pub refused_among-nobody : (pattern : Pattern) (n : ℕ) (entries : List Entry) → refused_among [] [] pattern n entries ≡ None
-refused_among-nobody pattern n [] = refl
-refused_among-nobody pattern n (e ∷ entries) =
-    elim (is_leave_call e.call) as (λ b. cond (names_any (cond b [] []) (pattern (n + 1)).exits) (Some (n + 1)) (refused_among (cond b [] []) [] pattern (n + 1) entries) ≡ None) [
-      | true ↦ ap (λ b. cond b (Some (n + 1)) (refused_among [] [] pattern (n + 1) entries)) (nobody (pattern (n + 1)).exits) ∙ refused_among-nobody pattern (n + 1) entries
-      | false ↦ ap (λ b. cond b (Some (n + 1)) (refused_among [] [] pattern (n + 1) entries)) (nobody (pattern (n + 1)).exits) ∙ refused_among-nobody pattern (n + 1) entries
-    ]
+-- a master is among some or among others
+is_in-both : (images others : List ℕ) (i : ℕ) → is_in (images ++ others) i ≡ (is_in images i || is_in others i)
+is_in-both [] others i = refl
+is_in-both (image ∷ images) others i = one (nat_eq image i) _ _ _ (is_in-both images others i)
+  where
+    one : (b x y z : Bool) → x ≡ (y || z) → (b || x) ≡ ((b || y) || z)
+    one true x y z same = refl
+    one false x y z same = same
 
--- What the first call of some, by a master that executes alone, says: it exits in the moment, it leaves, or it goes on.
-module _ (image : ℕ) (pattern : Pattern) (n : ℕ) (e : Entry) (entries : List Entry) where
-  abbrev pub Here : Bool → Bool → Option ℕ
-  Here named leaves = cond named (Some (n + 1)) (refused_among (cond leaves [] (image ∷ [])) [] pattern (n + 1) entries)
+apart : (a b x y : Bool) → ((a || b) || (x || y)) ≡ ((a || x) || (b || y))
+apart true b x y = refl
+apart false true true y = refl
+apart false true false y = refl
+apart false false x y = refl
 
-  at_call : (leaves : Bool) → names_any (cond leaves ((image ∷ []) ++ []) (image ∷ [])) (pattern (n + 1)).exits ≡ names_any (image ∷ []) (pattern (n + 1)).exits
-  at_call true = refl
-  at_call false = refl
+names_any-both : (images others : List ℕ) (es : List Name) → names_any (images ++ others) es ≡ (names_any images es || names_any others es)
+names_any-both images others [] = refl
+names_any-both images others (name.Master i ∷ es) =
+    (λ j. is_in-both images others i j || names_any-both images others es j) ∙ apart (is_in images i) (is_in others i) (names_any images es) (names_any others es)
+names_any-both images others (name.Worker g k ∷ es) = names_any-both images others es
+names_any-both images others (name.Draining g k ∷ es) = names_any-both images others es
 
-  is_here : refused_among (image ∷ []) [] pattern n (e ∷ entries) ≡ Here (names_any (image ∷ []) (pattern (n + 1)).exits) (is_leave_call e.call)
-  is_here = ap (λ b. Here b (is_leave_call e.call)) (at_call (is_leave_call e.call))
-
-  pub refused_among-found : names_any (image ∷ []) (pattern (n + 1)).exits ≡ true → refused_among (image ∷ []) [] pattern n (e ∷ entries) ≡ Some (n + 1)
-  refused_among-found named = is_here ∙ ap (λ b. Here b (is_leave_call e.call)) named
-
-  pub refused_among-left : names_any (image ∷ []) (pattern (n + 1)).exits ≡ false → is_leave_call e.call ≡ true → refused_among (image ∷ []) [] pattern n (e ∷ entries) ≡ None
-  refused_among-left named leaves =
-      is_here ∙ ap (λ b. Here b (is_leave_call e.call)) named ∙ ap (Here false) leaves ∙ refused_among-nobody pattern (n + 1) entries
-
-  pub refused_among-passed : names_any (image ∷ []) (pattern (n + 1)).exits ≡ false → is_leave_call e.call ≡ false → refused_among (image ∷ []) [] pattern n (e ∷ entries) ≡ refused_among (image ∷ []) [] pattern (n + 1) entries
-  refused_among-passed named leaves = is_here ∙ ap (λ b. Here b (is_leave_call e.call)) named ∙ ap (Here false) leaves
+-- Where one leaves, its heir is looked at too.
+pub names_any-at : (leaves : Bool) (images others : List ℕ) (es : List Name) → names_any (if leaves then images ++ others else images) es ≡ (names_any images es || (leaves && names_any others es))
+names_any-at true images others es = names_any-both images others es
+names_any-at false images others es = same (names_any images es)
+  where
+    same : (b : Bool) → b ≡ (b || false)
+    same true = refl
+    same false = refl

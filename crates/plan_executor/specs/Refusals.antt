@@ -9,19 +9,18 @@ use Rattle.definitions.specs.Plans.{plan_tree}
 use Rattle.definitions.specs.Run.{Pattern}
 use Rattle.definitions.specs.Claims.{refusal_of}
 use Rattle.kernel_model.specs.Room.{LacksNumbers}
-use Rattle.reload_planner.specs.Planning.{is_apart}
 use Rattle.reload_planner.specs.declared.refusal.PlanRefusal.{PlanRefusal}
 use Rattle.reload_planner.specs.declared.refusal.PlanRefusal.TheVariants as planner
 use Rattle.plan_executor.specs.declared.enactment.EnactRefusal.{EnactRefusal}
 use Rattle.plan_executor.specs.declared.enactment.EnactRefusal.TheVariants.{Memory, RecordDisagrees, Plan, MasterNamed, NoNumbers}
 
--- There is a plan: no number of the target's generation would pass its limit, and it is no upgrade, which is planned apart.
+-- There is a plan: no number of the target's generation would pass its limit.
 abbrev pub HasPlan : Record → Target → Type 0
-HasPlan r target = (lacks_generation r target ≡ false) × (is_apart r target ≡ false)
+HasPlan r target = lacks_generation r target ≡ false
 
--- When the planner of one master refuses a target so, want of memory aside.
+-- When a target's planner refuses it so, want of memory aside. Each target has a planner, and no plan is too large.
 abbrev pub HasNoPlan : Record → Target → PlanRefusal → Type 0
-HasNoPlan r target planner.Unplanned = is_apart r target ≡ true
+HasNoPlan r target planner.Unplanned = ⊥
 HasNoPlan r target planner.TooLarge = ⊥
 HasNoPlan r target planner.NoGeneration = lacks_generation r target ≡ true
 HasNoPlan r target planner.Memory = ⊥

@@ -1,8 +1,8 @@
 //! A target, planned and carried out on the modelled kernel.
-ghost use Rattle.std.specs.Prelude.{◌≡◌, ◌≤◌, ◌↔◌, ◌⊎◌, OnErr, IfOk, IfErr, IsErrOf, IsTrue};
+ghost use Rattle.std.specs.Prelude.{◌≡◌, ◌≤◌, ◌↔◌, ◌⊎◌, Some, OnErr, IfOk, IfErr, IsErrOf, IsTrue};
 ghost use Rattle.definitions.specs.Formed.{IsFormed};
 ghost use Rattle.definitions.specs.Record.{Agrees};
-ghost use Rattle.definitions.specs.Plans.{plan_tree};
+ghost use Rattle.definitions.specs.Plans.{plan_tree, planned};
 ghost use Rattle.vocabulary.specs.Settings.{IsInRange};
 ghost use Rattle.definitions.specs.Target.{IsTarget, text_handed};
 ghost use Rattle.kernel_model.specs.Pattern.{moment_at};
@@ -12,13 +12,13 @@ ghost use Rattle.reload_planner.specs.declared.refusal.PlanRefusal.{PlanRefusal 
 ghost use Rattle.plan_executor.specs.Enacted.{IsEnacted};
 ghost use Rattle.plan_executor.specs.Range.{HasRange};
 ghost use Rattle.definitions.specs.After.{lacks_generation};
-ghost use Rattle.reload_planner.specs.Planning.{is_apart};
 ghost use Rattle.plan_executor.specs.Refusals.{HasPlan, HasNoPlan, IsPlannable, IsRefused};
 ghost use Rattle.plan_executor.specs.declared.enactment.EnactRefusal.{EnactRefusal as Refusal};
 
 use crate::agreement::agrees;
 use crate::naming::refused_among;
 use crate::patterned::Patterned;
+use crate::succession::{heir_of, record_left};
 use kernel_model::{Kernel, Pattern, ReserveRefusal};
 use plan_runner::{CallLog, execute};
 use reload_planner::PlanRefusal;
@@ -37,7 +37,7 @@ pub enum EnactRefusal {
     RecordDisagrees,
     /// E3: the target has no plan, with the planner's refusal.
     Plan(PlanRefusal),
-    /// E4: the pattern kills the executing master at this moment of the run.
+    /// E4: the pattern kills an executing master at this moment of the run.
     MasterNamed(u32),
     /// E5: fewer process or socket numbers are left than the plan's longest path has steps.
     NoNumbers,
@@ -59,9 +59,11 @@ impl From<AllocError> for EnactRefusal {
 /// All memory is taken before the first call, on a copy: a refusal leaves the kernel as it was.
 /// Refusals in their order: E2 the record disagrees with the kernel; E3 there is no plan, with the
 /// planner's own refusal; E5 fewer process or socket numbers are left than the plan's longest path
-/// has steps; E4 a moment of the run kills the executing master, and the first such is named. E1
-/// may come in place of the last two, and never where E2 or E3 is due. After a run the kernel has
-/// room for as many calls as the longest path has steps, less those that were made.
+/// has steps; E4 a moment of the run kills an executing master, and the first such is named: the
+/// master of the record up to its Leave, and the new one of an upgrade from that Leave on. E1 may
+/// come in place of the last two, and never where E2 or E3 is due. After a run the kernel has room
+/// for as many calls as the longest path has steps, less those that were made, and the record is
+/// that of the master that reigns then.
 pub fn enact(
     alloc: Global,
     kernel: &mut Kernel,
@@ -86,7 +88,8 @@ pub fn enact(
     let mut log = CallLog::with_room(alloc, longest)?;
     let mut calls = Patterned::new(copy, pattern, plan.text());
     let report = execute(&plan, &mut calls, &mut log);
-    if let Some(moment) = refused_among(pattern, state.generation.image, log.entries()) {
+    let heir = heir_of(state, target);
+    if let Some(moment) = refused_among(pattern, state.generation.image, heir, log.entries()) {
         return Err(EnactRefusal::MasterNamed(moment));
     }
     read_settings(target);
@@ -94,9 +97,10 @@ pub fn enact(
     theorems::mends_end_as_reported();
     theorems::reopenings_end_as_reported();
     theorems::reloads_end_as_reported();
+    theorems::upgrades_end_as_reported();
     theorems::stops_end_as_reported();
     *kernel = calls.into_kernel();
-    let after = state.after(target, &report, state.pid);
+    let after = record_left(state, target, &report, kernel);
     Ok(Enacted { log, report, after })
 }
 
@@ -130,13 +134,28 @@ fn plan_of(alloc: Global, state: &Record, target: &Target) -> Result<Plan, Enact
     ensures text { IfOk result (λ plan. text_of plan ≡ text_handed state.now target.now) }
     ensures refused { IfErr result (λ why.
         (why ≡ EnactRefusal.Memory) ⊎ ((refusal : Unplannable) × (why ≡ EnactRefusal.Plan refusal) × HasNoPlan state.now target.now refusal)) }
-    ensures apart { IsErrOf result (EnactRefusal.Plan Unplannable.Unplanned) ↔ IsTrue (is_apart state.now target.now) }
     ensures numbered { IsErrOf result (EnactRefusal.Plan Unplannable.NoGeneration) ↔ IsTrue (lacks_generation state.now target.now) }
 {
-    match reload_planner::plan(alloc, state, target) {
+    match planned(alloc, state, target) {
         Ok(plan) => Ok(plan),
         Err(PlanRefusal::Memory) => Err(EnactRefusal::Memory),
         Err(refusal) => Err(EnactRefusal::Plan(refusal)),
+    }
+}
+
+/// What a target's planner says. Only an upgrade is planned for two masters, and it hands a text.
+fn planned(alloc: Global, state: &Record, target: &Target) -> Result<Plan, PlanRefusal>
+    requires { IsTarget target.now }
+    ensures tree { IfOk result (λ plan. planned state.now target.now ≡ Some (tree_of plan)) }
+    ensures note { IfOk result (λ plan. note_of plan ≡ state.now.note) }
+    ensures text { IfOk result (λ plan. text_of plan ≡ text_handed state.now target.now) }
+    ensures numbered { IsErrOf result PlanRefusal.NoGeneration ↔ IsTrue (lacks_generation state.now target.now) }
+    ensures not_large { IsErrOf result PlanRefusal.TooLarge → ⊥ }
+    ensures planned_here { IsErrOf result PlanRefusal.Unplanned → ⊥ }
+{
+    match target {
+        Target::Upgrade(settings) => upgrade_planner::plan(alloc, state, settings),
+        _ => reload_planner::plan(alloc, state, target),
     }
 }
 

@@ -7,6 +7,7 @@ mod enactment;
 mod naming;
 mod patterned;
 mod rehearsal;
+mod succession;
 
 pub use agreement::agrees;
 pub use enactment::{EnactRefusal, enact};

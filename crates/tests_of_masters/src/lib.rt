@@ -10,4 +10,5 @@ mod planning;
 #[cfg(test)]
 mod records;
 #[cfg(test)]
+mod upgrades;
 mod words;

@@ -10,7 +10,7 @@ use Rattle.definitions.specs.Claims.{refused_among}
 use Rattle.definitions.specs.Run.{Pattern, Replays}
 use Rattle.vocabulary.specs.declared.plans.PidNote.{PidNote}
 use Rattle.definitions.specs.Tree.{Tree, height}
-use Rattle.definitions.specs.After.{record_after}
+use Rattle.definitions.specs.After.{next_record}
 use Rattle.definitions.specs.Record.{Record, Agrees}
 use Rattle.vocabulary.specs.declared.targets.Target.{Target}
 use Rattle.kernel_model.specs.Pattern.{moment_at}
@@ -21,6 +21,7 @@ use Rattle.plan_executor.proofs.Enacting.{enacted, named}
 use Rattle.word_runner.specs.declared.enactor.Enacted.{Enacted}
 use Rattle.plan_executor.specs.declared.enactment.EnactRefusal.{EnactRefusal}
 use Rattle.plan_executor.specs.declared.enactment.EnactRefusal.TheVariants.{Memory, RecordDisagrees, NoNumbers, MasterNamed}
+use Rattle.plan_executor.specs.Naming.{listed}
 use Rattle.plan_executor.specs.Refusals.{HasPlan, IsPlannable}
 use Rattle.plan_executor.proofs.Exact.{IsExact, no_plan, unspared, exact-refused, exact-planless, exact-short, exact-enacted}
 use Rattle.plan_executor.proofs.enactment.enact.Goals as goal
@@ -71,7 +72,8 @@ returns-in-Some-clause-exact c =
     (subst (λ n. Replays calls.text.now (moment_at calls.pattern.now) n c.args.kernel.now.table entries last) c.new-calls.ensures.number
     (subst (λ (s : State). Replays calls.text.now (moment_at calls.pattern.now) calls.number s.table entries last) first led.replays))) in
     let agrees : Agrees c.args.kernel.now.table c.args.state.now = c.agrees.ensures.agrees.0 (search rules) in
-    let naming : refused_among (c.args.state.now.generation.image ∷ []) [] (moment_at c.args.pattern.now) 0 entries ≡ Some c.in-Some.moment = search rules in
+    let found : refused_among (c.args.state.now.generation.image ∷ []) (listed c.heir_of-heir.result) (moment_at c.args.pattern.now) 0 entries ≡ Some c.in-Some.moment = search rules in
+    let naming = ap (λ image. refused_among (c.args.state.now.generation.image ∷ []) (listed image) (moment_at c.args.pattern.now) 0 entries) (sym c.heir_of-heir.ensures) ∙ found in
     exact-refused c.args.kernel.now.table c.args.state.now c.args.target.now (moment_at c.args.pattern.now) (MasterNamed c.in-Some.moment)
     (named c.args.kernel.now.table last c.args.state.now c.args.target.now (moment_at c.args.pattern.now) entries c.execute-report.result c.in-Some.moment
     agrees c.in_ok-plan.ensures.planned (subst (λ n. LacksNumbers c.args.kernel.now.table n → ⊥) longest c.in_ok-copy.ensures.numbers) law replays naming)
@@ -99,9 +101,10 @@ returns-clause-ok c =
     (subst (λ (s : State). Replays calls.text.now (moment_at calls.pattern.now) calls.number calls.kernel.table entries s.table) last led.replays)))) in
     let room : c.into_kernel.result.room + length entries ≡ height (plan_tree c.args.state.now c.args.target.now) =
     subst (λ (s : State). s.room + length entries ≡ height (plan_tree c.args.state.now c.args.target.now)) last (led.room ∙ (ap (λ (s : State). s.room) first ∙ longest)) in
-    let spared : refused_among (c.args.state.now.generation.image ∷ []) [] (moment_at c.args.pattern.now) 0 entries ≡ None = search rules in
+    let found : refused_among (c.args.state.now.generation.image ∷ []) (listed c.heir_of-heir.result) (moment_at c.args.pattern.now) 0 entries ≡ None = search rules in
+    let spared = ap (λ image. refused_among (c.args.state.now.generation.image ∷ []) (listed image) (moment_at c.args.pattern.now) 0 entries) (sym c.heir_of-heir.ensures) ∙ found in
     let agrees : Agrees c.args.kernel.now.table c.args.state.now = c.agrees.ensures.agrees.0 (search rules) in
-    let after : c.after-after.result ≡ record_after c.args.state.now c.args.target.now c.execute-report.result c.args.state.now.pid = search rules in
+    let after : c.record_left-after.result ≡ next_record c.args.state.now c.args.target.now c.execute-report.result c.into_kernel.result.table = c.record_left-after.ensures in
     enacted (record {
       workers = c.workers_end_as_reported.ensures.headline;
       workers_manner = c.workers_end_as_reported.ensures.manner;
@@ -112,10 +115,12 @@ returns-clause-ok c =
       reopenings_floor = c.reopenings_end_as_reported.ensures.floor;
       reloads = c.reloads_end_as_reported.ensures.headline;
       reloads_manner = c.reloads_end_as_reported.ensures.manner;
+      upgrades = c.upgrades_end_as_reported.ensures.headline;
+      upgrades_manner = c.upgrades_end_as_reported.ensures.manner;
       stops = c.stops_end_as_reported.ensures.headline;
       stops_manner = c.stops_end_as_reported.ensures.manner;
     }) c.args.kernel.now c.into_kernel.result c.args.state.now c.args.target.now (moment_at c.args.pattern.now)
-    (record { log = c.execute-report.new.log; report = c.execute-report.result; after = c.after-after.result })
+    (record { log = c.execute-report.new.log; report = c.execute-report.result; after = c.record_left-after.result })
     (record { formed = c.in_ok-copy.ensures.formed; agrees = agrees; record_in_range = c.agrees.ensures.in_range; rising = c.agrees.ensures.rising })
     (record { descriptors = c.agrees.ensures.descriptors; limit = c.in_ok-copy.ensures.descriptors })
     c.requires c.read_settings.ensures c.in_ok-plan.ensures.planned
@@ -136,7 +141,7 @@ returns-in_err-plan-clause-memory c memory =
     let agrees : Agrees c.args.kernel.now.table c.args.state.now = c.agrees.ensures.agrees.0 (search rules) in
     let p = err_from_is_err_and c.from_residual.result c.from_residual.ensures.1 in
     let wanted : IsErrOf c.plan_of.result Memory = cc in
-    record { agrees = agrees; spared = unspared c.args.state.now c.args.target.now c.plan_of.result c.plan_of.ensures.apart c.plan_of.ensures.numbered wanted }
+    record { agrees = agrees; spared = unspared c.args.state.now c.args.target.now c.plan_of.result c.plan_of.ensures.numbered wanted }
 
 pub returns-in_err-copy-clause-memory : goal.returns-in_err-copy-clause-memory
 returns-in_err-copy-clause-memory c memory =

@@ -1,0 +1,59 @@
+//! Upgrades, carried out on the modelled kernel.
+use kernel_model::{Kernel, Pattern};
+use listener_set::{FilePath, Numbers};
+use plan_executor::{EnactRefusal, enact};
+use service_state::Record;
+use std::alloc::Global;
+use std::test::Fail;
+use vocabulary::{Limits, Name, Outcome, Settings, Target};
+use word_runner::Enacted;
+
+/// What comes of an upgrade of a master with two workers and a pid file, under a pattern.
+fn upgraded(alloc: Global, pattern: &Pattern) -> Result<Result<Enacted, EnactRefusal>, Fail> {
+    let mut settings = Settings::plain();
+    settings.workers = 2;
+    settings.pid = Some(FilePath::read(b"/run/a.pid")?);
+    let limits = Limits {
+        processes: 65_535,
+        descriptors: 64,
+    };
+    let mut kernel = Kernel::boot(alloc, &settings.listeners, 2, settings.pid, limits)?;
+    let state = Record::start(&settings, 2, &Numbers::below(2), 100);
+    Ok(enact(alloc, &mut kernel, &state, &Target::Upgrade(settings), pattern))
+}
+
+/// Whether the record that is left is of the master of the image and the process number.
+fn is_left_to(state: Option<Record>, image: u32, pid: u32) -> bool {
+    state.is_some_and(|state| state.generation.image == image && state.pid == pid)
+}
+
+#[test]
+fn an_upgrade_leaves_the_new_master(rt: HostRuntime) -> Result<(), Fail> {
+    let enacted = upgraded(rt.alloc(), &Pattern::new(rt.alloc()))??;
+    assert_eq!(rt; enacted.report.outcome, Outcome::Done);
+    assert_eq!(rt; enacted.log.entries().len(), 17);
+    assert!(rt; is_left_to(enacted.after, 2, 103));
+    Ok(())
+}
+
+#[test]
+fn an_upgrade_whose_new_master_dies_goes_back(rt: HostRuntime) -> Result<(), Fail> {
+    let mut pattern = Pattern::new(rt.alloc());
+    pattern.add_exit(14, Name::Master(2))?;
+    let enacted = upgraded(rt.alloc(), &pattern)??;
+    assert_eq!(rt; enacted.report.outcome, Outcome::RolledBack);
+    assert_eq!(rt; enacted.report.cause, Some(14));
+    assert!(rt; is_left_to(enacted.after, 1, 100));
+    Ok(())
+}
+
+#[test]
+fn an_upgrade_names_the_master_that_executes(rt: HostRuntime) -> Result<(), Fail> {
+    for (moment, image) in [(1, 1), (15, 1), (15, 2), (17, 2)] {
+        let mut pattern = Pattern::new(rt.alloc());
+        pattern.add_exit(moment, Name::Master(image))?;
+        let refused = upgraded(rt.alloc(), &pattern)?.err();
+        assert_eq!(rt; refused, Some(EnactRefusal::MasterNamed(moment)));
+    }
+    Ok(())
+}
