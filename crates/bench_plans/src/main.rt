@@ -1,4 +1,4 @@
-//! How long the planning of a reload takes, at 128 and at 1,024 workers before and after. It writes
+//! How long the planning of a reload and of an upgrade takes, at 128 and at 1,024 workers before and after. It writes
 //! how many steps each plan has, and to the error output the least time of all runs.
 #![tactic(auto)]
 
@@ -6,12 +6,23 @@ ghost use Rattle.std.specs.Prelude.{◌≤◌};
 ghost use Rattle.definitions.specs.Target.{IsTarget};
 
 use listener_set::Numbers;
-use reload_planner::plan;
+use reload_planner::PlanRefusal;
+use rollback_plan::Plan;
 use service_state::Record;
 use std::time::{Duration, Instant};
 use vocabulary::{Settings, Target};
 
 const RUNS: u32 = 50;
+
+/// The plan of a target; that of an upgrade has a planner of its own.
+fn made(rt: &HostRuntime, state: &Record, target: &Target) -> Result<Plan, PlanRefusal>
+    requires { IsTarget target.now }
+{
+    match target {
+        Target::Upgrade(settings) => upgrade_planner::plan(rt.alloc(), state, settings),
+        _ => reload_planner::plan(rt.alloc(), state, target),
+    }
+}
 
 /// The plan's steps, and the least time in which it was made.
 fn measured(rt: &HostRuntime, state: &Record, target: &Target) -> anyhow::Result<(usize, Duration)>
@@ -21,31 +32,45 @@ fn measured(rt: &HostRuntime, state: &Record, target: &Target) -> anyhow::Result
     let mut steps = 0;
     for _run in 0..RUNS {
         let start = Instant::now(rt)?;
-        let made = plan(rt.alloc(), state, target)?;
+        let plan = made(rt, state, target)?;
         least = least.min(start.elapsed(rt)?);
-        steps = made.len();
+        steps = plan.len();
     }
     Ok((steps, least))
 }
 
-/// A reload with that many workers before and after.
-fn reload(rt: &HostRuntime, workers: u32) -> anyhow::Result<()>
+/// Writes what was measured of a word with that many workers before and after.
+fn measure(
+    rt: &HostRuntime,
+    word: &str,
+    workers: u32,
+    state: &Record,
+    target: &Target,
+) -> anyhow::Result<()>
+    requires { IsTarget target.now }
+{
+    let (steps, least) = measured(rt, state, target)?;
+    println!(rt; "{word} {workers} to {workers}: {steps} steps")?;
+    eprintln!(rt;
+        "{word} {workers} to {workers}: {} microseconds",
+        least.as_micros()
+    )?;
+    Ok(())
+}
+
+/// A reload and an upgrade with that many workers before and after.
+fn renew(rt: &HostRuntime, workers: u32) -> anyhow::Result<()>
     requires { workers ≤ 1024 }
 {
     let mut settings = Settings::plain();
     settings.workers = workers;
     let ready = Numbers::below(workers);
     let state = Record::start(&settings, workers, &ready, 100);
-    let (steps, least) = measured(rt, &state, &Target::Reload(settings))?;
-    println!(rt; "HUP {workers} to {workers}: {steps} steps")?;
-    eprintln!(rt;
-        "HUP {workers} to {workers}: {} microseconds",
-        least.as_micros()
-    )?;
-    Ok(())
+    measure(rt, "HUP", workers, &state, &Target::Reload(settings))?;
+    measure(rt, "USR2", workers, &state, &Target::Upgrade(settings))
 }
 
 fn main(rt: HostRuntime) -> anyhow::Result<()> {
-    reload(&rt, 128)?;
-    reload(&rt, 1024)
+    renew(&rt, 128)?;
+    renew(&rt, 1024)
 }

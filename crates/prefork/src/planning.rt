@@ -49,10 +49,20 @@ fn answered(alloc: Global, body: &Body) -> Result<Outlook, Fault> {
     }
 }
 
+/// The plan of a target; that of an upgrade has a planner of its own.
+fn made(alloc: Global, record: &Record, target: &Target) -> Result<Plan, PlanRefusal>
+    requires { IsTarget target.now }
+{
+    match target {
+        Target::Upgrade(settings) => upgrade_planner::plan(alloc, record, settings),
+        _ => reload_planner::plan(alloc, record, target),
+    }
+}
+
 fn planned(alloc: Global, record: &Record, target: &Target, form: Form) -> Result<Outlook, Fault>
     requires { IsTarget target.now }
 {
-    match reload_planner::plan(alloc, record, target) {
+    match made(alloc, record, target) {
         Ok(plan) => Ok(Outlook {
             text: shown(alloc, &plan, form)?,
             status: 0,

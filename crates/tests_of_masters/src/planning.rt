@@ -183,6 +183,23 @@ fn an_upgrade_and_a_configuration_beyond_the_last_are_refused(rt: HostRuntime) -
     Ok(())
 }
 
+/// The plan of an upgrade: how many steps it has where an address is dropped, and the text that the new
+/// master is handed.
+#[test]
+fn an_upgrade_hands_a_text_over(rt: HostRuntime) -> Result<(), Fail> {
+    let settings = settings(&["0.0.0.0:8080"], 2)?;
+    let mut state = running(2, PidNote::InPlace)?;
+    let plan = upgrade_planner::plan(rt.alloc(), &state, &settings)?;
+    assert_eq!(rt; plan.len(), 46);
+    let text =
+        b"handover 1\nold-pid 100\ngeneration 2 2\nlistener 3 0.0.0.0:8080\nlistener 4 0.0.0.0:9090\nwant 0.0.0.0:8080\nworkers 2\npid-file /run/a.pid\nend\n";
+    assert!(rt; plan.text() == &text[..]);
+    state.generation.image = u32::MAX;
+    let refused = upgrade_planner::plan(rt.alloc(), &state, &settings).err();
+    assert_eq!(rt; refused, Some(PlanRefusal::NoGeneration));
+    Ok(())
+}
+
 /// Whether two edges are the same.
 fn same_edge(a: &Edge, b: &Edge) -> bool {
     a.replies == b.replies && a.note == b.note && a.next == b.next
