@@ -43,71 +43,26 @@ impl Holder {
     pub fn exit(&mut self)
         ensures { (addresses : List (List ℕ)) → seen_holder addresses self.new ≡ made_exited (seen_holder addresses self.old) }
     {
-        match self.row {
-            Row::Worker {
-                number,
-                parent,
-                generation,
-                nr,
-                ..
-            } => {
-                self.row = Row::Worker {
-                    number,
-                    parent,
-                    generation,
-                    nr,
-                    stance: Stance::Exited,
-                };
-                self.holds = DescriptorTable::new();
-            }
-            Row::Master { .. } | Row::Foreign { .. } => {}
+        if let Row::Worker { stance, .. } = &mut self.row {
+            *stance = Stance::Exited;
+            self.holds = DescriptorTable::new();
         }
     }
 
     fn drain(&mut self)
         ensures { (addresses : List (List ℕ)) → seen_holder addresses self.new ≡ made_draining (seen_holder addresses self.old) }
     {
-        match self.row {
-            Row::Worker {
-                number,
-                parent,
-                generation,
-                nr,
-                ..
-            } => {
-                self.row = Row::Worker {
-                    number,
-                    parent,
-                    generation,
-                    nr,
-                    stance: Stance::Draining,
-                };
-                self.holds = DescriptorTable::new();
-            }
-            Row::Master { .. } | Row::Foreign { .. } => {}
+        if let Row::Worker { stance, .. } = &mut self.row {
+            *stance = Stance::Draining;
+            self.holds = DescriptorTable::new();
         }
     }
 
     fn make_ready(&mut self)
         ensures { (addresses : List (List ℕ)) → seen_holder addresses self.new ≡ made_ready (seen_holder addresses self.old) }
     {
-        match self.row {
-            Row::Worker {
-                number,
-                parent,
-                generation,
-                nr,
-                ..
-            } => {
-                self.row = Row::Worker {
-                    number,
-                    parent,
-                    generation,
-                    nr,
-                    stance: Stance::Ready,
-                };
-            }
-            Row::Master { .. } | Row::Foreign { .. } => {}
+        if let Row::Worker { stance, .. } = &mut self.row {
+            *stance = Stance::Ready;
         }
     }
 
