@@ -149,7 +149,7 @@ fn a_stop_notes_its_removals(rt: HostRuntime) -> Result<(), Fail> {
         (2, path.oldbin(), Reply::IoFault, Some(PidNote::Left)),
     ];
     for (number, file, reply, note) in noted {
-        assert!(rt; number >= 1);
+        assert!(rt; number >= 1 && number < 3);
         let step = stop.get(number).ok_or("a step is missing")?;
         assert_eq!(rt; step.order(), Order::Make(Call::RemovePid(file)));
         let edge = step.edge(reply).ok_or("an edge is missing")?;
