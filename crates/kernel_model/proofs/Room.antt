@@ -1,13 +1,15 @@
 -- What a moment leaves.
-use Rattle.std.proofs.Common.{◌≡◌, ℕ, ◌-◌, ◌≤◌, List, Option, sym, ap, subst, arith}
+use Rattle.std.proofs.Common.{◌≡◌, ℕ, ◌+◌, ◌-◌, ◌≤◌, List, length, Option, sym, ap, subst, arith}
 use Rattle.vocabulary.specs.declared.names.Name.{Name}
 use Rattle.vocabulary.specs.declared.calls.Call.{Call}
 use Rattle.vocabulary.specs.declared.calls.Fate.{Fate}
+use Rattle.definitions.specs.Table.{Table}
 use Rattle.definitions.specs.Exits.{after_exits}
 use Rattle.definitions.specs.Calls.{Stepped, step_with}
 use Rattle.process_table.specs.declared.store.Store.{Store}
 use Rattle.process_table.specs.Seen.{seen}
-use Rattle.process_table.specs.Room.{EditsRows, GrowsByOne, HasRoomFor, IsKept}
+use Rattle.process_table.specs.Room.{EditsRows, GrowsByOne, HasMemoryFor, HasRoomFor, IsKept, IsSound}
+use Rattle.process_table.proofs.Free.{KnowsFree-same}
 use Rattle.kernel_model.proofs.CallsKept.{IsKept-exits, IsKept-step}
 
 module _ (a b : Store) (e : EditsRows a b) where
@@ -54,6 +56,17 @@ HasRoomFor-call room b c least h g = record {
   process_numbers = omega (arith, h.process_numbers, g.process_numbers);
   socket_numbers = omega (arith, h.socket_numbers, g.socket_numbers);
 }
+
+-- memory for at least as many calls, and the same table
+pub sound-grown : (a b : Store) (room : ℕ) → seen b ≡ seen a → b.free ≡ a.free → (HasMemoryFor room a → HasMemoryFor room b) → IsSound room a → IsSound room b
+sound-grown a b room same free kept h =
+    let processes : b.next_process ≡ a.next_process = ap (λ (t : Table). t.next_process) same in
+    let sockets : length b.addresses.items + 1 ≡ length a.addresses.items + 1 = ap (λ (t : Table). t.next_socket) same in
+    record {
+      room = record { memory = kept h.room.memory; process_numbers = omega (arith, h.room.process_numbers, processes); socket_numbers = omega (arith, h.room.socket_numbers, sockets) };
+      kept = subst IsKept (sym same) h.kept;
+      free = KnowsFree-same a b same free h.free;
+    }
 
 module _ (a b : Store) (es : List Name) (exits : seen b ≡ after_exits es (seen a)) (kept : IsKept (seen a)) where
   pub kept-middle : IsKept (seen b)

@@ -60,6 +60,10 @@ first-lacks S cs x xs e =
 abbrev pub no_claim : Progress → Type 0
 no_claim q = ⊤
 
+-- nothing is asked of the end
+abbrev pub any_end : Ending → Progress → Type 0
+any_end e q = ⊤
+
 module _ (image : ℕ) (mild : Exiting) (due : Asked) (light : Light image mild due) (post : Ending → Progress → Type 0) (ends : (e : Ending) (q : Progress) → light.Holds q.table → post e q) (co : Course) (acts : is_in co.executing image ≡ true) where
   abbrev pub Goes : Tree → Progress → Type 0
   Goes t p = Along no_claim post mild due co t p

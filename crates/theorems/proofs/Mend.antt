@@ -7,7 +7,7 @@ use Rattle.theorems.proofs.Counts.{Distinct, is_in-append, in-filter}
 use Rattle.theorems.proofs.Sets.{below-length, Within, below-of, in-filter-of, in-filter-on, below-distinct, below-on, weigh-part}
 use Rattle.theorems.proofs.Views.{Names, View, named, Looks, ready_in}
 use Rattle.std.proofs.Common.{◌≡◌, ℕ, ◌+◌, ◌<◌, ◌≤◌, Bool, true, false, not, List, [], ◌∷◌, length, refl, sym, ap, ◌∙◌, arith, ◌⊎◌, inl, inr, ⊎_elim}
-use Rattle.std.specs.Prelude.{⊤, ◌++◌, ◌&&◌, filter, ◌||◌}
+use Rattle.std.specs.Prelude.{◌++◌, ◌&&◌, filter, ◌||◌}
 use Rattle.listener_set.specs.Numbers.{numbers_below, is_in}
 use Rattle.listener_set.specs.declared.generation.Generation.{Generation}
 use Rattle.definitions.specs.Table.{Process, same_generation, Table, bears}
@@ -18,10 +18,10 @@ use Rattle.definitions.specs.Tree.{Tree}
 use Rattle.definitions.specs.Plans.{plan_tree, mend_tree, forks_any, awaits_any, settle}
 use Rattle.definitions.specs.Run.{Pattern, Progress, Ending, start_at}
 use Rattle.definitions.specs.Claims.{IsStart, MendHeadline}
-use Rattle.theorems.proofs.Same.{Like, first, scene, inv, post, course, acts, good, Goes, new-full, new-short, start-band, whole}
+use Rattle.theorems.proofs.Same.{Like, first, scene, inv, post, course, acts, good, Goes, new-full, new-short, start-band, whole, IsGood}
 use Rattle.theorems.proofs.Workers.{Started, one-more}
 use Rattle.theorems.proofs.Logic.{Course}
-use Rattle.theorems.proofs.Rules.{Less, Scene, view, any, plus, ready_of, also, Marks, Band, weigh-sub, band-part, band-anew, band-still, rule-kills, rule-forks-any, rule-awaits-any, rule-settle}
+use Rattle.theorems.proofs.Rules.{Less, Scene, view, plus, also, Band, weigh-sub, band-part, band-anew, band-still, rule-kills, rule-forks-any, rule-awaits-any, rule-settle}
 
 -- a name that failed is done too
 one-more-any : (g : Generation) (R : List ℕ) (n x : ℕ) (ks done : List ℕ) (r t : Names) (count : ℕ) → Started g R n (x ∷ ks) done r t count → (r g x ≡ false) × Started g R n ks (x ∷ done) (plus r g x) (also g x t) (count + 1) × Started g R n ks (x ∷ done) r (also g x t) (count + 1)
@@ -83,7 +83,7 @@ module _ (t : Table) (rec : Record) (overdue : List ℕ) (pattern : Pattern) (s 
   abbrev A : is_in (g.image ∷ []) g.image ≡ true
   A = acts t rec (Mend overdue) pattern s like
 
-  abbrev G : (names : Names) (count : ℕ) (w : Bool) (q : Progress) → like.floor ≤ count → Looks (view u any any) q.table.rows → (1 ≤ like.floor → count ≤ ready_of u names q + q.losses) → Marks w q.faults q.losses q.cause → ⊤ → I q
+  abbrev G : IsGood t rec (Mend overdue) pattern s like
   G = good t rec (Mend overdue) pattern s like
 
   low : n ≤ 1024

@@ -41,9 +41,6 @@ module _ (t : Table) (r : Record) (overdue : List ℕ) (pattern : Pattern) (s : 
   abbrev g : Generation
   g = r.generation
 
-  abbrev R : List ℕ
-  R = r.ready
-
   abbrev low : k < 1024
   low = first-low t r s p k on
 
@@ -51,10 +48,10 @@ module _ (t : Table) (r : Record) (overdue : List ℕ) (pattern : Pattern) (s : 
   co = own_course r pattern
 
   abbrev dead : List ℕ
-  dead = filter (is_in R) overdue
+  dead = filter (is_in r.ready) overdue
 
   abbrev missing : List ℕ
-  missing = filter (λ j. not (is_in R j) || is_in overdue j) (numbers_below r.wanted)
+  missing = filter (λ j. not (is_in r.ready j) || is_in overdue j) (numbers_below r.wanted)
 
   abbrev rest : Tree
   rest = starts_any g.image g missing (settle g.image g (numbers_below r.wanted) Target r.retries)
@@ -69,16 +66,16 @@ module _ (t : Table) (r : Record) (overdue : List ℕ) (pattern : Pattern) (s : 
   ends e q st need = st
 
   free-dead : is_in overdue k ≡ false → (x : ℕ) → is_in dead x ≡ true → bears g x g k ≡ false
-  free-dead off x e = free-number g x k (λ same. true-false (is_in overdue k) (subst (λ z. is_in overdue z ≡ true) (sym same) (in-filter-of (is_in R) overdue x e).0) off)
+  free-dead off x e = free-number g x k (λ same. true-false (is_in overdue k) (subst (λ z. is_in overdue z ≡ true) (sym same) (in-filter-of (is_in r.ready) overdue x e).0) off)
 
   free-missing : is_in overdue k ≡ false → (x : ℕ) → is_in missing x ≡ true → bears g x g k ≡ false
   free-missing off x e =
-      let o = (in-filter-of (λ j. not (is_in R j) || is_in overdue j) (numbers_below r.wanted) x e).1 in
-      free-number g x k (λ same. ⊎_elim (λ a. true-false (is_in R x) (subst (λ z. is_in R z ≡ true) same (first-in t r s p k on)) (not-is (is_in R x) a)) (λ a. true-false (is_in overdue x) a (subst (λ z. is_in overdue z ≡ false) same off)) (or-elim (not (is_in R x)) (is_in overdue x) o))
+      let o = (in-filter-of (λ j. not (is_in r.ready j) || is_in overdue j) (numbers_below r.wanted) x e).1 in
+      free-number g x k (λ same. ⊎_elim (λ a. true-false (is_in r.ready x) (subst (λ z. is_in r.ready z ≡ true) same (first-in t r s p k on)) (not-is (is_in r.ready x) a)) (λ a. true-false (is_in overdue x) a (subst (λ z. is_in overdue z ≡ false) same off)) (or-elim (not (is_in r.ready x)) (is_in overdue x) o))
 
-  stays-along : is_in overdue k ≡ false → Along no_claim post (Unlost p) Unasked co (mend_tree g.image g R r.retries overdue r.wanted) (start_at t r.note)
+  stays-along : is_in overdue k ≡ false → Along no_claim post (Unlost p) Unasked co (mend_tree g.image g r.ready r.retries overdue r.wanted) (start_at t r.note)
   stays-along off =
-      calm-along g.image (Unlost p) Unasked light post ends co (own-acts r pattern) (mend_tree g.image g R r.retries overdue r.wanted)
+      calm-along g.image (Unlost p) Unasked light post ends co (own-acts r pattern) (mend_tree g.image g r.ready r.retries overdue r.wanted)
       (calm-kills g.image (Unlost p) Unasked light post ends co (own-acts r pattern) g dead rest (λ x e. (tt, free-dead off x e))
       (calm-starts-any g.image (Unlost p) Unasked light post ends co (own-acts r pattern) g missing (settle g.image g (numbers_below r.wanted) Target r.retries) (λ x e. (tt, free-missing off x e))
       (calm-settle g.image (Unlost p) Unasked light post ends co (own-acts r pattern) Target g (numbers_below r.wanted) r.retries tt)))
@@ -168,8 +165,8 @@ module _ (t : Table) (r : Record) (overdue : List ℕ) (pattern : Pattern) (s : 
       ])
       (in-cases x k ks e))
 
-  away : is_in overdue k ≡ true → Along no_claim goes_away Anyhow Unasked co (mend_tree g.image g R r.retries overdue r.wanted) (start_at t r.note)
-  away overdue_it = going dead (in-filter-on (is_in R) overdue k overdue_it (first-in t r s p k on)) (start_at t r.note) (loosens r.pid g.image p g k low t (first-untouched t r s p k on))
+  away : is_in overdue k ≡ true → Along no_claim goes_away Anyhow Unasked co (mend_tree g.image g r.ready r.retries overdue r.wanted) (start_at t r.note)
+  away overdue_it = going dead (in-filter-on (is_in r.ready) overdue k overdue_it (first-in t r s p k on)) (start_at t r.note) (loosens r.pid g.image p g k low t (first-untouched t r s p k on))
 
 no-process : (p : ℕ) (rows : List Process) → AllByRecursion (IsOther p) rows → list_any (λ row. number_of row == p) rows ≡ false
 no-process p [] all = refl

@@ -16,7 +16,7 @@ use Rattle.definitions.specs.Manner.{has_ready, is_old_side}
 use Rattle.definitions.specs.Claims.{IsStart, InManner}
 use Rattle.theorems.proofs.Reload.{other-next}
 use Rattle.theorems.proofs.Logic.{Course, Along, Anyhow, Unasked}
-use Rattle.theorems.proofs.Lights.{Light, no_claim, calm-along}
+use Rattle.theorems.proofs.Lights.{Light, no_claim, any_end, calm-along}
 use Rattle.theorems.proofs.Staying.{Unlost, Stands, standing}
 use Rattle.theorems.proofs.Taken.{NotTaken, untouched, loose, loosens}
 use Rattle.theorems.proofs.Firsts.{first-low, first-stands, first-untouched}
@@ -94,9 +94,6 @@ module _ (t : Table) (r : Record) (st : Settings) (pattern : Pattern) (s : IsSta
       (start_at t r.note) (first-stands t r s p k on)
 
   ---- No kill takes it
-
-  abbrev any_end : Ending → Progress → Type 0
-  any_end e q = ⊤
 
   abbrev closely : Light g.image Anyhow (NotTaken p)
   closely = untouched r.pid g.image p g k low

@@ -20,7 +20,7 @@ use Rattle.theorems.proofs.Effects.{bears-refl}
 use Rattle.theorems.proofs.Rows.{every-more}
 use Rattle.theorems.proofs.Reopen.{reopen_headline}
 use Rattle.theorems.proofs.Logic.{Course, Along, Anyhow, Unasked}
-use Rattle.theorems.proofs.Lights.{Light, no_claim, calm-along}
+use Rattle.theorems.proofs.Lights.{Light, no_claim, any_end, calm-along}
 use Rattle.theorems.proofs.Staying.{Unlost, Stands, standing}
 use Rattle.theorems.proofs.Taken.{NotTaken, untouched}
 use Rattle.theorems.proofs.Firsts.{first-low, first-stands, first-untouched}
@@ -56,9 +56,6 @@ module _ (t : Table) (r : Record) (pattern : Pattern) (s : IsStart t r) (p k : �
       (calm-usr1s g.image (Unlost p) Unasked light post ends co (own-acts r pattern) g r.ready (settle g.image g r.ready Target r.retries) (λ x. (tt, tt))
       (calm-settle g.image (Unlost p) Unasked light post ends co (own-acts r pattern) Target g r.ready r.retries tt))
       (start_at t r.note) (first-stands t r s p k on)
-
-  abbrev any_end : Ending → Progress → Type 0
-  any_end e q = ⊤
 
   abbrev closely : Light g.image Anyhow (NotTaken p)
   closely = untouched r.pid g.image p g k low

@@ -79,7 +79,11 @@ module _ (t : Table) (rec : Record) (target : Target) (pattern : Pattern) (s : I
   looks0 : Looks first t.rows
   looks0 = begin t rec s
 
-  pub good : (names : Names) (count : ℕ) (w : Bool) (q : Progress) → like.floor ≤ count → Looks (view first any any) q.table.rows → (1 ≤ like.floor → count ≤ ready_of first names q + q.losses) → Marks w q.faults q.losses q.cause → ⊤ → inv q
+  -- what is known between two steps of the plan gives what is claimed at each moment
+  abbrev pub IsGood : Type 0
+  IsGood = (names : Names) (count : ℕ) (w : Bool) (q : Progress) → like.floor ≤ count → Looks (view first any any) q.table.rows → (1 ≤ like.floor → count ≤ ready_of first names q + q.losses) → Marks w q.faults q.losses q.cause → ⊤ → inv q
+
+  pub good : IsGood
   good names count w q enough looks secured marks beside = (
     λ a socket common on. live-with-on (view first any any) (has_socket a socket) q.table.rows looks (sym (live-with first (λ n. refl) (has_socket a socket) t.rows looks0) ∙ on),
     λ a common. floor-by like.floor (ready_with a q.table + q.losses) (λ e. omega (arith, enough, secured e, ready-floor (view first any any) names a q.table.rows (λ h. first-held t rec s a common.0) looks)),

@@ -1,9 +1,9 @@
 -- The headline for a change of the number of workers.
-use Rattle.theorems.proofs.Same.{Goes, Like, acts, course, first, good, inv, post, scene, whole, new-full, old-full, start-band, new-short, old-short, Level}
+use Rattle.theorems.proofs.Same.{Goes, Like, acts, course, first, good, inv, post, scene, whole, new-full, old-full, start-band, new-short, old-short, Level, IsGood}
 use Rattle.theorems.proofs.Ends.{first-few}
 use Rattle.definitions.specs.Table.{Process, same_generation, Table, bears}
 use Rattle.std.proofs.Common.{◌≡◌, ℕ, ◌+◌, ◌<◌, ◌≤◌, Bool, true, false, not, List, [], ◌∷◌, length, refl, sym, ap, ◌∙◌, subst, arith, ◌⊎◌, inl, inr, ⊎_elim}
-use Rattle.std.specs.Prelude.{⊤, ◌++◌, ◌&&◌, filter, reverse, min, ◌||◌, nat_lt}
+use Rattle.std.specs.Prelude.{◌++◌, ◌&&◌, filter, reverse, min, ◌||◌, nat_lt}
 use Rattle.std.proofs.lemmas.Bool.Decides.{nat_tests}
 use Rattle.listener_set.specs.declared.generation.Generation.{Generation}
 use Rattle.listener_set.specs.Numbers.{is_in, numbers_below}
@@ -24,7 +24,7 @@ use Rattle.theorems.proofs.Sets.{weigh-part, Within, in-here, in-there, in-cases
 use Rattle.theorems.proofs.Begins.{rising-distinct}
 use Rattle.theorems.proofs.Small.{in-reverse, every-is_in, not-is, off-from, filter-distinct, or-elim, true-false}
 use Rattle.theorems.proofs.Logic.{Course}
-use Rattle.theorems.proofs.Rules.{Scene, view, any, plus, ready_of, also, Marks, Band, Only, weigh-sub, band-part, band-anew, band-still, rule-quits, rule-starts, rule-settle}
+use Rattle.theorems.proofs.Rules.{Scene, view, plus, also, Band, Only, weigh-sub, band-part, band-anew, band-still, rule-quits, rule-starts, rule-settle}
 
 -- what is known before the rest of the starts
 pub record Started (g : Generation) (R : List ℕ) (n : ℕ) (ks done : List ℕ) (r t : Names) (count : ℕ) : Type 0 where
@@ -109,7 +109,7 @@ module _ (t : Table) (rec : Record) (n : ℕ) (pattern : Pattern) (s : IsStart t
   abbrev A : is_in (g.image ∷ []) g.image ≡ true
   A = acts t rec (Workers n) pattern s like
 
-  abbrev G : (names : Names) (count : ℕ) (w : Bool) (q : Progress) → like.floor ≤ count → Looks (view u any any) q.table.rows → (1 ≤ like.floor → count ≤ ready_of u names q + q.losses) → Marks w q.faults q.losses q.cause → ⊤ → I q
+  abbrev G : IsGood t rec (Workers n) pattern s like
   G = good t rec (Workers n) pattern s like
 
   ---- The plan

@@ -17,7 +17,7 @@ use Rattle.theorems.proofs.Views.{eqb-off}
 use Rattle.theorems.proofs.Sets.{in-here, in-filter-of, below-of}
 use Rattle.theorems.proofs.Small.{in-reverse, not-is, true-false}
 use Rattle.theorems.proofs.Logic.{Course, Along, Anyhow, Unasked}
-use Rattle.theorems.proofs.Lights.{Light, no_claim, calm-along}
+use Rattle.theorems.proofs.Lights.{Light, no_claim, any_end, calm-along}
 use Rattle.theorems.proofs.Staying.{Unlost, Stands, standing}
 use Rattle.theorems.proofs.Taken.{NotTaken, untouched, loose, loosens}
 use Rattle.theorems.proofs.Firsts.{first-in, first-low, first-stands, first-untouched}
@@ -106,9 +106,6 @@ module _ (t : Table) (r : Record) (n : ℕ) (pattern : Pattern) (s : IsStart t r
       (start_at t r.note) (first-stands t r s p k on)
 
   ---- No kill takes it
-
-  abbrev any_end : Ending → Progress → Type 0
-  any_end e q = ⊤
 
   abbrev closely : Light g.image Anyhow (NotTaken p)
   closely = untouched r.pid g.image p g k low

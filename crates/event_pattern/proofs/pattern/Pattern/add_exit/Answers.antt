@@ -1,4 +1,4 @@
-use Rattle.std.proofs.Common.{◌<◌, Result, Ok, Err, OnErr, subst, [], ◌∷◌, ◌++◌, length, refl, sym, ◌∙◌, ap, arith}
+use Rattle.std.proofs.Common.{Result, Ok, Err, OnErr, subst, [], ◌∷◌, ◌++◌, length, refl, sym, ◌∙◌, ap, arith}
 use Rattle.event_pattern.specs.declared.pattern.Event.{Event}
 use Rattle.event_pattern.specs.Pattern.{IsPattern}
 use Rattle.event_pattern.proofs.Patterns.{rising-from, IsListed}
@@ -18,8 +18,7 @@ invariant_of-self c =
     let es = c.self.inside.events.items in
     let k = c.first_from-place.result in
     let e = c.index_mut-event.result.now in
-    let within : k < length es = omega (arith, c.deref.ensures.len, ap length c.deref.ensures.value) in
-    let listed : IsListed es k e = record { pattern = c.self.invariant; within = within; there = c.index_mut-event.ensures.value } in
+    let listed : IsListed es k e = record { pattern = c.self.invariant; within = omega (arith, c.deref.ensures.len, ap length c.deref.ensures.value); there = c.index_mut-event.ensures.value } in
     let new : Event = record { number = e.number; exits = c.push.new.self; fate = e.fate } in
     subst IsPattern (sym (nothing-replaced es k e new listed refl refl c.in_err-push.ensures.items)) c.self.invariant
 
@@ -28,8 +27,7 @@ returns-in_err-push-clause-err c =
     let es = c.self.inside.events.items in
     let k = c.first_from-place.result in
     let e = c.index_mut-event.result.now in
-    let within : k < length es = omega (arith, c.deref.ensures.len, ap length c.deref.ensures.value) in
-    let listed : IsListed es k e = record { pattern = c.self.invariant; within = within; there = c.index_mut-event.ensures.value } in
+    let listed : IsListed es k e = record { pattern = c.self.invariant; within = omega (arith, c.deref.ensures.len, ap length c.deref.ensures.value); there = c.index_mut-event.ensures.value } in
     let new : Event = record { number = e.number; exits = c.push.new.self; fate = e.fate } in
     on_err c.from_residual.result (nothing-replaced es k e new listed refl refl c.in_err-push.ensures.items ∙ c.self.view_is)
 
@@ -38,8 +36,7 @@ invariant_of-self-then-index-n c =
     let es = c.self.inside.events.items in
     let k = c.first_from-place.result in
     let e = c.index_mut-event.result.now in
-    let within : k < length es = omega (arith, c.deref.ensures.len, ap length c.deref.ensures.value) in
-    let listed : IsListed es k e = record { pattern = c.self.invariant; within = within; there = c.index_mut-event.ensures.value } in
+    let listed : IsListed es k e = record { pattern = c.self.invariant; within = omega (arith, c.deref.ensures.len, ap length c.deref.ensures.value); there = c.index_mut-event.ensures.value } in
     let same = listed-at es k e c.index.result.now c.args.n listed c.index.ensures c.if-index-n.true in
     (exit-replaced es k e _ listed refl c.args.n same c.args.name c.requires.within refl c.in_ok-push.ensures.items).pattern
 
@@ -48,8 +45,7 @@ returns-then-index-n-clause-ok c =
     let es = c.self.inside.events.items in
     let k = c.first_from-place.result in
     let e = c.index_mut-event.result.now in
-    let within : k < length es = omega (arith, c.deref.ensures.len, ap length c.deref.ensures.value) in
-    let listed : IsListed es k e = record { pattern = c.self.invariant; within = within; there = c.index_mut-event.ensures.value } in
+    let listed : IsListed es k e = record { pattern = c.self.invariant; within = omega (arith, c.deref.ensures.len, ap length c.deref.ensures.value); there = c.index_mut-event.ensures.value } in
     let same = listed-at es k e c.index.result.now c.args.n listed c.index.ensures c.if-index-n.true in
     rw (← c.self.view_is) ((exit-replaced es k e _ listed refl c.args.n same c.args.name c.requires.within refl c.in_ok-push.ensures.items).moments)
 

@@ -1,4 +1,4 @@
-use Rattle.std.proofs.Common.{◌<◌, length, refl, ap, arith}
+use Rattle.std.proofs.Common.{length, refl, ap, arith}
 use Rattle.event_pattern.proofs.Patterns.{rising-from, IsListed}
 use Rattle.event_pattern.proofs.PatternEdits.{listed-at, unlisted-at, fate-replaced, fate-added}
 use Rattle.event_pattern.proofs.pattern.Pattern.set_fate.Goals as goal
@@ -12,8 +12,7 @@ invariant_of-self c =
     let es = c.self.inside.events.items in
     let k = c.first_from-place.result in
     let e = c.index_mut-event.result.now in
-    let within : k < length es = omega (arith, c.deref.ensures.len, ap length c.deref.ensures.value) in
-    let listed : IsListed es k e = record { pattern = c.self.invariant; within = within; there = c.index_mut-event.ensures.value } in
+    let listed : IsListed es k e = record { pattern = c.self.invariant; within = omega (arith, c.deref.ensures.len, ap length c.deref.ensures.value); there = c.index_mut-event.ensures.value } in
     let same = listed-at es k e c.index.result.now c.args.n listed c.index.ensures c.if-index-n.true in
     (fate-replaced es k e _ listed refl c.args.n same c.args.fate refl refl).pattern
 
@@ -22,8 +21,7 @@ returns-then-index-n-clause-ok c =
     let es = c.self.inside.events.items in
     let k = c.first_from-place.result in
     let e = c.index_mut-event.result.now in
-    let within : k < length es = omega (arith, c.deref.ensures.len, ap length c.deref.ensures.value) in
-    let listed : IsListed es k e = record { pattern = c.self.invariant; within = within; there = c.index_mut-event.ensures.value } in
+    let listed : IsListed es k e = record { pattern = c.self.invariant; within = omega (arith, c.deref.ensures.len, ap length c.deref.ensures.value); there = c.index_mut-event.ensures.value } in
     let same = listed-at es k e c.index.result.now c.args.n listed c.index.ensures c.if-index-n.true in
     rw (← c.self.view_is) ((fate-replaced es k e _ listed refl c.args.n same c.args.fate refl refl).moments)
 
