@@ -7,7 +7,7 @@ use crate::{Word, WordRefusal};
 use listener_set::WORKER_LIMIT;
 use plain_text::{around, read_number, read_number64};
 
-/// The beat of a worker, by its numbers `NR NOW`.
+/// The beat of a worker, by its numbers `K NOW`.
 fn beat_in(numbers: &[u8]) -> Option<Word>
     ensures { result ≡ beat_in numbers.now }
 {

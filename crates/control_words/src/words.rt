@@ -24,7 +24,7 @@ pub enum Word {
     Ttin,
     /// `TTOU`: one worker less.
     Ttou,
-    /// `beat NR NOW`: the worker with this number, from 0 to 1023, lives at this moment of the clock.
+    /// `beat K NOW`: the worker with this number, from 0 to 1023, lives at this moment of the clock.
     Beat { nr: u32, now: u64 },
     /// `tick NOW`: start the workers that are overdue at this moment of the clock anew, and those that are missing.
     Tick { now: u64 },
