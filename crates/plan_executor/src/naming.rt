@@ -32,12 +32,7 @@ pub(crate) fn refused_among(
 }
 
 /// Whether a master exits that executes at the call: both do where the one leaves and the other takes over.
-fn names_executing(
-    exits: &[Name],
-    call: &Call,
-    executing: Option<u32>,
-    heir: Option<u32>,
-) -> bool
+fn names_executing(exits: &[Name], call: &Call, executing: Option<u32>, heir: Option<u32>) -> bool
     ensures { result ≡ names_any (executing_at call.now (listed executing) (listed heir)) exits.now }
 {
     names_master(exits, executing) || (is_leave(call) && names_master(exits, heir))

@@ -19,7 +19,13 @@ fn upgraded(alloc: Global, pattern: &Pattern) -> Result<Result<Enacted, EnactRef
     };
     let mut kernel = Kernel::boot(alloc, &settings.listeners, 2, settings.pid, limits)?;
     let state = Record::start(&settings, 2, &Numbers::below(2), 100);
-    Ok(enact(alloc, &mut kernel, &state, &Target::Upgrade(settings), pattern))
+    Ok(enact(
+        alloc,
+        &mut kernel,
+        &state,
+        &Target::Upgrade(settings),
+        pattern,
+    ))
 }
 
 /// Whether the record that is left is of the master of the image and the process number.

@@ -1,7 +1,7 @@
 //! Patterns that are made by hand, and the lines of their texts.
 use event_pattern::Pattern;
-use pattern_text::PatternLine;
 use listener_set::Generation;
+use pattern_text::PatternLine;
 use std::test::Fail;
 use vocabulary::{Fate, Name};
 

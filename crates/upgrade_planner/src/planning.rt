@@ -14,22 +14,13 @@ use listener_set::{Generation, Numbers};
 use plan_pieces::listed;
 use reload_planner::PlanRefusal;
 use rollback_plan::{Draft, Plan};
-use service_state::Record;
+use service_state::{Record, next_image};
 use std::alloc::{AllocError, Global};
 use vocabulary::Settings;
 
-/// The generation of an upgrade; none where the number of its image or of its configuration would pass its limit.
-fn next_image(generation: Generation) -> Option<Generation>
-    ensures { result ≡ after.next_image generation }
-{
-    if generation.image == u32::MAX || generation.config == u32::MAX {
-        return None;
-    }
-    Some(Generation {
-        image: generation.image + 1,
-        config: generation.config + 1,
-    })
-}
+/// The most steps of an upgrade that are of no one worker: four settles of 8 rounds, an open or a close of each of two
+/// times 64 addresses, and those of the masters and of the pid file.
+const MOST_OTHERS: usize = 4 * (1 + 4 * 8) + 2 * 64 + 16;
 
 /// The text that the new master is handed.
 fn handed(
@@ -90,7 +81,7 @@ fn plan_to(
         dropped: dropped.as_slice(),
         added: added.as_slice(),
     };
-    let mut draft = Draft::with_room(alloc, 6 * leaving.len() + 2 * coming.len())?;
+    let mut draft = Draft::with_room(alloc, 6 * leaving.len() + 2 * coming.len() + MOST_OTHERS)?;
     let first = add_upgrade(&mut draft, &upgrade)?;
     let text = handed(alloc, state, settings, generation)?;
     Ok(draft.finish(first, state.note, text)?)
