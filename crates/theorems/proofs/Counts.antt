@@ -22,6 +22,17 @@ is_in-append (n ∷ ks) js k = go (n == k) (is_in-append ks js k)
     go true e = refl
     go false e = e
 
+-- what is in a part of two lists is in both together
+pub in-earlier : (ks js : List ℕ) (k : ℕ) → is_in ks k ≡ true → is_in (ks ++ js) k ≡ true
+in-earlier ks js k e = is_in-append ks js k ∙ ap (λ b. b || is_in js k) e
+
+pub in-later : (ks js : List ℕ) (k : ℕ) → is_in js k ≡ true → is_in (ks ++ js) k ≡ true
+in-later ks js k e = is_in-append ks js k ∙ go (is_in ks k) (is_in js k) e
+  where
+    go : (a b : Bool) → b ≡ true → (a || b) ≡ true
+    go true b e = refl
+    go false b e = e
+
 and-false : (b : Bool) → (b && false) ≡ false
 and-false true = refl
 and-false false = refl

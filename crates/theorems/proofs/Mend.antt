@@ -1,16 +1,16 @@
 -- The headline for a mend.
-use Rattle.theorems.proofs.Rows.{weigh, and-left, and-right}
+use Rattle.theorems.proofs.Rows.{and-left, and-right}
 use Rattle.theorems.proofs.Begins.{rising-distinct}
 use Rattle.theorems.proofs.Effects.{none, same-is}
 use Rattle.theorems.proofs.Small.{every-is_in, off-from, true-false, filter-distinct, not-is}
-use Rattle.theorems.proofs.Counts.{Distinct, is_in-append, in-filter}
-use Rattle.theorems.proofs.Sets.{below-length, Within, below-of, in-filter-of, in-filter-on, below-distinct, below-on, weigh-part}
-use Rattle.theorems.proofs.Views.{Names, View, named, Looks, ready_in}
+use Rattle.theorems.proofs.Counts.{Distinct, in-filter}
+use Rattle.theorems.proofs.Sets.{below-length, below-of, in-filter-of, in-filter-on, below-distinct, below-on, weigh-part}
+use Rattle.theorems.proofs.Views.{Names, View, named}
 use Rattle.std.proofs.Common.{◌≡◌, ℕ, ◌+◌, ◌<◌, ◌≤◌, Bool, true, false, not, List, [], ◌∷◌, length, refl, sym, ap, ◌∙◌, arith, ◌⊎◌, inl, inr, ⊎_elim}
-use Rattle.std.specs.Prelude.{◌++◌, ◌&&◌, filter, ◌||◌}
+use Rattle.std.specs.Prelude.{◌&&◌, filter, ◌||◌}
 use Rattle.listener_set.specs.Numbers.{numbers_below, is_in}
 use Rattle.listener_set.specs.declared.generation.Generation.{Generation}
-use Rattle.definitions.specs.Table.{Process, same_generation, Table, bears}
+use Rattle.definitions.specs.Table.{same_generation, Table, bears}
 use Rattle.definitions.specs.Record.{Record}
 use Rattle.vocabulary.specs.declared.targets.Target.TheVariants.{Mend}
 use Rattle.vocabulary.specs.declared.plans.Side.TheVariants.{Target}
@@ -19,9 +19,9 @@ use Rattle.definitions.specs.Plans.{plan_tree, mend_tree, forks_any, awaits_any,
 use Rattle.definitions.specs.Run.{Pattern, Progress, Ending, start_at}
 use Rattle.definitions.specs.Claims.{IsStart, MendHeadline}
 use Rattle.theorems.proofs.Same.{Like, first, scene, inv, post, course, acts, good, Goes, new-full, new-short, start-band, whole, IsGood}
-use Rattle.theorems.proofs.Workers.{Started, one-more}
+use Rattle.theorems.proofs.Workers.{Started, one-more, started-part, all-within}
 use Rattle.theorems.proofs.Logic.{Course}
-use Rattle.theorems.proofs.Rules.{Less, Scene, view, plus, also, Band, weigh-sub, band-part, band-anew, band-still, rule-kills, rule-forks-any, rule-awaits-any, rule-settle}
+use Rattle.theorems.proofs.Rules.{Less, Scene, view, plus, also, Band, band-part, band-anew, band-still, rule-kills, rule-forks-any, rule-awaits-any, rule-settle}
 
 -- a name that failed is done too
 one-more-any : (g : Generation) (R : List ℕ) (n x : ℕ) (ks done : List ℕ) (r t : Names) (count : ℕ) → Started g R n (x ∷ ks) done r t count → (r g x ≡ false) × Started g R n ks (x ∷ done) (plus r g x) (also g x t) (count + 1) × Started g R n ks (x ∷ done) r (also g x t) (count + 1)
@@ -109,28 +109,14 @@ module _ (t : Table) (rec : Record) (overdue : List ℕ) (pattern : Pattern) (s 
   kept-low : (k : ℕ) → is_in K k ≡ true → k < n
   kept-low k e = every-is_in (λ k. k < n) R s.record_in_range.ready k (in-filter-of (λ j. not (is_in overdue j)) R k e).0
 
-  part-of : (done : List ℕ) (r names : Names) (count : ℕ) (ks T : List ℕ) (ss : Names) → Started g K n ks done r names count → Distinct T → Within T (done ++ K) → (rows : List Process) → Looks (view u ss r) rows → weigh (ready_in rec.pid names) rows + length T ≤ weigh (ready_in rec.pid (named g (is_in T))) rows + count
-  part-of done r names count ks T ss st dT within rows looks =
-      omega (arith, weigh-sub rec.pid names (named g (is_in (done ++ K))) st.names rows, weigh-part (view u ss r) g rows looks (done ++ K) T dT within, st.counted)
-
-  in-later : (done : List ℕ) (k : ℕ) → is_in K k ≡ true → is_in (done ++ K) k ≡ true
-  in-later done k e = is_in-append done K k ∙ go (is_in done k) (is_in K k) e
-    where
-      go : (a b : Bool) → b ≡ true → (a || b) ≡ true
-      go true b e = refl
-      go false b e = e
-
-  in-earlier : (done : List ℕ) (k : ℕ) → is_in done k ≡ true → is_in (done ++ K) k ≡ true
-  in-earlier done k e = is_in-append done K k ∙ ap (λ b. b || is_in K k) e
-
   abbrev ending : Tree
   ending = settle g.image g (numbers_below n) Target rec.retries
 
   -- when all was tried
   on : (done : List ℕ) (r names : Names) (count : ℕ) (w : Bool) (q : Progress) → Started g K n [] done r names count → Band u sc none r names count 0 w [] q → Goes t rec (Mend overdue) pattern s like ending q
   on done r names count w q st b =
-      let within : Within (numbers_below n) (done ++ K) = λ k e. ⊎_elim (λ a. in-later done k a) (λ a. ⊎_elim (λ x. in-earlier done k x) (λ x. absurd (cc)) a) (st.all k (below-of n k e)) in
-      let b1 = band-part I P C u A sc G none r names (named g (is_in (numbers_below n))) count (length (numbers_below n)) 0 w [] q (part-of done r names count [] (numbers_below n) none st (below-distinct n) within) (omega arith) b in
+      let within = all-within g K n done r names count st in
+      let b1 = band-part I P C u A sc G none r names (named g (is_in (numbers_below n))) count (length (numbers_below n)) 0 w [] q (started-part (view u none r) g K n done r names count [] (numbers_below n) st (below-distinct n) within) (omega arith) b in
       rule-settle I P C u A sc G Target g (numbers_below n) refl (below-distinct n) (λ k e. omega (arith, below-of n k e, low)) rec.retries false (new-full t rec (Mend overdue) pattern s like false) (new-short t rec (Mend overdue) pattern s like) rec.retries 0 (omega arith) w (λ e. absurd (cc e)) r [] q
       (λ h k e. let o = st.only h k e in (o.0, below-on n k (⊎_elim (λ a. kept-low k a) (λ a. (st.started k a).1) o.1)))
       b1

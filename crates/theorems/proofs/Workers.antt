@@ -3,7 +3,7 @@ use Rattle.theorems.proofs.Same.{Goes, Like, acts, course, first, good, inv, pos
 use Rattle.theorems.proofs.Ends.{first-few}
 use Rattle.definitions.specs.Table.{Process, same_generation, Table, bears}
 use Rattle.std.proofs.Common.{◌≡◌, ℕ, ◌+◌, ◌<◌, ◌≤◌, Bool, true, false, not, List, [], ◌∷◌, length, refl, sym, ap, ◌∙◌, subst, arith, ◌⊎◌, inl, inr, ⊎_elim}
-use Rattle.std.specs.Prelude.{◌++◌, ◌&&◌, filter, reverse, min, ◌||◌, nat_lt}
+use Rattle.std.specs.Prelude.{◌++◌, ◌&&◌, filter, reverse, min, nat_lt}
 use Rattle.std.proofs.lemmas.Bool.Decides.{nat_tests}
 use Rattle.listener_set.specs.declared.generation.Generation.{Generation}
 use Rattle.listener_set.specs.Numbers.{is_in, numbers_below}
@@ -19,7 +19,7 @@ use Rattle.definitions.specs.Service.{service}
 use Rattle.theorems.proofs.Rows.{weigh, both-true, every-more, and-left, and-right}
 use Rattle.theorems.proofs.Views.{ready_in, Names, named, View, Looks}
 use Rattle.theorems.proofs.Effects.{none, same-is, bears-is}
-use Rattle.theorems.proofs.Counts.{Distinct, is_in-append}
+use Rattle.theorems.proofs.Counts.{Distinct, in-earlier, in-later}
 use Rattle.theorems.proofs.Sets.{weigh-part, Within, in-here, in-there, in-cases, in-filter-on, in-filter-of, below-of, below-on, below-distinct, below-length}
 use Rattle.theorems.proofs.Begins.{rising-distinct}
 use Rattle.theorems.proofs.Small.{in-reverse, every-is_in, not-is, off-from, filter-distinct, or-elim, true-false}
@@ -59,6 +59,16 @@ one-more g R n x ks done r t count s =
         counted = omega (arith, s.counted);
       },
     )
+
+-- The names of those that are done or were there from the start are no more than those of a set of them, but for what is counted.
+pub started-part : (v : View) (g : Generation) (R : List ℕ) (n : ℕ) (done : List ℕ) (r names : Names) (count : ℕ) (ks T : List ℕ) → Started g R n ks done r names count → Distinct T → Within T (done ++ R) → (rows : List Process) → Looks v rows → weigh (ready_in v.number names) rows + length T ≤ weigh (ready_in v.number (named g (is_in T))) rows + count
+started-part v g R n done r names count ks T st dT within rows looks =
+    omega (arith, weigh-sub v.number names (named g (is_in (done ++ R))) st.names rows, weigh-part v g rows looks (done ++ R) T dT within, st.counted)
+
+-- the numbers below n are among those that are done or were there, once none is left
+pub all-within : (g : Generation) (R : List ℕ) (n : ℕ) (done : List ℕ) (r names : Names) (count : ℕ) → Started g R n [] done r names count → Within (numbers_below n) (done ++ R)
+all-within g R n done r names count st k e =
+    ⊎_elim (λ a. in-later done R k a) (λ a. ⊎_elim (λ x. in-earlier done R k x) (λ x. absurd (cc)) a) (st.all k (below-of n k e))
 
 -- The target wants the numbers below n.
 abbrev like_workers : (rec : Record) (n : ℕ) → n ≤ 1024 → Like rec (Workers n)
@@ -126,28 +136,10 @@ module _ (t : Table) (rec : Record) (n : ℕ) (pattern : Pattern) (s : IsStart t
   abbrev surplus : List ℕ
   surplus = reverse (filter (λ k. not (nat_lt k n)) R)
 
-  -- the names are among those of a list, of which a part is kept
-  part-of : (done : List ℕ) (r names : Names) (count : ℕ) (ks T : List ℕ) (ss : Names) → Started g R n ks done r names count → Distinct T → Within T (done ++ R) → (rows : List Process) → Looks (view u ss r) rows → weigh (ready_in rec.pid names) rows + length T ≤ weigh (ready_in rec.pid (named g (is_in T))) rows + count
-  part-of done r names count ks T ss st dT within rows looks =
-      omega (arith, weigh-sub rec.pid names (named g (is_in (done ++ R))) st.names rows, weigh-part (view u ss r) g rows looks (done ++ R) T dT within, st.counted)
-
-  part : (done : List ℕ) (r names : Names) (count : ℕ) (ks T : List ℕ) → Started g R n ks done r names count → Distinct T → Within T (done ++ R) → (rows : List Process) → Looks (view u none r) rows → weigh (ready_in rec.pid names) rows + length T ≤ weigh (ready_in rec.pid (named g (is_in T))) rows + count
-  part done r names count ks T st dT within rows looks = part-of done r names count ks T none st dT within rows looks
-
-  in-later : (done : List ℕ) (k : ℕ) → is_in R k ≡ true → is_in (done ++ R) k ≡ true
-  in-later done k e = is_in-append done R k ∙ go (is_in done k) (is_in R k) e
-    where
-      go : (a b : Bool) → b ≡ true → (a || b) ≡ true
-      go true b e = refl
-      go false b e = e
-
-  in-earlier : (done : List ℕ) (k : ℕ) → is_in done k ≡ true → is_in (done ++ R) k ≡ true
-  in-earlier done k e = is_in-append done R k ∙ ap (λ b. b || is_in R k) e
-
   -- the way back of the numbers that were forked, of which some became Ready
   back : (forked ks done : List ℕ) (ss r names : Names) (count c : ℕ) (q : Progress) → ((k : ℕ) → is_in forked k ≡ true → is_in fresh_numbers k ≡ true) → Only g forked ss → Started g R n ks done r names count → ((ks ≡ fresh_numbers) × (done ≡ [])) ⊎ ((k : ℕ) → is_in fresh_numbers k ≡ true → is_in forked k ≡ true) → Band u sc ss r names count c true [] q → Goes t rec (Workers n) pattern s like (quits g.image g forked (settle g.image g R Old rec.retries)) q
   back forked ks done ss r names count c q within only st covers b =
-      let b1 = band-part I P C u A sc G ss r names (named g (is_in R)) count (length R) c true [] q (λ rows looks. part-of done r names count ks R ss st dR (in-later done) rows looks) (omega (arith, few)) b in
+      let b1 = band-part I P C u A sc G ss r names (named g (is_in R)) count (length R) c true [] q (λ rows looks. started-part (view u ss r) g R n done r names count ks R st dR (in-later done R) rows looks) (omega (arith, few)) b in
       rule-quits I P C u A sc G (settle g.image g R Old rec.retries) g forked ss r (named g (is_in R)) (length R) c true [] q
       (λ k e. off (same_generation g g) (is_in R k) (not-is (is_in R k) (in-filter-of (λ j. not (is_in R j)) (numbers_below n) k (within k e)).1))
       (λ s' r' q' less_s less b'. rule-settle I P C u A sc G Old g R refl dR low-R rec.retries true (old-full t rec (Workers n) pattern s like) (old-short t rec (Workers n) pattern s like) rec.retries 0 (omega arith) true (λ e. refl) r' [] q'
@@ -165,8 +157,8 @@ module _ (t : Table) (rec : Record) (n : ℕ) (pattern : Pattern) (s : IsStart t
 
   on : (done : List ℕ) (r names : Names) (count c : ℕ) (q : Progress) → Started g R n [] done r names count → Band u sc none r names count c false [] q → Goes t rec (Workers n) pattern s like (quits g.image g surplus (settle g.image g (numbers_below n) Target rec.retries)) q
   on done r names count c q st b =
-      let within : Within (numbers_below n) (done ++ R) = λ k e. ⊎_elim (λ a. in-later done k a) (λ a. ⊎_elim (λ x. in-earlier done k x) (λ x. absurd (cc)) a) (st.all k (below-of n k e)) in
-      let b1 = band-part I P C u A sc G none r names (named g (is_in (numbers_below n))) count (length (numbers_below n)) c false [] q (part done r names count [] (numbers_below n) st (below-distinct n) within) (omega (arith, few, below-length n)) b in
+      let within = all-within g R n done r names count st in
+      let b1 = band-part I P C u A sc G none r names (named g (is_in (numbers_below n))) count (length (numbers_below n)) c false [] q (started-part (view u none r) g R n done r names count [] (numbers_below n) st (below-distinct n) within) (omega (arith, few, below-length n)) b in
       rule-quits I P C u A sc G (settle g.image g (numbers_below n) Target rec.retries) g surplus none r (named g (is_in (numbers_below n))) (length (numbers_below n)) c false [] q
       (λ k e. let o = in-filter-of (λ j. not (nat_lt j n)) R k (sym (in-reverse (filter (λ j. not (nat_lt j n)) R) k) ∙ e) in
       off (same_generation g g) (is_in (numbers_below n) k) (off-from (numbers_below n) k (λ in_it. let lt = below-of n k in_it in let no_lt = not-is (nat_lt k n) o.1 in let yes_lt : nat_lt k n ≡ true = grind (arith, nat_tests) in true-false (nat_lt k n) yes_lt no_lt)))
