@@ -12,11 +12,13 @@ use Rattle.clap.specs.declared.parser.matches.ArgMatches.{ArgMatches}
 use Rattle.clap.specs.declared.error.kind.ErrorKind.{ErrorKind}
 use Rattle.clap.specs.declared.error.kind.ErrorKind.TheVariants.{DisplayHelp, DisplayVersion, OutOfMemory}
 use Rattle.command_line.specs.Number.{Spells}
+use Rattle.command_line.specs.declared.options.CertifyOptions.{CertifyOptions}
 use Rattle.command_line.specs.declared.options.EnactOptions.{EnactOptions}
+use Rattle.command_line.specs.declared.options.ExplainOptions.{ExplainOptions}
 use Rattle.command_line.specs.declared.options.PlanOptions.{PlanOptions}
 use Rattle.command_line.specs.declared.options.StartOptions.{StartOptions}
 use Rattle.command_line.specs.declared.Request.{Request}
-use Rattle.command_line.specs.declared.Request.TheVariants.{Enact, Plan, Show}
+use Rattle.command_line.specs.declared.Request.TheVariants.{Certify, Enact, Explain, Plan, Show}
 use Rattle.command_line.specs.declared.refusal.Refusal.{Refusal}
 use Rattle.command_line.specs.declared.refusal.Refusal.TheVariants.{Usage, Memory}
 
@@ -54,9 +56,20 @@ word_rule = record (new_rule (codes "word")) {
   value_names = 1;
 }
 
--- `[--from FILE] [--to FILE] [--workers N] [--bare]`
+-- `[CODE]`
+abbrev pub code_rule : Rule
+code_rule = record (new_rule (codes "code")) {
+  action = Some Set;
+  value_names = 1;
+}
+
+-- `[--from FILE] [--to FILE]`
+abbrev pub with_files : App → App
+with_files app = with_rule (with_rule app (option_rule (codes "from"))) (option_rule (codes "to"))
+
+-- `[--from FILE] [--to FILE] [--workers N] [--bare] [--why]`
 abbrev pub with_start : App → App
-with_start app = with_rule (with_rule (with_rule (with_rule app (option_rule (codes "from"))) (option_rule (codes "to"))) (option_rule (codes "workers"))) (flag_rule (codes "bare"))
+with_start app = with_rule (with_rule (with_rule (with_files app) (option_rule (codes "workers"))) (flag_rule (codes "bare"))) (flag_rule (codes "why"))
 
 abbrev pub enact_app : App
 enact_app = with_rule (with_rule (with_rule (with_start (new_app (codes "enact"))) (option_rule (codes "held"))) (flag_rule (codes "state"))) words_rule
@@ -64,12 +77,26 @@ enact_app = with_rule (with_rule (with_rule (with_start (new_app (codes "enact")
 abbrev pub plan_app : App
 plan_app = with_rule (with_rule (with_start (new_app (codes "plan"))) (flag_rule (codes "dot"))) word_rule
 
-abbrev pub prefork_app : App
-prefork_app = with_subcommand (with_subcommand (on_top (λ top. record top {
+abbrev pub certify_app : App
+certify_app = with_rule (with_start (new_app (codes "certify"))) (option_rule (codes "held"))
+
+abbrev pub explain_app : App
+explain_app = with_rule (new_app (codes "explain")) code_rule
+
+-- the program without its subcommands
+abbrev pub bare_app : App
+bare_app = on_top (λ top. record top {
   has_version = true;
   subcommand_required = true;
   disable_help_subcommand = true;
-}) (new_app (codes "prefork"))) enact_app.top) plan_app.top
+}) (new_app (codes "prefork"))
+
+-- the subcommands to which control words are told
+abbrev pub with_words : App → App
+with_words app = with_subcommand (with_subcommand app enact_app.top) plan_app.top
+
+abbrev pub prefork_app : App
+prefork_app = with_subcommand (with_subcommand (with_words bare_app) certify_app.top) explain_app.top
 
 -- ---- what a subcommand is given
 
@@ -79,6 +106,7 @@ pub record Start : Type 0 where
   pub to : Option Text
   pub workers : Option ℕ
   pub bare : Bool
+  pub why : Bool
 
 -- what `enact` is given
 pub record Enactment : Type 0 where
@@ -93,12 +121,18 @@ pub record Planning : Type 0 where
   pub dot : Bool
   pub word : Text
 
+-- what `certify` is given
+pub record Certification : Type 0 where
+  pub start : Start
+  pub held : Option Text
+
 abbrev pub start_of : StartOptions → Start
 start_of options = record {
   from = option_map (λ text. text.now) options.from;
   to = option_map (λ text. text.now) options.to;
   workers = options.workers;
   bare = options.bare;
+  why = options.why;
 }
 
 abbrev pub enactment_of : EnactOptions → Enactment
@@ -114,6 +148,12 @@ planning_of options = record {
   start = start_of options.start;
   dot = options.dot;
   word = options.word.now;
+}
+
+abbrev pub certification_of : CertifyOptions → Certification
+certification_of options = record {
+  start = start_of options.start;
+  held = option_map (λ text. text.now) options.held;
 }
 
 -- ---- what `clap` finds for a subcommand
@@ -134,6 +174,7 @@ pub record FindsStart (rows : List Row) (start : Start) : Type 0 where
   pub to : start.to ≡ first_of (codes "to") rows
   pub workers : IsWorkers (first_of (codes "workers") rows) start.workers
   pub bare : start.bare ≡ is_given (first_of (codes "bare") rows)
+  pub why : start.why ≡ is_given (first_of (codes "why") rows)
 
 pub record FindsEnactment (rows : List Row) (values : Enactment) : Type 0 where
   pub start : FindsStart rows values.start
@@ -145,6 +186,10 @@ pub record FindsPlanning (rows : List Row) (values : Planning) : Type 0 where
   pub start : FindsStart rows values.start
   pub dot : values.dot ≡ is_given (first_of (codes "dot") rows)
   pub word : first_of (codes "word") rows ≡ Some values.word
+
+pub record FindsCertification (rows : List Row) (values : Certification) : Type 0 where
+  pub start : FindsStart rows values.start
+  pub held : values.held ≡ first_of (codes "held") rows
 
 -- ---- what arguments ask for
 
@@ -161,6 +206,13 @@ AsksEnact arguments values = AsksFor (codes "enact") (λ rows. FindsEnactment ro
 abbrev pub AsksPlan : List Text → Planning → Type 0
 AsksPlan arguments values = AsksFor (codes "plan") (λ rows. FindsPlanning rows values) arguments
 
+abbrev pub AsksCertify : List Text → Certification → Type 0
+AsksCertify arguments values = AsksFor (codes "certify") (λ rows. FindsCertification rows values) arguments
+
+-- the code that is to be explained, if there is one
+abbrev pub AsksExplain : List Text → Option Text → Type 0
+AsksExplain arguments code = AsksFor (codes "explain") (λ rows. code ≡ first_of (codes "code") rows) arguments
+
 -- `clap` answers the arguments with the help or the version
 abbrev pub AsksText : List Text → Type 0
 AsksText arguments = IsAmong DisplayHelp (fault_of prefork_app arguments)
@@ -169,12 +221,16 @@ AsksText arguments = IsAmong DisplayHelp (fault_of prefork_app arguments)
 abbrev pub Asks : List Text → Request → Type 0
 Asks arguments (Enact options) = AsksEnact arguments (enactment_of options)
 Asks arguments (Plan options) = AsksPlan arguments (planning_of options)
+Asks arguments (Certify options) = AsksCertify arguments (certification_of options)
+Asks arguments (Explain options) = AsksExplain arguments (option_map (λ text. text.now) options.code)
 Asks arguments (Show text) = AsksText arguments
 
 -- the arguments ask for nothing: neither for a subcommand nor for a text alone
 pub record IsUsageFault (arguments : List Text) : Type 0 where
   pub no_enact : (values : Enactment) → ¬ AsksEnact arguments values
   pub no_plan : (values : Planning) → ¬ AsksPlan arguments values
+  pub no_certify : (values : Certification) → ¬ AsksCertify arguments values
+  pub no_explain : (code : Option Text) → ¬ AsksExplain arguments code
   pub no_help : fault_of prefork_app arguments ≢ DisplayHelp ∷ []
   pub no_version : fault_of prefork_app arguments ≢ DisplayVersion ∷ []
 

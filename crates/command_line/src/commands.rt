@@ -2,11 +2,12 @@
 ghost use Rattle.std.specs.Prelude.{◌≡◌, IfOk, false};
 ghost use Rattle.clap.specs.Words.{app_of, rule_of};
 ghost use Rattle.clap.specs.declared.builder.command.Command.TheViews.{out-Command};
-ghost use Rattle.command_line.specs.Arguments.{enact_app, flag_rule, option_rule, plan_app, prefork_app, with_start, word_rule, words_rule};
+ghost use Rattle.command_line.specs.Arguments.{bare_app, certify_app, code_rule, enact_app, explain_app, flag_rule, option_rule, plan_app, prefork_app, with_files, with_start, with_words, word_rule, words_rule};
 
 use crate::help::{
-    BARE_HELP, DOT_HELP, ENACT_NOTES, FROM_HELP, HELD_HELP, PLAN_NOTES, PROGRAM_NOTES, STATE_HELP,
-    TO_HELP, WORD_HELP, WORDS_HELP, WORKERS_HELP,
+    BARE_HELP, CERTIFY_NOTES, CODE_HELP, DOT_HELP, ENACT_NOTES, EXPLAIN_NOTES, FROM_HELP,
+    HELD_HELP, PLAN_NOTES, PROGRAM_NOTES, STATE_HELP, TO_HELP, WHY_HELP, WORD_HELP, WORDS_HELP,
+    WORKERS_HELP,
 };
 use clap::{Arg, ArgAction, Command};
 use std::alloc::{AllocError, Global};
@@ -15,14 +16,28 @@ use std::alloc::{AllocError, Global};
 pub fn program<'a>(alloc: Global) -> Result<Command<'a>, AllocError>
     ensures { IfOk result (λ command. app_of command ≡ prefork_app) }
 {
+    with_words(alloc, bare(alloc))?
+        .subcommand(certify(alloc)?)?
+        .subcommand(explain(alloc)?)
+}
+
+/// The program without its subcommands.
+fn bare<'a>(alloc: Global) -> Command<'a>
+    ensures { app_of result ≡ bare_app }
+{
     Command::new(alloc, "prefork")
         .about("Plan and rehearse the control words of a preforking master")
         .after_help(PROGRAM_NOTES)
         .version("0.1.0")
         .subcommand_required(true)
         .disable_help_subcommand(true)
-        .subcommand(enact(alloc)?)?
-        .subcommand(plan(alloc)?)
+}
+
+/// The subcommands to which control words are told.
+fn with_words<'a>(alloc: Global, command: Command<'a>) -> Result<Command<'a>, AllocError>
+    ensures { IfOk result (λ more. app_of more ≡ with_words (app_of command.entry)) }
+{
+    command.subcommand(enact(alloc)?)?.subcommand(plan(alloc)?)
 }
 
 fn enact<'a>(alloc: Global) -> Result<Command<'a>, AllocError>
@@ -50,17 +65,47 @@ fn plan<'a>(alloc: Global) -> Result<Command<'a>, AllocError>
         .arg(word(alloc))
 }
 
+fn certify<'a>(alloc: Global) -> Result<Command<'a>, AllocError>
+    ensures app { IfOk result (λ command. app_of command ≡ certify_app) }
+    ensures own { IfOk result (λ command. (out-Command command).has_globals ≡ false) }
+{
+    let command = Command::new(alloc, "certify")
+        .about("Check a transcript against plans and kernel; print what explains it")
+        .after_help(CERTIFY_NOTES);
+    with_start(alloc, command)?.arg(option(alloc, "held", "ADDRESS", HELD_HELP))
+}
+
+fn explain<'a>(alloc: Global) -> Result<Command<'a>, AllocError>
+    ensures app { IfOk result (λ command. app_of command ≡ explain_app) }
+    ensures own { IfOk result (λ command. (out-Command command).has_globals ≡ false) }
+{
+    Command::new(alloc, "explain")
+        .about("Say what a code means and what to do; without a code, list all")
+        .after_help(EXPLAIN_NOTES)
+        .arg(code(alloc))
+}
+
 /// The options of each subcommand that starts a master.
 fn with_start<'a>(alloc: Global, command: Command<'a>) -> Result<Command<'a>, AllocError>
     requires { (out-Command command).has_globals ≡ false }
     ensures app { IfOk result (λ more. app_of more ≡ with_start (app_of command.entry)) }
     ensures own { IfOk result (λ more. (out-Command more).has_globals ≡ false) }
 {
+    with_files(alloc, command)?
+        .arg(option(alloc, "workers", "N", WORKERS_HELP))?
+        .arg(flag(alloc, "bare", BARE_HELP))?
+        .arg(flag(alloc, "why", WHY_HELP))
+}
+
+/// The options that name the configurations.
+fn with_files<'a>(alloc: Global, command: Command<'a>) -> Result<Command<'a>, AllocError>
+    requires { (out-Command command).has_globals ≡ false }
+    ensures app { IfOk result (λ more. app_of more ≡ with_files (app_of command.entry)) }
+    ensures own { IfOk result (λ more. (out-Command more).has_globals ≡ false) }
+{
     command
         .arg(option(alloc, "from", "FILE", FROM_HELP))?
-        .arg(option(alloc, "to", "FILE", TO_HELP))?
-        .arg(option(alloc, "workers", "N", WORKERS_HELP))?
-        .arg(flag(alloc, "bare", BARE_HELP))
+        .arg(option(alloc, "to", "FILE", TO_HELP))
 }
 
 /// `--NAME VALUE`
@@ -107,4 +152,14 @@ fn word<'a>(alloc: Global) -> Arg<'a>
         .required(true)
         .action(ArgAction::Set)
         .help(WORD_HELP)
+}
+
+fn code<'a>(alloc: Global) -> Arg<'a>
+    ensures rule { rule_of result ≡ code_rule }
+    ensures own { result.global ≡ false }
+{
+    Arg::new(alloc, "code")
+        .value_name("CODE")
+        .action(ArgAction::Set)
+        .help(CODE_HELP)
 }

@@ -21,6 +21,13 @@ How many workers are wanted and run at the start,
 0 to 1024; HUP goes over to the count of its own
 configuration [default: the configuration's count]";
 
+pub(crate) const WHY_HELP: &str = "\
+Say more of a fault, on lines behind its own";
+
+pub(crate) const CODE_HELP: &str = "\
+A code as the program prints it, without what follows
+it: Y1, C4, usage";
+
 pub(crate) const BARE_HELP: &str = "Start without workers, however many are wanted";
 
 pub(crate) const HELD_HELP: &str = "An address that a foreign process listens on";
@@ -72,6 +79,30 @@ Exit status: 0 done, 1 a word was refused or lost or nothing could be run,
 
 Example: reload, where the second new worker is not ready in time:
   echo '5 fail late' | prefork enact --from a.toml --to b.toml HUP";
+
+pub(crate) const CERTIFY_NOTES: &str = "\
+Standard input is a transcript: blocks as `prefork enact` prints them, and as a
+master prints them that drives real children. The options say how that master
+started. Each block is compared with the plan of its word and with the modelled
+kernel, in the state that the blocks before it left.
+
+Where all blocks are accepted the output has the patterns, a section for each
+block, under which `prefork enact` prints the same blocks: who exited before
+which call, and which call failed. Else there is no output, and the fault's line
+has the block's number, counted from 1, and a code: Y1 N entry N is none of the
+plan's or the kernel's, Y2 another report, Y3 the block ends too early, Y4 the
+word could not be carried out. `prefork explain Y1` says more.
+
+Exit status: 0 accepted, 5 a block is not, 1 nothing could be compared, 2 usage.
+
+Example: what is printed is accepted:
+  prefork enact --workers 2 TTIN </dev/null | prefork certify --workers 2";
+
+pub(crate) const EXPLAIN_NOTES: &str = "\
+Exit status: 0, or 1 where there is no such code, 2 usage.
+
+Example: a configuration is refused, and the fault's line ends with C4 workers:
+  prefork explain C4";
 
 pub(crate) const PLAN_NOTES: &str = "\
 The output has a line for each step: its number, the master that makes the

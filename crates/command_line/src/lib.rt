@@ -12,8 +12,8 @@ mod refusal;
 
 use clap::error::ErrorKind;
 use clap::{ArgMatches, Error};
-pub use options::{EnactOptions, PlanOptions, StartOptions};
-use options::{enact_options, plan_options};
+pub use options::{CertifyOptions, EnactOptions, ExplainOptions, PlanOptions, StartOptions};
+use options::{certify_options, enact_options, explain_options, plan_options};
 pub use refusal::Refusal;
 use std::alloc::Global;
 
@@ -24,6 +24,10 @@ pub enum Request<'a> {
     Enact(EnactOptions<'a>),
     /// `plan`: show what a control word would do.
     Plan(PlanOptions<'a>),
+    /// `certify`: compare blocks with plans and kernel.
+    Certify(CertifyOptions<'a>),
+    /// `explain`: say what a code means.
+    Explain(ExplainOptions<'a>),
     /// `--help` or `--version`: write this text to standard output.
     Show(String),
 }
@@ -49,12 +53,18 @@ fn request_of<'a>(alloc: Global, matches: &ArgMatches<'a>) -> Result<Request<'a>
     ensures refused { (arguments : List (List ℕ)) → AreMatchesOf arguments matches.now
         → IfErr result (IsRefusedBy arguments) }
 {
-    match matches.subcommand_matches("enact") {
-        Some(found) => Ok(Request::Enact(enact_options(alloc, found)?)),
-        None => match matches.subcommand_matches("plan") {
-            Some(found) => Ok(Request::Plan(plan_options(found)?)),
-            None => Err(Refusal::Usage),
-        },
+    if let Some(found) = matches.subcommand_matches("enact") {
+        return Ok(Request::Enact(enact_options(alloc, found)?));
+    }
+    if let Some(found) = matches.subcommand_matches("plan") {
+        return Ok(Request::Plan(plan_options(found)?));
+    }
+    if let Some(found) = matches.subcommand_matches("certify") {
+        return Ok(Request::Certify(certify_options(found)?));
+    }
+    match matches.subcommand_matches("explain") {
+        Some(found) => Ok(Request::Explain(explain_options(found))),
+        None => Err(Refusal::Usage),
     }
 }
 

@@ -1,7 +1,7 @@
 //! The options and words of the subcommands, as `clap` found them.
 ghost use Rattle.std.specs.Prelude.{◌≡◌, IfErr, IfOk, IsErrOf, Option, ℕ, codes, option_map};
 ghost use Rattle.clap.specs.Words.{first_of, found_of, rows_of};
-ghost use Rattle.command_line.specs.Arguments.{Enactment, FindsEnactment, FindsPlanning, FindsStart, IsWorkers, Planning, Start, enactment_of, is_given, planning_of, start_of};
+ghost use Rattle.command_line.specs.Arguments.{Certification, Enactment, FindsCertification, FindsEnactment, FindsPlanning, FindsStart, IsWorkers, Planning, Start, certification_of, enactment_of, is_given, planning_of, start_of};
 
 use crate::Refusal;
 use crate::refusal::UsageFault;
@@ -22,6 +22,8 @@ pub struct StartOptions<'a> {
     pub workers: Option<u32>,
     /// `--bare`: no worker runs at the start, however many are wanted.
     pub bare: bool,
+    /// `--why`: behind the line of a fault more is said of it.
+    pub why: bool,
 }
 
 /// The options and words of `enact`.
@@ -46,6 +48,22 @@ pub struct PlanOptions<'a> {
     pub dot: bool,
     /// The control word.
     pub word: &'a str,
+}
+
+/// The options of `certify`.
+#[derive(Clone, Copy)]
+pub struct CertifyOptions<'a> {
+    /// How the master of the transcript started.
+    pub start: StartOptions<'a>,
+    /// `--held`: an address that a foreign process holds.
+    pub held: Option<&'a str>,
+}
+
+/// What `explain` is asked.
+#[derive(Clone, Copy)]
+pub struct ExplainOptions<'a> {
+    /// The code that is explained. Without one all are listed.
+    pub code: Option<&'a str>,
 }
 
 /// The options of `enact`; `Usage` where `--workers` has no number.
@@ -89,6 +107,27 @@ pub(crate) fn plan_options<'a>(found: &ArgMatches<'a>) -> Result<PlanOptions<'a>
     }
 }
 
+/// The options of `certify`, unless `--workers` has no number.
+pub(crate) fn certify_options<'a>(found: &ArgMatches<'a>) -> Result<CertifyOptions<'a>, UsageFault>
+    ensures found { IfOk result (λ options.
+        FindsCertification (rows_of (found_of found.now)) (certification_of options)) }
+    ensures usage { IfErr result (λ _. (values : Certification)
+        → ¬ FindsCertification (rows_of (found_of found.now)) values) }
+{
+    let start = start_options(found)?;
+    let held = text_of(found, "held");
+    Ok(CertifyOptions { start, held })
+}
+
+/// What `explain` is asked.
+pub(crate) fn explain_options<'a>(found: &ArgMatches<'a>) -> ExplainOptions<'a>
+    ensures { option_map (λ text. text.now) result.code ≡ first_of (codes "code") (rows_of (found_of found.now)) }
+{
+    ExplainOptions {
+        code: text_of(found, "code"),
+    }
+}
+
 fn start_options<'a>(found: &ArgMatches<'a>) -> Result<StartOptions<'a>, UsageFault>
     ensures found { IfOk result (λ options.
         FindsStart (rows_of (found_of found.now)) (start_of options)) }
@@ -101,6 +140,7 @@ fn start_options<'a>(found: &ArgMatches<'a>) -> Result<StartOptions<'a>, UsageFa
         to: text_of(found, "to"),
         workers,
         bare: has_flag(found, "bare"),
+        why: has_flag(found, "why"),
     })
 }
 
