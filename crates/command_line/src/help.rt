@@ -13,12 +13,12 @@ The configuration of the start, a TOML file
 [default: one worker, 0.0.0.0:8080]";
 
 pub(crate) const TO_HELP: &str = "\
-The configuration that HUP goes over to
+The configuration that HUP and USR2 go over to
 [default: that of the start]";
 
 pub(crate) const WORKERS_HELP: &str = "\
 How many workers are wanted and run at the start,
-0 to 1024; HUP goes over to the count of its own
+0 to 1024; HUP and USR2 go over to the count of their
 configuration [default: the configuration's count]";
 
 pub(crate) const WHY_HELP: &str = "\
