@@ -6,23 +6,11 @@ ghost use Rattle.std.specs.Prelude.{◌≤◌};
 ghost use Rattle.definitions.specs.Target.{IsTarget};
 
 use listener_set::Numbers;
-use reload_planner::PlanRefusal;
-use rollback_plan::Plan;
 use service_state::Record;
 use std::time::{Duration, Instant};
 use vocabulary::{Settings, Target};
 
 const RUNS: u32 = 50;
-
-/// The plan of a target; that of an upgrade has a planner of its own.
-fn made(rt: &HostRuntime, state: &Record, target: &Target) -> Result<Plan, PlanRefusal>
-    requires { IsTarget target.now }
-{
-    match target {
-        Target::Upgrade(settings) => upgrade_planner::plan(rt.alloc(), state, settings),
-        _ => reload_planner::plan(rt.alloc(), state, target),
-    }
-}
 
 /// The plan's steps, and the least time in which it was made.
 fn measured(rt: &HostRuntime, state: &Record, target: &Target) -> anyhow::Result<(usize, Duration)>
@@ -32,7 +20,7 @@ fn measured(rt: &HostRuntime, state: &Record, target: &Target) -> anyhow::Result
     let mut steps = 0;
     for _run in 0..RUNS {
         let start = Instant::now(rt)?;
-        let plan = made(rt, state, target)?;
+        let plan = target_planner::plan(rt.alloc(), state, target)?;
         least = least.min(start.elapsed(rt)?);
         steps = plan.len();
     }

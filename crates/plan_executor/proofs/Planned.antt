@@ -1,9 +1,8 @@
 -- What a planner's answer says of the target.
 use Rattle.std.proofs.Common.{◌≡◌, Bool, true, false, Option, Some, None, refl, sym, ◌∙◌, ap}
-use Rattle.std.specs.Prelude.{if◌then◌else◌, ◌↔◌, option_map, is_none}
+use Rattle.std.specs.Prelude.{if◌then◌else◌}
 use Rattle.std.proofs.lemmas.Option.{none-some, same_Some}
 use Rattle.vocabulary.specs.declared.targets.Target.{Target}
-use Rattle.definitions.specs.Table.{Generation}
 use Rattle.definitions.specs.Record.{Record}
 use Rattle.definitions.specs.Tree.{Tree}
 use Rattle.definitions.specs.After.{lacks_generation}
@@ -20,12 +19,3 @@ made-is r target tree is = (lacks, sym (same_Some (plan_tree r target) tree (ap 
         go : (b : Bool) → lacks_generation r target ≡ b → lacks_generation r target ≡ false
         go false e = e
         go true e = absurd (none-some tree (ap (λ b. if b then None else Some (plan_tree r target)) (sym e) ∙ is))
-
--- where a generation has a number, the plan is made for it
-pub numbered-is : (g : Option Generation) (tree made : Tree) → option_map (λ (x : Generation). tree) g ≡ Some made → (if is_none g then None else Some tree) ≡ Some made
-numbered-is None tree made is = is
-numbered-is (Some g) tree made is = is
-
-pub none-is : (g : Option Generation) → (g ≡ None) ↔ (is_none g ≡ true)
-none-is None = (λ e. refl, λ e. refl)
-none-is (Some g) = (λ e. cc, λ e. cc)

@@ -1,8 +1,8 @@
 //! A target, planned and carried out on the modelled kernel.
-ghost use Rattle.std.specs.Prelude.{◌≡◌, ◌≤◌, ◌↔◌, ◌⊎◌, Some, OnErr, IfOk, IfErr, IsErrOf, IsTrue};
+ghost use Rattle.std.specs.Prelude.{◌≡◌, ◌≤◌, ◌↔◌, ◌⊎◌, OnErr, IfOk, IfErr, IsErrOf, IsTrue};
 ghost use Rattle.definitions.specs.Formed.{IsFormed};
 ghost use Rattle.definitions.specs.Record.{Agrees};
-ghost use Rattle.definitions.specs.Plans.{plan_tree, planned};
+ghost use Rattle.definitions.specs.Plans.{plan_tree};
 ghost use Rattle.vocabulary.specs.Settings.{IsInRange};
 ghost use Rattle.definitions.specs.Target.{IsTarget, text_handed};
 ghost use Rattle.kernel_model.specs.Pattern.{moment_at};
@@ -21,10 +21,10 @@ use crate::patterned::Patterned;
 use crate::succession::{heir_of, record_left};
 use kernel_model::{Kernel, Pattern, ReserveRefusal};
 use plan_runner::{CallLog, execute};
-use reload_planner::PlanRefusal;
 use rollback_plan::Plan;
 use service_state::Record;
 use std::alloc::{AllocError, Global};
+use target_planner::PlanRefusal;
 use vocabulary::{Settings, Target};
 use word_runner::Enacted;
 
@@ -136,26 +136,10 @@ fn plan_of(alloc: Global, state: &Record, target: &Target) -> Result<Plan, Enact
         (why ≡ EnactRefusal.Memory) ⊎ ((refusal : Unplannable) × (why ≡ EnactRefusal.Plan refusal) × HasNoPlan state.now target.now refusal)) }
     ensures numbered { IsErrOf result (EnactRefusal.Plan Unplannable.NoGeneration) ↔ IsTrue (lacks_generation state.now target.now) }
 {
-    match planned(alloc, state, target) {
+    match target_planner::plan(alloc, state, target) {
         Ok(plan) => Ok(plan),
         Err(PlanRefusal::Memory) => Err(EnactRefusal::Memory),
         Err(refusal) => Err(EnactRefusal::Plan(refusal)),
-    }
-}
-
-/// What a target's planner says. Only an upgrade is planned for two masters, and it hands a text.
-fn planned(alloc: Global, state: &Record, target: &Target) -> Result<Plan, PlanRefusal>
-    requires { IsTarget target.now }
-    ensures tree { IfOk result (λ plan. planned state.now target.now ≡ Some (tree_of plan)) }
-    ensures note { IfOk result (λ plan. note_of plan ≡ state.now.note) }
-    ensures text { IfOk result (λ plan. text_of plan ≡ text_handed state.now target.now) }
-    ensures numbered { IsErrOf result PlanRefusal.NoGeneration ↔ IsTrue (lacks_generation state.now target.now) }
-    ensures not_large { IsErrOf result PlanRefusal.TooLarge → ⊥ }
-    ensures planned_here { IsErrOf result PlanRefusal.Unplanned → ⊥ }
-{
-    match target {
-        Target::Upgrade(settings) => upgrade_planner::plan(alloc, state, settings),
-        _ => reload_planner::plan(alloc, state, target),
     }
 }
 
