@@ -1,4 +1,4 @@
-//! How long the planning of a reload and of an upgrade takes, at 128 and at 1,024 workers before and after. It writes
+//! How long the planning of a reload and of an upgrade takes, at 2, 128 and 1,024 workers before and after. It writes
 //! how many steps each plan has, and to the error output the least time of all runs.
 #![tactic(auto)]
 
@@ -59,6 +59,7 @@ fn renew(rt: &HostRuntime, workers: u32) -> anyhow::Result<()>
 }
 
 fn main(rt: HostRuntime) -> anyhow::Result<()> {
+    renew(&rt, 2)?;
     renew(&rt, 128)?;
     renew(&rt, 1024)
 }

@@ -5,7 +5,9 @@ use Rattle.definitions.specs.Table.{Address, FilePath, Generation}
 use Rattle.definitions.specs.Calls.{Call, OpenAt, CloseAt, Fork, AwaitReady, Census, SpawnMaster, Adopt, WritePid}
 use Rattle.definitions.specs.Record.{PidNote}
 use Rattle.definitions.specs.Tree.{Tree}
-use Rattle.definitions.specs.Plans.{does, settle, tries, tries_all, pid_calls, move_aside, back_alone, back_from, relieve, spawn_edges}
+use Rattle.definitions.specs.Plans.{does, settle, tries, tries_all, pid_calls, move_aside, move_back, remove_oldbin, back_alone, back_from, relieve, spawn_edges}
+use Rattle.upgrade_planner.specs.declared.pid_file.Aside.{Aside}
+use Rattle.upgrade_planner.specs.declared.pid_file.Aside.TheVariants.{Returns, Goes}
 
 -- The new master forks its workers, waits for them, and writes its pid.
 abbrev pub staffing : Generation → Option FilePath → List ℕ → List Call
@@ -14,6 +16,11 @@ staffing g path numbers = map (Fork g) numbers ++ (map (AwaitReady g) numbers ++
 -- Before that it adopts what it was handed, and closes and opens addresses.
 abbrev pub taking_over : Generation → Option FilePath → List Address → List Address → List ℕ → List Call
 taking_over g path dropped added numbers = Adopt ∷ (map CloseAt dropped ++ (map OpenAt added ++ staffing g path numbers))
+
+-- What becomes of the file with the suffix.
+abbrev pub clearing : Aside → ℕ → Option FilePath → Tree → Tree
+clearing Returns = move_back
+clearing Goes = remove_oldbin
 
 -- From an old generation with its ready workers to a new one, whose master makes these calls and is to have these n workers.
 abbrev pub succession : Generation → Generation → List ℕ → ℕ → Option FilePath → PidNote → List Call → List ℕ → ℕ → Tree

@@ -2,16 +2,16 @@
 ghost use Rattle.std.specs.Prelude.{◌≡◌, ◌≤◌, ◌<◌, ◌+◌, ◌*◌, length, IfOk, IsErrOf, OnOk};
 ghost use Rattle.vocabulary.specs.Settings.{HasSuffixRoom};
 ghost use Rattle.vocabulary.specs.declared.plans.Side.TheVariants as side;
-ghost use Rattle.definitions.specs.Plans.{settle, move_back, back_alone, back_from, back_late};
+ghost use Rattle.definitions.specs.Plans.{settle, back_alone, back_from, back_late};
 ghost use Rattle.rollback_plan.specs.declared.draft.DraftRefusal.TheVariants.{TooLarge};
 ghost use Rattle.rollback_plan.specs.declared.draft.TheConstants.{MOST_STEPS};
-ghost use Rattle.rollback_plan.specs.Drafts.{trees_of, tree_at, IsMade, Keeps};
+ghost use Rattle.rollback_plan.specs.Drafts.{trees_of, IsMade, Keeps};
 
+use crate::pid_file::{Aside, add_cleared};
 use crate::upgrade::Upgrade;
-use listener_set::FilePath;
-use plan_pieces::{add_move, add_starts_any};
+use plan_pieces::add_starts_any;
 use rollback_plan::{Draft, DraftRefusal, Place};
-use vocabulary::{Actor, Call, PidNote, Side};
+use vocabulary::{Call, Side};
 
 /// The ways back to the old master, which all end in the settle of its side.
 #[derive(Clone, Copy)]
@@ -24,27 +24,6 @@ pub struct WaysBack {
     pub stopped: Place,
     /// The new master is stopped, the old workers, which have gone, are started again, and then the pid file goes back.
     pub restarted: Place,
-}
-
-/// Adds the move of the pid file from the path with the suffix to its own, before the rest.
-fn add_move_back(
-    draft: &mut Draft,
-    by: Actor,
-    path: Option<FilePath>,
-    rest: Place,
-) -> Result<Place, DraftRefusal>
-    requires rest { rest.0 < length (trees_of draft.old) }
-    requires room { HasSuffixRoom path }
-    ensures made { IfOk result (λ place. IsMade draft.new place (move_back by path (tree_at draft.old rest))) }
-    ensures count { OnOk result (length (trees_of draft.new) ≤ length (trees_of draft.old) + 1) }
-    ensures keeps { Keeps draft.old draft.new }
-    ensures too_large { IsErrOf result TooLarge → MOST_STEPS < length (trees_of draft.old) + 1 }
-{
-    let Some(path) = path else {
-        return Ok(rest);
-    };
-    let (fine, fault) = (Some(PidNote::InPlace), Some(PidNote::AtOldbin));
-    add_move(draft, by, path.oldbin(), path, fine, fault, rest)
 }
 
 /// Adds that the new master is stopped and the old workers are started again, going on after a failure. Without such
@@ -84,7 +63,7 @@ pub fn add_ways_back(draft: &mut Draft, upgrade: &Upgrade<'_>) -> Result<WaysBac
     let old = &upgrade.old;
     let by = old.master();
     let undone = draft.settle(by, old.generation, &old.numbers, Side::Old, upgrade.rounds)?;
-    let alone = add_move_back(draft, by, upgrade.path, undone)?;
+    let alone = add_cleared(draft, by, upgrade.path, Aside::Returns, undone)?;
     let stopped = draft.call(by, Call::TermMaster(upgrade.new.generation.image), alone)?;
     let restarted = add_restart(draft, upgrade, alone, stopped)?;
     Ok(WaysBack {

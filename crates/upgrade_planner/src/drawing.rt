@@ -2,19 +2,20 @@
 ghost use Rattle.std.specs.Prelude.{◌≡◌, ◌≤◌, ◌<◌, ◌+◌, ◌*◌, length, IfOk, IsErrOf, OnOk};
 ghost use Rattle.vocabulary.specs.Settings.{HasSuffixRoom};
 ghost use Rattle.vocabulary.specs.declared.calls.Call.TheVariants as call;
-ghost use Rattle.definitions.specs.Plans.{does, spawn_edges, move_aside};
+ghost use Rattle.definitions.specs.Plans.{does, spawn_edges};
 ghost use Rattle.rollback_plan.specs.declared.draft.DraftRefusal.TheVariants.{TooLarge};
 ghost use Rattle.rollback_plan.specs.declared.draft.TheConstants.{MOST_STEPS};
 ghost use Rattle.rollback_plan.specs.Drafts.{trees_of, tree_at, IsMade, Keeps};
 ghost use Rattle.upgrade_planner.specs.Trees.{taking_over, succession};
 
 use crate::backing::add_ways_back;
+use crate::pid_file::add_move_aside;
 use crate::relieving::add_relief;
 use crate::taking_over::add_takeover;
 use crate::upgrade::Upgrade;
-use listener_set::{FilePath, Numbers};
+use listener_set::Numbers;
 use rollback_plan::{Draft, DraftRefusal, Edge, Place};
-use vocabulary::{Actor, Call, Order, PidNote, Reply};
+use vocabulary::{Actor, Call, Order, Reply};
 
 /// Adds the start of a master.
 fn add_spawn(
@@ -40,39 +41,6 @@ fn add_spawn(
             Edge::to(&[Reply::Again, Reply::NoMemory, Reply::NoImage], failed),
         ],
     )
-}
-
-/// Adds the move of the pid file to the path with the suffix, where it is not there yet.
-fn add_move_aside(
-    draft: &mut Draft,
-    by: Actor,
-    path: Option<FilePath>,
-    note: PidNote,
-    moved: Place,
-    failed: Place,
-) -> Result<Place, DraftRefusal>
-    requires moved { moved.0 < length (trees_of draft.old) }
-    requires failed { failed.0 < length (trees_of draft.old) }
-    requires room { HasSuffixRoom path }
-    ensures made { IfOk result (λ place. IsMade draft.new place (move_aside by path note (tree_at draft.old moved) (tree_at draft.old failed))) }
-    ensures count { OnOk result (length (trees_of draft.new) ≤ length (trees_of draft.old) + 1) }
-    ensures too_large { IsErrOf result TooLarge → MOST_STEPS < length (trees_of draft.old) + 1 }
-{
-    let Some(path) = path else {
-        return Ok(moved);
-    };
-    match note {
-        PidNote::AtOldbin => Ok(moved),
-        PidNote::InPlace | PidNote::OldbinLeft | PidNote::Left | PidNote::NoFile => draft.add(
-            by,
-            Order::Make(Call::MovePid(path, path.oldbin())),
-            &Numbers::none(),
-            &[
-                Edge::to(&[Reply::Fine], moved),
-                Edge::to(&[Reply::IoFault], failed),
-            ],
-        ),
-    }
 }
 
 /// Adds an upgrade: the pid file goes aside and the new master is started, which takes over; then the old one is

@@ -4,6 +4,7 @@
 
 mod backing;
 mod drawing;
+mod pid_file;
 mod planning;
 mod relieving;
 mod taking_over;

@@ -1,0 +1,80 @@
+//! Where an upgrade puts the pid file.
+ghost use Rattle.std.specs.Prelude.{◌≡◌, ◌≤◌, ◌<◌, ◌+◌, length, IfOk, IsErrOf, OnOk};
+ghost use Rattle.vocabulary.specs.Settings.{HasSuffixRoom};
+ghost use Rattle.definitions.specs.Plans.{move_aside};
+ghost use Rattle.rollback_plan.specs.declared.draft.DraftRefusal.TheVariants.{TooLarge};
+ghost use Rattle.rollback_plan.specs.declared.draft.TheConstants.{MOST_STEPS};
+ghost use Rattle.rollback_plan.specs.Drafts.{trees_of, tree_at, IsMade, Keeps};
+ghost use Rattle.upgrade_planner.specs.Trees.{clearing};
+
+use listener_set::{FilePath, Numbers};
+use plan_pieces::{add_move, add_remove};
+use rollback_plan::{Draft, DraftRefusal, Edge, Place};
+use vocabulary::{Actor, Call, Order, PidNote, Reply};
+
+/// What becomes of the file at the path with the suffix, once it is settled which master stays.
+#[derive(Clone, Copy)]
+pub enum Aside {
+    /// It goes back to its path: the old master stays.
+    Returns,
+    /// It is removed: the new master stays.
+    Goes,
+}
+
+/// Adds the move of the pid file to the path with the suffix, where it is not there yet.
+pub fn add_move_aside(
+    draft: &mut Draft,
+    by: Actor,
+    path: Option<FilePath>,
+    note: PidNote,
+    moved: Place,
+    failed: Place,
+) -> Result<Place, DraftRefusal>
+    requires moved { moved.0 < length (trees_of draft.old) }
+    requires failed { failed.0 < length (trees_of draft.old) }
+    requires room { HasSuffixRoom path }
+    ensures made { IfOk result (λ place. IsMade draft.new place (move_aside by path note (tree_at draft.old moved) (tree_at draft.old failed))) }
+    ensures count { OnOk result (length (trees_of draft.new) ≤ length (trees_of draft.old) + 1) }
+    ensures too_large { IsErrOf result TooLarge → MOST_STEPS < length (trees_of draft.old) + 1 }
+{
+    let Some(path) = path else {
+        return Ok(moved);
+    };
+    match note {
+        PidNote::AtOldbin => Ok(moved),
+        PidNote::InPlace | PidNote::OldbinLeft | PidNote::Left | PidNote::NoFile => draft.add(
+            by,
+            Order::Make(Call::MovePid(path, path.oldbin())),
+            &Numbers::none(),
+            &[
+                Edge::to(&[Reply::Fine], moved),
+                Edge::to(&[Reply::IoFault], failed),
+            ],
+        ),
+    }
+}
+
+/// Adds what becomes of the file at the path with the suffix, before the rest.
+pub fn add_cleared(
+    draft: &mut Draft,
+    by: Actor,
+    path: Option<FilePath>,
+    aside: Aside,
+    rest: Place,
+) -> Result<Place, DraftRefusal>
+    requires rest { rest.0 < length (trees_of draft.old) }
+    requires room { HasSuffixRoom path }
+    ensures made { IfOk result (λ place. IsMade draft.new place (clearing aside by path (tree_at draft.old rest))) }
+    ensures count { OnOk result (length (trees_of draft.new) ≤ length (trees_of draft.old) + 1) }
+    ensures keeps { Keeps draft.old draft.new }
+    ensures too_large { IsErrOf result TooLarge → MOST_STEPS < length (trees_of draft.old) + 1 }
+{
+    let Some(path) = path else {
+        return Ok(rest);
+    };
+    let (oldbin, fine) = (path.oldbin(), Some(PidNote::InPlace));
+    match aside {
+        Aside::Returns => add_move(draft, by, oldbin, path, fine, Some(PidNote::AtOldbin), rest),
+        Aside::Goes => add_remove(draft, by, oldbin, fine, Some(PidNote::OldbinLeft), rest),
+    }
+}
