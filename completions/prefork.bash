@@ -8,7 +8,7 @@ _prefork() {
 
     COMPREPLY=()
     if ((COMP_CWORD == 1)); then
-        mapfile -t COMPREPLY < <(compgen -W 'enact plan --help --version' -- "$cur")
+        mapfile -t COMPREPLY < <(compgen -W 'enact plan certify explain --help --version' -- "$cur")
         return
     fi
 
@@ -25,8 +25,10 @@ _prefork() {
     [[ $cur == : ]] && return
 
     case ${COMP_WORDS[1]} in
-        enact) options='--from --to --workers --bare --held --state --help' ;;
-        plan) options='--from --to --workers --bare --dot --help' ;;
+        enact) options='--from --to --workers --bare --why --held --state --help' ;;
+        plan) options='--from --to --workers --bare --why --dot --help' ;;
+        certify) options='--from --to --workers --bare --why --held --help' ;;
+        explain) options='--help' ;;
         *) return ;;
     esac
     local before=("${COMP_WORDS[@]:2:COMP_CWORD-2}")
@@ -40,6 +42,16 @@ _prefork() {
         done
         return
     fi
+
+    # A transcript comes on standard input, and the program itself knows the codes.
+    case ${COMP_WORDS[1]} in
+        certify) return ;;
+        explain)
+            [[ ${#before[@]} -gt 0 ]] && return
+            mapfile -t COMPREPLY < <(compgen -W "$("${COMP_WORDS[0]}" explain 2>/dev/null | cut -d ' ' -f 1)" -- "$cur")
+            return
+            ;;
+    esac
 
     # One word is all that plan takes.
     if [[ ${COMP_WORDS[1]} == plan ]]; then

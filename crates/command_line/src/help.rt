@@ -99,7 +99,7 @@ Example: what is printed is accepted:
   prefork enact --workers 2 TTIN </dev/null | prefork certify --workers 2";
 
 pub(crate) const EXPLAIN_NOTES: &str = "\
-Exit status: 0, or 1 where there is no such code, 2 usage.
+Exit status: 0, or 2 where there is no such code.
 
 Example: a configuration is refused, and the fault's line ends with C4 workers:
   prefork explain C4";
