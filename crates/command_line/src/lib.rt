@@ -15,7 +15,7 @@ use clap::{ArgMatches, Error};
 pub use options::{CertifyOptions, EnactOptions, ExplainOptions, PlanOptions, StartOptions};
 use options::{certify_options, enact_options, explain_options, plan_options};
 pub use refusal::Refusal;
-use std::alloc::Global;
+use std::alloc::{AllocError, Global};
 
 /// What the command line asks for.
 #[derive(Drop)]
@@ -44,6 +44,18 @@ pub fn read<'a>(alloc: Global, args: &'a [String]) -> Result<Request<'a>, Refusa
     match commands::program(alloc)?.try_get_matches_from(args) {
         Ok(matches) => request_of(alloc, &matches),
         Err(error) => shown_by(alloc, &error),
+    }
+}
+
+/// What `clap` says of arguments that ask for nothing: a text of some lines, for people. None where
+/// it takes them, or answers them with the help or the version.
+pub fn complaint(alloc: Global, args: &[String]) -> Result<Option<String>, AllocError> {
+    let Err(error) = commands::program(alloc)?.try_get_matches_from(args) else {
+        return Ok(None);
+    };
+    match error.kind() {
+        ErrorKind::DisplayHelp | ErrorKind::DisplayVersion | ErrorKind::OutOfMemory => Ok(None),
+        _ => Ok(Some(format!(in alloc; "{error}")?)),
     }
 }
 

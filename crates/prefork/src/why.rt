@@ -1,0 +1,217 @@
+//! `--why`: what is said of a fault behind its line, for people.
+use crate::fault::Fault;
+use call_text::TextRefusal;
+use command_line::{Request, StartOptions, complaint};
+use explanations::{Explanation, explanation_of};
+use master_config::{ConfigRefusal, Key};
+use std::alloc::Global;
+use std::fs;
+use std::io::Write;
+use std::rt::Files;
+
+/// Whether the arguments ask for more than the line of a fault: `--why` before any `--`.
+pub fn is_asked(args: &[String]) -> bool {
+    args.iter()
+        .take_while(|arg| arg.as_str() != "--")
+        .any(|arg| arg.as_str() == "--why")
+}
+
+/// Says where a fault was found, what stood there, and what its codes mean. `given` is what was read of standard input.
+/// What can't be found out any more, since memory or a file is refused, isn't said.
+pub fn tell<R: AllocGlobal + Files, E: Write>(
+    rt: &R,
+    args: &[String],
+    given: &[u8],
+    fault: &Fault,
+    errors: &mut E,
+) {
+    match command_line::read(rt.alloc(), args) {
+        Ok(request) => tell_place(rt, &request, given, fault, errors),
+        Err(_) => tell_complaint(rt.alloc(), args, errors),
+    }
+    if let Ok(text) = format!(in rt.alloc(); "{fault}") {
+        for word in text.as_str().split(' ') {
+            if let Some(explanation) = explanation_of(word) {
+                tell_meaning(&explanation, errors);
+            }
+        }
+    }
+}
+
+/// What `clap` says of the command line.
+fn tell_complaint<E: Write>(alloc: Global, args: &[String], errors: &mut E) {
+    if let Ok(Some(text)) = complaint(alloc, args) {
+        for line in text.as_str().split('\n') {
+            if !line.is_empty() {
+                let _ = writeln!(errors, "  {line}");
+            }
+        }
+    }
+}
+
+/// A line for the meaning, and the lines of the remedy.
+fn tell_meaning<E: Write>(explanation: &Explanation, errors: &mut E) {
+    let _ = writeln!(errors, "  {}: {}", explanation.code, explanation.meaning);
+    if !explanation.remedy.is_empty() {
+        for line in explanation.remedy.split('\n') {
+            let _ = writeln!(errors, "    {line}");
+        }
+    }
+}
+
+/// Where the fault was found.
+fn tell_place<R: AllocGlobal + Files, E: Write>(
+    rt: &R,
+    request: &Request<'_>,
+    given: &[u8],
+    fault: &Fault,
+    errors: &mut E,
+) {
+    match fault {
+        Fault::Word(number, _) => tell_word(request, *number, errors),
+        Fault::Config(_) | Fault::File => tell_files(rt, request, fault, errors),
+        Fault::Boot(_) => tell_workers(request, errors),
+        Fault::Address(_) | Fault::Foreign(_) => tell_held(request, errors),
+        Fault::Pattern(refusal) | Fault::Transcript(refusal) => tell_line(given, refusal, errors),
+        Fault::Code => tell_code(request, errors),
+        _ => (),
+    }
+}
+
+fn tell_word<E: Write>(request: &Request<'_>, number: usize, errors: &mut E) {
+    let word = match request {
+        Request::Enact(options) => options.words.get(number.wrapping_sub(1)).copied(),
+        Request::Plan(options) => Some(options.word),
+        _ => None,
+    };
+    if let Some(word) = word {
+        let _ = writeln!(errors, "  word {number}: {word}");
+    }
+}
+
+fn tell_held<E: Write>(request: &Request<'_>, errors: &mut E) {
+    let held = match request {
+        Request::Enact(options) => options.held,
+        Request::Certify(options) => options.held,
+        _ => None,
+    };
+    if let Some(held) = held {
+        let _ = writeln!(errors, "  --held {held}");
+    }
+}
+
+fn tell_code<E: Write>(request: &Request<'_>, errors: &mut E) {
+    if let Request::Explain(options) = request {
+        if let Some(code) = options.code {
+            let _ = writeln!(errors, "  explain {code}");
+        }
+    }
+}
+
+fn tell_workers<E: Write>(request: &Request<'_>, errors: &mut E) {
+    if let Some(start) = start_of(request) {
+        if let Some(workers) = start.workers {
+            let _ = writeln!(errors, "  --workers {workers}");
+        }
+    }
+}
+
+/// How the master of the request starts.
+fn start_of<'a>(request: &Request<'a>) -> Option<StartOptions<'a>> {
+    match request {
+        Request::Enact(options) => Some(options.start),
+        Request::Plan(options) => Some(options.start),
+        Request::Certify(options) => Some(options.start),
+        _ => None,
+    }
+}
+
+/// The faulty line of standard input.
+fn tell_line<E: Write>(given: &[u8], refusal: &TextRefusal, errors: &mut E) {
+    let number = match refusal {
+        TextRefusal::Line(number) | TextRefusal::Order(number) => *number,
+        TextRefusal::Memory => return,
+    };
+    let _ = write!(errors, "  standard input, line {number}: ");
+    tell_text(line_at(given, number), errors);
+}
+
+/// The line with this number, counted from 1; none behind the end.
+fn line_at(text: &[u8], number: usize) -> Option<&[u8]> {
+    text.split(|byte| *byte == b'\n').nth(number.wrapping_sub(1))
+}
+
+/// A text on the rest of the line.
+fn tell_text<E: Write>(text: Option<&[u8]>, errors: &mut E) {
+    let _ = match text {
+        Some(text) if text.is_empty() => errors.write_all(b"(empty)"),
+        Some(text) => errors.write_all(text),
+        None => errors.write_all(b"(the end)"),
+    };
+    let _ = errors.write_all(b"\n");
+}
+
+/// Which of the files of a start is refused, and the line of the key that is.
+fn tell_files<R: AllocGlobal + Files, E: Write>(
+    rt: &R,
+    request: &Request<'_>,
+    fault: &Fault,
+    errors: &mut E,
+) {
+    let Some(start) = start_of(request) else {
+        return;
+    };
+    if !tell_file(rt, "--from", start.from, fault, errors) {
+        tell_file(rt, "--to", start.to, fault, errors);
+    }
+}
+
+/// Says of a file whether the fault is its; whether it was.
+fn tell_file<R: AllocGlobal + Files, E: Write>(
+    rt: &R,
+    option: &str,
+    path: Option<&str>,
+    fault: &Fault,
+    errors: &mut E,
+) -> bool {
+    let Some(path) = path else {
+        return false;
+    };
+    let Ok(text) = fs::read(rt, path) else {
+        let _ = writeln!(errors, "  {option} {path}: it can't be read");
+        return true;
+    };
+    let Err(refusal) = master_config::read(rt.alloc(), text.as_slice()) else {
+        return false;
+    };
+    let _ = write!(errors, "  {option} {path}");
+    if let Some(key) = key_of(&refusal) {
+        tell_key(text.as_slice(), key, errors);
+    }
+    let _ = errors.write_all(b"\n");
+    true
+}
+
+/// The key that a refusal is about, where it is about one.
+fn key_of(refusal: &ConfigRefusal) -> Option<Key> {
+    match refusal {
+        ConfigRefusal::WrongKind(key) | ConfigRefusal::OutOfRange(key) => Some(*key),
+        ConfigRefusal::BadAddress(..) | ConfigRefusal::Doubled(_) | ConfigRefusal::NoListener => {
+            Some(Key::Listeners)
+        }
+        ConfigRefusal::BadPid => Some(Key::Pid),
+        ConfigRefusal::BadCommand => Some(Key::Command),
+        _ => None,
+    }
+}
+
+/// The line in which a key stands, with its number.
+fn tell_key<E: Write>(text: &[u8], key: Key, errors: &mut E) {
+    for (place, line) in text.split(|byte| *byte == b'\n').enumerate() {
+        if line.trim_ascii_start().starts_with(key.name().as_bytes()) {
+            let _ = write!(errors, ", line {}: ", place + 1);
+            let _ = errors.write_all(line);
+            return;
+        }
+    }
+}
