@@ -10,7 +10,7 @@ use Rattle.std.proofs.lemmas.Bool.Decides.{nat_tests}
 use Rattle.definitions.specs.Run.{Moment, quiet}
 use Rattle.event_pattern.specs.declared.pattern.Event.{Event}
 use Rattle.event_pattern.specs.Pattern.{moment_at, AreNamesWithin, IsEvent, RiseFrom, IsPattern}
-use Rattle.event_pattern.specs.Events.{seen_event}
+use Rattle.event_pattern.specs.Events.{seen_event, IsListed, IsUnlisted}
 
 -- the place of the first moment with that number or a higher one
 abbrev pub place : ℕ → List (ℕ × Moment) → ℕ
@@ -173,49 +173,42 @@ module _ (n : ℕ) where
       (λ i lt. let low = h.0 i e (omega arith) lt in grind (arith, nat_tests))
       (λ lt. let high = h.1 k e (omega arith) lt in grind (arith, nat_tests)))
 
--- An event of the list, at its place.
-pub record IsListed (es : List Event) (k : ℕ) (e : Event) : Type 0 where
-  pub pattern : IsPattern (map seen_event es)
-  pub within : k < length es
-  pub there : e ≡ get_or es k e
+-- An event of a pattern, at its place.
+module _ (es : List Event) (n k : ℕ) (pattern : IsPattern (map seen_event es)) (h : IsListed es n k) (e : Event) (there : e ≡ get_or es k e) where
+  pub number-listed : e.number ≡ n
+  number-listed = ap (λ (d : Event). d.number) there ∙ h.number e
 
-module _ (es : List Event) (k : ℕ) (e : Event) (h : IsListed es k e) where
   inside : k < length (map seen_event es)
   inside = rw length-map h.within
 
   entry : get_or (map seen_event es) k (seen_event e) ≡ seen_event e
-  entry = get_or-map seen_event es k e ∙ ap seen_event (sym h.there)
+  entry = get_or-map seen_event es k e ∙ ap seen_event (sym there)
 
-  pub moment-listed : (n : ℕ) → e.number ≡ n → moment_at (map seen_event es) n ≡ (seen_event e).1
-  moment-listed n same =
-      moment-at_place (map seen_event es) 1 k n (seen_event e) h.pattern inside (ap (λ x. x.0) entry ∙ same) ∙ ap (λ x. x.1) entry
+  numbered : (get_or (map seen_event es) k (seen_event e)).0 ≡ n
+  numbered = ap (λ x. x.0) entry ∙ number-listed
+
+  pub moment-listed : moment_at (map seen_event es) n ≡ (seen_event e).1
+  moment-listed = moment-at_place (map seen_event es) 1 k n (seen_event e) pattern inside numbered ∙ ap (λ x. x.1) entry
 
   pub names-listed : AreNamesWithin e.exits.items
-  names-listed = rw entry at (names-at_place (map seen_event es) 1 k (seen_event e) h.pattern inside)
+  names-listed = rw entry at (names-at_place (map seen_event es) 1 k (seen_event e) pattern inside)
 
-  module _ (new : Event) (same : e.number ≡ new.number) where
-    pub moment-replaced : (m : ℕ) → moment_at (map seen_event (set es k new)) m ≡ cond (nat_eq m new.number) (seen_event new).1 (moment_at (map seen_event es) m)
-    moment-replaced m =
-        rw map-set (moment-set new.number (seen_event new).1 (map seen_event es) 1 k (seen_event e) h.pattern inside (ap (λ x. x.0) entry ∙ same) m)
+  module _ (new : Event) (same : new.number ≡ n) where
+    pub moment-replaced : (m : ℕ) → moment_at (map seen_event (set es k new)) m ≡ cond (nat_eq m n) (seen_event new).1 (moment_at (map seen_event es) m)
+    moment-replaced m = rw (map-set, same) (moment-set n (seen_event new).1 (map seen_event es) 1 k (seen_event e) pattern inside numbered m)
 
     pub pattern-replaced : IsEvent (seen_event new).1 → AreNamesWithin new.exits.items → IsPattern (map seen_event (set es k new))
-    pattern-replaced event names =
-        rw map-set (RiseFrom-set new.number (seen_event new).1 (map seen_event es) 1 k (seen_event e) event names h.pattern inside (ap (λ x. x.0) entry ∙ same))
+    pattern-replaced event names = rw (map-set, same) (RiseFrom-set n (seen_event new).1 (map seen_event es) 1 k (seen_event e) event names pattern inside numbered)
 
--- No event of the list has the number, whose place this is.
-pub record IsUnlisted (es : List Event) (k n : ℕ) : Type 0 where
-  pub pattern : IsPattern (map seen_event es)
-  pub first : k ≡ position_or_len (λ e. nat_le n e.number) es
-  pub other : (d : Event) → k < length es → (get_or es k d).number ≡ n → ⊥
-
-module _ (es : List Event) (k n : ℕ) (h : IsUnlisted es k n) where
+-- A number that no event of a pattern has, and its place.
+module _ (es : List Event) (n k : ℕ) (pattern : IsPattern (map seen_event es)) (h : IsUnlisted es n k) where
   at_place : place n (map seen_event es) ≡ k
   at_place = place-map n es ∙ sym h.first
 
   absent : IsAbsent n (map seen_event es)
   absent = at es h
     where
-      at : (es : List Event) → IsUnlisted es k n → IsAbsent n (map seen_event es)
+      at : (es : List Event) → IsUnlisted es n k → IsAbsent n (map seen_event es)
       at [] u d lt = absurd (omega arith)
       at (e ∷ es) u d lt =
           let all = map seen_event (e ∷ es) in
@@ -226,14 +219,14 @@ module _ (es : List Event) (k n : ℕ) (h : IsUnlisted es k n) where
           λ same. u.other e held (ap (λ x. x.0) (sym entry) ∙ same)
 
   pub moment-unlisted : moment_at (map seen_event es) n ≡ quiet
-  moment-unlisted = moment-absent n (map seen_event es) 1 h.pattern absent
+  moment-unlisted = moment-absent n (map seen_event es) 1 pattern absent
 
   map-insert : (new : Event) → map seen_event (insert es k new) ≡ insert (map seen_event es) (place n (map seen_event es)) (seen_event new)
   map-insert new = rw at_place (simp (map-append, take-map, drop-map))
 
   module _ (new : Event) (same : new.number ≡ n) where
     pub moment-added : (m : ℕ) → moment_at (map seen_event (insert es k new)) m ≡ cond (nat_eq m n) (seen_event new).1 (moment_at (map seen_event es) m)
-    moment-added m = rw (map-insert new, same) (moment-insert n (seen_event new).1 (map seen_event es) 1 h.pattern absent m)
+    moment-added m = rw (map-insert new, same) (moment-insert n (seen_event new).1 (map seen_event es) 1 pattern absent m)
 
     pub pattern-added : 1 ≤ n → IsEvent (seen_event new).1 → AreNamesWithin new.exits.items → IsPattern (map seen_event (insert es k new))
-    pattern-added le event names = rw (map-insert new, same) (RiseFrom-insert n (seen_event new).1 (map seen_event es) 1 le event names h.pattern absent)
+    pattern-added le event names = rw (map-insert new, same) (RiseFrom-insert n (seen_event new).1 (map seen_event es) 1 le event names pattern absent)

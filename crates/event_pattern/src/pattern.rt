@@ -1,9 +1,10 @@
 //! Patterns: which moments of a run are not quiet.
-ghost use Rattle.std.specs.Prelude.{◌≡◌, ◌==◌, ◌≤◌, ◌↔◌, nat_le, ℕ, [], length, IsTrue, if◌then◌else◌, OnOk, OnErr, slice_get};
+ghost use Rattle.std.specs.Prelude.{◌≡◌, ◌==◌, ◌≤◌, ◌↔◌, nat_le, ℕ, [], length, map, IsTrue, if◌then◌else◌, IfOk, IfErr, OnOk, OnErr, slice_get};
 ghost use Rattle.std.specs.Option.{option_map};
 ghost use Rattle.std.specs.List.{position_or_len};
 ghost use Rattle.std.specs.List.Sorted.{IsNonDecreasingBy};
 ghost use Rattle.event_pattern.specs.Pattern.{moment_at, with_exit, with_fate, seen_entry, seen_moment, IsPattern, IsNameWithin};
+ghost use Rattle.event_pattern.specs.Events.{seen_event, IsListed, IsUnlisted};
 
 use crate::moments::Moment;
 use std::alloc::{AllocError, Global};
@@ -16,6 +17,17 @@ struct Event {
     number: u32,
     exits: Vec<Name>,
     fate: Option<Fate>,
+}
+
+impl Event {
+    fn moment(&self) -> Moment<'_>
+        ensures { seen_moment result ≡ (seen_event self.now).1 }
+    {
+        Moment {
+            exits: &self.exits,
+            fate: self.fate,
+        }
+    }
 }
 
 /// What happens at each call of a run, counted from 1. It keeps the moments that are not quiet, in ascending numbers.
@@ -55,21 +67,24 @@ impl Pattern {
         ensures ok { OnOk result ((m : ℕ) → moment_at self.new m ≡ (if m == n then with_exit name (moment_at self.old n) else moment_at self.old m)) }
         ensures err { OnErr result (self.new ≡ self.old) }
     {
-        let place = first_from(&self.events, n);
-        if place < self.events.len() && self.events[place].number == n {
-            let event = &mut self.events[place];
-            event.exits.push(name)?;
-            return Ok(());
+        match place_of(&self.events, n) {
+            Ok(place) => {
+                let event = &mut self.events[place];
+                event.exits.push(name)?;
+                Ok(())
+            }
+            Err(place) => {
+                let mut exits = Vec::new(*self.events.allocator());
+                exits.push(name)?;
+                let event = Event {
+                    number: n,
+                    exits,
+                    fate: None,
+                };
+                self.events.insert(place, event)?;
+                Ok(())
+            }
         }
-        let mut exits = Vec::new(*self.events.allocator());
-        exits.push(name)?;
-        let event = Event {
-            number: n,
-            exits,
-            fate: None,
-        };
-        self.events.insert(place, event)?;
-        Ok(())
     }
 
     /// Makes the call of the n-th moment fail so, in place of what was set before.
@@ -78,32 +93,31 @@ impl Pattern {
         ensures ok { OnOk result ((m : ℕ) → moment_at self.new m ≡ (if m == n then with_fate fate (moment_at self.old n) else moment_at self.old m)) }
         ensures err { OnErr result (self.new ≡ self.old) }
     {
-        let place = first_from(&self.events, n);
-        if place < self.events.len() && self.events[place].number == n {
-            let event = &mut self.events[place];
-            event.fate = Some(fate);
-            return Ok(());
+        match place_of(&self.events, n) {
+            Ok(place) => {
+                let event = &mut self.events[place];
+                event.fate = Some(fate);
+                Ok(())
+            }
+            Err(place) => {
+                let event = Event {
+                    number: n,
+                    exits: Vec::new(*self.events.allocator()),
+                    fate: Some(fate),
+                };
+                self.events.insert(place, event)?;
+                Ok(())
+            }
         }
-        let event = Event {
-            number: n,
-            exits: Vec::new(*self.events.allocator()),
-            fate: Some(fate),
-        };
-        self.events.insert(place, event)?;
-        Ok(())
     }
 
     /// What happens at the n-th moment.
     pub fn moment(&self, n: u32) -> Moment<'_>
         ensures { seen_moment result ≡ moment_at self.now n }
     {
-        let place = first_from(&self.events, n);
-        match self.events.get(place) {
-            Some(event) if event.number == n => Moment {
-                exits: &event.exits,
-                fate: event.fate,
-            },
-            _ => Moment {
+        match place_of(&self.events, n) {
+            Ok(place) => self.events[place].moment(),
+            Err(_) => Moment {
                 exits: &[],
                 fate: None,
             },
@@ -130,11 +144,7 @@ impl Pattern {
         ensures { option_map seen_entry result ≡ slice_get self.now i }
     {
         let event = self.events.get(i)?;
-        let moment = Moment {
-            exits: &event.exits,
-            fate: event.fate,
-        };
-        Some((event.number, moment))
+        Some((event.number, event.moment()))
     }
 }
 
@@ -145,4 +155,19 @@ fn first_from(events: &[Event], n: u32) -> usize
     ensures within { result ≤ length events.now }
 {
     events.partition_point(|event| event.number < n)
+}
+
+/// The place of the event with that number, or else the place where it would stand.
+fn place_of(events: &[Event], n: u32) -> Result<usize, usize>
+    requires { IsPattern (map seen_event events.now) }
+    ensures listed { IfOk result (IsListed events.now n) }
+    ensures unlisted { IfErr result (IsUnlisted events.now n) }
+    ensures within { IfErr result (λ place. place ≤ length events.now) }
+{
+    let place = first_from(events, n);
+    if place < events.len() && events[place].number == n {
+        Ok(place)
+    } else {
+        Err(place)
+    }
 }

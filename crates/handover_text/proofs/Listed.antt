@@ -5,10 +5,11 @@ use Rattle.std.proofs.lemmas.Bool.{both_ways, and_parts, or_parts, or_from, ltb-
 use Rattle.std.proofs.lemmas.Bool.Decides.{eqb_tells}
 use Rattle.std.proofs.lemmas.Cmp.{nat_list_eq_equiv}
 use Rattle.std.specs.Cmp.Lexicographic.{same_text}
-use Rattle.std.proofs.lemmas.List.{length-replicate, length-take, length-take-le, get_or-take, take_more, at_drop_more}
+use Rattle.std.proofs.lemmas.List.{length-take, length-take-le, get_or-take, take_more, at_drop_more}
 use Rattle.std.proofs.lemmas.List.Elements.{filter_more}
 use Rattle.std.proofs.lemmas.List.Folds.{list_any_at, Any-from_list_any}
 use Rattle.std.proofs.lemmas.List.Sums.{length-filter, count_by-le-length}
+use Rattle.listener_set.proofs.PaddedLists.{none-padded}
 use Rattle.listener_set.specs.AddressList.{blank, has, AreDistinct}
 use Rattle.vocabulary.specs.declared.table.Listener.{Listener}
 use Rattle.definitions.specs.Record.{listeners_from}
@@ -16,12 +17,9 @@ use Rattle.definitions.specs.After.{listens_on, listener_at, opened_from, added,
 use Rattle.definitions.specs.Handover.{is_above}
 use Rattle.handover_text.specs.Listeners.{AreKept, AreListedFrom, blank_listener}
 
-none_kept : AreKept (replicate 64 blank_listener) 0
-none_kept = record { size = length-replicate 64 blank_listener; fits = omega arith; blanks = refl; listed = tt }
-
 pub blanks_kept : (a : List ℕ) → a ≡ codes "0.0.0.0:8080" → AreKept (replicate 64 (record { descriptor = 3; address = a })) 0
 unfolding blank_listener blank
-blanks_kept a e = rw e none_kept
+blanks_kept a e = rw e (record { padded = none-padded 64 blank_listener; listed = tt })
 
 ---- Fewer listeners
 

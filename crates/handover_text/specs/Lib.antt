@@ -1,4 +1,3 @@
 pub mod Listeners
-pub mod ListenersLemmas
 pub mod Ranges
 pub mod Reader

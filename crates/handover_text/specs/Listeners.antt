@@ -1,5 +1,6 @@
 -- The listeners of a running master.
-use Rattle.std.specs.Prelude.{◌≡◌, ℕ, ◌+◌, ◌-◌, ◌<◌, ◌≤◌, false, List, [], ◌∷◌, length, take, drop, replicate}
+use Rattle.std.specs.Prelude.{◌≡◌, ℕ, ◌+◌, ◌<◌, ◌≤◌, false, List, [], ◌∷◌, take}
+use Rattle.listener_set.specs.Padded.{IsPadded}
 use Rattle.listener_set.specs.AddressList.{blank}
 use Rattle.vocabulary.specs.declared.table.Listener.{Listener}
 use Rattle.definitions.specs.After.{listens_on}
@@ -19,7 +20,5 @@ blank_listener = record { descriptor = 3; address = blank }
 
 -- the listeners stand in front, and blanks behind them
 pub record AreKept (items : List Listener) (len : ℕ) : Type 0 where
-  pub size : length items ≡ 64
-  pub fits : len ≤ 64
-  pub blanks : drop len items ≡ replicate (64 - len) blank_listener
+  pub padded : IsPadded 64 blank_listener items len
   pub listed : AreListed (take len items)

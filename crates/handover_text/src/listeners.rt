@@ -21,7 +21,7 @@ impl Model for Listeners {
     ghost use Rattle.std.specs.Prelude.{◌-◌, ◌++◌, List, take, length, replicate};
     ghost use Rattle.vocabulary.specs.declared.table.Listener.{Listener as Listed};
     ghost use Rattle.handover_text.specs.Listeners.{AreKept, blank_listener};
-    ghost use Rattle.handover_text.specs.ListenersLemmas.{kept_again, length-kept};
+    ghost use Rattle.listener_set.specs.PaddedLemmas.{padded_again, length-padded};
 
     ghost Value = { List Listed };
 
@@ -31,7 +31,7 @@ impl Model for Listeners {
 
     ghost inverse = { λ ls. record { items = ls ++ replicate (64 - length ls) blank_listener; len = length ls } };
 
-    ghost inverse_ok = { λ a h i. record { items = kept_again a.items a.len h i; len = length-kept a.items a.len h i } };
+    ghost inverse_ok = { λ a h i. record { items = padded_again h.padded i; len = length-padded h.padded i } };
 }
 
 impl Listeners {
@@ -49,22 +49,6 @@ impl Listeners {
         }
     }
 
-    /// How many there are.
-    pub fn len(&self) -> usize
-        ensures count { result ≡ length self.now }
-        ensures most { length self.now ≤ MOST_DESCRIPTORS }
-        ensures listed { AreListed self.now }
-    {
-        self.len
-    }
-
-    /// Whether there is none.
-    pub fn is_empty(&self) -> bool
-        ensures { IsTrue result ↔ (self.now ≡ []) }
-    {
-        self.len == 0
-    }
-
     /// The listeners in ascending descriptors.
     pub fn as_slice(&self) -> &[Listener]
         ensures items { result.now ≡ self.now }
@@ -72,17 +56,6 @@ impl Listeners {
         ensures listed { AreListed self.now }
     {
         &self.items[..self.len]
-    }
-
-    /// The listener at a place, counted from 0.
-    pub fn get(&self, place: usize) -> Option<Listener>
-        ensures { result ≡ slice_get self.now place }
-    {
-        if place < self.len {
-            Some(self.items[place])
-        } else {
-            None
-        }
     }
 
     /// Whether an address is listened on.
@@ -200,7 +173,7 @@ impl Listeners {
         let all = addresses.as_slice();
         for address in all {
             if !listeners.holds(address) {
-                if listeners.len() == MOST_DESCRIPTORS {
+                if listeners.as_slice().len() == MOST_DESCRIPTORS {
                     return None;
                 }
                 listeners.open(address);

@@ -55,12 +55,12 @@ sound-foreign old middle new room needed a more same memory enough kept table gr
     record {
       room = record {
         memory = record {
-          holders = omega (arith, more, memory.holders, grows.holders, grows.holder_room);
-          addresses = omega (arith, more, memory.addresses, grows.addresses, grows.address_room);
-          files = omega (arith, more, memory.files, grows.files, grows.file_room);
+          holders = omega (arith, more, memory.holders, grows.sizes.holders, grows.sizes.holder_room);
+          addresses = omega (arith, more, memory.addresses, grows.sizes.addresses, grows.sizes.address_room);
+          files = omega (arith, more, memory.files, grows.sizes.files, grows.sizes.file_room);
         };
-        process_numbers = omega (arith, more, processes, process, grows.process_numbers);
-        socket_numbers = omega (arith, more, sockets, socket, grows.socket_numbers);
+        process_numbers = omega (arith, more, processes, process, grows.sizes.process_numbers);
+        socket_numbers = omega (arith, more, sockets, socket, grows.sizes.socket_numbers);
       };
       kept = subst IsKept (sym table) (IsKept-foreign (seen middle) a (subst IsKept (sym same) kept));
       free = grows.free (KnowsFree-same old middle same free known);

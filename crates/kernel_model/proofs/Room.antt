@@ -38,24 +38,28 @@ module _ (a b : Store) (e : EditsRows a b) where
       let addresses = addresses-same in
       let files = files-same in
       record {
-        holders = (let len = e.len in omega arith);
-        holder_room = (let capacity = e.capacity in omega arith);
-        addresses = rw addresses (omega arith);
-        address_room = rw addresses (omega arith);
-        process_numbers = (let next = next-same in omega arith);
-        socket_numbers = rw addresses (omega arith);
-        files = rw files (omega arith);
-        file_room = rw files (omega arith);
+        sizes = record {
+          holders = (let len = e.len in omega arith);
+          holder_room = (let capacity = e.capacity in omega arith);
+          addresses = rw addresses (omega arith);
+          address_room = rw addresses (omega arith);
+          process_numbers = (let next = next-same in omega arith);
+          socket_numbers = rw addresses (omega arith);
+          files = rw files (omega arith);
+          file_room = rw files (omega arith);
+        };
         free = e.free;
       }
 
 -- a call needs room for one
 pub HasRoomFor-call : (room : ℕ) (b c : Store) → 1 ≤ room → HasRoomFor room b → GrowsByOne b c → HasRoomFor (room - 1) c
-HasRoomFor-call room b c least h g = record {
-  memory = record { holders = omega (arith, h.memory.holders, g.holders, g.holder_room); addresses = omega (arith, h.memory.addresses, g.addresses, g.address_room); files = omega (arith, h.memory.files, g.files, g.file_room) };
-  process_numbers = omega (arith, h.process_numbers, g.process_numbers);
-  socket_numbers = omega (arith, h.socket_numbers, g.socket_numbers);
-}
+HasRoomFor-call room b c least h g =
+    let more = g.sizes in
+    record {
+      memory = record { holders = omega (arith, h.memory.holders, more.holders, more.holder_room); addresses = omega (arith, h.memory.addresses, more.addresses, more.address_room); files = omega (arith, h.memory.files, more.files, more.file_room) };
+      process_numbers = omega (arith, h.process_numbers, more.process_numbers);
+      socket_numbers = omega (arith, h.socket_numbers, more.socket_numbers);
+    }
 
 -- memory for at least as many calls, and the same table
 pub sound-grown : (a b : Store) (room : ℕ) → seen b ≡ seen a → b.free ≡ a.free → (HasMemoryFor room a → HasMemoryFor room b) → IsSound room a → IsSound room b

@@ -10,7 +10,7 @@ ghost use Rattle.process_table.specs.Free.{KnowsFree};
 
 use crate::{files, master_calls};
 use listener_set::{Address, FilePath, Generation};
-use process_table::{Caller, Edit, Stances, Store, WorkerName};
+use process_table::{Caller, Edit, Stances, Store};
 use vocabulary::{Answer, Call, Fate};
 
 /// A new socket at the caller's lowest free descriptor, unless somebody holds the address or the caller has as many
@@ -48,11 +48,7 @@ fn fork(store: &mut Store, caller: &Caller, generation: Generation, nr: u32) -> 
     ensures outcome { record { answer = result; table = seen store.new } ≡ forked (seen_caller store.old.addresses.items caller.now) generation nr (seen store.old) }
     ensures grows { GrowsByOne store.old store.new }
 {
-    let name = WorkerName {
-        parent: caller.number,
-        generation,
-        nr,
-    };
+    let name = caller.worker(generation, nr);
     if store.is_borne(name) {
         return Answer::Again;
     }
@@ -69,11 +65,7 @@ fn await_ready(store: &mut Store, caller: &Caller, generation: Generation, nr: u
     ensures outcome { record { answer = result; table = seen store.new } ≡ awaited (seen_caller store.old.addresses.items caller.now) generation nr (seen store.old) }
     ensures grows { GrowsByOne store.old store.new }
 {
-    let name = WorkerName {
-        parent: caller.number,
-        generation,
-        nr,
-    };
+    let name = caller.worker(generation, nr);
     if store.edit_active(name, &Edit::MakeReady(name)) {
         Answer::IsReady
     } else {
@@ -88,11 +80,7 @@ fn quit(store: &mut Store, caller: &Caller, generation: Generation, nr: u32) -> 
     ensures outcome { record { answer = result; table = seen store.new } ≡ quitted (seen_caller store.old.addresses.items caller.now) generation nr (seen store.old) }
     ensures grows { GrowsByOne store.old store.new }
 {
-    let name = WorkerName {
-        parent: caller.number,
-        generation,
-        nr,
-    };
+    let name = caller.worker(generation, nr);
     let _ = store.edit_active(name, &Edit::Drain(name));
     Answer::Fine
 }
@@ -102,11 +90,7 @@ fn kill(store: &mut Store, caller: &Caller, generation: Generation, nr: u32) -> 
     ensures outcome { record { answer = result; table = seen store.new } ≡ killed (seen_caller store.old.addresses.items caller.now) generation nr (seen store.old) }
     ensures grows { GrowsByOne store.old store.new }
 {
-    let name = WorkerName {
-        parent: caller.number,
-        generation,
-        nr,
-    };
+    let name = caller.worker(generation, nr);
     store.edit(&Edit::Kill(name));
     Answer::Fine
 }
@@ -126,11 +110,7 @@ fn await_gone(store: &mut Store, caller: &Caller, generation: Generation, nr: u3
     ensures outcome { record { answer = result; table = seen store.new } ≡ awaited_gone (seen_caller store.old.addresses.items caller.now) generation nr (seen store.old) }
     ensures grows { GrowsByOne store.old store.new }
 {
-    let name = WorkerName {
-        parent: caller.number,
-        generation,
-        nr,
-    };
+    let name = caller.worker(generation, nr);
     if store.has_worker(Stances::Active, name) {
         return Answer::Late;
     }
@@ -275,11 +255,7 @@ fn late(
 ) -> Option<Answer>
     ensures { result ≡ fault_if (list_any (is_worker (has_stance stances) caller.now.number generation nr) (seen store.now).rows) Answer.Late }
 {
-    let name = WorkerName {
-        parent: caller.number,
-        generation,
-        nr,
-    };
+    let name = caller.worker(generation, nr);
     if store.has_worker(stances, name) {
         Some(Answer::Late)
     } else {

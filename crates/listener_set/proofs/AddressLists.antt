@@ -1,12 +1,13 @@
 -- Lists of distinct addresses, as the calls change them.
-use Rattle.std.proofs.Common.{◌≡◌, ◌≢◌, ℕ, ◌+◌, ◌-◌, ◌≤◌, ◌<◌, suc, zero, cond, filter, Bool, true, false, ◌||◌, List, [], ◌∷◌, length, get_or, set, take, drop, replicate, refl, sym, ap, ◌∙◌, arith, IsTrue}
+use Rattle.std.proofs.Common.{◌≡◌, ◌≢◌, ℕ, ◌+◌, ◌≤◌, ◌<◌, suc, zero, cond, filter, Bool, true, false, ◌||◌, List, [], ◌∷◌, length, get_or, set, take, replicate, refl, sym, ◌∙◌, arith, IsTrue}
 use Rattle.std.specs.Prelude.{◌↔◌, Contains, bytes_eq, codes}
 use Rattle.std.specs.List.{list_any}
 use Rattle.std.specs.Cmp.Lexicographic.{nat_list_eq_equiv, same_text}
 use Rattle.std.proofs.lemmas.Map.Views.{list_any-from_Contains, Contains-from_any}
-use Rattle.std.proofs.lemmas.List.{take_more_set, drop-set-lt, drop-replicate, length-set, length-replicate, get_or-take, drop-drop, get_or_default, length-take}
+use Rattle.std.proofs.lemmas.List.{take_more_set, get_or-take, get_or_default, length-take}
 use Rattle.std.proofs.lemmas.List.Sums.{length-filter, count_by-le-length}
 use Rattle.std.proofs.lemmas.List.Quantifiers.{all_pairs_push}
+use Rattle.listener_set.proofs.PaddedLists.{none-padded, set-padded}
 use Rattle.listener_set.specs.AddressList.{AreKept, AreDistinct, has, blank}
 
 turned : (x : List ℕ) (xs : List (List ℕ)) → has xs x ≡ list_any (bytes_eq x) xs
@@ -20,24 +21,14 @@ has_address xs x r e = (
   λ in_it. e ∙ turned x xs ∙ list_any-from_Contains nat_list_eq_equiv x xs in_it,
 )
 
-none_kept : AreKept (replicate 64 blank) 0
-none_kept = record { size = length-replicate 64 blank; fits = omega arith; blanks = refl; distinct = λ i j d lt h. absurd (let z : j < 0 = h in omega arith) }
-
 pub blanks_kept : (b : List ℕ) → b ≡ codes "0.0.0.0:8080" → AreKept (replicate 64 b) 0
 unfolding blank
-blanks_kept b e = rw e none_kept
+blanks_kept b e = rw e (record { padded = none-padded 64 blank; distinct = λ i j d lt h. absurd (let z : j < 0 = h in omega arith) })
 
 pub pushed_kept : (items : List (List ℕ)) (len : ℕ) (x : List ℕ) → AreKept items len → len < 64 → (Contains (take len items) x → ⊥) → AreKept (set items len x) (len + 1)
 pushed_kept items len x h lt absent = record {
-  size = length-set items len x ∙ h.size;
-  fits = omega arith;
-  blanks =
-      drop-set-lt (len + 1) items len x (omega arith)
-      ∙ sym (drop-drop 1 len items)
-      ∙ ap (drop 1) h.blanks
-      ∙ drop-replicate 1 (64 - len) blank
-      ∙ ap (λ n. replicate n blank) (omega arith);
-  distinct = rw (take_more_set items len x (omega (arith, h.size))) (all_pairs_push (λ y z. y ≢ z) (take len items) x h.distinct (λ k d kk e. absent (k, kk, get_or_default (take len items) k x d kk ∙ e)));
+  padded = set-padded x h.padded lt;
+  distinct = rw (take_more_set items len x (omega (arith, h.padded.size))) (all_pairs_push (λ y z. y ≢ z) (take len items) x h.distinct (λ k d kk e. absent (k, kk, get_or_default (take len items) k x d kk ∙ e)));
 }
 
 -- ---- filters

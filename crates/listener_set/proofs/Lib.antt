@@ -6,6 +6,7 @@ pub mod DescriptorSlots
 pub mod DescriptorPairs
 pub mod AddressLaws
 pub mod AddressGrammar
+pub mod PaddedLists
 pub mod AddressLists
 pub mod PathTexts
 pub mod ShortTexts

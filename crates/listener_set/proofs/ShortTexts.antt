@@ -1,11 +1,11 @@
 -- A short text is its bytes with zeros behind them.
 use Rattle.std.proofs.Common.{ℕ, ◌+◌, ◌-◌, ◌≤◌, List, ◌++◌, length, drop, replicate, refl, ap, ◌∙◌, arith}
 use Rattle.std.proofs.lemmas.List.{length-append, length-drop, length-replicate, drop_at, drop-replicate}
-use Rattle.listener_set.specs.ShortText.{IsPadded}
+use Rattle.listener_set.specs.Padded.{IsPadded}
 
-pub padded : (text : List ℕ) → length text ≤ 107 → IsPadded (text ++ drop (length text) (replicate 107 0)) (length text)
+pub padded : (text : List ℕ) → length text ≤ 107 → IsPadded 107 0 (text ++ drop (length text) (replicate 107 0)) (length text)
 padded text fits = record {
   size = length-append text _ ∙ ap (λ k. length text + k) (length-drop (length text) (replicate 107 0) ∙ ap (λ k. k - length text) (length-replicate {A = ℕ} 107 0)) ∙ omega arith;
   fits = fits;
-  zeros = drop_at text _ (length text) refl ∙ drop-replicate (length text) 107 0;
+  blanks = drop_at text _ (length text) refl ∙ drop-replicate (length text) 107 0;
 }

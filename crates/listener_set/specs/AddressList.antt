@@ -1,6 +1,7 @@
 -- Lists of distinct addresses.
-use Rattle.std.specs.Prelude.{◌≡◌, ◌≢◌, ℕ, ◌-◌, ◌≤◌, Bool, List, length, take, drop, replicate, codes, bytes_eq}
+use Rattle.std.specs.Prelude.{◌≢◌, ℕ, Bool, List, take, codes, bytes_eq}
 use Rattle.std.specs.List.{AllPairs, list_any}
+use Rattle.listener_set.specs.Padded.{IsPadded}
 
 abbrev pub AreDistinct : List (List ℕ) → Type 0
 AreDistinct xs = AllPairs (λ x y. x ≢ y) xs
@@ -15,7 +16,5 @@ blank = codes "0.0.0.0:8080"
 
 -- the addresses stand in front, and blanks behind them
 pub record AreKept (items : List (List ℕ)) (len : ℕ) : Type 0 where
-  pub size : length items ≡ 64
-  pub fits : len ≤ 64
-  pub blanks : drop len items ≡ replicate (64 - len) blank
+  pub padded : IsPadded 64 blank items len
   pub distinct : AreDistinct (take len items)

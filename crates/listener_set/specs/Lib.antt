@@ -1,12 +1,11 @@
 pub mod Numbers
 pub mod NumberWords
 pub mod NumberWordsLemmas
-pub mod ShortText
-pub mod ShortTextLemmas
+pub mod Padded
+pub mod PaddedLemmas
 pub mod AddressText
 pub mod PathText
 pub mod AddressList
-pub mod AddressListLemmas
 pub mod Descriptors
 pub mod DescriptorLemmas
 pub mod Codes

@@ -57,7 +57,7 @@ pub struct ListenerSet {
 impl Model for ListenerSet {
     ghost use Rattle.std.specs.Prelude.{◌-◌, ◌++◌, ℕ, List, take, length, replicate};
     ghost use Rattle.listener_set.specs.AddressList.{AreKept, blank};
-    ghost use Rattle.listener_set.specs.AddressListLemmas.{kept_again, length-kept};
+    ghost use Rattle.listener_set.specs.PaddedLemmas.{padded_again, length-padded};
 
     ghost Value = { List (List ℕ) };
 
@@ -67,7 +67,7 @@ impl Model for ListenerSet {
 
     ghost inverse = { λ xs. record { items = xs ++ replicate (64 - length xs) blank; len = length xs } };
 
-    ghost inverse_ok = { λ a h i. record { items = kept_again a.items a.len h i; len = length-kept a.items a.len h i } };
+    ghost inverse_ok = { λ a h i. record { items = padded_again h.padded i; len = length-padded h.padded i } };
 }
 
 impl Default for ListenerSet {

@@ -15,18 +15,18 @@ pub struct ShortText {
 
 impl Model for ShortText {
     ghost use Rattle.std.specs.Prelude.{◌≡◌, ◌++◌, ◌-◌, ℕ, List, take, length, replicate};
-    ghost use Rattle.listener_set.specs.ShortText.{IsPadded};
-    ghost use Rattle.listener_set.specs.ShortTextLemmas.{padded_again, length-padded};
+    ghost use Rattle.listener_set.specs.Padded.{IsPadded};
+    ghost use Rattle.listener_set.specs.PaddedLemmas.{padded_again, length-padded};
 
     ghost Value = { List ℕ };
 
     ghost view = { λ t. take t.len t.bytes };
 
-    ghost invariant = { λ t. IsPadded t.bytes t.len };
+    ghost invariant = { λ t. IsPadded 107 0 t.bytes t.len };
 
     ghost inverse = { λ text. record { bytes = text ++ replicate (107 - length text) 0; len = length text } };
 
-    ghost inverse_ok = { λ t h i. record { bytes = padded_again t.bytes t.len h i; len = length-padded t.bytes t.len h i } };
+    ghost inverse_ok = { λ t h i. record { bytes = padded_again h i; len = length-padded h i } };
 }
 
 impl PartialEq for ShortText {

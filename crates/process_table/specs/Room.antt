@@ -15,8 +15,8 @@ pub record EditsRows (old new : Store) : Type 0 where
   pub capacity : vec_capacity new.holders ≡ vec_capacity old.holders
   pub free : KnowsFree old → KnowsFree new
 
--- at most one row, one socket, one file and one number more, and no less memory; what names are free is known as before
-pub record GrowsByOne (old new : Store) : Type 0 where
+-- at most one row, one socket, one file and one number more, and no less memory
+pub record GrowsInSize (old new : Store) : Type 0 where
   pub holders : vec_len new.holders ≤ vec_len old.holders + 1
   pub holder_room : vec_capacity old.holders ≤ vec_capacity new.holders
   pub addresses : vec_len new.addresses ≤ vec_len old.addresses + 1
@@ -25,6 +25,10 @@ pub record GrowsByOne (old new : Store) : Type 0 where
   pub socket_numbers : length new.addresses.items ≤ length old.addresses.items + 1
   pub files : vec_len new.files ≤ vec_len old.files + 1
   pub file_room : vec_capacity old.files ≤ vec_capacity new.files
+
+-- that, and what names are free is known as before
+pub record GrowsByOne (old new : Store) : Type 0 where
+  pub sizes : GrowsInSize old new
   pub free : KnowsFree old → KnowsFree new
 
 -- Memory for that many rows, sockets and files more.

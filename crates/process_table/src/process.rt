@@ -66,6 +66,19 @@ pub struct Caller {
     pub holds: DescriptorTable,
 }
 
+impl Caller {
+    /// The name of a worker of it.
+    pub fn worker(&self, generation: Generation, nr: u32) -> WorkerName
+        ensures { result ≡ record { parent = self.now.number; generation = generation; nr = nr } }
+    {
+        WorkerName {
+            parent: self.number,
+            generation,
+            nr,
+        }
+    }
+}
+
 fn is_starting(stance: Stance) -> bool
     ensures { result ≡ is_starting stance }
 {

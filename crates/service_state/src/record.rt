@@ -173,7 +173,7 @@ impl Record {
 fn keeps_rules(setup: &Setup, report: &Report, pid: u32) -> bool
     ensures { (path : Option PathText) → result ≡ keeps_rules (recorded setup.now path report.now pid) }
 {
-    !setup.listeners.is_empty()
+    !setup.listeners.as_slice().is_empty()
         && setup.wanted <= WORKER_LIMIT
         && report.ready.next_from(setup.wanted).is_none()
         && pid != 0

@@ -1,18 +1,18 @@
-use Rattle.std.proofs.Common.{◌≡◌, ◌≤◌, ◌<◌, ◌+◌, ◌-◌, length, take, arith, drop, set, replicate, ap, subst, sym, ◌∙◌}
+use Rattle.std.proofs.Common.{◌≡◌, ◌≤◌, ◌<◌, ◌+◌, ◌-◌, length, take, arith, set, ap, subst, sym, ◌∙◌}
 use borrow.Rule.Slice.PartMut.{put_mid}
 use Rattle.std.specs.Prelude.{insert}
-use Rattle.std.proofs.lemmas.List.{drop-drop, drop-replicate}
-use Rattle.handover_text.specs.ListenersLemmas.{length-kept}
-use Rattle.handover_text.specs.Listeners.{AreListed, blank_listener}
+use Rattle.listener_set.specs.PaddedLemmas.{length-padded}
+use Rattle.listener_set.proofs.PaddedLists.{blanks-left}
+use Rattle.handover_text.specs.Listeners.{AreListed}
 use Rattle.handover_text.proofs.Insertion.{take-inserted, drop-inserted, length-inserted}
 use Rattle.handover_text.proofs.listeners.Listeners.insert.Goals as goal
 
 module _ (c : goal.After-self-3-1) where
   count : length c.args.self.now ≡ c.self.inside.len
-  count = rw c.self.view_is at (length-kept c.self.inside.items c.self.inside.len c.self.invariant)
+  count = rw c.self.view_is at (length-padded c.self.invariant.padded)
 
   room : c.self.inside.len < length c.self.inside.items
-  room = omega (arith, count, c.self.invariant.size)
+  room = omega (arith, count, c.self.invariant.padded.size)
 
   place : c.args.place ≤ c.self.inside.len
   place = omega (arith, count)
@@ -24,14 +24,11 @@ module _ (c : goal.After-self-3-1) where
 
 pub invariant_of-self : goal.invariant_of-self
 invariant_of-self c = record {
-  size = length-inserted c.self.inside.items c.self.inside.len c.args.place c.args.listener.now (room c) (place c) c.rotate_right.new.self c.rotate_right.ensures.after ∙ c.self.invariant.size;
-  fits = omega (arith, count c);
-  blanks =
-      drop-inserted c.self.inside.items c.self.inside.len c.args.place c.args.listener.now (room c) (place c) c.rotate_right.new.self c.rotate_right.ensures.after
-      ∙ sym (drop-drop 1 c.self.inside.len c.self.inside.items)
-      ∙ ap (drop 1) c.self.invariant.blanks
-      ∙ drop-replicate 1 (64 - c.self.inside.len) blank_listener
-      ∙ ap (λ n. replicate n blank_listener) (omega arith);
+  padded = record {
+    size = length-inserted c.self.inside.items c.self.inside.len c.args.place c.args.listener.now (room c) (place c) c.rotate_right.new.self c.rotate_right.ensures.after ∙ c.self.invariant.padded.size;
+    fits = omega (arith, count c);
+    blanks = drop-inserted c.self.inside.items c.self.inside.len c.args.place c.args.listener.now (room c) (place c) c.rotate_right.new.self c.rotate_right.ensures.after ∙ blanks-left c.self.invariant.padded;
+  };
   listed = subst AreListed (sym (now c)) c.requires.listed;
 }
 

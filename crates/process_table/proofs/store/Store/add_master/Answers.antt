@@ -7,14 +7,4 @@ returns-clause-grows c =
     let s = c.args.self.now in
     let addresses = s.addresses.items in
     let pushed = rw c.unwrap.ensures at c.push.ensures.items in
-    record {
-      holders = search rules;
-      holder_room = search rules;
-      addresses = search rules;
-      address_room = search rules;
-      process_numbers = search rules;
-      socket_numbers = search rules;
-      files = search rules;
-      file_room = search rules;
-      free = λ known. AreFree-pushed s.free addresses addresses s.holders.items _ _ pushed (λ k. refl) known;
-    }
+    record { sizes = search rules; free = λ known. AreFree-pushed s.free addresses addresses s.holders.items _ _ pushed (λ k. refl) known }

@@ -23,14 +23,4 @@ returns-clause-table c =
 pub returns-clause-grows : goal.returns-clause-grows
 returns-clause-grows c =
     let s = c.args.self.now in
-    record {
-      holders = search rules;
-      holder_room = search rules;
-      addresses = search rules;
-      address_room = search rules;
-      process_numbers = search rules;
-      socket_numbers = search rules;
-      files = search rules;
-      file_room = search rules;
-      free = λ known. c.edit.ensures.room.free (AreFree-addresses s.free s.addresses.items c.push.new.self.items s.holders.items known);
-    }
+    record { sizes = search rules; free = λ known. c.edit.ensures.room.free (AreFree-addresses s.free s.addresses.items c.push.new.self.items s.holders.items known) }
