@@ -1,19 +1,21 @@
 -- What is carried out ends as it reports.
-use Rattle.std.proofs.Common.{◌≡◌, ℕ, ◌+◌, true, false, Bool, List, [], ◌∷◌, length, Option, Some, None, refl, sym, ◌∙◌, ap}
+use Rattle.std.proofs.Common.{◌≡◌, ℕ, ◌+◌, true, false, Bool, List, [], ◌∷◌, length, Option, Some, None, refl, sym, ◌∙◌, ap, subst}
 use Rattle.std.specs.Prelude.{is_some, is_none}
 use Rattle.std.proofs.lemmas.Bool.{false≢true}
 use Rattle.definitions.specs.Table.{Table, Generation}
-use Rattle.definitions.specs.Record.{Record, Agrees}
+use Rattle.definitions.specs.Record.{Record}
 use Rattle.definitions.specs.Target.{IsTarget, text_handed}
 use Rattle.vocabulary.specs.declared.targets.Target.{Target}
 use Rattle.vocabulary.specs.declared.targets.Target.TheVariants.{Workers, Mend, Reopen, Reload, Upgrade, Stop}
-use Rattle.definitions.specs.Tree.{height}
+use Rattle.definitions.specs.Tree.{Tree, height}
+use Rattle.vocabulary.specs.declared.plans.PidNote.{PidNote}
 use Rattle.vocabulary.specs.declared.reports.Entry.{Entry}
 use Rattle.vocabulary.specs.declared.reports.Report.{Report}
-use Rattle.kernel_model.specs.Room.{LacksNumbers}
+use Rattle.kernel_model.specs.Pattern.{moment_at}
 use Rattle.kernel_model.specs.State.{State}
 use Rattle.definitions.specs.Plans.{plan_tree}
-use Rattle.definitions.specs.Run.{Pattern, Ran, report_of, Replays}
+use Rattle.definitions.specs.Run.{Moment, Pattern, Ran, report_of, Replays}
+use Rattle.rollback_plan.specs.Plans.{tree_of, note_of, text_of}
 use Rattle.definitions.specs.Path.{KeepsPathLaw}
 use Rattle.definitions.specs.After.{next_record, next_config, next_image}
 use Rattle.word_runner.specs.declared.enactor.Enacted.{Enacted}
@@ -22,9 +24,11 @@ use Rattle.plan_executor.specs.Enacted.{HasFloor, IsEnacted}
 use Rattle.plan_executor.specs.Range.{HasRange}
 use Rattle.plan_executor.specs.Refusals.{HasPlan, NamesMaster}
 use Rattle.plan_executor.proofs.Reporting.{whole-run}
-use Rattle.plan_executor.specs.Naming.{listed, heir_of}
-use Rattle.plan_executor.proofs.Reigning.{heirs}
-use Rattle.definitions.specs.Claims.{IsStart, IsAccepted, HasDescriptors, refused_among, refusal_of, run_of, EndsAsReported, InManner, WorkersHeadline, MendHeadline, ReopenHeadline, ReopenFloor, ReloadHeadline, UpgradeHeadline, StopHeadline}
+use Rattle.plan_executor.specs.Patterned.{CallsLed}
+use Rattle.plan_executor.specs.Prepared.{IsPrepared}
+use Rattle.plan_executor.specs.declared.enactment.Prepared.{Prepared}
+use Rattle.plan_executor.specs.declared.patterned.Patterned.{Patterned}
+use Rattle.definitions.specs.Claims.{IsStart, IsAccepted, HasDescriptors, heirs_of, refused_among, refusal_of, run_of, EndsAsReported, InManner, WorkersHeadline, MendHeadline, ReopenHeadline, ReopenFloor, ReloadHeadline, UpgradeHeadline, StopHeadline}
 use Rattle.definitions.specs.Manner.{Manner}
 use Rattle.vocabulary.specs.Settings.{Settings}
 
@@ -70,26 +74,47 @@ keeps h t r (Upgrade s) pattern start ds within range plan spared =
 keeps h t r (Stop quick) pattern start ds within range plan spared =
     let a : IsAccepted t r (Stop quick) pattern = record { start = start; accepts = tt; spared = spared } in (h.stops t r quick pattern a, tt, h.stops_manner quick t r pattern a)
 
--- What is found among the calls is so of the run.
-refusal-is : (r : Record) (target : Target) (pattern : Pattern) (first last : Table) (entries : List Entry) (report : Report) (found : Option ℕ) → HasPlan r target → IsWholeRun r target pattern first entries last report → refused_among (r.generation.image ∷ []) (listed (heir_of r target)) pattern 0 entries ≡ found → refusal_of r target pattern first ≡ found
-refusal-is r target pattern first last entries report found plan whole naming =
-    ap (λ images. refused_among (r.generation.image ∷ []) images pattern 0 (run_of r target pattern first).entries) (sym (heirs r target plan))
-    ∙ (ap (refused_among (r.generation.image ∷ []) (listed (heir_of r target)) pattern 0) whole.entries_are ∙ naming)
+---- What is made of a plan
 
-pub enacted : Headlines → (first last : State) (r : Record) (target : Target) (pattern : Pattern) (e : Enacted) →
-    IsStart first.table r → HasDescriptors first.table r → IsTarget target → HasRange target → HasPlan r target → (LacksNumbers first.table (height (plan_tree r target)) → ⊥) →
-    KeepsPathLaw (plan_tree r target) r.note e.log.entries e.report → Replays (text_handed r target) pattern 0 first.table e.log.entries last.table →
-    last.room + length e.log.entries ≡ height (plan_tree r target) →
-    refused_among (r.generation.image ∷ []) (listed (heir_of r target)) pattern 0 e.log.entries ≡ None → e.after ≡ next_record r target e.report last.table →
-    IsEnacted first last r target pattern e
-enacted headlines first last r target pattern e start ds within range plan numbers law replays room spared after =
-    let whole = whole-run r target pattern first.table last.table e.log.entries e.report law replays in
-    let none = refusal-is r target pattern first.table last.table e.log.entries e.report None plan whole spared in
-    let kept = keeps headlines first.table r target pattern start ds within range plan none in
+-- The calls follow the target's plan from the one table to the other under the pattern, and the report is theirs.
+pub record IsMade (first : Table) (r : Record) (target : Target) (pattern : Pattern) (entries : List Entry) (last : Table) (report : Report) : Type 0 where
+  pub law : KeepsPathLaw (plan_tree r target) r.note entries report
+  pub replays : Replays (text_handed r target) pattern 0 first entries last
+
+-- what is executed of what was prepared, on its copy
+pub made : (first : State) (r : Record) (target : Target) (p : Prepared) (moments : List (ℕ × Moment)) (calls then : Patterned) (entries : List Entry) (report : Report) →
+    IsPrepared first r target p → calls.kernel ≡ p.copy → calls.pattern.now ≡ moments → calls.text.now ≡ text_of p.plan → calls.number ≡ 0 →
+    KeepsPathLaw (tree_of p.plan) (note_of p.plan) entries report → CallsLed calls entries then → IsMade first.table r target (moment_at moments) entries then.kernel.table report
+made first r target p moments calls then entries report is kernel pattern text number law led =
+    let copied : calls.kernel ≡ record { table = first.table; room = height (plan_tree r target) } = kernel ∙ is.copy in
+    let last = then.kernel.table in
     record {
-      agrees = start.agrees;
-      has_plan = plan;
-      numbers = numbers;
+      law = subst (λ (tree : Tree). KeepsPathLaw tree r.note entries report) is.tree (subst (λ (note : PidNote). KeepsPathLaw (tree_of p.plan) note entries report) is.note law);
+      replays =
+          subst (λ handed. Replays handed (moment_at moments) 0 first.table entries last) (text ∙ is.text)
+          (subst (λ ms. Replays calls.text.now (moment_at ms) 0 first.table entries last) pattern
+          (subst (λ n. Replays calls.text.now (moment_at calls.pattern.now) n first.table entries last) number
+          (subst (λ (s : State). Replays calls.text.now (moment_at calls.pattern.now) calls.number s.table entries last) copied led.replays)));
+    }
+
+-- What is found among the calls is so of the run.
+refusal-is : (r : Record) (target : Target) (pattern : Pattern) (first last : Table) (entries : List Entry) (report : Report) (found : Option ℕ) → IsWholeRun r target pattern first entries last report → refused_among (r.generation.image ∷ []) (heirs_of r target) pattern 0 entries ≡ found → refusal_of r target pattern first ≡ found
+refusal-is r target pattern first last entries report found whole naming =
+    ap (refused_among (r.generation.image ∷ []) (heirs_of r target) pattern 0) whole.entries_are ∙ naming
+
+pub enacted : Headlines → (first last : State) (r : Record) (target : Target) (pattern : Pattern) (p : Prepared) (e : Enacted) →
+    IsPrepared first r target p → IsTarget target → HasRange target → IsMade first.table r target pattern e.log.entries last.table e.report →
+    last.room + length e.log.entries ≡ height (plan_tree r target) →
+    refused_among (r.generation.image ∷ []) (heirs_of r target) pattern 0 e.log.entries ≡ None → e.after ≡ next_record r target e.report last.table →
+    IsEnacted first last r target pattern e
+enacted headlines first last r target pattern p e is within range runs room spared after =
+    let whole = whole-run r target pattern first.table last.table e.log.entries e.report runs.law runs.replays in
+    let none = refusal-is r target pattern first.table last.table e.log.entries e.report None whole spared in
+    let kept = keeps headlines first.table r target pattern is.start is.descriptors within range is.has_plan none in
+    record {
+      agrees = is.start.agrees;
+      has_plan = is.has_plan;
+      numbers = is.numbers;
       spared = none;
       is_run = whole;
       room = room;
@@ -100,16 +125,15 @@ enacted headlines first last r target pattern e start ds within range plan numbe
     }
 
 -- The first moment that kills an executing master is refused.
-pub named : (first last : Table) (r : Record) (target : Target) (pattern : Pattern) (entries : List Entry) (report : Report) (moment : ℕ) →
-    Agrees first r → HasPlan r target → (LacksNumbers first (height (plan_tree r target)) → ⊥) →
-    KeepsPathLaw (plan_tree r target) r.note entries report → Replays (text_handed r target) pattern 0 first entries last →
-    refused_among (r.generation.image ∷ []) (listed (heir_of r target)) pattern 0 entries ≡ Some moment →
-    NamesMaster first r target pattern moment
-named first last r target pattern entries report moment agrees plan numbers law replays naming =
-    let whole = whole-run r target pattern first last entries report law replays in
+pub named : (first : State) (last : Table) (r : Record) (target : Target) (pattern : Pattern) (p : Prepared) (entries : List Entry) (report : Report) (moment : ℕ) →
+    IsPrepared first r target p → IsMade first.table r target pattern entries last report →
+    refused_among (r.generation.image ∷ []) (heirs_of r target) pattern 0 entries ≡ Some moment →
+    NamesMaster first.table r target pattern moment
+named first last r target pattern p entries report moment is runs naming =
+    let whole = whole-run r target pattern first.table last entries report runs.law runs.replays in
     record {
-      agrees = agrees;
-      has_plan = plan;
-      numbers = numbers;
-      first = refusal-is r target pattern first last entries report (Some moment) plan whole naming;
+      agrees = is.start.agrees;
+      has_plan = is.has_plan;
+      numbers = is.numbers;
+      first = refusal-is r target pattern first.table last entries report (Some moment) whole naming;
     }

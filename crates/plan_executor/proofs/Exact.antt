@@ -77,27 +77,34 @@ none_fits first last r target pattern e is (MasterNamed k) h = none-some k (sym 
 
 ---- What an enactment answers
 
-pub exact-memory : (t : Table) (r : Record) (target : Target) (pattern : Pattern) → IsExact t r target pattern (Err Memory)
-exact-memory t r target pattern why = inl refl
+-- It is a refusal exactly where that fits.
+abbrev pub IsOnly : Table → Record → Target → Pattern → Result Enacted EnactRefusal → Type 0
+IsOnly t r target pattern result = (why : EnactRefusal) → IsErrOf result why ↔ IsRefused t r target pattern why
 
-pub exact-refused : (t : Table) (r : Record) (target : Target) (pattern : Pattern) (because : EnactRefusal) → IsRefused t r target pattern because → IsExact t r target pattern (Err because)
-exact-refused t r target pattern because is why =
-    inr (λ h. let same : because ≡ why = cc in subst (IsRefused t r target pattern) same is, λ h. let same : because ≡ why = one t r target pattern because why is h in cc)
+pub only-refused : (t : Table) (r : Record) (target : Target) (pattern : Pattern) (because : EnactRefusal) → IsRefused t r target pattern because → IsOnly t r target pattern (Err because)
+only-refused t r target pattern because is why =
+    (λ h. let same : because ≡ why = cc in subst (IsRefused t r target pattern) same is, λ h. let same : because ≡ why = one t r target pattern because why is h in cc)
 
-pub exact-enacted : (first last : State) (r : Record) (target : Target) (pattern : Pattern) (e : Enacted) → IsEnacted first last r target pattern e → IsExact first.table r target pattern (Ok e)
-exact-enacted first last r target pattern e is why = inr (λ h. cc, λ h. absurd (none_fits first last r target pattern e is why h))
+pub only-enacted : (first last : State) (r : Record) (target : Target) (pattern : Pattern) (e : Enacted) → IsEnacted first last r target pattern e → IsOnly first.table r target pattern (Ok e)
+only-enacted first last r target pattern e is why = (λ h. cc, λ h. absurd (none_fits first last r target pattern e is why h))
 
--- where the planner refuses
-pub exact-planless : (t : Table) (r : Record) (target : Target) (pattern : Pattern) (because : EnactRefusal) → Agrees t r → (because ≡ Memory) ⊎ ((refusal : PlanRefusal) × (because ≡ Plan refusal) × HasNoPlan r target refusal) → IsExact t r target pattern (Err because)
-exact-planless t r target pattern because agrees (inl memory) = subst (λ (e : EnactRefusal). IsExact t r target pattern (Err e)) (sym memory) (exact-memory t r target pattern)
-exact-planless t r target pattern because agrees (inr h) =
-    subst (λ (e : EnactRefusal). IsExact t r target pattern (Err e)) (sym h.1) (exact-refused t r target pattern (Plan h.0) (record { agrees = agrees; no_plan = h.2 }))
+---- What refuses before a pattern is looked at
 
--- where no room can be made for the plan
-pub exact-short : (t : Table) (r : Record) (target : Target) (pattern : Pattern) (because : EnactRefusal) → Agrees t r → HasPlan r target → (because ≡ Memory) ⊎ ((because ≡ NoNumbers) × LacksNumbers t (height (plan_tree r target))) → IsExact t r target pattern (Err because)
-exact-short t r target pattern because agrees plan (inl memory) = subst (λ (e : EnactRefusal). IsExact t r target pattern (Err e)) (sym memory) (exact-memory t r target pattern)
-exact-short t r target pattern because agrees plan (inr h) =
-    subst (λ (e : EnactRefusal). IsExact t r target pattern (Err e)) (sym h.0) (exact-refused t r target pattern NoNumbers (record { agrees = agrees; has_plan = plan; lacks = h.1 }))
+-- Memory is wanted, or it is refused so whatever the pattern.
+abbrev pub IsUnprepared : Table → Record → Target → EnactRefusal → Type 0
+IsUnprepared t r target because = (because ≡ Memory) ⊎ ((pattern : Pattern) → IsRefused t r target pattern because)
+
+pub planless : (t : Table) (r : Record) (target : Target) (because : EnactRefusal) → Agrees t r → (because ≡ Memory) ⊎ ((refusal : PlanRefusal) × (because ≡ Plan refusal) × HasNoPlan r target refusal) → IsUnprepared t r target because
+planless t r target because agrees (inl memory) = inl memory
+planless t r target because agrees (inr h) = inr (λ pattern. subst (IsRefused t r target pattern) (sym h.1) (record { agrees = agrees; no_plan = h.2 }))
+
+pub short : (t : Table) (r : Record) (target : Target) (because : EnactRefusal) → Agrees t r → HasPlan r target → (because ≡ Memory) ⊎ ((because ≡ NoNumbers) × LacksNumbers t (height (plan_tree r target))) → IsUnprepared t r target because
+short t r target because agrees plan (inl memory) = inl memory
+short t r target because agrees plan (inr h) = inr (λ pattern. subst (IsRefused t r target pattern) (sym h.0) (record { agrees = agrees; has_plan = plan; lacks = h.1 }))
+
+pub unprepared-exact : (t : Table) (r : Record) (target : Target) (pattern : Pattern) (because : EnactRefusal) → IsUnprepared t r target because → IsExact t r target pattern (Err because)
+unprepared-exact t r target pattern because (inl memory) why = inl (ap Err memory)
+unprepared-exact t r target pattern because (inr is) why = inr (only-refused t r target pattern because (is pattern) why)
 
 -- where a planner wants memory it refuses nothing
 pub unspared : {T : Type 0} (r : Record) (target : Target) (result : Result T EnactRefusal) → (IsErrOf result (Plan planner.NoGeneration) ↔ (lacks_generation r target ≡ true)) → IsErrOf result Memory → (p : PlanRefusal) → HasNoPlan r target p → ⊥

@@ -1,11 +1,14 @@
 -- Whose exits are looked at, call by call.
-use Rattle.std.proofs.Common.{◌≡◌, ℕ, ◌||◌, nat_eq, Bool, true, false, List, [], ◌∷◌, ◌++◌, refl, ◌∙◌}
+use Rattle.std.proofs.Common.{◌≡◌, ℕ, ◌+◌, ◌<◌, ◌||◌, nat_eq, Bool, true, false, cond, List, [], ◌∷◌, ◌++◌, Some, length, drop, get_or, refl, sym, ◌∙◌, ap}
 use Rattle.std.specs.Prelude.{◌&&◌, if◌then◌else◌}
 use Rattle.std.specs.List.{list_any}
 use Rattle.vocabulary.specs.declared.names.Name.{Name}
 use Rattle.vocabulary.specs.declared.names.Name.TheVariants as name
+use Rattle.std.proofs.lemmas.List.{drop_more}
+use Rattle.vocabulary.specs.declared.reports.Entry.{Entry}
 use Rattle.listener_set.specs.Numbers.{is_in}
-use Rattle.definitions.specs.Claims.{names_any}
+use Rattle.definitions.specs.Run.{Moment, Pattern}
+use Rattle.definitions.specs.Claims.{names_any, executing_at, executing_after, refused_among}
 use Rattle.plan_executor.specs.Naming.{is_exit_of}
 
 or_false : (b : Bool) {one other : Bool} → one ≡ other → (b || one) ≡ ((b || false) || other)
@@ -55,3 +58,12 @@ names_any-at false images others es = same (names_any images es)
     same : (b : Bool) → b ≡ (b || false)
     same true = refl
     same false = refl
+
+-- The entry at a place is looked at, and then those behind it.
+pub looked : (executing heirs : List ℕ) (pattern : Pattern) (entries : List Entry) (place : ℕ) (e : Entry) (moment : Moment) (names : Bool) → place < length entries → e ≡ get_or entries place e → moment ≡ pattern (place + 1) → names_any (executing_at e.call executing heirs) moment.exits ≡ names →
+    refused_among executing heirs pattern place (drop place entries) ≡ cond names (Some (place + 1)) (refused_among (executing_after e.call executing heirs) heirs pattern (place + 1) (drop (place + 1) entries))
+looked executing heirs pattern entries place e moment names lt is at found =
+    let rest = drop (place + 1) entries in
+    ap (refused_among executing heirs pattern place) (drop_more entries place e lt ∙ ap (λ x. x ∷ rest) (sym is))
+    ∙ ap (λ b. cond b (Some (place + 1)) (refused_among (executing_after e.call executing heirs) heirs pattern (place + 1) rest))
+    (ap (λ (m : Moment). names_any (executing_at e.call executing heirs) m.exits) (sym at) ∙ found)

@@ -3,6 +3,7 @@ pub mod Naming
 pub mod Codes
 pub mod Refusals
 pub mod Patterned
+pub mod Prepared
 pub mod Enacted
 pub mod Words
 pub mod Range

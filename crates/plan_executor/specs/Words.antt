@@ -9,7 +9,7 @@ use Rattle.kernel_model.specs.Pattern.{moment_at}
 use Rattle.word_runner.specs.declared.enactor.Enacted.{Enacted}
 use Rattle.plan_executor.specs.declared.enactment.EnactRefusal.{EnactRefusal}
 use Rattle.plan_executor.specs.Codes.{enact_code}
-use Rattle.plan_executor.specs.Refusals.{IsRefused}
+use Rattle.plan_executor.specs.Refusals.{IsPlannable, IsRefused}
 use Rattle.plan_executor.specs.Enacted.{IsEnacted}
 
 abbrev pub Moments : Type 0
@@ -28,6 +28,10 @@ pub record DeclinesAt (patterns : List Moments) (first : State) (place : ℕ) (r
   pub why : EnactRefusal
   pub is_refused : IsRefused first.table r target (moment_at (pattern_at patterns place)) why
   pub code_is : code ≡ enact_code why
+
+-- When memory can be wanted for a target: only where the record agrees and there is a plan.
+abbrev pub WantsMemoryFor : State → ℕ → Record → Target → Type 0
+WantsMemoryFor k place r target = IsPlannable k.table r target
 
 -- Where a master runs, its record agrees with the table.
 abbrev pub IsTrueOf : Table → Option Record → Type 0

@@ -3,29 +3,27 @@ ghost use Rattle.std.specs.Prelude.{◌≡◌, ◌≤◌, ◌↔◌, ◌⊎◌, 
 ghost use Rattle.definitions.specs.Formed.{IsFormed};
 ghost use Rattle.definitions.specs.Record.{Agrees};
 ghost use Rattle.definitions.specs.Plans.{plan_tree};
-ghost use Rattle.vocabulary.specs.Settings.{IsInRange};
+ghost use Rattle.definitions.specs.Run.{Pattern as Moments};
 ghost use Rattle.definitions.specs.Target.{IsTarget, text_handed};
 ghost use Rattle.kernel_model.specs.Pattern.{moment_at};
 ghost use Rattle.kernel_model.specs.Room.{LacksNumbers};
 ghost use Rattle.rollback_plan.specs.Plans.{tree_of, note_of, text_of};
 ghost use Rattle.reload_planner.specs.declared.refusal.PlanRefusal.{PlanRefusal as Unplannable};
 ghost use Rattle.plan_executor.specs.Enacted.{IsEnacted};
-ghost use Rattle.plan_executor.specs.Range.{HasRange};
+ghost use Rattle.plan_executor.specs.Prepared.{IsPrepared};
 ghost use Rattle.definitions.specs.After.{lacks_generation};
 ghost use Rattle.plan_executor.specs.Refusals.{HasPlan, HasNoPlan, IsPlannable, IsRefused};
 ghost use Rattle.plan_executor.specs.declared.enactment.EnactRefusal.{EnactRefusal as Refusal};
 
 use crate::agreement::agrees;
-use crate::naming::refused_among;
-use crate::patterned::Patterned;
-use crate::succession::{heir_of, record_left};
+use crate::carrying::carry_out;
 use kernel_model::{Kernel, Pattern, ReserveRefusal};
-use plan_runner::{CallLog, execute};
+use plan_runner::CallLog;
 use rollback_plan::Plan;
 use service_state::Record;
 use std::alloc::{AllocError, Global};
 use target_planner::PlanRefusal;
-use vocabulary::{Settings, Target};
+use vocabulary::Target;
 use word_runner::Enacted;
 
 /// Why a target is not carried out.
@@ -79,50 +77,40 @@ pub fn enact(
     ensures memory { IsErrOf result EnactRefusal.Memory → IsPlannable kernel.old.table state.now target.now }
     ensures err { OnErr result (kernel.new ≡ kernel.old) }
 {
+    let prepared = prepare(alloc, kernel, state, target)?;
+    carry_out(prepared, kernel, state, target, pattern)
+}
+
+/// All that carrying a target out needs: its plan, and room for as many calls as the plan's longest path has steps, on a
+/// copy of the kernel and in a log.
+#[derive(Drop)]
+pub(crate) struct Prepared {
+    pub(crate) plan: Plan,
+    pub(crate) copy: Kernel,
+    pub(crate) log: CallLog,
+}
+
+/// Makes ready all that carrying a target out needs. Memory is taken here and nowhere after.
+fn prepare(
+    alloc: Global,
+    kernel: &Kernel,
+    state: &Record,
+    target: &Target,
+) -> Result<Prepared, EnactRefusal>
+    requires { IsTarget target.now }
+    ensures ok { IfOk result (IsPrepared kernel.now state.now target.now) }
+    ensures disagrees { IsErrOf result EnactRefusal.RecordDisagrees ↔ (Agrees kernel.now.table state.now → ⊥) }
+    ensures refused { IfErr result (λ why. (why ≡ EnactRefusal.Memory) ⊎ ((pattern : Moments) → IsRefused kernel.now.table state.now target.now pattern why)) }
+    ensures memory { IsErrOf result EnactRefusal.Memory → IsPlannable kernel.now.table state.now target.now }
+{
     if !agrees(state, kernel) {
         return Err(EnactRefusal::RecordDisagrees);
     }
     let plan = plan_of(alloc, state, target)?;
     let longest = plan.longest();
     let copy = reserved_copy(kernel, longest)?;
-    let mut log = CallLog::with_room(alloc, longest)?;
-    let mut calls = Patterned::new(copy, pattern, plan.text());
-    let report = execute(&plan, &mut calls, &mut log);
-    let heir = heir_of(state, target);
-    if let Some(moment) = refused_among(pattern, state.generation.image, heir, log.entries()) {
-        return Err(EnactRefusal::MasterNamed(moment));
-    }
-    read_settings(target);
-    theorems::workers_end_as_reported();
-    theorems::mends_end_as_reported();
-    theorems::reopenings_end_as_reported();
-    theorems::reloads_end_as_reported();
-    theorems::upgrades_end_as_reported();
-    theorems::stops_end_as_reported();
-    *kernel = calls.into_kernel();
-    let after = record_left(state, target, &report, kernel);
-    Ok(Enacted { log, report, after })
-}
-
-/// A target's settings are in range, which only a reading of them tells.
-fn read_settings(target: &Target)
-    ensures { HasRange target.now }
-{
-    match target {
-        Target::Reload(settings) => {
-            let _workers = workers_of(settings);
-        }
-        Target::Upgrade(settings) => {
-            let _workers = workers_of(settings);
-        }
-        _ => (),
-    }
-}
-
-fn workers_of(settings: &Settings) -> u32
-    ensures { IsInRange settings.now }
-{
-    settings.workers
+    let log = CallLog::with_room(alloc, longest)?;
+    Ok(Prepared { plan, copy, log })
 }
 
 /// The plan of a target. Want of memory is told only where nothing else is refused.

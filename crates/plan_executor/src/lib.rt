@@ -2,6 +2,7 @@
 #![tactic(auto)]
 
 mod agreement;
+mod carrying;
 mod codes;
 mod enactment;
 mod naming;

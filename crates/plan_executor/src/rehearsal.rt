@@ -1,9 +1,9 @@
 //! Control words on the modelled kernel.
-ghost use Rattle.std.specs.Prelude.{◌≡◌, ◌+◌, ◌++◌, List, [], length, OnOk};
+ghost use Rattle.std.specs.Prelude.{◌≡◌, ◌+◌, ◌<◌, ◌++◌, ◌⊎◌, ℕ, List, [], length, slice_get, vec_capacity, vec_len, OnOk, OnErr};
 ghost use Rattle.std.specs.Option.{option_copied};
-ghost use Rattle.word_runner.specs.Words.{standing, AreDone};
+ghost use Rattle.word_runner.specs.Words.{standing, AreDone, WantsMemory};
 ghost use Rattle.word_runner.specs.declared.block.Block.{Block as Done};
-ghost use Rattle.plan_executor.specs.Words.{pattern_at, EnactsAt, DeclinesAt, IsTrueOf};
+ghost use Rattle.plan_executor.specs.Words.{pattern_at, EnactsAt, DeclinesAt, WantsMemoryFor, IsTrueOf};
 
 use crate::enact;
 use control_words::Word;
@@ -29,6 +29,8 @@ impl Enactor for Rehearsal<'_> {
     ghost enacts = { λ it. EnactsAt it.patterns.now };
 
     ghost declines = { λ it. DeclinesAt it.patterns.now };
+
+    ghost wants_memory = { λ _. WantsMemoryFor };
 
     fn enact(
         &self,
@@ -60,8 +62,9 @@ fn pattern_at<'a>(patterns: &'a [Pattern], quiet: &'a Pattern, place: usize) -> 
 /// Each word puts its block behind `blocks`. A refused word prints its code and changes nothing;
 /// once there is no record, each is refused as V1. After a run the record is the one that the
 /// report leaves, and the table of workers follows: those that the plan started have not beaten.
-/// The only refusal is want of memory. It leaves the words before it done, with their blocks, and
-/// all else as they left it.
+/// The only refusal is want of memory: before the first word, where there is no room for all blocks,
+/// or where a word's target wants it. It leaves the words before it done, with their blocks, and all
+/// else as they left it.
 pub fn run_words(
     alloc: Global,
     kernel: &mut Kernel,
@@ -76,6 +79,10 @@ pub fn run_words(
         × (blocks.new.items ≡ blocks.old.items ++ done)
         × AreDone (EnactsAt patterns.now) (DeclinesAt patterns.now) (option_copied settings.entry) words.now 0 (standing kernel.old state.old workers.old) done (standing kernel.new state.new workers.new) }
     ensures all { OnOk result (length blocks.new.items ≡ length blocks.old.items + length words.now) }
+    ensures due { OnErr result ((n : ℕ)
+        × (length blocks.new.items ≡ length blocks.old.items + n)
+        × (((n ≡ 0) × (vec_capacity blocks.old < vec_len blocks.old + length words.now))
+        ⊎ WantsMemory WantsMemoryFor (option_copied settings.entry) (slice_get words.now n) n (standing kernel.new state.new workers.new))) }
     ensures agrees { IsTrueOf kernel.old.table state.old → IsTrueOf kernel.new.table state.new }
 {
     let quiet = Pattern::new(alloc);

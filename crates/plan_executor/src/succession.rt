@@ -1,15 +1,18 @@
 //! Who takes over, and whose the record is that a run leaves.
 ghost use Rattle.std.specs.Prelude.{◌≡◌};
-ghost use Rattle.definitions.specs.After.{next_record};
-ghost use Rattle.plan_executor.specs.Naming.{heir_of, image_after};
+ghost use Rattle.definitions.specs.After.{next_record, reigning};
+ghost use Rattle.definitions.specs.Claims.{heirs_of};
+ghost use Rattle.plan_executor.specs.Naming.{listed};
+ghost use Rattle.plan_executor.specs.Refusals.{HasPlan};
 
 use kernel_model::Kernel;
 use service_state::{Record, next_image};
-use vocabulary::{Outcome, Report, Side, Target};
+use vocabulary::{Outcome, Report, Target};
 
 /// The image of the master that takes over: the new one of an upgrade.
 pub(crate) fn heir_of(state: &Record, target: &Target) -> Option<u32>
-    ensures { result ≡ heir_of state.now target.now }
+    requires { HasPlan state.now target.now }
+    ensures { listed result ≡ heirs_of state.now target.now }
 {
     match target {
         Target::Upgrade(_) => next_image(state.generation).map(|generation| generation.image),
@@ -17,18 +20,12 @@ pub(crate) fn heir_of(state: &Record, target: &Target) -> Option<u32>
     }
 }
 
-/// The image of the master that reigns after an outcome.
-fn image_after(outcome: &Outcome, image: u32, heir: Option<u32>) -> u32
-    ensures { result ≡ image_after outcome.now image heir }
+/// The process number of the master that reigns after an outcome.
+fn reigning(state: &Record, target: &Target, outcome: &Outcome, kernel: &Kernel) -> Option<u32>
+    ensures { result ≡ reigning state.now target.now outcome.now kernel.now.table }
 {
-    match outcome {
-        Outcome::Done => heir.unwrap_or(image),
-        Outcome::Degraded { side, .. } => match side {
-            Side::Old => image,
-            Side::Target => heir.unwrap_or(image),
-        },
-        Outcome::RolledBack | Outcome::Lost => image,
-    }
+    let image = state.image_after(target, outcome)?;
+    kernel.master(image)
 }
 
 /// The record that a report leaves to the master that reigns then: it has that master's process number.
@@ -40,7 +37,6 @@ pub(crate) fn record_left(
 ) -> Option<Record>
     ensures { result ≡ next_record state.now target.now report.now kernel.now.table }
 {
-    let heir = heir_of(state, target);
-    let pid = kernel.master(image_after(&report.outcome, state.generation.image, heir))?;
+    let pid = reigning(state, target, &report.outcome, kernel)?;
     state.after(target, report, pid)
 }

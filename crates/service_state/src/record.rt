@@ -1,5 +1,5 @@
 //! What a running master knows of itself.
-ghost use Rattle.std.specs.Prelude.{◌≡◌, ◌<◌, ◌≤◌, Option, Some};
+ghost use Rattle.std.specs.Prelude.{◌≡◌, ◌<◌, ◌≤◌, Option, Some, option_map};
 ghost use Rattle.std.specs.List.{AllByRecursion};
 ghost use Rattle.definitions.specs.Table.{FilePath as PathText};
 ghost use Rattle.definitions.specs.Record.{started};
@@ -165,6 +165,14 @@ impl Record {
     {
         let setup = self.setup_after(&report.outcome, target)?;
         self.recorded(&setup, report, pid)
+    }
+
+    /// The image that runs the service which an outcome names. None after a stop and where the run was lost.
+    pub fn image_after(&self, target: &Target, outcome: &Outcome) -> Option<u32>
+        ensures { result ≡ option_map (λ s. s.generation.image) (setup_after outcome.now self.now target.now) }
+    {
+        self.setup_after(outcome, target)
+            .map(|setup| setup.generation.image)
     }
 }
 

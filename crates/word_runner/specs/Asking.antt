@@ -53,14 +53,14 @@ abbrev pub IsNoted : Result (Unit {0}) TableRefusal → ℕ → ℕ → Workers 
 IsNoted (Ok u) nr now old body new = (body ≡ Nothing) × (new ≡ with_worker old nr (Some now))
 IsNoted (Err refusal) nr now old body new = (body ≡ Refused (table_code refusal)) × (new ≡ old)
 
--- a target is asked for
-abbrev pub IsAct : Asked → Type 0
-IsAct asks.Nothing = ⊥
-IsAct (asks.Beat beat) = ⊥
-IsAct (asks.Act target) = ⊤
-IsAct (asks.Refused code) = ⊥
+-- a target is asked for, and this is so of it
+abbrev pub IsActOn : (Target → Type 0) → Asked → Type 0
+IsActOn says asks.Nothing = ⊥
+IsActOn says (asks.Beat beat) = ⊥
+IsActOn says (asks.Act target) = says target
+IsActOn says (asks.Refused code) = ⊥
 
--- there is a master, and a word asks it for a target
-abbrev pub AsksTarget : Option Record → Option Settings → Word → Workers → Type 0
-AsksTarget None settings word workers = ⊥
-AsksTarget (Some r) settings word workers = IsAct (asked_by word r workers settings)
+-- there is a master, a word asks it for a target, and this is so of its record and the target
+abbrev pub AsksTarget : (Record → Target → Type 0) → Option Record → Option Settings → Word → Workers → Type 0
+AsksTarget says None settings word workers = ⊥
+AsksTarget says (Some r) settings word workers = IsActOn (says r) (asked_by word r workers settings)

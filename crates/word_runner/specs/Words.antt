@@ -16,7 +16,7 @@ use Rattle.word_runner.specs.Codes.{stopped_code}
 use Rattle.word_runner.specs.Started.{started}
 use Rattle.word_runner.specs.declared.asking.Asked.{Asked}
 use Rattle.word_runner.specs.declared.asking.Asked.TheVariants as asks
-use Rattle.word_runner.specs.Asking.{asked_by, IsNoted}
+use Rattle.word_runner.specs.Asking.{asked_by, AsksTarget, IsNoted}
 
 -- Where things stand between two words: what targets are carried out on, the record of the running master, if there
 -- is one, and its workers' beats.
@@ -46,6 +46,11 @@ pub record HasRun {G : Type 0} (enacts : G → ℕ → Record → Target → Ena
 pub record IsDeclined {G : Type 0} (declines : G → ℕ → Record → Target → List ℕ → Type 0) (place : ℕ) (old : Standing G) (r : Record) (target : Target) (code : List ℕ) (new : Standing G) : Type 0 where
   pub declined : declines old.world place r target code
   pub still : new ≡ old
+
+-- A word asks the running master for a target, and memory is wanted to carry that out. Where there is no word, none is.
+abbrev pub WantsMemory : {G : Type 0} → (G → ℕ → Record → Target → Type 0) → Option Settings → Option Word → ℕ → Standing G → Type 0
+WantsMemory wants settings None place s = ⊥
+WantsMemory wants settings (Some word) place s = AsksTarget (wants s.world place) s.state settings word s.workers
 
 module _ {G : Type 0} (enacts : G → ℕ → Record → Target → Enacted → G → Type 0) (declines : G → ℕ → Record → Target → List ℕ → Type 0) where
   -- What a running master makes of a target.

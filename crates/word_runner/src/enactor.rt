@@ -1,5 +1,5 @@
 //! What carries targets out.
-ghost use Rattle.std.specs.Prelude.{◌≡◌, ℕ, List, OnErr, IfOk, IfErr};
+ghost use Rattle.std.specs.Prelude.{◌≡◌, ℕ, List, OnErr, IfOk, IfErr, IsErrOf};
 ghost use Rattle.definitions.specs.Record.{Record as Known};
 ghost use Rattle.definitions.specs.Target.{IsTarget};
 ghost use Rattle.vocabulary.specs.declared.targets.Target.{Target as Wanted};
@@ -46,6 +46,9 @@ pub trait Enactor {
     /// What a refusal with a code says: of the world, which word asked, the record and the target.
     ghost declines: { Self → Self.World → ℕ → Known → Wanted → List ℕ → Type 0 };
 
+    /// What want of memory says: of the world, which word asked, the record and the target.
+    ghost wants_memory: { Self → Self.World → ℕ → Known → Wanted → Type 0 };
+
     /// Carries a target out for the master of a record. The word that asks for it has this place
     /// among the words that are carried out, counted from 0. A refusal changes nothing.
     fn enact(
@@ -59,5 +62,6 @@ pub trait Enactor {
         requires { IsTarget target.now }
         ensures ok { IfOk result (λ done. enacts self.now world.old place state.now target.now done world.new) }
         ensures declined { IfErr result (HasCode (declines self.now world.old place state.now target.now)) }
+        ensures memory { IsErrOf result TargetRefusal.Memory → wants_memory self.now world.old place state.now target.now }
         ensures err { OnErr result (world.new ≡ world.old) };
 }

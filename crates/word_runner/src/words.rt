@@ -1,12 +1,12 @@
 //! Control words, carried out one after another.
-ghost use Rattle.std.specs.Prelude.{◌≡◌, ◌+◌, ◌<◌, ◌++◌, ◌↔◌, ℕ, List, length, IfOk, IsErr, OnOk, OnErr};
+ghost use Rattle.std.specs.Prelude.{◌≡◌, ◌+◌, ◌<◌, ◌++◌, ◌↔◌, ◌⊎◌, ℕ, List, length, slice_get, vec_capacity, vec_len, IfOk, IsErr, OnOk, OnErr};
 ghost use Rattle.std.specs.Option.{option_copied};
 ghost use Rattle.definitions.specs.Target.{IsTarget};
 ghost use Rattle.listener_set.specs.Numbers.{is_in};
 ghost use Rattle.word_runner.specs.Started.{start_of, started_in, started};
 ghost use Rattle.word_runner.specs.Asking.{AsksTarget};
 ghost use Rattle.word_runner.specs.Enactors.{IsTold};
-ghost use Rattle.word_runner.specs.Words.{standing, IsActed, ComesTo, AreDone};
+ghost use Rattle.word_runner.specs.Words.{standing, IsActed, ComesTo, AreDone, WantsMemory};
 ghost use Rattle.word_runner.specs.declared.block.Block.{Block as Done};
 
 use crate::asking::{Asked, asked_by, note};
@@ -23,8 +23,9 @@ use worker_table::WorkerTable;
 /// Each word puts its block behind `blocks`. A refused word prints its code and changes nothing;
 /// once there is no record, each is refused as V1. After a run the record is the one that the
 /// report leaves, and the table of workers follows: those that the plan started have not beaten.
-/// The only refusal is want of memory. It leaves the words before it done, with their blocks, and
-/// all else as they left it.
+/// The only refusal is want of memory: before the first word, where there is no room for all blocks,
+/// or where a word's target wants it. It leaves the words before it done, with their blocks, and all
+/// else as they left it.
 pub fn run_words<E: Enactor>(
     alloc: Global,
     enactor: &E,
@@ -39,9 +40,13 @@ pub fn run_words<E: Enactor>(
         × (blocks.new.items ≡ blocks.old.items ++ done)
         × AreDone (E.enacts enactor.now) (E.declines enactor.now) (option_copied settings.entry) words.now 0 (standing world.old state.old workers.old) done (standing world.new state.new workers.new) }
     ensures all { OnOk result (length blocks.new.items ≡ length blocks.old.items + length words.now) }
+    ensures due { OnErr result ((n : ℕ)
+        × (length blocks.new.items ≡ length blocks.old.items + n)
+        × (((n ≡ 0) × (vec_capacity blocks.old < vec_len blocks.old + length words.now))
+        ⊎ WantsMemory (E.wants_memory enactor.now) (option_copied settings.entry) (slice_get words.now n) n (standing world.new state.new workers.new))) }
 {
+    blocks.reserve(words.len())?;
     for (place, word) in words.iter().enumerate() {
-        blocks.reserve(1)?;
         let body = run_word(
             alloc, enactor, world, state, workers, *word, place, settings,
         )?;
@@ -64,7 +69,7 @@ fn run_word<E: Enactor>(
 ) -> Result<Body, AllocError>
     ensures ok { IfOk result (λ body. ComesTo (E.enacts enactor.now) (E.declines enactor.now) (option_copied settings.entry) word place (standing world.old state.old workers.old) body (standing world.new state.new workers.new)) }
     ensures err { OnErr result (standing world.new state.new workers.new ≡ standing world.old state.old workers.old) }
-    ensures due { OnErr result (AsksTarget state.old (option_copied settings.entry) word workers.old) }
+    ensures due { OnErr result (AsksTarget (E.wants_memory enactor.now world.old place) state.old (option_copied settings.entry) word workers.old) }
 {
     let Some(running) = *state else {
         return Ok(Body::Refused(CodeText::stopped()));
@@ -79,7 +84,8 @@ fn run_word<E: Enactor>(
     }
 }
 
-/// Carries a target out for a running master. Want of memory leaves everything as it was.
+/// Carries a target out for a running master. Want of memory leaves everything as it was, and comes only where carrying
+/// it out wants memory.
 fn act<E: Enactor>(
     alloc: Global,
     enactor: &E,
@@ -93,6 +99,7 @@ fn act<E: Enactor>(
     requires { IsTarget target.now }
     ensures ok { IfOk result (λ body. IsActed (E.enacts enactor.now) (E.declines enactor.now) place (standing world.old state.old workers.old) running.now target.now body (standing world.new state.new workers.new)) }
     ensures err { OnErr result (standing world.new state.new workers.new ≡ standing world.old state.old workers.old) }
+    ensures memory { OnErr result (E.wants_memory enactor.now world.old place running.now target.now) }
 {
     let enacted = match enactor.enact(alloc, world, place, running, target) {
         Ok(enacted) => enacted,

@@ -7,20 +7,20 @@ use Rattle.word_runner.proofs.Wording.{done-more}
 use Rattle.word_runner.proofs.words.run_words.Goals as goal
 
 pub loop-place-init : goal.loop-place-init
-loop-place-init g c = ([], sym (append-nil c.args.blocks.now.items), refl, refl)
+loop-place-init g c = ([], c.in_ok-reserve.ensures.items ∙ sym (append-nil c.args.blocks.now.items), refl, refl, omega (arith, c.in_ok-reserve.ensures.ok))
 
 pub loop-place-preserved : goal.loop-place-preserved
 loop-place-preserved g c =
     let h = c.loop-place.invariant in
     let old = c.args.blocks.now.items in
     let block : Block = record { word = get_or c.args.words.now c.loop-place.place Hup; body = c.in_ok-body.body } in
-    let items = c.push_reserved.ensures.items ∙ (ap (λ xs. xs ++ block ∷ []) (c.in_ok-reserve.ensures.items ∙ h.1) ∙ append_assoc old h.0 (block ∷ [])) in
+    let items = c.push_reserved.ensures.items ∙ (ap (λ xs. xs ++ block ∷ []) h.1 ∙ append_assoc old h.0 (block ∷ [])) in
     let count : length (h.0 ++ block ∷ []) ≡ c.loop-place.place + 1 = omega (arith, length-append h.0 (block ∷ []), h.2) in
     let done =
     done-more (g.E.Enactor.enacts c.args.enactor.now) (g.E.Enactor.declines c.args.enactor.now) (option_copied c.args.settings) c.args.words.now (standing c.args.world.now c.args.state.now c.args.workers.now) h.0
     (standing c.loop-place.world c.loop-place.state c.loop-place.workers) (standing c.run_word.new.world c.run_word.new.state c.run_word.new.workers) c.loop-place.place Hup
     c.in_ok-body.body c.loop-place-test.true h.2 h.3 c.in_ok-body.ensures.ok in
-    (h.0 ++ block ∷ [], items, count, done)
+    (h.0 ++ block ∷ [], items, count, done, omega (arith, h.4, c.push_reserved.ensures.len, c.push_reserved.ensures.capacity))
 
 pub returns-clause-all : goal.returns-clause-all
 returns-clause-all g c =
