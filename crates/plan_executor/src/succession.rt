@@ -8,7 +8,7 @@ use service_state::{Record, next_image};
 use vocabulary::{Outcome, Report, Side, Target};
 
 /// The image of the master that takes over: the new one of an upgrade.
-pub(crate) fn heir_of(state: &Record, target: &Target) -> Option<u32>
+pub fn heir_of(state: &Record, target: &Target) -> Option<u32>
     ensures { result ≡ heir_of state.now target.now }
 {
     match target {
