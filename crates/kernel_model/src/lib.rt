@@ -12,6 +12,7 @@ mod kernel;
 mod master_calls;
 mod readers;
 mod refusal;
+mod replies;
 mod running;
 mod service;
 

@@ -114,7 +114,7 @@ fn prepare(
 }
 
 /// The plan of a target. Want of memory is told only where nothing else is refused.
-fn plan_of(alloc: Global, state: &Record, target: &Target) -> Result<Plan, EnactRefusal>
+pub fn plan_of(alloc: Global, state: &Record, target: &Target) -> Result<Plan, EnactRefusal>
     requires { IsTarget target.now }
     ensures planned { IfOk result (λ _. HasPlan state.now target.now) }
     ensures tree { IfOk result (λ plan. tree_of plan ≡ plan_tree state.now target.now) }
@@ -133,7 +133,7 @@ fn plan_of(alloc: Global, state: &Record, target: &Target) -> Result<Plan, Enact
 
 /// A copy of a kernel with room for so many calls. Whether numbers are lacking is asked first, so that want of memory is
 /// told only where they are not.
-fn reserved_copy(kernel: &Kernel, calls: u32) -> Result<Kernel, EnactRefusal>
+pub fn reserved_copy(kernel: &Kernel, calls: u32) -> Result<Kernel, EnactRefusal>
     ensures same { IfOk result (λ k. k ≡ record { table = kernel.now.table; room = calls }) }
     ensures formed { IfOk result (λ _. IsFormed kernel.now.table) }
     ensures descriptors { IfOk result (λ _. kernel.now.table.limits.descriptors ≤ 64) }

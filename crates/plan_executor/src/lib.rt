@@ -11,5 +11,7 @@ mod rehearsal;
 mod succession;
 
 pub use agreement::agrees;
-pub use enactment::{EnactRefusal, enact};
+pub use enactment::{EnactRefusal, enact, plan_of, reserved_copy};
+pub use naming::{executing_after, names_executing};
 pub use rehearsal::run_words;
+pub use succession::heir_of;

@@ -32,14 +32,19 @@ pub(crate) fn refused_among(
 }
 
 /// Whether a master exits that executes at the call: both do where the one leaves and the other takes over.
-fn names_executing(exits: &[Name], call: &Call, executing: Option<u32>, heir: Option<u32>) -> bool
+pub fn names_executing(
+    exits: &[Name],
+    call: &Call,
+    executing: Option<u32>,
+    heir: Option<u32>,
+) -> bool
     ensures { result ≡ names_any (executing_at call.now (listed executing) (listed heir)) exits.now }
 {
     names_master(exits, executing) || (is_leave(call) && names_master(exits, heir))
 }
 
 /// Who executes after the call.
-fn executing_after(call: &Call, executing: Option<u32>, heir: Option<u32>) -> Option<u32>
+pub fn executing_after(call: &Call, executing: Option<u32>, heir: Option<u32>) -> Option<u32>
     ensures { listed result ≡ executing_after call.now (listed executing) (listed heir) }
 {
     if is_leave(call) { heir } else { executing }

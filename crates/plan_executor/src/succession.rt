@@ -10,7 +10,7 @@ use service_state::{Record, next_image};
 use vocabulary::{Outcome, Report, Target};
 
 /// The image of the master that takes over: the new one of an upgrade.
-pub(crate) fn heir_of(state: &Record, target: &Target) -> Option<u32>
+pub fn heir_of(state: &Record, target: &Target) -> Option<u32>
     requires { HasPlan state.now target.now }
     ensures { listed result ≡ heirs_of state.now target.now }
 {

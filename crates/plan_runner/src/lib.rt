@@ -9,3 +9,4 @@ mod walk;
 pub use call_log::CallLog;
 pub use calls::Calls;
 pub use execution::execute;
+pub use walk::{Due, Walk};

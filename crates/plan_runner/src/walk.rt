@@ -1,5 +1,5 @@
 //! How far the execution of a plan has come.
-ghost use Rattle.std.specs.Prelude.{◌≡◌, ◌+◌, ◌<◌, ◌≤◌, ◌^◌, IsTrue, IfSome, IfNone, None, length};
+ghost use Rattle.std.specs.Prelude.{◌≡◌, ◌+◌, ◌<◌, ◌≤◌, ◌^◌, IsTrue, IfSome, IfNone, None, is_none, length};
 ghost use Rattle.std.specs.Option.{option_map};
 ghost use Rattle.vocabulary.specs.declared.calls.Answer.TheVariants.{MasterGone};
 ghost use Rattle.definitions.specs.Path.{first_cause};
@@ -13,15 +13,15 @@ use vocabulary::{Actor, Call, End, Entry, Outcome, PidNote, Report, Side};
 
 /// A call that is due, and the master that makes it.
 #[derive(Clone, Copy)]
-pub(crate) struct Due {
-    pub(crate) by: Actor,
-    pub(crate) call: Call,
+pub struct Due {
+    pub by: Actor,
+    pub call: Call,
 }
 
 /// How far the execution of a plan has come: where it is, what the last census said, and what
 /// the report will say.
 #[derive(Clone, Copy)]
-pub(crate) struct Walk<'a> {
+pub struct Walk<'a> {
     rest: Option<Cursor<'a>>,
     bound: Bound,
     note: PidNote,
@@ -37,7 +37,7 @@ impl<'a> Walk<'a> {
     ghost use Rattle.plan_runner.specs.Walk.{trail_of, AsksFor};
 
     /// Before the first call.
-    pub(crate) fn new(plan: &'a Plan) -> Walk<'a>
+    pub fn new(plan: &'a Plan) -> Walk<'a>
         ensures { trail_of result ≡ begin (tree_of plan.now) (note_of plan.now) }
     {
         Walk {
@@ -50,7 +50,7 @@ impl<'a> Walk<'a> {
     }
 
     /// The call that is due; none where the walk is over.
-    pub(crate) fn due(&self) -> Option<Due>
+    pub fn due(&self) -> Option<Due>
         ensures some { IfSome result (λ due. AsksFor (trail_of self.now) due.by due.call) }
         ensures none { IfNone result (IsOver (trail_of self.now).rest) }
     {
@@ -62,7 +62,7 @@ impl<'a> Walk<'a> {
     }
 
     /// The walk after a call and its answer.
-    pub(crate) fn after(&self, entry: &Entry) -> Walk<'a>
+    pub fn after(&self, entry: &Entry) -> Walk<'a>
         requires asks { Asks (trail_of self.now).rest (trail_of self.now).lacking entry.now }
         requires listed { IsTrue (is_listed entry.now.call entry.now.answer) }
         ensures trail { trail_of result ≡ advance (trail_of self.now) entry.now }
@@ -98,8 +98,15 @@ impl<'a> Walk<'a> {
         }
     }
 
+    /// Whether the last answer had no edge.
+    pub fn is_lost(&self) -> bool
+        ensures { result ≡ is_none (trail_of self.now).rest }
+    {
+        self.rest.is_none()
+    }
+
     /// What the report says of a walk that is over.
-    pub(crate) fn report(&self) -> Report
+    pub fn report(&self) -> Report
         requires { IsOver (trail_of self.now).rest }
         ensures { Reports (trail_of self.now) result }
     {
