@@ -2,7 +2,7 @@
 ghost use Rattle.std.specs.Prelude.{◌≡◌, IfOk, false};
 ghost use Rattle.clap.specs.Words.{app_of, rule_of};
 ghost use Rattle.clap.specs.declared.builder.command.Command.TheViews.{out-Command};
-ghost use Rattle.command_line.specs.Arguments.{enact_app, flag_rule, option_rule, plan_app, prefork_app, with_start, word_rule, words_rule};
+ghost use Rattle.command_line.specs.Arguments.{enact_app, flag_rule, option_rule, plan_app, prefork_app, required_rule, with_start, word_rule, words_rule};
 
 use crate::help::{
     BARE_HELP, DOT_HELP, ENACT_NOTES, FROM_HELP, HELD_HELP, PLAN_NOTES, PROGRAM_NOTES, STATE_HELP,
@@ -86,25 +86,29 @@ fn flag<'a>(alloc: Global, name: &'a str, help: &'a str) -> Arg<'a>
         .help(help)
 }
 
+/// `WORD`, which must be there.
+fn required<'a>(alloc: Global, name: &'a str, help: &'a str) -> Arg<'a>
+    ensures rule { rule_of result ≡ required_rule name.entry.now }
+    ensures own { result.global ≡ false }
+{
+    Arg::new(alloc, name)
+        .value_name("WORD")
+        .required(true)
+        .help(help)
+}
+
 fn words<'a>(alloc: Global) -> Arg<'a>
     ensures rule { rule_of result ≡ words_rule }
     ensures own { result.global ≡ false }
 {
-    Arg::new(alloc, "words")
-        .value_name("WORD")
-        .required(true)
+    required(alloc, "words", WORDS_HELP)
         .num_args(1..)
         .action(ArgAction::Append)
-        .help(WORDS_HELP)
 }
 
 fn word<'a>(alloc: Global) -> Arg<'a>
     ensures rule { rule_of result ≡ word_rule }
     ensures own { result.global ≡ false }
 {
-    Arg::new(alloc, "word")
-        .value_name("WORD")
-        .required(true)
-        .action(ArgAction::Set)
-        .help(WORD_HELP)
+    required(alloc, "word", WORD_HELP).action(ArgAction::Set)
 }
