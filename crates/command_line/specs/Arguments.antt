@@ -39,21 +39,24 @@ flag_rule name = record (new_rule name) {
   action = Some SetTrue;
 }
 
+-- `WORD`, which must be there
+abbrev pub required_rule : Text → Rule
+required_rule name = record (new_rule name) {
+  required = true;
+  value_names = 1;
+}
+
 -- `WORD..`
 abbrev pub words_rule : Rule
-words_rule = record (new_rule (codes "words")) {
-  required = true;
+words_rule = record (required_rule (codes "words")) {
   range = Some (record { start_inclusive = 1; end_inclusive = usize_max });
   action = Some Append;
-  value_names = 1;
 }
 
 -- `WORD`
 abbrev pub word_rule : Rule
-word_rule = record (new_rule (codes "word")) {
-  required = true;
+word_rule = record (required_rule (codes "word")) {
   action = Some Set;
-  value_names = 1;
 }
 
 -- `[CODE]`

@@ -2,7 +2,7 @@
 ghost use Rattle.std.specs.Prelude.{◌≡◌, IfOk, false};
 ghost use Rattle.clap.specs.Words.{app_of, rule_of};
 ghost use Rattle.clap.specs.declared.builder.command.Command.TheViews.{out-Command};
-ghost use Rattle.command_line.specs.Arguments.{bare_app, certify_app, code_rule, enact_app, explain_app, flag_rule, option_rule, plan_app, prefork_app, with_files, with_start, with_words, word_rule, words_rule};
+ghost use Rattle.command_line.specs.Arguments.{bare_app, certify_app, code_rule, enact_app, explain_app, flag_rule, option_rule, plan_app, prefork_app, required_rule, with_files, with_start, with_words, word_rule, words_rule};
 
 use crate::help::{
     BARE_HELP, CERTIFY_NOTES, CODE_HELP, DOT_HELP, ENACT_NOTES, EXPLAIN_NOTES, FROM_HELP,
@@ -131,27 +131,31 @@ fn flag<'a>(alloc: Global, name: &'a str, help: &'a str) -> Arg<'a>
         .help(help)
 }
 
+/// `WORD`, which must be there.
+fn required<'a>(alloc: Global, name: &'a str, help: &'a str) -> Arg<'a>
+    ensures rule { rule_of result ≡ required_rule name.entry.now }
+    ensures own { result.global ≡ false }
+{
+    Arg::new(alloc, name)
+        .value_name("WORD")
+        .required(true)
+        .help(help)
+}
+
 fn words<'a>(alloc: Global) -> Arg<'a>
     ensures rule { rule_of result ≡ words_rule }
     ensures own { result.global ≡ false }
 {
-    Arg::new(alloc, "words")
-        .value_name("WORD")
-        .required(true)
+    required(alloc, "words", WORDS_HELP)
         .num_args(1..)
         .action(ArgAction::Append)
-        .help(WORDS_HELP)
 }
 
 fn word<'a>(alloc: Global) -> Arg<'a>
     ensures rule { rule_of result ≡ word_rule }
     ensures own { result.global ≡ false }
 {
-    Arg::new(alloc, "word")
-        .value_name("WORD")
-        .required(true)
-        .action(ArgAction::Set)
-        .help(WORD_HELP)
+    required(alloc, "word", WORD_HELP).action(ArgAction::Set)
 }
 
 fn code<'a>(alloc: Global) -> Arg<'a>

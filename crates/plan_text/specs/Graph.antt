@@ -7,7 +7,9 @@ use Rattle.rollback_plan.specs.declared.step.Edge.{Edge}
 use Rattle.rollback_plan.specs.declared.step.Step.{Step}
 use Rattle.call_text.specs.CallText.{order_line}
 use Rattle.call_text.specs.Words.{note_text}
-use Rattle.plan_text.specs.PlanText.{replies_of, goes, new_edge, reply_words, place_text, set_part}
+use Rattle.plan_text.specs.PlanText.{replies_of, goes, reply_words, place_text, edge_text, texts_of, set_part}
+use Rattle.plan_text.specs.declared.edges.Form.{Form}
+use Rattle.plan_text.specs.declared.edges.Form.TheVariants.{Line, Arrow}
 
 -- a byte within quotes: a quote and a backslash have a backslash before them
 abbrev pub escaped : ℕ → List ℕ
@@ -45,14 +47,14 @@ label_text s e replies = codes " [label=\"" ++ reply_words s e (codes "\\l") rep
 abbrev pub arrow_text : ℕ → Step → List Reply → Edge → List ℕ
 arrow_text n s replies e = way_text n e ++ label_text s e replies ++ style_part (is_plain s e replies) ++ codes "];\n"
 
-abbrev pub arrow_part : ℕ → Step → List Reply → Option Edge → List ℕ
-arrow_part n s replies None = []
-arrow_part n s replies (Some e) = arrow_text n s replies e
+-- the arrows from the n-th step, which has these replies
+abbrev pub arrows_text : ℕ → Step → List Reply → List ℕ
+arrows_text n s replies = texts_of (λ e. arrow_text n s replies e) s [] replies
 
--- the arrows of the replies behind the earlier ones
-abbrev pub arrows_text : ℕ → Step → List Reply → List Reply → List Reply → List ℕ
-arrows_text n s replies earlier [] = []
-arrows_text n s replies earlier (r ∷ rs) = arrow_part n s replies (new_edge s earlier r) ++ arrows_text n s replies (earlier ++ r ∷ []) rs
+-- an edge, written in its step's line or as an arrow from the n-th step
+abbrev pub written : Form → Step → List Reply → Edge → List ℕ
+written Line s replies = λ e. edge_text s e replies
+written (Arrow n) s replies = λ e. arrow_text n s replies e
 
 ---- Steps
 
@@ -68,7 +70,7 @@ abbrev pub step_line : Step → List ℕ
 step_line s = order_line s.by s.order ++ set_part s.order s.set
 
 abbrev pub drawn_step : ℕ → Step → List ℕ
-drawn_step n s = box_text n (step_line s) ++ arrows_text n s (replies_of s.order) [] (replies_of s.order)
+drawn_step n s = box_text n (step_line s) ++ arrows_text n s (replies_of s.order)
 
 -- steps in order, the first of them the n-th
 abbrev pub drawn_steps : ℕ → List Step → List ℕ

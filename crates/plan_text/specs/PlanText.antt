@@ -78,14 +78,18 @@ unless_gone s earlier (Some e) = if list_any (goes s e) earlier then None else S
 abbrev pub new_edge : Step → List Reply → Reply → Option Edge
 new_edge s earlier r = unless_gone s earlier (edge_for s.edges.items r)
 
-abbrev pub edge_part : Step → List Reply → Option Edge → List ℕ
-edge_part s replies None = []
-edge_part s replies (Some e) = edge_text s e replies
+abbrev pub text_of : (Edge → List ℕ) → Option Edge → List ℕ
+text_of text None = []
+text_of text (Some e) = text e
 
--- the edges of the replies behind the earlier ones
-abbrev pub edges_text : Step → List Reply → List Reply → List Reply → List ℕ
-edges_text s replies earlier [] = []
-edges_text s replies earlier (r ∷ rs) = edge_part s replies (new_edge s earlier r) ++ edges_text s replies (earlier ++ r ∷ []) rs
+-- the texts of the edges of the replies behind the earlier ones
+abbrev pub texts_of : (Edge → List ℕ) → Step → List Reply → List Reply → List ℕ
+texts_of text s earlier [] = []
+texts_of text s earlier (r ∷ rs) = text_of text (new_edge s earlier r) ++ texts_of text s (earlier ++ r ∷ []) rs
+
+-- the edges of a step that has these replies
+abbrev pub edges_text : Step → List Reply → List ℕ
+edges_text s replies = texts_of (λ e. edge_text s e replies) s [] replies
 
 ---- Steps
 
@@ -100,7 +104,7 @@ set_part _ set = []
 
 abbrev pub step_text : ℕ → Step → List ℕ
 step_text n s =
-    decimal n ++ codes " " ++ order_line s.by s.order ++ set_part s.order s.set ++ edges_text s (replies_of s.order) [] (replies_of s.order)
+    decimal n ++ codes " " ++ order_line s.by s.order ++ set_part s.order s.set ++ edges_text s (replies_of s.order)
     ++ codes "\n"
 
 -- steps in order, the first of them the n-th

@@ -1,8 +1,10 @@
 //! Texts of a step's edges.
 ghost use Rattle.std.specs.Prelude.{◌≡◌, ◌++◌, [], IfOk, codes};
 ghost use Rattle.std.specs.List.{list_any};
-ghost use Rattle.plan_text.specs.PlanText.{same_next, same_note, same_way, goes, new_edge, reply_words, place_text, note_part, edge_text, edges_text};
+ghost use Rattle.plan_text.specs.PlanText.{same_next, same_note, same_way, goes, new_edge, reply_words, place_text, note_part, edge_text, texts_of};
+ghost use Rattle.plan_text.specs.Graph.{written};
 
+use crate::graph::write_arrow;
 use call_text::{end_text, note_text, reply_text};
 use plain_text::write_number;
 use rollback_plan::{Edge, Next, Step};
@@ -53,7 +55,7 @@ fn any_goes(step: &Step, edge: &Edge, replies: &[Reply]) -> bool
 }
 
 /// The edge of a reply, unless an earlier reply goes the same way.
-pub(crate) fn new_edge(step: &Step, earlier: &[Reply], reply: Reply) -> Option<Edge>
+fn new_edge(step: &Step, earlier: &[Reply], reply: Reply) -> Option<Edge>
     ensures { result ≡ new_edge step.now earlier.now reply }
 {
     let edge = step.edge(reply)?;
@@ -116,17 +118,42 @@ fn write_edge(
     write_note(out, edge.note)
 }
 
+/// How an edge is written.
+#[derive(Clone, Copy)]
+pub(crate) enum Form {
+    /// In its step's line.
+    Line,
+    /// As an arrow from the step with this number.
+    Arrow(u64),
+}
+
+fn write_as(
+    out: &mut Vec<u8>,
+    form: Form,
+    step: &Step,
+    replies: &[Reply],
+    edge: &Edge,
+) -> Result<(), AllocError>
+    ensures { IfOk result (λ _. out.new.items ≡ out.old.items ++ written form step.now replies.now edge.now) }
+{
+    match form {
+        Form::Line => write_edge(out, step, edge, replies),
+        Form::Arrow(number) => write_arrow(out, number, step, replies, edge),
+    }
+}
+
 /// The edges of a step, ordered by the first reply of each.
 pub(crate) fn write_edges(
     out: &mut Vec<u8>,
+    form: Form,
     step: &Step,
     replies: &[Reply],
 ) -> Result<(), AllocError>
-    ensures { IfOk result (λ _. out.new.items ≡ out.old.items ++ edges_text step.now replies.now [] replies.now) }
+    ensures { IfOk result (λ _. out.new.items ≡ out.old.items ++ texts_of (written form step.now replies.now) step.now [] replies.now) }
 {
     for (place, reply) in replies.iter().enumerate() {
         if let Some(edge) = new_edge(step, &replies[..place], *reply) {
-            write_edge(out, step, &edge, replies)?;
+            write_as(out, form, step, replies, &edge)?;
         }
     }
     Ok(())

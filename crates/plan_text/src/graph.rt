@@ -1,10 +1,10 @@
 //! Pictures of plans.
-ghost use Rattle.std.specs.Prelude.{◌≡◌, ◌++◌, [], IfOk};
+ghost use Rattle.std.specs.Prelude.{◌≡◌, ◌++◌, IfOk};
 ghost use Rattle.std.specs.Fmt.{decimal};
 ghost use Rattle.rollback_plan.specs.Plans.{steps_of};
-ghost use Rattle.plan_text.specs.Graph.{quoted, is_plain, note_line, style_part, way_text, label_text, arrow_text, arrows_text, opening, box_text, step_line, drawn_step, drawn_steps, graph_text};
+ghost use Rattle.plan_text.specs.Graph.{quoted, is_plain, note_line, style_part, way_text, label_text, arrow_text, opening, box_text, step_line, drawn_step, drawn_steps, graph_text};
 
-use crate::edges::{goes, new_edge, write_place, write_replies};
+use crate::edges::{Form, goes, write_edges, write_place, write_replies};
 use crate::plans::write_wanted;
 use call_text::{note_text, replies_of, write_order};
 use plain_text::write_number;
@@ -82,7 +82,7 @@ fn write_label(
 }
 
 /// The arrow of an edge.
-fn write_arrow(
+pub(crate) fn write_arrow(
     out: &mut Vec<u8>,
     number: u64,
     step: &Step,
@@ -95,23 +95,6 @@ fn write_arrow(
     write_label(out, step, edge, replies)?;
     write_style(out, is_plain(step, edge, replies))?;
     out.extend_from_slice(b"];\n")
-}
-
-/// The arrows from the n-th step, ordered by the first reply of each.
-fn write_arrows(
-    out: &mut Vec<u8>,
-    number: u64,
-    step: &Step,
-    replies: &[Reply],
-) -> Result<(), AllocError>
-    ensures { IfOk result (λ _. out.new.items ≡ out.old.items ++ arrows_text number step.now replies.now [] replies.now) }
-{
-    for (place, reply) in replies.iter().enumerate() {
-        if let Some(edge) = new_edge(step, &replies[..place], *reply) {
-            write_arrow(out, number, step, replies, &edge)?;
-        }
-    }
-    Ok(())
 }
 
 /// A number between two texts.
@@ -161,7 +144,7 @@ fn draw_step(alloc: Global, out: &mut Vec<u8>, number: u64, step: &Step) -> Resu
 {
     let line = step_line(alloc, step)?;
     write_box(out, number, &line)?;
-    write_arrows(out, number, step, replies_of(&step.order()))
+    write_edges(out, Form::Arrow(number), step, replies_of(&step.order()))
 }
 
 /// The steps, numbered from 1.
