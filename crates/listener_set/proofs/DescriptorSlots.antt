@@ -1,12 +1,10 @@
 -- What the slots of a table say of its pairs.
-use Rattle.std.proofs.Common.{◌≡◌, ◌≢◌, ℕ, suc, zero, ◌+◌, ◌-◌, ◌<◌, ◌≤◌, Bool, true, false, cond, ◌||◌, nat_eq, nat_lt, List, [], ◌∷◌, length, get_or, set, replicate, Option, Some, None, refl, sym, ap, ◌∙◌, arith, inl, inr}
-use Rattle.std.specs.List.{position, position_or_len}
-use Rattle.std.proofs.lemmas.List.Sums.{fails_before_first}
-use Rattle.std.proofs.lemmas.List.Quantifiers.{position-Some}
-use Rattle.std.specs.Prelude.{is_none, is_some, count_by}
+use Rattle.std.proofs.Common.{◌≡◌, ◌≢◌, ℕ, suc, zero, ◌+◌, ◌-◌, ◌<◌, ◌≤◌, Bool, true, false, cond, ◌||◌, nat_eq, nat_lt, List, [], ◌∷◌, length, take, get_or, set, replicate, Option, Some, None, refl, sym, ap, ◌∙◌, arith, inl, inr}
+use Rattle.std.specs.Prelude.{is_some, count_by}
 use Rattle.std.proofs.lemmas.Bool.{cases_lt}
 use Rattle.std.proofs.lemmas.Bool.Decides.{nat_tests}
 use Rattle.std.proofs.lemmas.List.{get_or_past, length-map}
+use Rattle.std.proofs.Math.Seq.{take-length}
 use Rattle.std.proofs.lemmas.List.Recursion.{is_count_by}
 use Rattle.listener_set.specs.Numbers.{is_in, RisesFrom, AreBelow}
 use Rattle.listener_set.specs.Descriptors.{descriptors_of, free_from, lowest_free, put_pair, socket_of, without_descriptor, AreDescriptors, pairs_of}
@@ -35,7 +33,7 @@ pairs_of-empty n zero = refl
 pairs_of-empty n (suc k) = pairs_of-empty (n + 1) k
 
 -- ---- how many there are
-abbrev used : List (Option ℕ) → ℕ
+abbrev pub used : List (Option ℕ) → ℕ
 used [] = 0
 used (o ∷ slots) = cond (is_some o) (1 + used slots) (used slots)
 
@@ -47,6 +45,17 @@ length-used n (Some s ∷ slots) = let rest = length-used (n + 1) slots in omega
 
 pub length-pairs_of : (n : ℕ) (slots : List (Option ℕ)) → length (pairs_of n slots) ≡ count_by is_some slots
 length-pairs_of n slots = length-used n slots ∙ is_count_by used is_some refl (λ _ _. refl) slots
+
+-- one slot more
+pub used-more : (slots : List (Option ℕ)) (k : ℕ) → k < length slots → used (take (suc k) slots) ≡ used (take k slots) + cond (is_some (get_or slots k None)) 1 0
+used-more [] k lt = absurd (omega arith)
+used-more (None ∷ slots) zero lt = refl
+used-more (Some s ∷ slots) zero lt = refl
+used-more (None ∷ slots) (suc k) lt = used-more slots k (omega arith)
+used-more (Some s ∷ slots) (suc k) lt = let rest = used-more slots k (omega arith) in omega arith
+
+pub length-of-used : (n : ℕ) (slots : List (Option ℕ)) → used (take (length slots) slots) ≡ length (pairs_of n slots)
+length-of-used n slots = ap used (take-length slots) ∙ sym (length-used n slots)
 
 used-le : (slots : List (Option ℕ)) → used slots ≤ length slots
 used-le [] = omega arith
@@ -151,29 +160,3 @@ pairs_of-take n (suc i) (Some t ∷ slots) lt =
     let e : n + 1 + i ≡ n + suc i = omega arith in
     let other : nat_eq n (n + suc i) ≡ false = grind (arith, nat_tests) in
     rw other (ap (λ ps. (n, t) ∷ ps) (pairs_of-take (n + 1) i slots (omega arith) ∙ ap (without_descriptor (pairs_of (n + 1) slots)) e))
-
--- ---- the first free slot
-pub record IsFirstFree (slots : List (Option ℕ)) (i : ℕ) : Type 0 where
-  pub within : i < length slots
-  pub free : get_or slots i None ≡ None
-  pub taken : (k : ℕ) → k < i → get_or slots k None ≢ None
-
-none_of : (o : Option ℕ) → is_none o ≡ true → o ≡ None
-none_of None e = refl
-none_of (Some x) e = cc
-
-not_none : (o : Option ℕ) → is_none o ≡ false → o ≢ None
-not_none None e = cc
-not_none (Some x) e = λ f. cc
-
-pub first_free_place : (slots : List (Option ℕ)) (i : ℕ) → position is_none slots ≡ Some i → IsFirstFree slots i
-first_free_place slots i e =
-    let at = position-Some is_none slots i None e in
-    record { within = at.0; free = none_of _ at.1; taken = λ k less. not_none _ (at.2 k less) }
-
-pub no_free_place : (slots : List (Option ℕ)) → position is_none slots ≡ None → (k : ℕ) → k < length slots → get_or slots k None ≢ None
-no_free_place slots e k lt = not_none _ (fails_before_first is_none slots k None (past (nat_lt (position_or_len is_none slots) (length slots)) refl e))
-  where
-    past : (b : Bool) → nat_lt (position_or_len is_none slots) (length slots) ≡ b → cond b (Some (position_or_len is_none slots)) None ≡ None → k < position_or_len is_none slots
-    past true f e = cc
-    past false f e = let over : length slots ≤ position_or_len is_none slots = grind (arith, nat_tests) in omega arith

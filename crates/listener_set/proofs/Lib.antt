@@ -10,3 +10,4 @@ pub mod PaddedLists
 pub mod AddressLists
 pub mod PathTexts
 pub mod ShortTexts
+mod SlotWrites

@@ -10,3 +10,5 @@ pub mod Descriptors
 pub mod DescriptorLemmas
 pub mod Codes
 pub mod GenerationText
+pub mod Slots
+pub mod SlotLemmas

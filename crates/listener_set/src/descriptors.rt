@@ -1,7 +1,9 @@
 //! The descriptors of a process.
-ghost use Rattle.std.specs.Prelude.{◌≡◌, ◌≤◌, ◌↔◌, [], length, IsTrue, IsErr, IsNone, None, is_none, position, OnErr, IfOk, IfSome, OnSome};
+ghost use Rattle.std.specs.Prelude.{◌≡◌, ◌≢◌, ◌<◌, ◌≤◌, ◌↔◌, ℕ, [], length, get_or, IsTrue, IsErr, IsNone, None, OnErr, IfOk, IfSome, OnSome};
+ghost use Rattle.listener_set.specs.Slots.{IsFirstFree};
 ghost use Rattle.listener_set.specs.Descriptors.{lowest_free, descriptors_of, put_pair, socket_of, without_descriptor, pair_from, IsDescriptor, AreDescriptors};
 
+use crate::slots::Slots;
 use std::error::Error;
 use std::fmt;
 use std::marker::Model;
@@ -35,7 +37,7 @@ impl Error for Full {}
 /// socket number in ascending descriptors.
 #[derive(Clone, Copy, Debug)]
 pub struct DescriptorTable {
-    slots: [Option<u32>; MOST_DESCRIPTORS],
+    slots: Slots,
 }
 
 impl Model for DescriptorTable {
@@ -55,10 +57,16 @@ impl Model for DescriptorTable {
 }
 
 /// The first place without a socket.
-fn first_empty(slots: &[Option<u32>]) -> Option<usize>
-    ensures { result ≡ position is_none slots.now }
+fn first_empty(slots: &Slots) -> Option<usize>
+    ensures some { IfSome result (IsFirstFree slots.now) }
+    ensures none { IsNone result → (k : ℕ) → k < 64 → get_or slots.now k None ≢ None }
 {
-    slots.iter().position(|slot| slot.is_none())
+    for place in 0..MOST_DESCRIPTORS {
+        if slots.get(place).is_none() {
+            return Some(place);
+        }
+    }
+    None
 }
 
 impl Default for DescriptorTable {
@@ -75,7 +83,7 @@ impl DescriptorTable {
         ensures { result ≡ [] }
     {
         DescriptorTable {
-            slots: [None; MOST_DESCRIPTORS],
+            slots: Slots::none(),
         }
     }
 
@@ -85,7 +93,13 @@ impl DescriptorTable {
         ensures most { length self.now ≤ MOST_DESCRIPTORS }
         ensures descriptors { AreDescriptors self.now }
     {
-        self.slots.iter().filter(|slot| slot.is_some()).count()
+        let mut count = 0;
+        for place in 0..MOST_DESCRIPTORS {
+            if self.slots.get(place).is_some() {
+                count += 1;
+            }
+        }
+        count
     }
 
     /// Whether no descriptor has a socket.
@@ -103,7 +117,7 @@ impl DescriptorTable {
     {
         let _ = &self.slots;
         let place = descriptor.checked_sub(FIRST_DESCRIPTOR)?;
-        *self.slots.get(place as usize)?
+        self.slots.get(place as usize)
     }
 
     /// The lowest descriptor without a socket.
@@ -127,7 +141,8 @@ impl DescriptorTable {
         ensures err { OnErr result (self.new ≡ self.old) }
     {
         let descriptor = self.lowest_free().ok_or(Full)?;
-        self.slots[(descriptor - FIRST_DESCRIPTOR) as usize] = Some(socket);
+        self.slots
+            .put((descriptor - FIRST_DESCRIPTOR) as usize, socket);
         Ok(descriptor)
     }
 
@@ -137,7 +152,7 @@ impl DescriptorTable {
         ensures after { self.new ≡ without_descriptor self.old descriptor }
     {
         let socket = self.get(descriptor)?;
-        self.slots[(descriptor - FIRST_DESCRIPTOR) as usize] = None;
+        self.slots.clear((descriptor - FIRST_DESCRIPTOR) as usize);
         Some(socket)
     }
 

@@ -9,6 +9,7 @@ mod generation;
 mod listeners;
 mod numbers;
 mod short_text;
+mod slots;
 
 pub use address::{ADDRESS_BYTES, Address, AddressRefusal};
 pub use descriptors::{DescriptorTable, FIRST_DESCRIPTOR, Full, MOST_DESCRIPTORS, Pairs};

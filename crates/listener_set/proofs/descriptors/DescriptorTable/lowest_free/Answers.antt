@@ -1,12 +1,13 @@
-use Rattle.std.proofs.Common.{◌+◌, ◌<◌, ◌≤◌, ap, sym, ◌∙◌, length, arith, true≢false}
+use Rattle.std.proofs.Common.{refl, ◌+◌, ◌<◌, ◌≤◌, ap, sym, ◌∙◌, length, arith, true≢false}
 use Rattle.std.specs.Prelude.{is_some}
 use Rattle.listener_set.specs.Descriptors.{socket_of, lowest_free, descriptors_of, pairs_of}
 use Rattle.listener_set.specs.DescriptorLemmas.{socket_of-pairs_of}
-use Rattle.listener_set.proofs.DescriptorSlots.{IsFirstFree, first_free_place, no_free_place, lowest_free_is, length-free, length-front, length-most}
+use Rattle.listener_set.specs.Slots.{IsFirstFree}
+use Rattle.listener_set.proofs.DescriptorSlots.{lowest_free_is, length-free, length-front, length-most}
 use Rattle.listener_set.proofs.descriptors.DescriptorTable.lowest_free.Goals as goal
 
 first : (c : goal.In_ok-place) → IsFirstFree c.self.inside.slots c.in_ok-place.place
-first c = first_free_place c.self.inside.slots c.in_ok-place.place (sym c.first_empty.ensures ∙ c.in_ok-place.was)
+first c = rw c.in_ok-place.was at c.first_empty.ensures.some
 
 pub returns-clause-lowest : goal.returns-clause-lowest
 returns-clause-lowest c =
@@ -26,6 +27,6 @@ returns-clause-full c =
 pub returns-in_err-place-clause-full : goal.returns-in_err-place-clause-full
 returns-in_err-place-clause-full c =
     let slots = c.self.inside.slots in
-    let all : 64 ≤ length (pairs_of 3 slots) = length-front 3 slots 64 (omega (arith, c.self.invariant)) (λ k lt. no_free_place slots (sym c.first_empty.ensures ∙ c.in_err-place.was) k (omega (arith, c.self.invariant))) in
+    let all : 64 ≤ length (pairs_of 3 slots) = length-front 3 slots 64 (omega (arith, c.self.invariant)) (rw c.in_err-place.was at c.first_empty.ensures.none refl) in
     let most : length (pairs_of 3 slots) ≤ length slots = length-most 3 slots in
     (λ _. omega (arith, all, most, c.self.invariant, ap length c.self.view_is), λ _. ap is_some c.from_residual.ensures)

@@ -12,5 +12,6 @@ returns-clause-after c =
     let free : socket_of c.args.self.now d ≡ None = rw is at c.lowest_free.ensures.free in
     let place : 3 + (d - 3) ≡ d = omega (arith, within.0) in
     let empty : get_or slots (d - 3) None ≡ None = sym (socket_within slots d within.0) ∙ ap (λ ps. socket_of ps d) c.self.view_is ∙ free in
-    pairs_of-put 3 (d - 3) c.args.socket slots (omega (arith, within.0, within.1, c.self.invariant)) empty
+    ap (pairs_of 3) c.put.ensures
+    ∙ pairs_of-put 3 (d - 3) c.args.socket slots (omega (arith, within.0, within.1, c.self.invariant)) empty
     ∙ ap (λ k. put_pair (pairs_of 3 slots) k c.args.socket) place ∙ ap (λ ps. put_pair ps d c.args.socket) c.self.view_is
