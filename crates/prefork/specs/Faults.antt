@@ -1,16 +1,34 @@
--- Which fault a refusal is: want of memory where it is that, and else its own.
+-- Which fault a refusal is, and what a fault says.
+use Rattle.std.specs.Prelude.{ℕ, List, ◌++◌, codes}
+use Rattle.std.specs.Fmt.{decimal}
+use Rattle.command_line.specs.Codes.{refusal_code}
 use Rattle.command_line.specs.declared.Refusal.{Refusal}
 use Rattle.command_line.specs.declared.Refusal.TheVariants as command
+use Rattle.control_words.specs.Words as words
+use Rattle.kernel_model.specs.Codes.{boot_code, foreign_code}
 use Rattle.kernel_model.specs.declared.boot.BootRefusal.{BootRefusal}
 use Rattle.kernel_model.specs.declared.boot.BootRefusal.TheVariants as boot
 use Rattle.kernel_model.specs.declared.refusal.ForeignRefusal.{ForeignRefusal}
 use Rattle.kernel_model.specs.declared.refusal.ForeignRefusal.TheVariants as foreign
+use Rattle.listener_set.specs.Codes.{address_code}
+use Rattle.master_config.specs.Codes.{config_text}
+use Rattle.master_config.specs.declared.refusal.ConfigRefusal.{ConfigRefusal}
+use Rattle.master_config.specs.declared.refusal.ConfigRefusal.TheVariants as config
+use Rattle.pattern_text.specs.Codes.{refusal_text}
+use Rattle.pattern_text.specs.declared.refusal.TextRefusal.{TextRefusal}
+use Rattle.pattern_text.specs.declared.refusal.TextRefusal.TheVariants as pattern
 use Rattle.prefork.specs.declared.fault.Fault.{Fault}
-use Rattle.prefork.specs.declared.fault.Fault.TheVariants.{Usage, Boot, Foreign, Memory}
+use Rattle.prefork.specs.declared.fault.Fault.TheVariants.{Usage, Word, Config, Boot, Address, Foreign, Pattern, File, Memory}
+
+---- Which fault a refusal is: want of memory where it is that, and else its own
 
 abbrev pub command_fault : Refusal → Fault
 command_fault command.Memory = Memory
 command_fault command.Usage = Usage
+
+abbrev pub config_fault : ConfigRefusal → Fault
+config_fault config.Memory = Memory
+config_fault refusal = Config refusal
 
 abbrev pub boot_fault : BootRefusal → Fault
 boot_fault boot.Memory = Memory
@@ -18,5 +36,27 @@ boot_fault boot.BadLimits = Boot boot.BadLimits
 
 abbrev pub foreign_fault : ForeignRefusal → Fault
 foreign_fault foreign.Memory = Memory
-foreign_fault foreign.Held = Foreign foreign.Held
-foreign_fault foreign.NoNumbers = Foreign foreign.NoNumbers
+foreign_fault refusal = Foreign refusal
+
+abbrev pub pattern_fault : TextRefusal → Fault
+pattern_fault pattern.Memory = Memory
+pattern_fault refusal = Pattern refusal
+
+---- What a fault says
+
+-- the fault of the command line, or of one of its words
+abbrev pub fault_status : Fault → ℕ
+fault_status Usage = 2
+fault_status (Word number refusal) = 2
+fault_status _ = 1
+
+abbrev pub fault_text : Fault → List ℕ
+fault_text Usage = refusal_code command.Usage
+fault_text (Word number refusal) = codes "word " ++ decimal number ++ codes " " ++ words.refusal_code refusal
+fault_text (Config refusal) = codes "config " ++ config_text refusal
+fault_text (Boot refusal) = codes "boot " ++ boot_code refusal
+fault_text (Address refusal) = codes "held " ++ address_code refusal
+fault_text (Foreign refusal) = codes "held " ++ foreign_code refusal
+fault_text (Pattern refusal) = codes "pattern " ++ refusal_text refusal
+fault_text File = codes "file"
+fault_text Memory = codes "memory"

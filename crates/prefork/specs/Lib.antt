@@ -1,2 +1,6 @@
 pub mod Faults
+pub mod Outlooks
+pub mod Output
+pub mod Rehearsals
+pub mod Starts
 pub mod Status

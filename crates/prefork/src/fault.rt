@@ -1,4 +1,8 @@
 //! Faults of the program: a line on standard error and a status.
+ghost use Rattle.std.specs.Prelude.{◌≡◌, Some};
+ghost use Rattle.prefork.specs.Faults.{command_fault, config_fault, boot_fault, foreign_fault, pattern_fault, fault_text, fault_status};
+ghost use Rattle.prefork.specs.declared.fault.Fault.TheVariants.{Memory};
+
 use command_line::Refusal;
 use control_words::WordRefusal;
 use kernel_model::{BootRefusal, ForeignRefusal};
@@ -34,7 +38,9 @@ pub enum Fault {
 
 impl Fault {
     /// Writes the fault's line, and gives the exit status of the program.
-    pub fn tell<E: Write>(&self, errors: &mut E) -> u8 {
+    pub fn tell<E: Write>(&self, errors: &mut E) -> u8
+        ensures { result ≡ fault_status self.now }
+    {
         // There is nobody left to tell where standard error is closed too.
         let _ = writeln!(errors, "prefork: {self}");
         match self {
@@ -44,7 +50,10 @@ impl Fault {
     }
 }
 
+/// Printed as what is refused, with the code.
 impl fmt::Display for Fault {
+    ghost output = { λ fault. Some (fault_text fault) };
+
     fn fmt<W: fmt::Write>(&self, f: &mut fmt::Formatter<W>) -> fmt::Result {
         match self {
             Fault::Usage => write!(f, "{}", Refusal::Usage.code()),
@@ -62,9 +71,6 @@ impl fmt::Display for Fault {
 
 /// Want of memory, or the fault of the command line.
 impl From<Refusal> for Fault {
-    ghost use Rattle.std.specs.Prelude.{◌≡◌};
-    ghost use Rattle.prefork.specs.Faults.{command_fault};
-
     ghost from_gives = { λ refusal fault. fault ≡ command_fault refusal };
 
     fn from(refusal: Refusal) -> Fault {
@@ -75,41 +81,55 @@ impl From<Refusal> for Fault {
     }
 }
 
+/// Want of memory, or the fault of a configuration.
+impl From<ConfigRefusal> for Fault {
+    ghost from_gives = { λ refusal fault. fault ≡ config_fault refusal };
+
+    fn from(refusal: ConfigRefusal) -> Fault {
+        match refusal {
+            ConfigRefusal::Memory => Fault::Memory,
+            refusal => Fault::Config(refusal),
+        }
+    }
+}
+
 /// Want of memory, or the fault of a start.
 impl From<BootRefusal> for Fault {
-    ghost use Rattle.std.specs.Prelude.{◌≡◌};
-    ghost use Rattle.prefork.specs.Faults.{boot_fault};
-
     ghost from_gives = { λ refusal fault. fault ≡ boot_fault refusal };
 
     fn from(refusal: BootRefusal) -> Fault {
         match refusal {
             BootRefusal::Memory => Fault::Memory,
-            BootRefusal::BadLimits => Fault::Boot(BootRefusal::BadLimits),
+            BootRefusal::BadLimits => Fault::Boot(refusal),
         }
     }
 }
 
 /// Want of memory, or the fault of a foreign process.
 impl From<ForeignRefusal> for Fault {
-    ghost use Rattle.std.specs.Prelude.{◌≡◌};
-    ghost use Rattle.prefork.specs.Faults.{foreign_fault};
-
     ghost from_gives = { λ refusal fault. fault ≡ foreign_fault refusal };
 
     fn from(refusal: ForeignRefusal) -> Fault {
         match refusal {
             ForeignRefusal::Memory => Fault::Memory,
-            ForeignRefusal::Held => Fault::Foreign(ForeignRefusal::Held),
-            ForeignRefusal::NoNumbers => Fault::Foreign(ForeignRefusal::NoNumbers),
+            refusal => Fault::Foreign(refusal),
+        }
+    }
+}
+
+/// Want of memory, or the fault of the patterns.
+impl From<TextRefusal> for Fault {
+    ghost from_gives = { λ refusal fault. fault ≡ pattern_fault refusal };
+
+    fn from(refusal: TextRefusal) -> Fault {
+        match refusal {
+            TextRefusal::Memory => Fault::Memory,
+            refusal => Fault::Pattern(refusal),
         }
     }
 }
 
 impl From<AllocError> for Fault {
-    ghost use Rattle.std.specs.Prelude.{◌≡◌};
-    ghost use Rattle.prefork.specs.declared.fault.Fault.TheVariants.{Memory};
-
     ghost from_gives = { λ _ fault. fault ≡ Memory };
 
     fn from(_error: AllocError) -> Fault {

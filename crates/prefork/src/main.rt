@@ -6,6 +6,7 @@ mod planning;
 mod program;
 mod rehearsal;
 mod start;
+mod status;
 
 use fault::Fault;
 pub use program::run;

@@ -1,16 +1,20 @@
 //! `plan`: what a control word would do.
+ghost use Rattle.std.specs.Prelude.{◌≡◌, IfOk};
 ghost use Rattle.definitions.specs.Target.{IsTarget};
+ghost use Rattle.prefork.specs.Outlooks.{shown, Tells, IsPlanned, IsForeseen};
 
 use crate::fault::Fault;
 use crate::start::{Start, silent_workers};
+use crate::status::status_of;
 use control_words::Word;
 use plan_text::{write_graph, write_plan};
-use reload_planner::PlanRefusal;
 use rollback_plan::Plan;
 use service_state::Record;
 use std::alloc::{AllocError, Global};
+use target_planner::PlanRefusal;
+use transcript::write_body;
 use vocabulary::Target;
-use word_runner::{Asked, Body, asked_by, note};
+use word_runner::{Asked, Body, CodeText, asked_by, note};
 
 /// How a plan is shown.
 #[derive(Clone, Copy)]
@@ -30,62 +34,53 @@ pub struct Outlook {
 
 /// The plan of a word for a master that has just started, `nothing`, or `refused` with its code.
 /// What the word asks is found out as when it is carried out.
-pub fn look_ahead(alloc: Global, start: &Start, word: Word, form: Form) -> Result<Outlook, Fault> {
+pub fn look_ahead(alloc: Global, start: &Start, word: Word, form: Form) -> Result<Outlook, Fault>
+    ensures { IfOk result (IsForeseen start.now word form) }
+{
     let record = start.record()?;
     let mut workers = silent_workers(alloc, &record)?;
     match asked_by(word, &record, &workers, Some(&start.next)) {
         Asked::Act(target) => planned(alloc, &record, &target, form),
-        Asked::Beat(heard) => answered(alloc, &note(&mut workers, heard)),
-        Asked::Nothing => answered(alloc, &Body::Nothing),
-        Asked::Refused(code) => answered(alloc, &Body::Refused(code)),
+        Asked::Beat(heard) => Ok(told(alloc, &note(&mut workers, heard))?),
+        Asked::Nothing => Ok(told(alloc, &Body::Nothing)?),
+        Asked::Refused(code) => Ok(told(alloc, &Body::Refused(code))?),
     }
 }
 
-/// What a word comes to that asks for no target.
-fn answered(alloc: Global, body: &Body) -> Result<Outlook, Fault> {
-    match body {
-        Body::Refused(code) => said(alloc, "refused ", code.as_str(), 1),
-        _ => said(alloc, "nothing\n", "", 0),
-    }
-}
-
-/// The plan of a target; that of an upgrade has a planner of its own.
-fn made(alloc: Global, record: &Record, target: &Target) -> Result<Plan, PlanRefusal>
-    requires { IsTarget target.now }
+/// What a word comes to that has no plan, and the status that it has when it is carried out.
+fn told(alloc: Global, body: &Body) -> Result<Outlook, AllocError>
+    ensures { IfOk result (Tells body.now) }
 {
-    match target {
-        Target::Upgrade(settings) => upgrade_planner::plan(alloc, record, settings),
-        _ => reload_planner::plan(alloc, record, target),
-    }
+    let mut text = Vec::new(alloc);
+    write_body(&mut text, body)?;
+    Ok(Outlook {
+        text,
+        status: status_of(body),
+    })
 }
 
-fn planned(alloc: Global, record: &Record, target: &Target, form: Form) -> Result<Outlook, Fault>
+fn planned(alloc: Global, state: &Record, target: &Target, form: Form) -> Result<Outlook, Fault>
     requires { IsTarget target.now }
+    ensures { IfOk result (IsPlanned state.now target.now form) }
 {
-    match made(alloc, record, target) {
+    match target_planner::plan(alloc, state, target) {
         Ok(plan) => Ok(Outlook {
             text: shown(alloc, &plan, form)?,
             status: 0,
         }),
         Err(PlanRefusal::Memory) => Err(Fault::Memory),
-        Err(refusal) => said(alloc, "refused ", refusal.code(), 1),
+        Err(refusal) => {
+            let code = CodeText::of(refusal.code(), "");
+            Ok(told(alloc, &Body::Refused(code))?)
+        }
     }
 }
 
-fn shown(alloc: Global, plan: &Plan, form: Form) -> Result<Vec<u8>, AllocError> {
+fn shown(alloc: Global, plan: &Plan, form: Form) -> Result<Vec<u8>, AllocError>
+    ensures { IfOk result (λ text. text.items ≡ shown form plan.now) }
+{
     match form {
         Form::Text => write_plan(alloc, plan),
         Form::Picture => write_graph(alloc, plan),
     }
-}
-
-/// A word, and a code with its newline where there is one.
-fn said(alloc: Global, word: &str, code: &str, status: u8) -> Result<Outlook, Fault> {
-    let mut text = Vec::new(alloc);
-    text.extend_from_slice(word.as_bytes())?;
-    if !code.is_empty() {
-        text.extend_from_slice(code.as_bytes())?;
-        text.extend_from_slice(b"\n")?;
-    }
-    Ok(Outlook { text, status })
 }

@@ -1,20 +1,26 @@
 //! The program over any reader and any two writers.
-ghost use Rattle.std.specs.Prelude.{◌≡◌};
-ghost use Rattle.prefork.specs.Status.{graver, status_of};
+ghost use Rattle.std.specs.Prelude.{◌≡◌, ◌++◌, ℕ, List, length, map, IfOk, IfSome, OnOk, Ok};
+ghost use Rattle.kernel_model.specs.Pattern.{moment_at};
+ghost use Rattle.pattern_text.specs.PatternsText.{patterns_of};
+ghost use Rattle.std.specs.Io.KnownBytes.{Appends};
+ghost use Rattle.table_text.specs.TableText.{IsTextOf};
+ghost use Rattle.word_runner.specs.declared.block.Block.{Block as Done};
+ghost use Rattle.prefork.specs.Output.{blocks_text, IsState};
+ghost use Rattle.prefork.specs.Rehearsals.{IsRehearsed};
+ghost use Rattle.prefork.specs.Status.{gravest};
 
 use crate::fault::Fault;
 use crate::planning::{self, Form};
 use crate::rehearsal::Rehearsal;
 use crate::start::Start;
+use crate::status::gravest;
 use command_line::{EnactOptions, PlanOptions, Request};
 use control_words::Word;
 use kernel_model::Pattern;
-use pattern_text::TextRefusal;
 use std::alloc::{AllocError, Global};
 use std::io::{Read, Write};
 use std::rt::Files;
-use vocabulary::Outcome;
-use word_runner::Body;
+use word_runner::Block;
 
 /// Runs the program, and gives its exit status.
 ///
@@ -49,7 +55,9 @@ fn answer<R: AllocGlobal + Files, I: Read, O: Write>(
 }
 
 /// One write of a whole text, so that a reader never sees half of it unless the write fails.
-fn write<O: Write>(output: &mut O, text: &[u8]) -> Result<(), Fault> {
+fn write<O: Write>(output: &mut O, text: &[u8]) -> Result<(), Fault>
+    ensures { OnOk result (Appends (O.contents output.old) (O.contents output.new) text.now) }
+{
     output.write_all(text)?;
     output.flush()?;
     Ok(())
@@ -73,20 +81,26 @@ fn enact<R: AllocGlobal + Files, I: Read, O: Write>(
     }
     let patterns = read_patterns(alloc, input)?;
     let mut text = Vec::new(alloc);
-    let mut done = rehearse(alloc, &mut rehearsal, &words, &patterns, &mut text);
-    if options.state && done.is_ok() {
-        if let Err(fault) = show_state(&rehearsal, &mut text) {
-            done = Err(fault);
-        }
-    }
+    let done = rehearse(alloc, &mut rehearsal, &words, &patterns, &mut text);
+    let shown = match done {
+        Ok(_) => show_state(&rehearsal, options.state, &mut text),
+        Err(_) => Ok(()),
+    };
     write(output, text.as_slice())?;
+    shown?;
     done
 }
 
-/// Appends the table of processes, files and the service.
-fn show_state(rehearsal: &Rehearsal, text: &mut Vec<u8>) -> Result<(), Fault> {
-    let state = rehearsal.state()?;
-    text.extend_from_slice(state.as_slice())?;
+/// Appends the table of processes, files and the service where it is asked for.
+fn show_state(rehearsal: &Rehearsal, is_wanted: bool, text: &mut Vec<u8>) -> Result<(), Fault>
+    ensures { IfOk result (λ _. (state : List ℕ)
+        × (text.new.items ≡ text.old.items ++ state)
+        × IsState is_wanted rehearsal.now.kernel.table state) }
+{
+    if is_wanted {
+        let state = rehearsal.state()?;
+        text.extend_from_slice(state.as_slice())?;
+    }
     Ok(())
 }
 
@@ -124,14 +138,13 @@ fn read_words(alloc: Global, texts: &[&str]) -> Result<Vec<Word>, Fault> {
 }
 
 /// The patterns of standard input, one for each word from the first on.
-fn read_patterns<I: Read>(alloc: Global, input: &mut I) -> Result<Vec<Pattern>, Fault> {
+fn read_patterns<I: Read>(alloc: Global, input: &mut I) -> Result<Vec<Pattern>, Fault>
+    ensures { IfOk result (λ patterns. IfSome (I.remaining input.old)
+        (λ text. patterns_of text ≡ Ok (map moment_at patterns.items))) }
+{
     let mut text = Vec::new(alloc);
     input.read_to_end(&mut text)?;
-    match pattern_text::read_patterns(alloc, text.as_slice()) {
-        Ok(patterns) => Ok(patterns),
-        Err(TextRefusal::Memory) => Err(Fault::Memory),
-        Err(refusal) => Err(Fault::Pattern(refusal)),
-    }
+    Ok(pattern_text::read_patterns(alloc, text.as_slice())?)
 }
 
 /// Carries the words out one after another, and appends the block of each to the text. A word
@@ -142,41 +155,26 @@ fn rehearse(
     words: &[Word],
     patterns: &[Pattern],
     text: &mut Vec<u8>,
-) -> Result<u8, Fault> {
+) -> Result<u8, Fault>
+    ensures { (blocks : List Done)
+        × IsRehearsed patterns.now words.now rehearsal.old blocks rehearsal.new
+        × IfOk result (λ status. (length blocks ≡ length words.now)
+        × (text.new.items ≡ text.old.items ++ blocks_text blocks)
+        × (status ≡ gravest blocks)) }
+{
     let mut blocks = Vec::new(alloc);
     let done = rehearsal.act(alloc, words, patterns, &mut blocks);
-    let mut status = 0;
-    for block in &blocks {
-        text.extend_from_slice(transcript::write_transcript(alloc, block)?.as_slice())?;
-        status = graver(status, status_of(&block.body));
-    }
+    write_blocks(alloc, &blocks, text)?;
     done?;
-    Ok(status)
+    Ok(gravest(&blocks))
 }
 
-/// The status that one block asks for.
-fn status_of(body: &Body) -> u8
-    ensures { result ≡ status_of body.now }
+/// Appends the blocks; those before one that memory was refused for are there then.
+fn write_blocks(alloc: Global, blocks: &[Block], text: &mut Vec<u8>) -> Result<(), AllocError>
+    ensures { OnOk result (text.new.items ≡ text.old.items ++ blocks_text blocks.now) }
 {
-    match body {
-        Body::Nothing => 0,
-        Body::Refused(_) => 1,
-        Body::Ran(_, report) => match report.outcome {
-            Outcome::Done => 0,
-            Outcome::RolledBack => 3,
-            Outcome::Degraded { .. } => 4,
-            Outcome::Lost => 1,
-        },
+    for block in blocks {
+        text.extend_from_slice(transcript::write_transcript(alloc, block)?.as_slice())?;
     }
-}
-
-/// A refused or lost word outweighs a degraded one, and that outweighs one that was rolled back.
-fn graver(one: u8, other: u8) -> u8
-    ensures { result ≡ graver one other }
-{
-    if one == 1 || other == 1 {
-        1
-    } else {
-        one.max(other)
-    }
+    Ok(())
 }

@@ -1,4 +1,10 @@
 //! A master on the modelled kernel, word by word.
+ghost use Rattle.std.specs.Prelude.{◌≡◌, ◌+◌, ◌++◌, List, length, OnOk, IfOk};
+ghost use Rattle.table_text.specs.TableText.{IsTextOf};
+ghost use Rattle.word_runner.specs.declared.block.Block.{Block as Done};
+ghost use Rattle.prefork.specs.Starts.{IsStarted};
+ghost use Rattle.prefork.specs.Rehearsals.{Held, IsRehearsed};
+
 use crate::fault::Fault;
 use crate::start::{Start, silent_workers};
 use control_words::Word;
@@ -29,7 +35,9 @@ pub struct Rehearsal {
 
 impl Rehearsal {
     /// Boots a master with its ready workers.
-    pub fn start(alloc: Global, start: &Start) -> Result<Rehearsal, Fault> {
+    pub fn start(alloc: Global, start: &Start) -> Result<Rehearsal, Fault>
+        ensures { IfOk result (IsStarted start.now) }
+    {
         let record = start.record()?;
         let settings = &start.settings;
         let kernel = Kernel::boot(
@@ -49,7 +57,9 @@ impl Rehearsal {
     }
 
     /// Lets a foreign process hold an address.
-    pub fn hold(&mut self, address: &str) -> Result<(), Fault> {
+    pub fn hold(&mut self, address: &str) -> Result<(), Fault>
+        ensures { OnOk result (Held address.now self.old self.new) }
+    {
         let address = Address::read(address.as_bytes()).map_err(Fault::Address)?;
         self.kernel.foreign(&address)?;
         Ok(())
@@ -63,7 +73,12 @@ impl Rehearsal {
         words: &[Word],
         patterns: &[Pattern],
         blocks: &mut Vec<Block>,
-    ) -> Result<(), Fault> {
+    ) -> Result<(), Fault>
+        ensures done { (done : List Done)
+            × (blocks.new.items ≡ blocks.old.items ++ done)
+            × IsRehearsed patterns.now words.now self.old done self.new }
+        ensures all { OnOk result (length blocks.new.items ≡ length blocks.old.items + length words.now) }
+    {
         let next = self.next;
         run_words(
             alloc,
@@ -79,7 +94,9 @@ impl Rehearsal {
     }
 
     /// The table of processes, files and the service.
-    pub fn state(&self) -> Result<Vec<u8>, Fault> {
+    pub fn state(&self) -> Result<Vec<u8>, Fault>
+        ensures { IfOk result (λ text. IsTextOf self.now.kernel.table text.items) }
+    {
         Ok(self.kernel.table_text()?)
     }
 }

@@ -1,9 +1,12 @@
 //! How a master starts: its configuration, and the one that a reload goes over to.
+ghost use Rattle.std.specs.Prelude.{◌≡◌, IfOk, option_map};
+ghost use Rattle.command_line.specs.Arguments.{start_of};
+ghost use Rattle.prefork.specs.Starts.{AreNamed, IsStart, record_at, silent_workers};
+
 use crate::fault::Fault;
 use command_line::StartOptions;
 use kernel_model::BootRefusal;
 use listener_set::{Numbers, WORKER_LIMIT};
-use master_config::ConfigRefusal;
 use service_state::Record;
 use std::alloc::{AllocError, Global};
 use std::fs;
@@ -27,10 +30,9 @@ pub struct Start {
 impl Start {
     /// Reads the files, that of the start first. Without one the defaults hold; the start's
     /// settings are taken up again where no other file is named.
-    pub fn read<R: AllocGlobal + Files>(
-        rt: &R,
-        options: &StartOptions<'_>,
-    ) -> Result<Start, Fault> {
+    pub fn read<R: AllocGlobal + Files>(rt: &R, options: &StartOptions<'_>) -> Result<Start, Fault>
+        ensures { IfOk result (IsStart (start_of options.now)) }
+    {
         let settings = settings_in(rt, options.from, Settings::plain())?;
         let next = settings_in(rt, options.to, settings)?;
         let wanted = options.workers.unwrap_or(settings.workers);
@@ -43,7 +45,9 @@ impl Start {
     }
 
     /// What the master knows of itself. More workers than there can be is a fault of the boot.
-    pub fn record(&self) -> Result<Record, Fault> {
+    pub fn record(&self) -> Result<Record, Fault>
+        ensures { result ≡ record_at self.now }
+    {
         if self.wanted > WORKER_LIMIT || self.running > self.wanted {
             return Err(Fault::Boot(BootRefusal::BadLimits));
         }
@@ -53,9 +57,11 @@ impl Start {
 }
 
 /// The table of a master's ready workers, none of which has beaten yet.
-pub fn silent_workers(alloc: Global, record: &Record) -> Result<WorkerTable, AllocError> {
+pub fn silent_workers(alloc: Global, state: &Record) -> Result<WorkerTable, AllocError>
+    ensures { IfOk result (λ workers. workers ≡ silent_workers state.now) }
+{
     let mut workers = WorkerTable::new(alloc)?;
-    workers.follow(&record.ready, &Numbers::none());
+    workers.follow(&state.ready, &Numbers::none());
     Ok(workers)
 }
 
@@ -64,14 +70,13 @@ fn settings_in<R: AllocGlobal + Files>(
     rt: &R,
     path: Option<&str>,
     without: Settings,
-) -> Result<Settings, Fault> {
+) -> Result<Settings, Fault>
+    ensures { IfOk result (AreNamed (option_map (λ text. text.now) path.entry) without) }
+{
     let Some(path) = path else {
         return Ok(without);
     };
     let text = fs::read(rt, path)?;
-    match master_config::read(rt.alloc(), text.as_slice()) {
-        Ok(config) => Ok(config.settings),
-        Err(ConfigRefusal::Memory) => Err(Fault::Memory),
-        Err(refusal) => Err(Fault::Config(refusal)),
-    }
+    let config = master_config::read(rt.alloc(), text.as_slice())?;
+    Ok(config.settings)
 }

@@ -28,7 +28,9 @@ fn write_word(out: &mut Vec<u8>, word: Word) -> Result<(), AllocError>
     }
 }
 
-fn write_body(out: &mut Vec<u8>, body: &Body) -> Result<(), AllocError>
+/// What a word came to, behind what was written: `nothing`, or `refused CODE`, or a line for each call, numbered from 1, and the
+/// report's line. The only refusal is want of memory.
+pub fn write_body(out: &mut Vec<u8>, body: &Body) -> Result<(), AllocError>
     ensures { IfOk result (λ _. out.new.items ≡ out.old.items ++ body_text body.now) }
 {
     match body {

@@ -3,4 +3,4 @@
 
 mod block;
 
-pub use block::write_transcript;
+pub use block::{write_body, write_transcript};
