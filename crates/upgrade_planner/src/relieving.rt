@@ -46,10 +46,8 @@ pub fn add_relief(
     let by = old.master();
     let leaving = add_hand_over(draft, upgrade)?;
     let lives = Order::Make(Call::Alive(upgrade.new.generation.image));
-    let (here, gone) = (
-        Edge::to(&[Reply::IsAlive], leaving),
-        Edge::to(&[Reply::Gone], restarted),
-    );
+    let here = Edge::to(&[Reply::IsAlive], leaving);
+    let gone = Edge::to(&[Reply::Gone], restarted);
     let asking = draft.add(by, lives, &Numbers::none(), &[here, gone])?;
     let waiting = add_awaits_gone(draft, by, old.generation, upgrade.leaving, asking)?;
     add_quits(draft, by, old.generation, upgrade.leaving, waiting)

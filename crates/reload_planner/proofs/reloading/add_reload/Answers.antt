@@ -1,17 +1,26 @@
-use Rattle.std.proofs.Common.{◌≡◌, List, length, reverse, take, true, sym, ◌∙◌, ap, subst, arith}
+use Rattle.std.proofs.Common.{◌≡◌, ℕ, List, length, reverse, take, true, sym, ◌∙◌, ap, subst, arith}
 use Rattle.std.proofs.lemmas.List.{take_all}
 use Rattle.std.proofs.lemmas.Result.{IfOk-weaker}
+use Rattle.listener_set.specs.declared.generation.Generation.{Generation}
 use Rattle.definitions.specs.Table.{Address}
 use Rattle.vocabulary.specs.declared.plans.Side.TheVariants.{Old}
 use Rattle.definitions.specs.Plans.{quits, closes, settle}
+use Rattle.rollback_plan.specs.declared.draft.Draft.{Draft}
 use Rattle.rollback_plan.specs.declared.step.Place.{Place}
 use Rattle.rollback_plan.specs.Drafts.{are_places}
-use Rattle.rollback_plan.specs.Back.{AreMade}
+use Rattle.rollback_plan.specs.Back.{AreMade, quits_back, closes_back}
 use Rattle.rollback_plan.proofs.DraftTrees.{made_kept}
 use Rattle.rollback_plan.proofs.BackTrees.{all_kept}
 use Rattle.plan_pieces.proofs.Places.{made_places, places_kept}
 use Rattle.reload_planner.specs.Changes.{on_tree, trial_tree, back_tree}
 use Rattle.reload_planner.proofs.reloading.add_reload.Goals as goal
+
+-- the ways back once all that is added is open, where these places stand for those of the draft
+ways_back : (by : ℕ) (g new : Generation) (ready : List ℕ) (rounds : ℕ) (added : List Address) (fresh : List ℕ) (d : Draft) (places ways : List Place) → places ≡ ways → AreMade d ways (length fresh) (quits_back by new fresh (closes_back by added (settle by g ready Old rounds) (length added)))
+    → AreMade d places (length fresh) (λ i. back_tree by g new ready rounds (reverse added) (reverse (take i fresh)))
+ways_back by g new ready rounds added fresh d places ways same made =
+    subst (λ (ps : List Place). AreMade d ps (length fresh) (λ i. back_tree by g new ready rounds (reverse added) (reverse (take i fresh)))) (sym same)
+    (subst (λ (xs : List Address). AreMade d ways (length fresh) (λ i. quits by new (reverse (take i fresh)) (closes by (reverse xs) (settle by g ready Old rounds)))) (take_all (length added) added (omega arith)) made)
 
 pub add_trial-requires-clause-ways : goal.add_trial-requires-clause-ways
 add_trial-requires-clause-ways c =
@@ -23,10 +32,8 @@ add_opens-requires-clause-rest c =
     let u = c.args.renewal.now in
     let fresh = u.starts.now in
     let added = u.added.now in
-    let ways = c.in_ok-ways_back.ways_back in
     let bad = back_tree s.by s.generation u.generation s.ready s.rounds (reverse added) in
-    let forked = subst (λ (xs : List Address). AreMade c.back.new.self ways.forked.items (length fresh) (λ i. quits s.by u.generation (reverse (take i fresh)) (closes s.by (reverse xs) (settle s.by s.generation s.ready Old s.rounds)))) (take_all (length added) added (omega arith)) c.in_ok-ways_back.ensures.forked in
-    let trial = c.in_ok-trial.ensures.made bad (subst (λ (places : List Place). AreMade c.back.new.self places (length fresh) (λ i. bad (reverse (take i fresh)))) (sym c.deref.ensures.value) forked) in
+    let trial = c.in_ok-trial.ensures.made bad (ways_back s.by s.generation u.generation s.ready s.rounds added fresh c.back.new.self _ _ c.deref.ensures.value c.in_ok-ways_back.ensures.forked) in
     trial.below
 
 pub add_opens-requires-clause-ways : goal.add_opens-requires-clause-ways
@@ -43,8 +50,7 @@ returns-clause-made c =
     let added = u.added.now in
     let ways = c.in_ok-ways_back.ways_back in
     let bad = back_tree s.by s.generation u.generation s.ready s.rounds (reverse added) in
-    let forked = subst (λ (xs : List Address). AreMade c.back.new.self ways.forked.items (length fresh) (λ i. quits s.by u.generation (reverse (take i fresh)) (closes s.by (reverse xs) (settle s.by s.generation s.ready Old s.rounds)))) (take_all (length added) added (omega arith)) c.in_ok-ways_back.ensures.forked in
-    let trial = c.in_ok-trial.ensures.made bad (subst (λ (places : List Place). AreMade c.back.new.self places (length fresh) (λ i. bad (reverse (take i fresh)))) (sym c.deref.ensures.value) forked) in
+    let trial = c.in_ok-trial.ensures.made bad (ways_back s.by s.generation u.generation s.ready s.rounds added fresh c.back.new.self _ _ c.deref.ensures.value c.in_ok-ways_back.ensures.forked) in
     let on = made_kept c.add_on.new.draft c.back.new.self c.in_ok-on.on _ c.in_ok-ways_back.ensures.keeps c.in_ok-on.ensures.made in
     let there = trial.is ∙ ap (λ t. trial_tree s.by u.generation u.wanted fresh t bad) on.is in
     let closed = λ (opened : List Address). closes s.by opened (settle s.by s.generation s.ready Old s.rounds) in
