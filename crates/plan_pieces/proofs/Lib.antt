@@ -1,7 +1,7 @@
 pub mod Places
-pub mod StartTrees
-pub mod SignalTrees
-pub mod ListeningTrees
+pub mod Batches
+pub mod Added
+pub mod AttemptTrees
 pub mod TriedTrees
 pub mod Fitness
 pub mod TriedFitness

@@ -1,6 +1,5 @@
 -- What a new master tries is built.
-use Rattle.std.proofs.Common.{◌≡◌, ℕ, ◌+◌, ◌<◌, List, [], ◌∷◌, ◌++◌, length, get_or, map, drop, refl, sym, ◌∙◌, ap, subst}
-use Rattle.std.proofs.lemmas.List.{drop_more}
+use Rattle.std.proofs.Common.{◌≡◌, ℕ, ◌+◌, ◌<◌, List, [], ◌∷◌, ◌++◌, length, drop, Some, slice_get, refl, sym, ◌∙◌, ap, subst}
 use Rattle.definitions.specs.Calls.{Call}
 use Rattle.definitions.specs.Tree.{Tree}
 use Rattle.definitions.specs.Plans.{tries, tries_all}
@@ -8,25 +7,21 @@ use Rattle.rollback_plan.specs.declared.draft.Draft.{Draft}
 use Rattle.rollback_plan.specs.declared.step.Place.{Place}
 use Rattle.rollback_plan.specs.Drafts.{trees_of, tree_at, IsMade, Keeps}
 use Rattle.rollback_plan.proofs.DraftTrees.{at_kept}
-
--- one call more is tried
-tries_more : {X : Type 0} (by : ℕ) (call : X → Call) (xs : List X) (rest back : Tree) (i : ℕ) (x d : X) → i < length xs → x ≡ get_or xs i d → tries by (call x) [] (tries_all by (map call (drop (i + 1) xs)) rest back) back ≡ tries_all by (map call (drop i xs)) rest back
-tries_more by call xs rest back i x d low is =
-    sym (ap (λ ys. tries_all by (map call ys) rest back) (drop_more xs i d low) ∙ ap (λ y. tries by (call y) [] (tries_all by (map call (drop (i + 1) xs)) rest back) back) (sym is))
+use Rattle.rollback_plan.proofs.Lists.{drop_at}
 
 -- one call more is tried, in a draft
-pub tried_more : {X : Type 0} (by : ℕ) (call : X → Call) (xs : List X) (i : ℕ) (x d : X) (old mid new : Draft) (rest back next place : Place) (set : List ℕ)
-    → i < length xs → x ≡ get_or xs i d → set ≡ [] → Keeps old mid → back.0 < length (trees_of old)
-    → IsMade mid next (tries_all by (map call (drop (i + 1) xs)) (tree_at old rest) (tree_at old back))
-    → IsMade new place (tries by (call x) set (tree_at mid next) (tree_at mid back))
-    → IsMade new place (tries_all by (map call (drop i xs)) (tree_at old rest) (tree_at old back))
-tried_more by call xs i x d old mid new rest back next place set low at none keeps there before made =
+pub tried_more : (by : ℕ) (calls : List Call) (i : ℕ) (call : Call) (old mid new : Draft) (rest back next place : Place) (set : List ℕ)
+    → slice_get calls i ≡ Some call → set ≡ [] → Keeps old mid → back.0 < length (trees_of old)
+    → IsMade mid next (tries_all by (drop (i + 1) calls) (tree_at old rest) (tree_at old back))
+    → IsMade new place (tries by call set (tree_at mid next) (tree_at mid back))
+    → IsMade new place (tries_all by (drop i calls) (tree_at old rest) (tree_at old back))
+tried_more by calls i call old mid new rest back next place set at none keeps there before made =
     let ok = tree_at old rest in
     let bad = tree_at old back in
-    let is = ap (λ s. tries by (call x) s (tree_at mid next) (tree_at mid back)) none
-    ∙ (ap (λ t. tries by (call x) [] t (tree_at mid back)) before.is
-    ∙ (ap (λ t. tries by (call x) [] (tries_all by (map call (drop (i + 1) xs)) ok bad) t) (at_kept old mid back keeps there)
-    ∙ tries_more by call xs ok bad i x d low at)) in
+    let is = ap (λ s. tries by call s (tree_at mid next) (tree_at mid back)) none
+    ∙ (ap (λ t. tries by call [] t (tree_at mid back)) before.is
+    ∙ (ap (λ t. tries by call [] (tries_all by (drop (i + 1) calls) ok bad) t) (at_kept old mid back keeps there)
+    ∙ ap (λ cs. tries_all by cs ok bad) (sym (drop_at calls i call at)))) in
     subst (IsMade new place) is made
 
 ---- One list of calls after another

@@ -1,122 +1,76 @@
-//! How plans start workers and go on whatever is answered: all forks, then a wait for each.
-ghost use Rattle.std.specs.Prelude.{◌≡◌, ◌+◌, ◌*◌, ◌<◌, length, IfOk, IsErrOf, OnOk};
-ghost use Rattle.rollback_plan.specs.declared.draft.DraftRefusal.TheVariants.{TooLarge};
-ghost use Rattle.rollback_plan.specs.declared.draft.TheConstants.{MOST_STEPS};
-ghost use Rattle.vocabulary.specs.declared.calls.Call.TheVariants as call;
-ghost use Rattle.definitions.specs.Plans as plans;
-ghost use Rattle.rollback_plan.specs.Drafts.{trees_of, tree_at, IsMade, Keeps};
+//! What plans do one call after another, whatever is answered.
+ghost use Rattle.std.specs.Prelude.{◌<◌, length, IfOk};
+ghost use Rattle.rollback_plan.specs.Drafts.{trees_of, tree_at, IsMade, Grows};
+ghost use Rattle.plan_pieces.specs.Pieces.{anyway, anyway_steps, in_turn, in_turn_back, steps_in};
 
+use call_replies::all_replies;
 use listener_set::{Generation, Numbers};
-use rollback_plan::{Draft, DraftRefusal, Edge, Place};
+use rollback_plan::{Batch, Draft, DraftRefusal, Edge, Place};
 use vocabulary::{Actor, Call, Order, Reply};
 
-/// Adds the forks of these numbers and then a wait for each, upwards, before the rest, which
-/// follows whatever is answered; a worker that is late is killed. `TooLarge` only where the draft
-/// would pass its most steps. A refused call may leave some of the steps.
-pub fn add_starts_any(
+/// Adds these calls, in their order, before the rest.
+pub(crate) fn add_each(
     draft: &mut Draft,
     by: Actor,
-    generation: Generation,
-    numbers: &[u32],
+    calls: &Batch<'_>,
     rest: Place,
 ) -> Result<Place, DraftRefusal>
     requires { rest.0 < length (trees_of draft.old) }
-    ensures made { IfOk result (λ place. IsMade draft.new place (plans.starts_any by generation numbers.now (tree_at draft.old rest))) }
-    ensures count { OnOk result (length (trees_of draft.new) ≡ length (trees_of draft.old) + 3 * length numbers.now) }
-    ensures keeps { Keeps draft.old draft.new }
-    ensures too_large { IsErrOf result TooLarge → MOST_STEPS < length (trees_of draft.old) + 3 * length numbers.now }
-{
-    let waits = add_awaits_any(draft, by, generation, numbers, rest)?;
-    add_forks_any(draft, by, generation, numbers, waits)
-}
-
-/// Adds a wait for each of these numbers, upwards, before the rest.
-fn add_awaits_any(
-    draft: &mut Draft,
-    by: Actor,
-    generation: Generation,
-    numbers: &[u32],
-    rest: Place,
-) -> Result<Place, DraftRefusal>
-    requires { rest.0 < length (trees_of draft.old) }
-    ensures made { IfOk result (λ place. IsMade draft.new place (plans.awaits_any by generation numbers.now (tree_at draft.old rest))) }
-    ensures count { OnOk result (length (trees_of draft.new) ≡ length (trees_of draft.old) + 2 * length numbers.now) }
-    ensures keeps { Keeps draft.old draft.new }
-    ensures too_large { IsErrOf result TooLarge → MOST_STEPS < length (trees_of draft.old) + 2 * length numbers.now }
+    ensures made { IfOk result (λ place. IsMade draft.new place (in_turn by calls.now (tree_at draft.old rest))) }
+    ensures grows { Grows draft.old draft.new result (steps_in calls.now) }
 {
     let mut next = rest;
-    for i in (0..numbers.len()).rev() {
-        next = add_await_any(draft, by, generation, numbers[i], next)?;
+    for i in (0..calls.len()).rev() {
+        next = add_anyway(draft, by, calls.get(i), next)?;
     }
     Ok(next)
 }
 
-/// Adds a wait for a number, which is killed where it is late.
-fn add_await_any(
+/// Adds these calls, the last of them first, before the rest.
+pub(crate) fn add_each_back(
     draft: &mut Draft,
     by: Actor,
-    generation: Generation,
-    number: u32,
+    calls: &Batch<'_>,
     rest: Place,
 ) -> Result<Place, DraftRefusal>
     requires { rest.0 < length (trees_of draft.old) }
-    ensures made { IfOk result (λ place. IsMade draft.new place (plans.does by (call.AwaitReady generation number)
-        (plans.await_any_edges (tree_at draft.old rest) (plans.does by (call.Kill generation number) (plans.then_edge (tree_at draft.old rest)))))) }
-    ensures count { OnOk result (length (trees_of draft.new) ≡ length (trees_of draft.old) + 2) }
-    ensures keeps { Keeps draft.old draft.new }
-    ensures too_large { IsErrOf result TooLarge → MOST_STEPS < length (trees_of draft.old) + 2 }
-{
-    let killed = draft.call(by, Call::Kill(generation, number), rest)?;
-    draft.add(
-        by,
-        Order::Make(Call::AwaitReady(generation, number)),
-        &Numbers::none(),
-        &[
-            Edge::to(&[Reply::IsReady, Reply::Gone], rest),
-            Edge::to(&[Reply::Late], killed),
-        ],
-    )
-}
-
-/// Adds the forks of these numbers, upwards, before the rest.
-fn add_forks_any(
-    draft: &mut Draft,
-    by: Actor,
-    generation: Generation,
-    numbers: &[u32],
-    rest: Place,
-) -> Result<Place, DraftRefusal>
-    requires { rest.0 < length (trees_of draft.old) }
-    ensures made { IfOk result (λ place. IsMade draft.new place (plans.forks_any by generation numbers.now (tree_at draft.old rest))) }
-    ensures count { OnOk result (length (trees_of draft.new) ≡ length (trees_of draft.old) + length numbers.now) }
-    ensures keeps { Keeps draft.old draft.new }
-    ensures too_large { IsErrOf result TooLarge → MOST_STEPS < length (trees_of draft.old) + length numbers.now }
+    ensures made { IfOk result (λ place. IsMade draft.new place (in_turn_back by calls.now (tree_at draft.old rest))) }
+    ensures grows { Grows draft.old draft.new result (steps_in calls.now) }
 {
     let mut next = rest;
-    for i in (0..numbers.len()).rev() {
-        next = add_fork_any(draft, by, generation, numbers[i], next)?;
+    for i in 0..calls.len() {
+        next = add_anyway(draft, by, calls.get(i), next)?;
     }
     Ok(next)
 }
 
-/// Adds the fork of a number.
-fn add_fork_any(
-    draft: &mut Draft,
-    by: Actor,
-    generation: Generation,
-    number: u32,
-    rest: Place,
-) -> Result<Place, DraftRefusal>
+/// Adds a call before the rest; a worker that is late is killed first.
+fn add_anyway(draft: &mut Draft, by: Actor, call: Call, rest: Place) -> Result<Place, DraftRefusal>
     requires { rest.0 < length (trees_of draft.old) }
-    ensures made { IfOk result (λ place. IsMade draft.new place (plans.does by (call.Fork generation number) (plans.fork_any_edges (tree_at draft.old rest)))) }
-    ensures count { OnOk result (length (trees_of draft.new) ≡ length (trees_of draft.old) + 1) }
-    ensures keeps { Keeps draft.old draft.new }
-    ensures too_large { IsErrOf result TooLarge → MOST_STEPS < length (trees_of draft.old) + 1 }
+    ensures made { IfOk result (λ place. IsMade draft.new place (anyway by call (tree_at draft.old rest))) }
+    ensures grows { Grows draft.old draft.new result (anyway_steps call) }
 {
-    draft.add(
-        by,
-        Order::Make(Call::Fork(generation, number)),
-        &Numbers::none(),
-        &[Edge::to(&[Reply::Forked, Reply::Again, Reply::NoMemory], rest)],
-    )
+    let none = Numbers::none();
+    match call {
+        Call::AwaitReady(generation, number) => {
+            let killed = draft.call(by, Call::Kill(generation, number), rest)?;
+            let edges = [
+                Edge::to(&[Reply::IsReady, Reply::Gone], rest),
+                Edge::to(&[Reply::Late], killed),
+            ];
+            draft.add(by, Order::Make(call), &none, &edges)
+        }
+        Call::AwaitGone(generation, number) => {
+            let killed = draft.call(by, Call::Kill(generation, number), rest)?;
+            let edges = [
+                Edge::to(&[Reply::Gone], rest),
+                Edge::to(&[Reply::Late], killed),
+            ];
+            draft.add(by, Order::Make(call), &none, &edges)
+        }
+        _ => {
+            let edges = [Edge::to(all_replies(&call), rest)];
+            draft.add(by, Order::Make(call), &none, &edges)
+        }
+    }
 }

@@ -2,16 +2,17 @@
 ghost use Rattle.std.specs.Prelude.{◌≡◌, ◌+◌, ◌<◌, List, [], length, reverse, take, IfOk, IsErrOf, IsTrue, OnOk};
 ghost use Rattle.rollback_plan.specs.declared.draft.DraftRefusal.TheVariants.{TooLarge};
 ghost use Rattle.rollback_plan.specs.declared.draft.TheConstants.{MOST_STEPS};
-ghost use Rattle.vocabulary.specs.declared.calls.Call.TheVariants as call;
 ghost use Rattle.definitions.specs.Table.{Address as AddressText};
 ghost use Rattle.definitions.specs.Tree.{Tree};
 ghost use Rattle.definitions.specs.Plans as plans;
 ghost use Rattle.rollback_plan.specs.Drafts.{trees_of, tree_at, are_places, IsMade, Keeps};
 ghost use Rattle.rollback_plan.specs.Back.{AreMade};
 
-use listener_set::{Address, Numbers};
-use rollback_plan::{Draft, DraftRefusal, Edge, Place};
-use vocabulary::{Actor, Call, Order, Reply};
+use crate::attempting::add_attempts;
+use crate::going_on::add_each;
+use listener_set::Address;
+use rollback_plan::{Batch, Draft, DraftRefusal, Place};
+use vocabulary::Actor;
 
 /// Adds the opens of these addresses, in their order, before the rest. The i-th of the ways back
 /// is taken where the first i addresses were opened and the next one cannot be. `TooLarge` only
@@ -32,40 +33,7 @@ pub fn add_opens(
     ensures keeps { Keeps draft.old draft.new }
     ensures too_large { IsErrOf result TooLarge → MOST_STEPS < length (trees_of draft.old) + length addresses.now }
 {
-    let mut next = rest;
-    for i in (0..addresses.len()).rev() {
-        next = add_open(draft, by, addresses[i], next, ways_back[i])?;
-    }
-    Ok(next)
-}
-
-/// Adds the open of an address.
-fn add_open(
-    draft: &mut Draft,
-    by: Actor,
-    address: Address,
-    rest: Place,
-    failed: Place,
-) -> Result<Place, DraftRefusal>
-    requires rest { rest.0 < length (trees_of draft.old) }
-    requires failed { failed.0 < length (trees_of draft.old) }
-    ensures made { IfOk result (λ place. IsMade draft.new place (plans.does by (call.OpenAt address) (plans.open_edges (tree_at draft.old rest) (tree_at draft.old failed)))) }
-    ensures count { OnOk result (length (trees_of draft.new) ≡ length (trees_of draft.old) + 1) }
-    ensures keeps { Keeps draft.old draft.new }
-    ensures too_large { IsErrOf result TooLarge → MOST_STEPS < length (trees_of draft.old) + 1 }
-{
-    draft.add(
-        by,
-        Order::Make(Call::OpenAt(address)),
-        &Numbers::none(),
-        &[
-            Edge::to(&[Reply::Opened], rest),
-            Edge::to(
-                &[Reply::InUse, Reply::TooMany, Reply::Denied, Reply::NoMemory],
-                failed,
-            ),
-        ],
-    )
+    add_attempts(draft, by, &Batch::Opens(addresses), rest, ways_back)
 }
 
 /// Adds the closes of these addresses, in their order, before the rest. `TooLarge` only where the
@@ -82,9 +50,5 @@ pub fn add_closes(
     ensures keeps { Keeps draft.old draft.new }
     ensures too_large { IsErrOf result TooLarge → MOST_STEPS < length (trees_of draft.old) + length addresses.now }
 {
-    let mut next = rest;
-    for i in (0..addresses.len()).rev() {
-        next = draft.call(by, Call::CloseAt(addresses[i]), next)?;
-    }
-    Ok(next)
+    add_each(draft, by, &Batch::Closes(addresses), rest)
 }

@@ -1,15 +1,16 @@
 //! How plans start workers: all forks, then a wait for each.
-ghost use Rattle.std.specs.Prelude.{◌≡◌, ◌+◌, ◌*◌, ◌<◌, List, ℕ, [], length, reverse, take, IfOk, IsErrOf, IsTrue, OnOk};
+ghost use Rattle.std.specs.Prelude.{◌≡◌, ◌+◌, ◌*◌, ◌<◌, List, ℕ, length, reverse, take, IfOk, IsErrOf, IsTrue, OnOk};
 ghost use Rattle.rollback_plan.specs.declared.draft.DraftRefusal.TheVariants.{TooLarge};
 ghost use Rattle.rollback_plan.specs.declared.draft.TheConstants.{MOST_STEPS};
 ghost use Rattle.vocabulary.specs.declared.calls.Call.TheVariants as call;
 ghost use Rattle.definitions.specs.Tree.{Tree};
 ghost use Rattle.definitions.specs.Plans as plans;
-ghost use Rattle.rollback_plan.specs.Drafts.{trees_of, tree_at, are_places, IsMade, Keeps};
+ghost use Rattle.rollback_plan.specs.Drafts.{trees_of, tree_at, are_places, IsMade, Keeps, Grows};
 ghost use Rattle.rollback_plan.specs.Back.{AreMade};
 
+use crate::attempting::add_attempts;
 use listener_set::{Generation, Numbers};
-use rollback_plan::{Draft, DraftRefusal, Edge, Place};
+use rollback_plan::{Asked, Batch, Draft, DraftRefusal, Edge, Place};
 use vocabulary::{Actor, Call, Order, Reply};
 
 /// Adds the forks of these numbers and then a wait for each, upwards, before the rest. The i-th of
@@ -35,7 +36,8 @@ pub fn add_starts(
 {
     let failed = ways_back[numbers.len()];
     let waits = add_awaits(draft, by, generation, numbers, rest, failed)?;
-    add_forks(draft, by, generation, numbers, waits, ways_back)
+    let forks = Batch::Workers(Asked::Fork, generation, numbers);
+    add_attempts(draft, by, &forks, waits, ways_back)
 }
 
 /// Adds a wait for each of these numbers, upwards, before the rest.
@@ -50,9 +52,7 @@ fn add_awaits(
     requires rest { rest.0 < length (trees_of draft.old) }
     requires failed { failed.0 < length (trees_of draft.old) }
     ensures made { IfOk result (λ place. IsMade draft.new place (plans.awaits by generation numbers.now (tree_at draft.old rest) (tree_at draft.old failed))) }
-    ensures count { OnOk result (length (trees_of draft.new) ≡ length (trees_of draft.old) + 2 * length numbers.now) }
-    ensures keeps { Keeps draft.old draft.new }
-    ensures too_large { IsErrOf result TooLarge → MOST_STEPS < length (trees_of draft.old) + 2 * length numbers.now }
+    ensures grows { Grows draft.old draft.new result (2 * length numbers.now) }
 {
     let mut next = rest;
     for i in (0..numbers.len()).rev() {
@@ -74,9 +74,7 @@ fn add_await(
     requires failed { failed.0 < length (trees_of draft.old) }
     ensures made { IfOk result (λ place. IsMade draft.new place (plans.does by (call.AwaitReady generation number)
         (plans.await_edges (tree_at draft.old rest) (tree_at draft.old failed) (plans.does by (call.Kill generation number) (plans.then_edge (tree_at draft.old failed)))))) }
-    ensures count { OnOk result (length (trees_of draft.new) ≡ length (trees_of draft.old) + 2) }
-    ensures keeps { Keeps draft.old draft.new }
-    ensures too_large { IsErrOf result TooLarge → MOST_STEPS < length (trees_of draft.old) + 2 }
+    ensures grows { Grows draft.old draft.new result 2 }
 {
     let killed = draft.call(by, Call::Kill(generation, number), failed)?;
     draft.add(
@@ -87,59 +85,6 @@ fn add_await(
             Edge::to(&[Reply::IsReady], rest),
             Edge::to(&[Reply::Gone], failed),
             Edge::to(&[Reply::Late], killed),
-        ],
-    )
-}
-
-/// Adds the forks of these numbers, upwards, before the rest.
-fn add_forks(
-    draft: &mut Draft,
-    by: Actor,
-    generation: Generation,
-    numbers: &[u32],
-    rest: Place,
-    ways_back: &[Place],
-) -> Result<Place, DraftRefusal>
-    requires rest { rest.0 < length (trees_of draft.old) }
-    requires each { length ways_back.now ≡ length numbers.now + 1 }
-    requires ways { IsTrue (are_places draft.old ways_back.now) }
-    ensures made { IfOk result (λ place. (ok bad : List ℕ → Tree) → AreMade draft.old ways_back.now (length numbers.now) (λ i. bad (reverse (take i numbers.now)))
-        → ok (reverse numbers.now) ≡ tree_at draft.old rest → IsMade draft.new place (plans.forks by generation numbers.now [] ok bad)) }
-    ensures count { OnOk result (length (trees_of draft.new) ≡ length (trees_of draft.old) + length numbers.now) }
-    ensures keeps { Keeps draft.old draft.new }
-    ensures too_large { IsErrOf result TooLarge → MOST_STEPS < length (trees_of draft.old) + length numbers.now }
-{
-    let mut next = rest;
-    for i in (0..numbers.len()).rev() {
-        next = add_fork(draft, by, generation, numbers[i], next, ways_back[i])?;
-    }
-    Ok(next)
-}
-
-/// Adds the fork of a number.
-fn add_fork(
-    draft: &mut Draft,
-    by: Actor,
-    generation: Generation,
-    number: u32,
-    rest: Place,
-    failed: Place,
-) -> Result<Place, DraftRefusal>
-    requires rest { rest.0 < length (trees_of draft.old) }
-    requires failed { failed.0 < length (trees_of draft.old) }
-    ensures made { IfOk result (λ place. IsMade draft.new place (plans.does by (call.Fork generation number)
-        (plans.fork_edges (tree_at draft.old rest) (tree_at draft.old failed)))) }
-    ensures count { OnOk result (length (trees_of draft.new) ≡ length (trees_of draft.old) + 1) }
-    ensures keeps { Keeps draft.old draft.new }
-    ensures too_large { IsErrOf result TooLarge → MOST_STEPS < length (trees_of draft.old) + 1 }
-{
-    draft.add(
-        by,
-        Order::Make(Call::Fork(generation, number)),
-        &Numbers::none(),
-        &[
-            Edge::to(&[Reply::Forked], rest),
-            Edge::to(&[Reply::Again, Reply::NoMemory], failed),
         ],
     )
 }

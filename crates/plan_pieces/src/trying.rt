@@ -1,78 +1,17 @@
 //! What a new master tries, while there is a way back: the plain reply goes on, and any other, or that the master is
 //! gone, goes back.
-ghost use Rattle.std.specs.Prelude.{◌≡◌, ◌+◌, ◌<◌, ◌∷◌, ◌++◌, [], length, map, IfOk, IsErrOf, OnOk};
+ghost use Rattle.std.specs.Prelude.{◌≡◌, ◌+◌, ◌<◌, length, map, IfOk, IsErrOf, OnOk};
 ghost use Rattle.rollback_plan.specs.declared.draft.DraftRefusal.TheVariants.{TooLarge};
 ghost use Rattle.rollback_plan.specs.declared.draft.TheConstants.{MOST_STEPS};
 ghost use Rattle.vocabulary.specs.declared.calls.Call.TheVariants as call;
-ghost use Rattle.vocabulary.specs.declared.calls.Reply.TheVariants as reply;
-ghost use Rattle.definitions.specs.Tree as tree;
 ghost use Rattle.definitions.specs.Plans as plans;
-ghost use Rattle.rollback_plan.specs.Drafts.{trees_of, tree_at, IsMade, Keeps};
+ghost use Rattle.rollback_plan.specs.Batches.{calls_of, size_of};
+ghost use Rattle.rollback_plan.specs.Drafts.{trees_of, tree_at, IsMade, Keeps, Grows};
 
+use call_replies::{other_replies, plain_replies};
 use listener_set::{Address, Generation, Numbers};
-use rollback_plan::{Draft, DraftRefusal, Edge, Place};
-use vocabulary::{Actor, Call, Order, Reply};
-
-/// The plain reply to a call.
-fn plain(call: &Call) -> &'static [Reply]
-    ensures { result.now ≡ tree.plain_reply call.now ∷ [] }
-{
-    match call {
-        Call::OpenAt(_) => &[Reply::Opened],
-        Call::CloseAt(_)
-        | Call::Quit(..)
-        | Call::Kill(..)
-        | Call::WritePid(_)
-        | Call::MovePid(..)
-        | Call::RemovePid(_)
-        | Call::Leave
-        | Call::Usr1(..)
-        | Call::TermMaster(_) => &[Reply::Fine],
-        Call::Fork(..) => &[Reply::Forked],
-        Call::AwaitReady(..) => &[Reply::IsReady],
-        Call::Census(_) => &[Reply::Full],
-        Call::AwaitGone(..) => &[Reply::Gone],
-        Call::SpawnMaster(_) => &[Reply::Spawned],
-        Call::Adopt => &[Reply::Adopted],
-        Call::Alive(_) => &[Reply::IsAlive],
-    }
-}
-
-/// The other replies to a call, and that the master that should make it is gone.
-fn others(call: &Call) -> &'static [Reply]
-    ensures { result.now ≡ plans.others (tree.replies_to call.now) ++ reply.MasterGone ∷ [] }
-{
-    match call {
-        Call::OpenAt(_) => &[
-            Reply::InUse,
-            Reply::TooMany,
-            Reply::Denied,
-            Reply::NoMemory,
-            Reply::MasterGone,
-        ],
-        Call::CloseAt(_)
-        | Call::Quit(..)
-        | Call::Kill(..)
-        | Call::Leave
-        | Call::Usr1(..)
-        | Call::TermMaster(_) => &[Reply::MasterGone],
-        Call::WritePid(_) | Call::MovePid(..) | Call::RemovePid(_) => {
-            &[Reply::IoFault, Reply::MasterGone]
-        }
-        Call::Fork(..) => &[Reply::Again, Reply::NoMemory, Reply::MasterGone],
-        Call::AwaitReady(..) => &[Reply::Gone, Reply::Late, Reply::MasterGone],
-        Call::Census(_) => &[Reply::Short, Reply::MasterGone],
-        Call::AwaitGone(..) => &[Reply::Late, Reply::MasterGone],
-        Call::SpawnMaster(_) => &[
-            Reply::Again,
-            Reply::NoMemory,
-            Reply::NoImage,
-            Reply::MasterGone,
-        ],
-        Call::Adopt => &[Reply::Refused, Reply::MasterGone],
-        Call::Alive(_) => &[Reply::Gone, Reply::MasterGone],
-    }
-}
+use rollback_plan::{Asked, Batch, Draft, DraftRefusal, Edge, Place};
+use vocabulary::{Actor, Call, Order};
 
 /// Adds a call that a new master tries, before the rest and with a way back; a census must contain the set. `TooLarge`
 /// only where the draft would pass its most steps; a refused call leaves it as it was.
@@ -91,7 +30,10 @@ pub fn add_tried(
     ensures keeps { Keeps draft.old draft.new }
     ensures too_large { IsErrOf result TooLarge → MOST_STEPS < length (trees_of draft.old) + 1 }
 {
-    let edges = [Edge::to(plain(&call), rest), Edge::to(others(&call), back)];
+    let edges = [
+        Edge::to(plain_replies(&call), rest),
+        Edge::to(other_replies(&call), back),
+    ];
     draft.add(by, Order::Make(call), set, &edges)
 }
 
@@ -111,12 +53,7 @@ pub fn add_tried_closes(
     ensures keeps { Keeps draft.old draft.new }
     ensures too_large { IsErrOf result TooLarge → MOST_STEPS < length (trees_of draft.old) + length addresses.now }
 {
-    let none = Numbers::none();
-    let mut next = rest;
-    for i in (0..addresses.len()).rev() {
-        next = add_tried(draft, by, Call::CloseAt(addresses[i]), &none, next, back)?;
-    }
-    Ok(next)
+    add_tried_all(draft, by, &Batch::Closes(addresses), rest, back)
 }
 
 /// Adds that a new master tries to open these addresses, in their order, before the rest and with a way back.
@@ -135,12 +72,7 @@ pub fn add_tried_opens(
     ensures keeps { Keeps draft.old draft.new }
     ensures too_large { IsErrOf result TooLarge → MOST_STEPS < length (trees_of draft.old) + length addresses.now }
 {
-    let none = Numbers::none();
-    let mut next = rest;
-    for i in (0..addresses.len()).rev() {
-        next = add_tried(draft, by, Call::OpenAt(addresses[i]), &none, next, back)?;
-    }
-    Ok(next)
+    add_tried_all(draft, by, &Batch::Opens(addresses), rest, back)
 }
 
 /// Adds that a new master tries to fork these numbers, upwards, before the rest and with a way back. `TooLarge` only
@@ -160,19 +92,8 @@ pub fn add_tried_forks(
     ensures keeps { Keeps draft.old draft.new }
     ensures too_large { IsErrOf result TooLarge → MOST_STEPS < length (trees_of draft.old) + length numbers.now }
 {
-    let none = Numbers::none();
-    let mut next = rest;
-    for i in (0..numbers.len()).rev() {
-        next = add_tried(
-            draft,
-            by,
-            Call::Fork(generation, numbers[i]),
-            &none,
-            next,
-            back,
-        )?;
-    }
-    Ok(next)
+    let forks = Batch::Workers(Asked::Fork, generation, numbers);
+    add_tried_all(draft, by, &forks, rest, back)
 }
 
 /// Adds that a new master tries to wait until these numbers are ready, upwards, before the rest and with a way back,
@@ -193,17 +114,27 @@ pub fn add_tried_awaits(
     ensures keeps { Keeps draft.old draft.new }
     ensures too_large { IsErrOf result TooLarge → MOST_STEPS < length (trees_of draft.old) + length numbers.now }
 {
+    let waits = Batch::Workers(Asked::AwaitReady, generation, numbers);
+    add_tried_all(draft, by, &waits, rest, back)
+}
+
+/// Adds that a new master tries these calls, in their order, before the rest and with a way back.
+fn add_tried_all(
+    draft: &mut Draft,
+    by: Actor,
+    calls: &Batch<'_>,
+    rest: Place,
+    back: Place,
+) -> Result<Place, DraftRefusal>
+    requires rest { rest.0 < length (trees_of draft.old) }
+    requires back { back.0 < length (trees_of draft.old) }
+    ensures made { IfOk result (λ place. IsMade draft.new place (plans.tries_all by (calls_of calls.now) (tree_at draft.old rest) (tree_at draft.old back))) }
+    ensures grows { Grows draft.old draft.new result (size_of calls.now) }
+{
     let none = Numbers::none();
     let mut next = rest;
-    for i in (0..numbers.len()).rev() {
-        next = add_tried(
-            draft,
-            by,
-            Call::AwaitReady(generation, numbers[i]),
-            &none,
-            next,
-            back,
-        )?;
+    for i in (0..calls.len()).rev() {
+        next = add_tried(draft, by, calls.get(i), &none, next, back)?;
     }
     Ok(next)
 }

@@ -8,7 +8,8 @@ ghost use Rattle.rollback_plan.specs.Cursors.{rest_of};
 ghost use Rattle.rollback_plan.specs.Plans.{tree_of, note_of};
 ghost use Rattle.plan_runner.specs.Fit.{is_fit_next, height_next};
 
-use rollback_plan::{Bound, Cursor, Plan, plain_reply, reply_to};
+use call_replies::{plain_reply, reply_to};
+use rollback_plan::{Bound, Cursor, Plan};
 use vocabulary::{Actor, Call, End, Entry, Outcome, PidNote, Report, Side};
 
 /// A call that is due, and the master that makes it.

@@ -1,34 +1,36 @@
 -- Ways back are built.
-use Rattle.std.proofs.Common.{◌≡◌, ℕ, zero, suc, ◌+◌, ◌<◌, List, [], ◌∷◌, ◌++◌, length, refl, sym, ◌∙◌, ap, subst, arith, length-append, get_or, take, reverse, Some, slice_get, inl, inr}
-use Rattle.std.proofs.lemmas.List.{take_more, reverse-append}
+use Rattle.std.proofs.Common.{◌≡◌, ℕ, ◌+◌, ◌<◌, List, [], ◌∷◌, ◌++◌, length, refl, sym, ◌∙◌, ap, subst, arith, length-append, get_or, map, take, reverse, Some, slice_get, inl, inr}
+use Rattle.std.proofs.lemmas.List.{take-map, reverse-append}
 use Rattle.std.proofs.lemmas.Bool.{cases_order}
-use Rattle.std.proofs.lemmas.Option.{slice_get_read}
+use Rattle.std.proofs.lemmas.Option.{slice_get_read, slice_get_within}
 use Rattle.listener_set.specs.declared.generation.Generation.{Generation}
 use Rattle.definitions.specs.Table.{Address}
 use Rattle.vocabulary.specs.declared.calls.Call.TheVariants.{Quit, CloseAt}
+use Rattle.definitions.specs.Calls.{Call}
 use Rattle.definitions.specs.Tree.{Tree}
 use Rattle.definitions.specs.Plans.{does, then_edge, quits, closes}
 use Rattle.rollback_plan.specs.declared.draft.Draft.{Draft}
 use Rattle.rollback_plan.specs.declared.step.Place.{Place}
 use Rattle.rollback_plan.specs.Drafts.{IsMade, Keeps}
-use Rattle.rollback_plan.specs.Back.{quits_back, closes_back, AreMade}
+use Rattle.rollback_plan.specs.Back.{tells, told_back, quits_back, closes_back, AreMade}
+use Rattle.rollback_plan.proofs.Lists.{take_at, reverse-map}
 use Rattle.rollback_plan.proofs.DraftTrees.{made_kept, slice_get-append, slice_get-seam}
 
--- one number more
-pub quits_more : (by : ℕ) (g : Generation) (numbers : List ℕ) (rest : Tree) (i : ℕ) → i < length numbers → does by (Quit g (get_or numbers i 0)) (then_edge (quits_back by g numbers rest i)) ≡ quits_back by g numbers rest (i + 1)
-quits_more by g numbers rest i h =
-    sym (ap (λ ks. quits by g (reverse ks) rest) (take_more numbers i 0 h) ∙ ap (λ ks. quits by g ks rest) (reverse-append (take i numbers) (get_or numbers i 0 ∷ [])))
+-- one call more
+pub told_more : (by : ℕ) (calls : List Call) (rest : Tree) (i : ℕ) (call : Call) → slice_get calls i ≡ Some call → does by call (then_edge (told_back by calls rest i)) ≡ told_back by calls rest (i + 1)
+told_more by calls rest i call at =
+    sym (ap (λ xs. tells by (reverse xs) rest) (take_at calls i call at) ∙ ap (λ xs. tells by xs rest) (reverse-append (take i calls) (call ∷ [])))
 
--- one address more
-pub closes_more : (by : ℕ) (addresses : List Address) (rest : Tree) (i : ℕ) (a : Address) → i < length addresses → a ≡ get_or addresses i a → does by (CloseAt a) (then_edge (closes_back by addresses rest i)) ≡ closes_back by addresses rest (i + 1)
-closes_more by addresses rest i a h e =
-    sym (ap (λ xs. closes by (reverse xs) rest) (take_more addresses i a h ∙ ap (λ x. take i addresses ++ x ∷ []) (sym e))
-    ∙ ap (λ xs. closes by xs rest) (reverse-append (take i addresses) (a ∷ [])))
+quits_told : (by : ℕ) (g : Generation) (ks : List ℕ) (rest : Tree) → tells by (map (Quit g) ks) rest ≡ quits by g ks rest
+quits_told by g [] rest = refl
+quits_told by g (k ∷ ks) rest = ap (λ t. does by (Quit g k) (then_edge t)) (quits_told by g ks rest)
 
-within : {X : Type 0} (xs : List X) (i : ℕ) (x : X) → slice_get xs i ≡ Some x → i < length xs
-within [] i x e = cc
-within (y ∷ ys) zero x e = omega arith
-within (y ∷ ys) (suc i) x e = let h : i < length ys = within ys i x e in omega arith
+closes_told : (by : ℕ) (xs : List Address) (rest : Tree) → tells by (map CloseAt xs) rest ≡ closes by xs rest
+closes_told by [] rest = refl
+closes_told by (x ∷ xs) rest = ap (λ t. does by (CloseAt x) (then_edge t)) (closes_told by xs rest)
+
+first_calls : {X : Type 0} (call : X → Call) (xs : List X) (i : ℕ) → reverse (take i (map call xs)) ≡ map call (reverse (take i xs))
+first_calls call xs i = ap reverse (take-map call i xs) ∙ reverse-map call (take i xs)
 
 -- one place more
 pub made_more : (old new : Draft) (places after : List Place) (next : Place) (n : ℕ) (tree : ℕ → Tree) → Keeps old new → AreMade old places n tree → after ≡ places ++ next ∷ [] → IsMade new next (tree (n + 1)) → AreMade new after (n + 1) tree
@@ -37,7 +39,7 @@ made_more old new places after next n tree keeps all e made =
       count = omega (arith, ap length e, length-append places (next ∷ []), all.count);
       made = λ i place at.
           let there : slice_get (places ++ next ∷ []) i ≡ Some place = ap (λ ps. slice_get ps i) (sym e) ∙ at in
-          let low : i < length (places ++ next ∷ []) = within (places ++ next ∷ []) i place there in
+          let low : i < length (places ++ next ∷ []) = slice_get_within (places ++ next ∷ []) i place there in
           elim (cases_order i (n + 1)) [
             | inl same ↦ last i place same there
             | inr off ↦ elim off [
@@ -63,3 +65,18 @@ all_kept old new places n tree keeps all =
 -- the way that undoes all
 pub way_there : (d : Draft) (places : List Place) (n : ℕ) (tree : ℕ → Tree) (place : Place) → AreMade d places n tree → place ≡ get_or places n place → IsMade d place (tree n)
 way_there d places n tree place all is = all.made n place (slice_get_read places (length places) n place refl (omega (arith, all.count)) is)
+
+-- the ways of closes, and of quits
+pub closes_made : (by : ℕ) (d : Draft) (places : List Place) (xs : List Address) (rest tree : Tree) → rest ≡ tree → AreMade d places (length xs) (told_back by (map CloseAt xs) rest) → AreMade d places (length xs) (closes_back by xs tree)
+closes_made by d places xs rest tree same all =
+    record {
+      count = all.count;
+      made = λ i place at. subst (IsMade d place) (ap (λ calls. tells by calls rest) (first_calls CloseAt xs i) ∙ (closes_told by (reverse (take i xs)) rest ∙ ap (closes by (reverse (take i xs))) same)) (all.made i place at);
+    }
+
+pub quits_made : (by : ℕ) (g : Generation) (d : Draft) (places : List Place) (ks : List ℕ) (rest tree : Tree) → rest ≡ tree → AreMade d places (length ks) (told_back by (map (Quit g) ks) rest) → AreMade d places (length ks) (quits_back by g ks tree)
+quits_made by g d places ks rest tree same all =
+    record {
+      count = all.count;
+      made = λ i place at. subst (IsMade d place) (ap (λ calls. tells by calls rest) (first_calls (Quit g) ks i) ∙ (quits_told by g (reverse (take i ks)) rest ∙ ap (quits by g (reverse (take i ks))) same)) (all.made i place at);
+    }

@@ -3,49 +3,71 @@ use Rattle.std.proofs.Common.{◌≡◌, ◌≢◌, ℕ, zero, suc, ◌+◌, ◌
 use Rattle.std.proofs.lemmas.Bool.{or_cases, or_left, or_right, eq-eqb, eqb-true, false≢true}
 use Rattle.std.proofs.lemmas.List.{take_more}
 use Rattle.std.proofs.lemmas.Option.{slice_get-get_or}
-use Rattle.std.specs.List.{flat_map, range_with_len}
+use Rattle.std.specs.List.{flat_map, range_with_len, IsDistinct, AllByRecursion}
 use Rattle.listener_set.specs.Numbers.{is_in}
 use Rattle.rollback_plan.specs.declared.step.Step.{Step}
-use Rattle.rollback_plan.specs.Numbering.{AreDistinct, Walks, IsByDepth, laid_at}
+use Rattle.rollback_plan.specs.Steps.{all_lead_back}
+use Rattle.rollback_plan.specs.Numbering.{Walks, IsByDepth, IsOrder, CanBeOrder, laid_at}
 use Rattle.rollback_plan.proofs.Walked.{in_left, in_right, in_cases, in_one, in_itself}
 use Rattle.rollback_plan.proofs.Ordered.{in_filter, layers_rise, rises_in}
-use Rattle.rollback_plan.proofs.Finished.{found_in}
+use Rattle.rollback_plan.proofs.Finished.{found_in, ordered, order_few, order_within}
 
 absent : (b : Bool) → (b ≡ true → ⊥) → b ≡ false
 absent true h = absurd (h refl)
 absent false h = refl
 
-distinct-append : (xs ys : List ℕ) → AreDistinct xs → AreDistinct ys → ((k : ℕ) → is_in xs k ≡ true → is_in ys k ≡ false) → AreDistinct (xs ++ ys)
+-- a place that is not among others differs from each
+differs : (k : ℕ) (places : List ℕ) → is_in places k ≡ false → AllByRecursion (λ y. nat_eq k y ≡ false) places
+differs k [] h = tt
+differs k (y ∷ places) h = (
+  absent (nat_eq k y) (λ same. false≢true (sym h ∙ or_left (nat_eq y k) (is_in places k) (eq-eqb y k (sym (eqb-true k y same))))),
+  differs k places (absent (is_in places k) (λ here. false≢true (sym h ∙ or_right (nat_eq y k) (is_in places k) here))),
+)
+
+not_in : (k : ℕ) (places : List ℕ) → AllByRecursion (λ y. nat_eq k y ≡ false) places → is_in places k ≡ false
+not_in k [] h = refl
+not_in k (y ∷ places) h =
+    absent (is_in (y ∷ places) k)
+    (λ here. elim (or_cases (nat_eq y k) (is_in places k) here) [
+      | inl same ↦ false≢true (sym h.0 ∙ eq-eqb k y (sym (eqb-true y k same)))
+      | inr there ↦ false≢true (sym (not_in k places h.1) ∙ there)
+    ])
+
+distinct-append : (xs ys : List ℕ) → IsDistinct nat_eq xs → IsDistinct nat_eq ys → ((k : ℕ) → is_in xs k ≡ true → is_in ys k ≡ false) → IsDistinct nat_eq (xs ++ ys)
+unfolding IsDistinct
 distinct-append [] ys h more apart = more
 distinct-append (x ∷ xs) ys h more apart = (
-  absent (is_in (xs ++ ys) x)
+  differs x (xs ++ ys)
+      (absent (is_in (xs ++ ys) x)
       (λ here. elim (in_cases xs ys x here) [
-        | inl front ↦ false≢true (sym h.0 ∙ front)
+        | inl front ↦ false≢true (sym (not_in x xs h.0) ∙ front)
         | inr back ↦ false≢true (sym (apart x (or_left (nat_eq x x) (is_in xs x) (eq-eqb x x refl))) ∙ back)
-      ]),
+      ])),
   distinct-append xs ys h.1 more (λ k here. apart k (or_right (nat_eq x k) (is_in xs k) here)),
 )
 
 -- one place more
-distinct_more : (places : List ℕ) (k : ℕ) → AreDistinct places → is_in places k ≡ false → AreDistinct (places ++ k ∷ [])
+distinct_more : (places : List ℕ) (k : ℕ) → IsDistinct nat_eq places → is_in places k ≡ false → IsDistinct nat_eq (places ++ k ∷ [])
+unfolding IsDistinct
 distinct_more places k h new =
-    distinct-append places (k ∷ []) h (refl, tt)
+    distinct-append places (k ∷ []) h (tt, tt)
     (λ j here. absent (is_in (k ∷ []) j) (λ last. false≢true (sym new ∙ subst (λ (i : ℕ). is_in places i ≡ true) (sym (in_one k j last)) here)))
 
 -- a walk meets no place twice
-walk_distinct : (steps : List Step) → {met places all : List ℕ} → Walks steps met places all → AreDistinct met → AreDistinct all
+walk_distinct : (steps : List Step) → {met places all : List ℕ} → Walks steps met places all → IsDistinct nat_eq met → IsDistinct nat_eq all
 walk_distinct steps Walks.over h = h
 walk_distinct steps (Walks.passes known rest) h = walk_distinct steps rest h
 walk_distinct steps (Walks.meets new at rest) h = walk_distinct steps rest (distinct_more _ _ h new)
 
 -- ---- by depth
 
-distinct_filter : (p : ℕ → Bool) (places : List ℕ) → AreDistinct places → AreDistinct (filter p places)
+distinct_filter : (p : ℕ → Bool) (places : List ℕ) → IsDistinct nat_eq places → IsDistinct nat_eq (filter p places)
+unfolding IsDistinct
 distinct_filter p [] h = tt
 distinct_filter p (x ∷ places) h = one (p x) (distinct_filter p places h.1)
   where
-    one : (b : Bool) → AreDistinct (filter p places) → AreDistinct (cond b (x ∷ filter p places) (filter p places))
-    one true rest = (absent (is_in (filter p places) x) (λ here. false≢true (sym h.0 ∙ in_filter p places x here)), rest)
+    one : (b : Bool) → IsDistinct nat_eq (filter p places) → IsDistinct nat_eq (cond b (x ∷ filter p places) (filter p places))
+    one true rest = (differs x (filter p places) (absent (is_in (filter p places) x) (λ here. false≢true (sym (not_in x places h.0) ∙ in_filter p places x here))), rest)
     one false rest = rest
 
 filter_holds : (p : ℕ → Bool) (places : List ℕ) (k : ℕ) → is_in (filter p places) k ≡ true → p k ≡ true
@@ -59,7 +81,8 @@ filter_holds p (x ∷ places) k h = one (p x) refl (filter_holds p places k) h
     ]
     one false fails more here = more here
 
-distinct_layers : (depths places : List ℕ) (from n : ℕ) → AreDistinct places → AreDistinct (flat_map (λ d. laid_at depths places (suc d)) (range_with_len from n))
+distinct_layers : (depths places : List ℕ) (from n : ℕ) → IsDistinct nat_eq places → IsDistinct nat_eq (flat_map (λ d. laid_at depths places (suc d)) (range_with_len from n))
+unfolding IsDistinct
 distinct_layers depths places from zero h = tt
 distinct_layers depths places from (suc n) h =
     let rest = flat_map (λ d. laid_at depths places (suc d)) (range_with_len (from + 1) n) in
@@ -71,18 +94,32 @@ distinct_layers depths places from (suc n) h =
     absurd (omega (arith, at, deep))))
 
 -- the order of a walk's places has none twice
-pub order_distinct : (steps : List Step) (first : ℕ) (depths met order : List ℕ) → Walks steps [] (first ∷ []) met → IsByDepth depths met order → AreDistinct order
-order_distinct steps first depths met order walk sorted = subst AreDistinct (sym sorted.is) (distinct_layers depths met 0 sorted.deepest (walk_distinct steps walk tt))
+order_distinct : (steps : List Step) (first : ℕ) (depths met order : List ℕ) → Walks steps [] (first ∷ []) met → IsByDepth depths met order → IsDistinct nat_eq order
+unfolding IsDistinct
+order_distinct steps first depths met order walk sorted = subst (IsDistinct nat_eq) (sym sorted.is) (distinct_layers depths met 0 sorted.deepest (walk_distinct steps walk tt))
+
+-- places that were found in order can be numbered
+pub can_be_order : (steps lent : List Step) (first : ℕ) (order order_lent : List ℕ) → lent ≡ steps → all_lead_back 0 steps ≡ true → first < length steps → length steps ≤ 65536 → IsOrder lent first order
+    → order_lent ≡ order → CanBeOrder (length steps) order_lent
+can_be_order steps lent first order order_lent same back low few found again =
+    let o = ordered steps lent first order same back low found in
+    subst (CanBeOrder (length steps)) (sym again)
+    (record {
+      few = omega (arith, order_few steps first found.depths found.met order o, few);
+      within = order_within steps first found.depths found.met order o;
+      distinct = order_distinct steps first found.depths found.met order o.walk.in_turn o.sorted;
+    })
 
 -- ---- a place that is not taken yet
 
-pub next_new : (places : List ℕ) (i : ℕ) → AreDistinct places → i < length places → is_in (take i places) (get_or places i 0) ≡ false
+pub next_new : (places : List ℕ) (i : ℕ) → IsDistinct nat_eq places → i < length places → is_in (take i places) (get_or places i 0) ≡ false
+unfolding IsDistinct
 next_new [] i h low = absurd (omega arith)
 next_new (x ∷ places) zero h low = refl
 next_new (x ∷ places) (suc i) h low =
     absent (is_in (take (suc i) (x ∷ places)) (get_or places i 0))
     (λ here. elim (or_cases (nat_eq x (get_or places i 0)) (is_in (take i places) (get_or places i 0)) here) [
-      | inl same ↦ false≢true (sym h.0 ∙ found_in places i x (slice_get-get_or places i 0 (omega arith) ∙ ap Some (sym (eqb-true x (get_or places i 0) same))))
+      | inl same ↦ false≢true (sym (not_in x places h.0) ∙ found_in places i x (slice_get-get_or places i 0 (omega arith) ∙ ap Some (sym (eqb-true x (get_or places i 0) same))))
       | inr there ↦ false≢true (sym (next_new places i h.1 (omega arith)) ∙ there)
     ])
 

@@ -10,7 +10,7 @@ use Rattle.rollback_plan.specs.declared.step.Next.TheVariants.{To, Over}
 use Rattle.rollback_plan.specs.declared.step.Edge.{Edge}
 use Rattle.rollback_plan.specs.declared.step.Step.{Step}
 use Rattle.rollback_plan.specs.Steps.{trees_after, all_below, all_lead_back, leads_back, all_lead_on, first_tree}
-use Rattle.rollback_plan.specs.Numbering.{IsNumbering, AreDepths, IsWalk, IsByDepth, AreNumbers, AllNumbered, holds_of_edges, holds_behind, is_deeper, all_deeper, are_laid, all_within}
+use Rattle.rollback_plan.specs.Numbering.{IsNumbering, IsOrder, IsInOrder, AreDepths, IsWalk, IsByDepth, AreNumbers, AllNumbered, holds_of_edges, holds_behind, is_deeper, all_deeper, are_laid, all_within}
 use Rattle.rollback_plan.proofs.StepTrees.{all_weaker, all_below-le, length-trees}
 use Rattle.rollback_plan.proofs.Ordered.{Rises, layers_rise, rises_in, rises_to, in_layers, layers_in, layers_few}
 use Rattle.rollback_plan.proofs.Walked.{all_in, low_passes}
@@ -144,16 +144,31 @@ height_of steps heights first h e is low =
     at (t ∷ ts) zero low = refl
     at (t ∷ ts) (suc k) low = at ts k (omega arith)
 
--- what each pass found, where the order was made of what was lent
-pub ordered : (steps : List Step) (first : ℕ) (depths depths_lent met met_lent order : List ℕ) → depths_lent ≡ depths → met_lent ≡ met → all_lead_back 0 steps ≡ true → first < length steps → AreDepths steps first depths → IsWalk steps first met → IsByDepth depths_lent met_lent order
-    → AreOrdered steps first depths met order
-ordered steps first depths depths_lent met met_lent order d m back low laid walk sorted =
+-- what was found of the steps of a draft, where they were lent
+pub ordered : (steps lent : List Step) (first : ℕ) (order : List ℕ) → lent ≡ steps → all_lead_back 0 steps ≡ true → first < length steps → (o : IsOrder lent first order) → AreOrdered steps first o.depths o.met order
+ordered steps lent first order same back low o =
+    subst (λ (xs : List Step). AreOrdered xs first o.depths o.met order) same
+    (record {
+      back = subst (λ (xs : List Step). all_lead_back 0 xs ≡ true) (sym same) back;
+      low = omega (arith, low, ap length same);
+      laid = o.laid;
+      walk = o.walk;
+      sorted = o.sorted;
+    })
+
+-- how the plan numbers the places
+numbering_of : (steps : List Step) (first : ℕ) (depths met order : List ℕ) (plan : List Step) → AreOrdered steps first depths met order → IsInOrder steps order plan → IsNumbering steps first plan
+numbering_of steps first depths met order plan o all =
     record {
-      back = back;
-      low = low;
-      laid = laid;
-      walk = walk;
-      sorted = subst (λ (ds : List ℕ). IsByDepth ds met order) d (subst (λ (ms : List ℕ). IsByDepth depths_lent ms order) m sorted);
+      met = met;
+      walk = o.walk.in_turn;
+      depths = depths;
+      laid = λ k here. is_depth steps first depths k o.laid (let has = ltb-true 0 (get_or depths k 0) (all_in (λ j. nat_lt 0 (get_or depths j 0)) met k (met_laid steps first depths met o.laid o.walk) here) in omega (arith, has));
+      order = order;
+      by_depth = o.sorted;
+      numbers = all.numbers;
+      numbered = all.numbered;
+      steps_are = all.steps_are;
     }
 
 -- a plan of the steps that stand for a tree at a place
@@ -162,34 +177,20 @@ pub record IsFinished (steps : List Step) (first : ℕ) (plan : List Step) : Typ
   pub few : length plan ≤ length steps
   pub on : all_lead_on 1 plan ≡ true
   pub tree : first_tree plan ≡ unwrap_or (slice_get (trees_after [] steps) (first - 0)) (Ends Done)
+  pub numbering : IsNumbering steps first plan
 
-pub finished : (steps draft : List Step) (first : ℕ) (depths met order order_lent order_again numbers numbers_lent : List ℕ) (plan : List Step) → draft ≡ steps → AreOrdered draft first depths met order → order_lent ≡ order → order_again ≡ order → numbers_lent ≡ numbers → AreNumbers order_lent (length draft) numbers → AllNumbered numbers_lent draft order_again plan
-    → IsFinished steps first plan
-finished steps draft first depths met order order_lent order_again numbers numbers_lent plan same o lent again read ns all =
-    let own_numbers = subst (λ (ks : List ℕ). AreNumbers ks (length draft) numbers) lent ns in
-    let own_steps = subst (λ (ms : List ℕ). AllNumbered ms draft order plan) read (subst (λ (ks : List ℕ). AllNumbered numbers_lent draft ks plan) again all) in
+-- in an order that was lent
+pub finished : (steps lent : List Step) (first : ℕ) (order order_lent : List ℕ) (plan : List Step) → lent ≡ steps → all_lead_back 0 steps ≡ true → first < length steps → IsOrder lent first order
+    → order_lent ≡ order → IsInOrder steps order_lent plan → IsFinished steps first plan
+finished steps lent first order order_lent plan same back low found again lent_all =
+    let o = ordered steps lent first order same back low found in
+    let all = subst (λ (ks : List ℕ). IsInOrder steps ks plan) again lent_all in
+    let depths = found.depths in
+    let met = found.met in
     record {
-      begins = plan_begins draft first depths met order numbers plan o own_steps;
-      few = omega (arith, length-numbered numbers draft order plan own_steps, order_few draft first depths met order o, ap length same);
-      on = plan_on draft first depths met order numbers plan o own_numbers own_steps;
-      tree =
-          plan_tree draft first depths met order numbers plan o own_numbers own_steps
-          ∙ (ap (λ xs. at_place xs first) same ∙ ap (λ k. unwrap_or (slice_get (trees_after [] steps) k) (Ends Done)) (let e : first ≡ first - 0 = omega arith in e));
+      begins = plan_begins steps first depths met order all.numbers plan o all.steps_are;
+      few = omega (arith, length-numbered all.numbers steps order plan all.steps_are, order_few steps first depths met order o);
+      on = plan_on steps first depths met order all.numbers plan o all.numbered all.steps_are;
+      tree = plan_tree steps first depths met order all.numbers plan o all.numbered all.steps_are ∙ ap (λ k. unwrap_or (slice_get (trees_after [] steps) k) (Ends Done)) (let e : first ≡ first - 0 = omega arith in e);
+      numbering = numbering_of steps first depths met order plan o all;
     }
-
--- how the plan numbers the places
-pub numbering_of : (steps draft : List Step) (first : ℕ) (depths met order order_lent order_again numbers numbers_lent : List ℕ) (plan : List Step) → draft ≡ steps → AreOrdered draft first depths met order → order_lent ≡ order → order_again ≡ order → numbers_lent ≡ numbers → AreNumbers order_lent (length draft) numbers → AllNumbered numbers_lent draft order_again plan
-    → IsNumbering steps first plan
-numbering_of steps draft first depths met order order_lent order_again numbers numbers_lent plan same o lent again read ns all =
-    subst (λ (xs : List Step). IsNumbering xs first plan) same
-    (record {
-      met = met;
-      walk = o.walk.in_turn;
-      depths = depths;
-      laid = λ k here. is_depth draft first depths k o.laid (let has = ltb-true 0 (get_or depths k 0) (all_in (λ j. nat_lt 0 (get_or depths j 0)) met k (met_laid draft first depths met o.laid o.walk) here) in omega (arith, has));
-      order = order;
-      by_depth = o.sorted;
-      numbers = numbers;
-      numbered = subst (λ (ks : List ℕ). AreNumbers ks (length draft) numbers) lent ns;
-      steps_are = subst (λ (ms : List ℕ). AllNumbered ms draft order plan) read (subst (λ (ks : List ℕ). AllNumbered numbers_lent draft ks plan) again all);
-    })

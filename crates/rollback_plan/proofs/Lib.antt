@@ -1,5 +1,6 @@
 pub mod StepTrees
 pub mod DraftTrees
+pub mod Lists
 pub mod BackTrees
 pub mod Heights
 pub mod Depths

@@ -1,12 +1,22 @@
 -- The ways back to a settle.
-use Rattle.std.specs.Prelude.{◌≡◌, ℕ, ◌+◌, List, Some, length, slice_get, reverse, take}
+use Rattle.std.specs.Prelude.{◌≡◌, ℕ, ◌+◌, List, [], ◌∷◌, Some, length, slice_get, reverse, take}
 use Rattle.listener_set.specs.declared.generation.Generation.{Generation}
 use Rattle.definitions.specs.Table.{Address}
+use Rattle.definitions.specs.Calls.{Call}
 use Rattle.definitions.specs.Tree.{Tree}
-use Rattle.definitions.specs.Plans.{quits, closes}
+use Rattle.definitions.specs.Plans.{does, then_edge, quits, closes}
 use Rattle.rollback_plan.specs.declared.step.Place.{Place}
 use Rattle.rollback_plan.specs.declared.draft.Draft.{Draft}
 use Rattle.rollback_plan.specs.Drafts.{IsMade}
+
+-- Make these calls in their order, each of which is only answered fine.
+abbrev pub tells : ℕ → List Call → Tree → Tree
+tells by [] rest = rest
+tells by (call ∷ calls) rest = does by call (then_edge (tells by calls rest))
+
+-- Make the first i of these calls, the last of them first.
+abbrev pub told_back : ℕ → List Call → Tree → ℕ → Tree
+told_back by calls rest i = tells by (reverse (take i calls)) rest
 
 -- Quit the first i of these numbers, the last of them first.
 abbrev pub quits_back : ℕ → Generation → List ℕ → Tree → ℕ → Tree

@@ -1,5 +1,5 @@
 -- What a contract sees of a draft.
-use Rattle.std.specs.Prelude.{◌≡◌, ◌<◌, Bool, List, [], ◌++◌, length, nat_lt}
+use Rattle.std.specs.Prelude.{◌≡◌, ℕ, ◌+◌, ◌<◌, Bool, List, [], ◌++◌, length, nat_lt, Result, OnOk, IsErrOf}
 use Rattle.std.specs.List.{list_all}
 use Rattle.definitions.specs.Tree.{Tree, Branches}
 use Rattle.rollback_plan.specs.declared.step.Edge.{Edge}
@@ -7,6 +7,9 @@ use Rattle.rollback_plan.specs.declared.step.Step.{Step}
 use Rattle.rollback_plan.specs.declared.step.Place.{Place}
 use Rattle.rollback_plan.specs.declared.step.Next.TheVariants.{To}
 use Rattle.rollback_plan.specs.declared.draft.Draft.{Draft}
+use Rattle.rollback_plan.specs.declared.draft.DraftRefusal.{DraftRefusal}
+use Rattle.rollback_plan.specs.declared.draft.DraftRefusal.TheVariants.{TooLarge}
+use Rattle.rollback_plan.specs.declared.draft.TheConstants.{MOST_STEPS}
 use Rattle.rollback_plan.specs.Steps.{trees_after, branches_among, tree_among}
 
 -- its steps in order
@@ -30,6 +33,12 @@ pub record IsMade (d : Draft) (place : Place) (tree : Tree) : Type 0 where
 pub record Keeps (old new : Draft) : Type 0 where
   pub more : List Tree
   pub is : trees_of new ≡ trees_of old ++ more
+
+-- What is added is so many steps, beside those that stand there; it is too large only where they would be too many.
+pub record Grows {T : Type 0} (old new : Draft) (result : Result T DraftRefusal) (n : ℕ) : Type 0 where
+  pub count : OnOk result (length (trees_of new) ≡ length (trees_of old) + n)
+  pub keeps : Keeps old new
+  pub too_large : IsErrOf result TooLarge → MOST_STEPS < length (trees_of old) + n
 
 -- the branches of edges in a draft
 abbrev pub branches_in : Draft → List Edge → Branches

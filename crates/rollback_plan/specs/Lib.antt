@@ -1,3 +1,4 @@
+pub mod Batches
 pub mod Compact
 pub mod Steps
 pub mod Drafts

@@ -3,21 +3,11 @@
 ghost use Rattle.std.specs.Prelude.{◌≡◌, IfOk, IfSome};
 ghost use Rattle.rollback_plan.specs.Compact.{order_of_worker};
 
+use crate::Asked;
 use listener_set::{Generation, Numbers};
 use std::alloc::{AllocError, Global};
 use std::marker::Model;
 use vocabulary::{Call, Order};
-
-/// What is asked of a worker.
-#[derive(Clone, Copy, Debug)]
-enum Asked {
-    Fork,
-    AwaitReady,
-    Quit,
-    Kill,
-    AwaitGone,
-    Usr1,
-}
 
 /// A call that names one worker.
 #[derive(Clone, Copy, Debug)]
@@ -75,15 +65,7 @@ impl WorkerOrder {
     fn call(&self) -> Call
         ensures { Order.Make result ≡ order_of_worker self.now }
     {
-        let (generation, number) = (self.generation, self.number);
-        match self.asked {
-            Asked::Fork => Call::Fork(generation, number),
-            Asked::AwaitReady => Call::AwaitReady(generation, number),
-            Asked::Quit => Call::Quit(generation, number),
-            Asked::Kill => Call::Kill(generation, number),
-            Asked::AwaitGone => Call::AwaitGone(generation, number),
-            Asked::Usr1 => Call::Usr1(generation, number),
-        }
+        self.asked.call(self.generation, self.number)
     }
 }
 

@@ -5,7 +5,8 @@ ghost use Rattle.definitions.specs.Tree.{is_fit, height};
 ghost use Rattle.definitions.specs.Path.{follow};
 ghost use Rattle.rollback_plan.specs.Steps.{is_within};
 
-use crate::{Bound, Edge, Next, Place, Plan, Step, reply_to};
+use crate::{Bound, Edge, Next, Place, Plan, Step};
+use call_replies::reply_to;
 use vocabulary::{Answer, End};
 
 /// A place in a plan, or one of its ends. Contracts see the rest of the plan's tree.

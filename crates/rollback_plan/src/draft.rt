@@ -113,7 +113,11 @@ impl Draft {
         ensures keeps { Keeps self.old self.new }
         ensures err { OnErr result (trees_of self.new ≡ trees_of self.old) }
         ensures too_large { IsErrOf result DraftRefusal.TooLarge → MOST_STEPS < length (trees_of self.old) + 1 }
+        ensures full { length (trees_of self.old) ≡ MOST_STEPS → IsErrOf result DraftRefusal.TooLarge }
     {
+        if self.len() >= MOST_STEPS {
+            return Err(DraftRefusal::TooLarge);
+        }
         let alloc = *self.steps.allocator();
         let edges = Vec::from_slice(alloc, edges)?;
         self.step(Step {

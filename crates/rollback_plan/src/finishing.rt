@@ -1,10 +1,10 @@
 //! A plan out of a draft.
-ghost use Rattle.std.specs.Prelude.{◌≡◌, ◌+◌, ◌≤◌, ◌<◌, ◌^◌, IfOk, IsTrue, false, length, map};
-ghost use Rattle.std.specs.List.{list_all};
+ghost use Rattle.std.specs.Prelude.{◌≡◌, ◌+◌, ◌≤◌, ◌<◌, ◌^◌, IfOk, IsTrue, false, length, map, nat_eq};
+ghost use Rattle.std.specs.List.{list_all, IsDistinct};
 ghost use Rattle.definitions.specs.Tree.{is_fit};
-ghost use Rattle.rollback_plan.specs.Steps.{all_below};
+ghost use Rattle.rollback_plan.specs.Steps.{all_below, all_lead_back};
 ghost use Rattle.rollback_plan.specs.Numbering.{edge_numbered, all_within};
-ghost use Rattle.rollback_plan.specs.Numbering.{AreNumbers, AreDistinct, IsNumbered, AllNumbered, IsNumbering};
+ghost use Rattle.rollback_plan.specs.Numbering.{IsOrder, CanBeOrder, IsInOrder, AreNumbers, IsNumbered, AllNumbered, IsNumbering};
 
 use crate::layers::by_depth;
 use crate::numbering::{depths_from, heights_of};
@@ -32,13 +32,9 @@ impl Draft {
     {
         let Draft { steps } = self;
         let alloc = *steps.allocator();
-        let draft: &[Step] = &steps;
-        let heights = heights_of(alloc, draft)?;
-        let depths = depths_from(alloc, draft, first)?;
-        let met = walk(alloc, draft, first)?;
-        let order = by_depth(alloc, &met, &depths)?;
-        let numbers = numbers_of(alloc, &order, draft.len())?;
-        let plan = numbered(alloc, steps, &order, &numbers)?;
+        let heights = heights_of(alloc, &steps)?;
+        let order = order_from(alloc, &steps, first)?;
+        let plan = in_order(alloc, steps, &order)?;
         Ok(Plan {
             steps: plan,
             longest: heights[first.0 as usize],
@@ -46,6 +42,28 @@ impl Draft {
             text,
         })
     }
+}
+
+/// The places that a walk from the first one meets, by their depth.
+fn order_from(alloc: Global, steps: &[Step], first: Place) -> Result<Vec<u32>, AllocError>
+    requires few { length steps.now ≤ 65536 }
+    requires back { IsTrue (all_lead_back 0 steps.now) }
+    requires first { first.0 < length steps.now }
+    ensures { IfOk result (λ order. IsOrder steps.now first.0 order.items) }
+{
+    let depths = depths_from(alloc, steps, first)?;
+    let met = walk(alloc, steps, first)?;
+    by_depth(alloc, &met, &depths)
+}
+
+/// The steps of a draft in this order, with their places numbered.
+fn in_order(alloc: Global, steps: Vec<Step>, order: &[u32]) -> Result<Vec<Step>, AllocError>
+    requires order { CanBeOrder (length steps.items) order.now }
+    requires back { IsTrue (list_all (λ s. all_below (length steps.items) s.edges.items) steps.items) }
+    ensures { IfOk result (λ plan. IsInOrder steps.items order.now plan.items) }
+{
+    let numbers = numbers_of(alloc, order, steps.len())?;
+    numbered(alloc, steps, order, &numbers)
 }
 
 /// The number, from 1, that each place in the order gets.
@@ -69,7 +87,7 @@ fn numbered(
     numbers: &[u32],
 ) -> Result<Vec<Step>, AllocError>
     requires within { IsTrue (all_within (length steps.items) order.now) }
-    requires distinct { AreDistinct order.now }
+    requires distinct { IsDistinct nat_eq order.now }
     requires numbers { length numbers.now ≡ length steps.items }
     requires back { IsTrue (list_all (λ s. all_below (length steps.items) s.edges.items) steps.items) }
     ensures { IfOk result (λ plan. AllNumbered numbers.now steps.items order.now plan.items) }

@@ -5,6 +5,7 @@
 //! only the last census can name.
 #![tactic(auto)]
 
+mod batch;
 mod bound;
 mod compact;
 mod cursor;
@@ -13,15 +14,14 @@ mod finishing;
 mod layers;
 mod numbering;
 mod plan;
-mod replies;
 mod settling;
 mod step;
 mod walking;
 
+pub use batch::{Asked, Batch};
 pub use bound::Bound;
 pub use cursor::Cursor;
 pub use draft::{Draft, DraftRefusal, MOST_STEPS};
 pub use plan::Plan;
-pub use replies::{plain_reply, reply_to};
 pub use settling::{Undone, WaysBack};
 pub use step::{Edge, Next, Place, Step};

@@ -5,9 +5,10 @@ ghost use Rattle.definitions.specs.Tree.{Ends};
 ghost use Rattle.definitions.specs.Plans as plans;
 ghost use Rattle.rollback_plan.specs.declared.draft.TheConstants.{MOST_STEPS};
 ghost use Rattle.rollback_plan.specs.Steps.{is_below, tree_among};
-ghost use Rattle.rollback_plan.specs.Back.{quits_back, closes_back, AreMade};
+ghost use Rattle.rollback_plan.specs.Batches.{calls_of, size_of};
+ghost use Rattle.rollback_plan.specs.Back.{told_back, quits_back, closes_back, AreMade};
 
-use crate::{Draft, DraftRefusal, Edge, Next, Place};
+use crate::{Asked, Batch, Draft, DraftRefusal, Edge, Next, Place};
 use listener_set::{Address, Generation, Numbers};
 use vocabulary::{Actor, Call, End, Order, Reply, Side};
 
@@ -53,8 +54,8 @@ pub struct WaysBack {
 }
 
 impl Draft {
-    ghost use Rattle.rollback_plan.specs.Drafts.{trees_of, tree_at, IsMade, Keeps};
-    ghost use Rattle.rollback_plan.specs.Ways.{steps_back};
+    ghost use Rattle.rollback_plan.specs.Drafts.{trees_of, tree_at, IsMade, Keeps, Grows};
+    ghost use Rattle.rollback_plan.specs.Ways.{steps_back, AreWaysBack};
 
     /// Adds a settle: a census of the set and, where it lacks a number, a start of the lowest one
     /// that it lacks and the census again, at most so many rounds of starts. A refused call leaves
@@ -91,9 +92,7 @@ impl Draft {
         rounds: u32,
     ) -> Result<Place, DraftRefusal>
         ensures made { IfOk result (λ place. IsMade self.new place (plans.settle by generation set.now side rounds)) }
-        ensures count { OnOk result (length (trees_of self.new) ≡ length (trees_of self.old) + (1 + 4 * rounds)) }
-        ensures keeps { Keeps self.old self.new }
-        ensures too_large { IsErrOf result DraftRefusal.TooLarge → MOST_STEPS < length (trees_of self.old) + (1 + 4 * rounds) }
+        ensures grows { Grows self.old self.new result (1 + 4 * rounds) }
     {
         let short = Next::Over(short_end(side));
         let mut place = self.census(by, generation, set, side, short)?;
@@ -115,9 +114,7 @@ impl Draft {
     ) -> Result<Place, DraftRefusal>
         requires { IsTrue (is_below (length (trees_of self.old)) short) }
         ensures made { IfOk result (λ place. IsMade self.new place (plans.census by generation set.now (plans.census_edges (Ends (plans.full_end side)) (tree_among 0 (trees_of self.old) short)))) }
-        ensures count { OnOk result (length (trees_of self.new) ≡ length (trees_of self.old) + 1) }
-        ensures keeps { Keeps self.old self.new }
-        ensures too_large { IsErrOf result DraftRefusal.TooLarge → MOST_STEPS < length (trees_of self.old) + 1 }
+        ensures grows { Grows self.old self.new result 1 }
     {
         self.add(
             by,
@@ -140,9 +137,7 @@ impl Draft {
     ) -> Result<Place, DraftRefusal>
         requires { rest.0 < length (trees_of self.old) }
         ensures made { IfOk result (λ place. IsMade self.new place (plans.round by generation (tree_at self.old rest))) }
-        ensures count { OnOk result (length (trees_of self.new) ≡ length (trees_of self.old) + 3) }
-        ensures keeps { Keeps self.old self.new }
-        ensures too_large { IsErrOf result DraftRefusal.TooLarge → MOST_STEPS < length (trees_of self.old) + 3 }
+        ensures grows { Grows self.old self.new result 3 }
     {
         let none = Numbers::none();
         let kill = self.add(
@@ -206,17 +201,37 @@ impl Draft {
         ready: &Numbers,
         rounds: u32,
     ) -> Result<WaysBack, DraftRefusal>
-        ensures opened { IfOk result (λ ways. AreMade self.new ways.opened.items (length undone.now.opened.now) (closes_back by undone.now.opened.now (plans.settle by generation ready.now Old rounds))) }
-        ensures forked { IfOk result (λ ways. AreMade self.new ways.forked.items (length undone.now.forked.now) (quits_back by undone.now.generation undone.now.forked.now (closes_back by undone.now.opened.now (plans.settle by generation ready.now Old rounds) (length undone.now.opened.now)))) }
-        ensures count { OnOk result (length (trees_of self.new) ≡ length (trees_of self.old) + steps_back undone.now rounds) }
-        ensures keeps { Keeps self.old self.new }
-        ensures too_large { IsErrOf result DraftRefusal.TooLarge → MOST_STEPS < length (trees_of self.old) + steps_back undone.now rounds }
+        ensures made { IfOk result (λ ways. AreWaysBack self.new ways by undone.now (plans.settle by generation ready.now Old rounds)) }
+        ensures grows { Grows self.old self.new result (steps_back undone.now rounds) }
     {
         let settled = self.add_settle(by, generation, ready, Side::Old, rounds)?;
-        let opened = self.add_closes(by, undone.opened, settled)?;
+        let opened = self.add_ways(by, &Batch::Closes(undone.opened), settled)?;
         let closed = opened[undone.opened.len()];
-        let forked = self.add_quits(by, undone.generation, undone.forked, closed)?;
+        let quits = Batch::Workers(Asked::Quit, undone.generation, undone.forked);
+        let forked = self.add_ways(by, &quits, closed)?;
         Ok(WaysBack { opened, forked })
+    }
+
+    /// Adds these calls, each of which is only answered fine, before the rest. The i-th place that it gives is where the
+    /// first i of them are made, the last of these first. A refused call may leave some of them.
+    fn add_ways(
+        &mut self,
+        by: Actor,
+        calls: &Batch<'_>,
+        rest: Place,
+    ) -> Result<Vec<Place>, DraftRefusal>
+        requires { rest.0 < length (trees_of self.old) }
+        ensures made { IfOk result (λ places. AreMade self.new places.items (size_of calls.now) (told_back by (calls_of calls.now) (tree_at self.old rest))) }
+        ensures grows { Grows self.old self.new result (size_of calls.now) }
+    {
+        let mut places = Vec::new(*self.steps.allocator());
+        let mut next = rest;
+        places.push(next)?;
+        for i in 0..calls.len() {
+            next = self.call(by, calls.get(i), next)?;
+            places.push(next)?;
+        }
+        Ok(places)
     }
 
     /// Adds a call that is only answered fine, before the rest.
@@ -227,6 +242,7 @@ impl Draft {
         ensures keeps { Keeps self.old self.new }
         ensures err { OnErr result (trees_of self.new ≡ trees_of self.old) }
         ensures too_large { IsErrOf result DraftRefusal.TooLarge → MOST_STEPS < length (trees_of self.old) + 1 }
+        ensures full { length (trees_of self.old) ≡ MOST_STEPS → IsErrOf result DraftRefusal.TooLarge }
     {
         self.add(
             by,
@@ -234,100 +250,5 @@ impl Draft {
             &Numbers::none(),
             &[Edge::to(&[Reply::Fine], rest)],
         )
-    }
-
-    /// Adds quits of these numbers before the rest. The i-th place that it gives is where the first
-    /// i of them are quit, the last of these first. A refused call leaves the draft as it was.
-    pub fn quits(
-        &mut self,
-        by: Actor,
-        generation: Generation,
-        numbers: &[u32],
-        rest: Place,
-    ) -> Result<Vec<Place>, DraftRefusal>
-        requires { rest.0 < length (trees_of self.old) }
-        ensures made { IfOk result (λ places. AreMade self.new places.items (length numbers.now) (quits_back by generation numbers.now (tree_at self.old rest))) }
-        ensures count { OnOk result (length (trees_of self.new) ≡ length (trees_of self.old) + length numbers.now) }
-        ensures keeps { Keeps self.old self.new }
-        ensures err { OnErr result (trees_of self.new ≡ trees_of self.old) }
-        ensures too_large { IsErrOf result DraftRefusal.TooLarge → MOST_STEPS < length (trees_of self.old) + length numbers.now }
-    {
-        let before = self.len();
-        let places = self.add_quits(by, generation, numbers, rest);
-        if places.is_err() {
-            self.shorten(before);
-        }
-        places
-    }
-
-    /// Adds quits of these numbers. A refused call may leave some of them.
-    fn add_quits(
-        &mut self,
-        by: Actor,
-        generation: Generation,
-        numbers: &[u32],
-        rest: Place,
-    ) -> Result<Vec<Place>, DraftRefusal>
-        requires { rest.0 < length (trees_of self.old) }
-        ensures made { IfOk result (λ places. AreMade self.new places.items (length numbers.now) (quits_back by generation numbers.now (tree_at self.old rest))) }
-        ensures count { OnOk result (length (trees_of self.new) ≡ length (trees_of self.old) + length numbers.now) }
-        ensures keeps { Keeps self.old self.new }
-        ensures too_large { IsErrOf result DraftRefusal.TooLarge → MOST_STEPS < length (trees_of self.old) + length numbers.now }
-    {
-        let mut places = Vec::new(*self.steps.allocator());
-        let mut next = rest;
-        places.push(next)?;
-        for number in numbers {
-            next = self.call(by, Call::Quit(generation, *number), next)?;
-            places.push(next)?;
-        }
-        Ok(places)
-    }
-
-    /// Adds closes of these addresses before the rest. The i-th place that it gives is where the
-    /// first i of them are closed, the last of these first. A refused call leaves the draft as it
-    /// was.
-    pub fn closes(
-        &mut self,
-        by: Actor,
-        addresses: &[Address],
-        rest: Place,
-    ) -> Result<Vec<Place>, DraftRefusal>
-        requires { rest.0 < length (trees_of self.old) }
-        ensures made { IfOk result (λ places. AreMade self.new places.items (length addresses.now) (closes_back by addresses.now (tree_at self.old rest))) }
-        ensures count { OnOk result (length (trees_of self.new) ≡ length (trees_of self.old) + length addresses.now) }
-        ensures keeps { Keeps self.old self.new }
-        ensures err { OnErr result (trees_of self.new ≡ trees_of self.old) }
-        ensures too_large { IsErrOf result DraftRefusal.TooLarge → MOST_STEPS < length (trees_of self.old) + length addresses.now }
-    {
-        let before = self.len();
-        let places = self.add_closes(by, addresses, rest);
-        if places.is_err() {
-            self.shorten(before);
-        }
-        places
-    }
-
-    /// Adds closes of these addresses. A refused call may leave some of them.
-    fn add_closes(
-        &mut self,
-        by: Actor,
-        addresses: &[Address],
-        rest: Place,
-    ) -> Result<Vec<Place>, DraftRefusal>
-        requires { rest.0 < length (trees_of self.old) }
-        ensures made { IfOk result (λ places. AreMade self.new places.items (length addresses.now) (closes_back by addresses.now (tree_at self.old rest))) }
-        ensures count { OnOk result (length (trees_of self.new) ≡ length (trees_of self.old) + length addresses.now) }
-        ensures keeps { Keeps self.old self.new }
-        ensures too_large { IsErrOf result DraftRefusal.TooLarge → MOST_STEPS < length (trees_of self.old) + length addresses.now }
-    {
-        let mut places = Vec::new(*self.steps.allocator());
-        let mut next = rest;
-        places.push(next)?;
-        for address in addresses {
-            next = self.call(by, Call::CloseAt(*address), next)?;
-            places.push(next)?;
-        }
-        Ok(places)
     }
 }

@@ -1,0 +1,68 @@
+-- What plans do for each of a list of calls.
+use Rattle.std.specs.Prelude.{◌≡◌, ℕ, ◌+◌, ◌*◌, List, [], ◌∷◌, Some, length, map, reverse, slice_get}
+use Rattle.listener_set.specs.declared.generation.Generation.{Generation}
+use Rattle.definitions.specs.Calls.{Call, OpenAt, AwaitReady, Kill, AwaitGone}
+use Rattle.definitions.specs.Tree.{Tree, Nothing, plain_reply, replies_to}
+use Rattle.definitions.specs.Plans.{on, does, then_edge, await_any_edges, gone_edges, others, quits, forks_any, awaits_any, kills, usr1s, awaits_gone, closes}
+use Rattle.rollback_plan.specs.declared.batch.Asked.{Asked}
+use Rattle.rollback_plan.specs.declared.batch.Asked.TheVariants as asked
+use Rattle.rollback_plan.specs.declared.batch.Batch.{Batch}
+use Rattle.rollback_plan.specs.declared.batch.Batch.TheVariants.{Workers, Opens, Closes}
+
+---- Whatever is answered
+
+-- a call, whatever is answered; a worker that is late is killed
+abbrev pub anyway : ℕ → Call → Tree → Tree
+anyway by (AwaitReady g k) rest = does by (AwaitReady g k) (await_any_edges rest (does by (Kill g k) (then_edge rest)))
+anyway by (AwaitGone g k) rest = does by (AwaitGone g k) (gone_edges rest (does by (Kill g k) (then_edge rest)))
+anyway by call rest = does by call (on (replies_to call) rest Nothing)
+
+abbrev pub anyway_steps : Call → ℕ
+anyway_steps (AwaitReady g k) = 2
+anyway_steps (AwaitGone g k) = 2
+anyway_steps call = 1
+
+-- the same call for each of some workers, in their order
+abbrev pub asked_tree : ℕ → Asked → Generation → List ℕ → Tree → Tree
+asked_tree by asked.Fork = forks_any by
+asked_tree by asked.AwaitReady = awaits_any by
+asked_tree by asked.Quit = quits by
+asked_tree by asked.Kill = kills by
+asked_tree by asked.AwaitGone = awaits_gone by
+asked_tree by asked.Usr1 = usr1s by
+
+-- any calls in their order
+abbrev pub all_anyway : ℕ → List Call → Tree → Tree
+all_anyway by [] rest = rest
+all_anyway by (call ∷ calls) rest = anyway by call (all_anyway by calls rest)
+
+-- calls of one kind in their order
+abbrev pub in_turn : ℕ → Batch → Tree → Tree
+in_turn by (Workers what g numbers) rest = asked_tree by what g numbers.now rest
+in_turn by (Opens addresses) rest = all_anyway by (map OpenAt addresses.now) rest
+in_turn by (Closes addresses) rest = closes by addresses.now rest
+
+-- the last of them first
+abbrev pub in_turn_back : ℕ → Batch → Tree → Tree
+in_turn_back by (Workers what g numbers) rest = asked_tree by what g (reverse numbers.now) rest
+in_turn_back by (Opens addresses) rest = all_anyway by (map OpenAt (reverse addresses.now)) rest
+in_turn_back by (Closes addresses) rest = closes by (reverse addresses.now) rest
+
+-- how many steps that takes
+abbrev pub steps_in : Batch → ℕ
+steps_in (Workers asked.AwaitReady g numbers) = 2 * length numbers.now
+steps_in (Workers asked.AwaitGone g numbers) = 2 * length numbers.now
+steps_in (Workers what g numbers) = length numbers.now
+steps_in (Opens addresses) = length addresses.now
+steps_in (Closes addresses) = length addresses.now
+
+---- Until one fails
+
+-- the plain reply to a call goes on; any other goes back
+abbrev pub attempt : ℕ → Call → Tree → Tree → Tree
+attempt by call rest back = does by call (on (plain_reply call ∷ []) rest (on (others (replies_to call)) back Nothing))
+
+-- the i-th of these trees tries the calls from the i-th on; where one fails it takes the way back of those before it
+pub record IsAttempted (by : ℕ) (calls : List Call) (rest : Tree) (back tree : ℕ → Tree) : Type 0 where
+  pub last : tree (length calls) ≡ rest
+  pub each : (i : ℕ) (call : Call) → slice_get calls i ≡ Some call → attempt by call (tree (i + 1)) (back i) ≡ tree i

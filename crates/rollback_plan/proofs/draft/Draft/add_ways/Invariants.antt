@@ -1,0 +1,14 @@
+use Rattle.std.proofs.Common.{◌≡◌, ◌+◌, length}
+use Rattle.rollback_plan.specs.Batches.{calls_of}
+use Rattle.rollback_plan.specs.Drafts.{trees_of, tree_at, IsMade, Keeps}
+use Rattle.rollback_plan.specs.Back.{told_back, AreMade}
+use Rattle.rollback_plan.proofs.draft.Draft.add_ways.Given as goal
+
+abbrev pub invariant-loop-i : goal.invariant-loop-i
+invariant-loop-i l =
+    record {
+      all : AreMade l.self l.places.items l.i (told_back l.by (calls_of l.calls) (tree_at l.fn.self l.fn.rest));
+      last : IsMade l.self l.next (told_back l.by (calls_of l.calls) (tree_at l.fn.self l.fn.rest) l.i);
+      count : length (trees_of l.self) ≡ length (trees_of l.fn.self) + l.i;
+      keeps : Keeps l.fn.self l.self;
+    }

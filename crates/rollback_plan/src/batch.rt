@@ -1,0 +1,73 @@
+//! Calls of one kind.
+ghost use Rattle.std.specs.Prelude.{◌≡◌, ◌<◌, Some, length, slice_get};
+ghost use Rattle.rollback_plan.specs.Batches.{asked_call, calls_of, size_of};
+
+use listener_set::{Address, Generation};
+use vocabulary::Call;
+
+/// What is asked of a worker.
+#[derive(Clone, Copy, Debug)]
+pub enum Asked {
+    Fork,
+    AwaitReady,
+    Quit,
+    Kill,
+    AwaitGone,
+    Usr1,
+}
+
+impl Asked {
+    /// The call that asks it.
+    pub fn call(self, generation: Generation, number: u32) -> Call
+        ensures { result ≡ asked_call self generation number }
+    {
+        match self {
+            Asked::Fork => Call::Fork(generation, number),
+            Asked::AwaitReady => Call::AwaitReady(generation, number),
+            Asked::Quit => Call::Quit(generation, number),
+            Asked::Kill => Call::Kill(generation, number),
+            Asked::AwaitGone => Call::AwaitGone(generation, number),
+            Asked::Usr1 => Call::Usr1(generation, number),
+        }
+    }
+}
+
+/// Calls of one kind, one for each of a list.
+#[derive(Clone, Copy)]
+pub enum Batch<'a> {
+    Workers(Asked, Generation, &'a [u32]),
+    Opens(&'a [Address]),
+    Closes(&'a [Address]),
+}
+
+impl Batch<'_> {
+    /// How many calls there are.
+    pub fn len(&self) -> usize
+        ensures { result ≡ size_of self.now }
+    {
+        match self {
+            Batch::Workers(_, _, numbers) => numbers.len(),
+            Batch::Opens(addresses) | Batch::Closes(addresses) => addresses.len(),
+        }
+    }
+
+    /// The call at a place, counted from 0.
+    pub fn get(&self, place: usize) -> Call
+        requires { place < size_of self.now }
+        ensures { slice_get (calls_of self.now) place ≡ Some result }
+    {
+        match self {
+            Batch::Workers(asked, generation, numbers) => asked.call(*generation, at(numbers, place)),
+            Batch::Opens(addresses) => Call::OpenAt(at(addresses, place)),
+            Batch::Closes(addresses) => Call::CloseAt(at(addresses, place)),
+        }
+    }
+}
+
+/// The item at a place, counted from 0.
+fn at<X: Copy>(items: &[X], place: usize) -> X
+    requires { place < length items.now }
+    ensures { slice_get items.now place ≡ Some result }
+{
+    items[place]
+}
