@@ -1,0 +1,207 @@
+-- What the replay of a target's entries says of the target.
+use Rattle.std.proofs.Common.{◌≡◌, ◌⊎◌, inl, inr, ℕ, ◌+◌, ◌-◌, ◌<◌, ◌≤◌, List, [], ◌∷◌, ◌++◌, take, drop, Result, Ok, Err, true, refl, sym, ◌∙◌, ap, subst, arith}
+use Rattle.std.specs.Prelude.{◌↔◌, IfOk, IfErr}
+use Rattle.std.specs.Result.{IsErrOf}
+use Rattle.std.proofs.lemmas.Bool.{false≢true, cases_order}
+use Rattle.std.proofs.lemmas.List.{take-append-drop}
+use Rattle.std.proofs.Math.Seq.{take-add}
+use Rattle.definitions.specs.Table.{Table}
+use Rattle.definitions.specs.Record.{Record}
+use Rattle.vocabulary.specs.declared.targets.Target.{Target}
+use Rattle.definitions.specs.Target.{text_handed}
+use Rattle.definitions.specs.Plans.{plan_tree}
+use Rattle.definitions.specs.Path.{Entry, Report, Trail, IsOver, Reports, KeepsPathLaw}
+use Rattle.definitions.specs.Run.{Moment}
+use Rattle.definitions.specs.Claims.{refused_among, heirs_of}
+use Rattle.kernel_model.specs.Pattern.{moment_at}
+use Rattle.kernel_model.specs.Room.{LacksNumbers}
+use Rattle.definitions.specs.After.{lacks_generation}
+use Rattle.definitions.specs.Tree.{height}
+use Rattle.reload_planner.specs.declared.refusal.PlanRefusal.{PlanRefusal}
+use Rattle.reload_planner.specs.declared.refusal.PlanRefusal.TheVariants as planner
+use Rattle.plan_executor.specs.declared.enactment.EnactRefusal.{EnactRefusal}
+use Rattle.plan_executor.specs.declared.enactment.EnactRefusal.TheVariants as refusal
+use Rattle.plan_executor.specs.Refusals.{HasNoPlan}
+use Rattle.plan_executor.proofs.Reporting.{whole-run}
+use Rattle.certifier.specs.declared.mismatch.Mismatch.{Mismatch}
+use Rattle.certifier.specs.declared.mismatch.Mismatch.TheVariants as mismatch
+use Rattle.certifier.specs.Shown.{moments_shown}
+use Rattle.certifier.specs.Places.{AreNext, place_after_all, Holds, FailsBy}
+use Rattle.certifier.specs.Explained.{trail_by, IsExplained, IsReady, IsUnready, IsStrange, IsMismatch, mismatch_of}
+use Rattle.certifier.specs.Certified.{IsCertified}
+use Rattle.certifier.proofs.Asking.{not-lost}
+use Rattle.certifier.proofs.Steps.{next-front}
+use Rattle.certifier.proofs.Explaining.{begins, goes-through, next-follows, next-edges, next-trail, next-replays, next-spares, is-explained, is-next}
+
+module _ (t : Table) (r : Record) (target : Target) (entries : List Entry) (report : Report) (ready : IsReady t r target) where
+  -- the trail at the end
+  ended : (place_after_all (text_handed r target) (heirs_of r target) (begins t r target) entries).trail ≡ trail_by r target entries
+  ended = next-trail (text_handed r target) (heirs_of r target) (begins t r target) entries
+
+  ---- A transcript that holds
+
+  pub certified : (pattern : List (ℕ × Moment)) → Holds (text_handed r target) (heirs_of r target) (begins t r target) entries report pattern → IsCertified t r target entries report pattern
+  certified pattern h =
+      let text = text_handed r target in
+      let heirs = heirs_of r target in
+      let p = begins t r target in
+      let goes = goes-through (moment_at pattern) (moments_shown text t entries) h.shown in
+      let last = (place_after_all text heirs p entries).table in
+      let reports : Reports (trail_by r target entries) report = subst (λ (x : Trail). Reports x report) ended h.reports in
+      let edges = next-edges text heirs p entries refl h.next in
+      let law : KeepsPathLaw (plan_tree r target) r.note entries report = record {
+        path = next-follows text heirs p entries h.next;
+        report_is = reports;
+        lost = λ lost. absurd (not-lost (trail_by r target entries).rest (trail_by r target entries).lacking report.outcome edges reports.outcome lost);
+      } in
+      let whole = whole-run r target (moment_at pattern) t last entries report law (next-replays text heirs (moment_at pattern) 0 p entries goes h.next) in
+      record {
+        ready = ready;
+        shown = h.shown;
+        last = last;
+        is_run = whole;
+        spared = ap (refused_among (r.generation.image ∷ []) heirs (moment_at pattern) 0) whole.entries_are ∙ next-spares text heirs (moment_at pattern) 0 p entries goes h.next;
+      }
+
+  ---- One that does not
+
+  pub mismatched : (why : Mismatch) → FailsBy (text_handed r target) (heirs_of r target) (begins t r target) entries report why → (why ≡ mismatch.Memory) ⊎ IsMismatch t r target entries report why
+  mismatched mismatch.Refused h = absurd h
+  mismatched (mismatch.Step n) h = inr (record {
+    ready = ready;
+    before = h.before;
+    number = h.number;
+    within = h.within;
+    explained = is-explained t r target (take h.before entries) h.next;
+    strange = λ all. h.stops (is-next t r target (take n entries) all);
+  })
+  mismatched mismatch.Short h = inr (record {
+    ready = ready;
+    explained = is-explained t r target entries h.next;
+    unfinished = λ over. h.left (subst (λ (x : Trail). IsOver x.rest) (sym ended) over);
+  })
+  mismatched mismatch.Report h = inr (record {
+    ready = ready;
+    explained = is-explained t r target entries h.next;
+    over = subst (λ (x : Trail). IsOver x.rest) ended h.over;
+    other = λ reports. h.other (subst (λ (x : Trail). Reports x report) (sym ended) reports);
+  })
+  mismatched mismatch.Memory h = inl refl
+
+---- At most one mismatch fits
+
+not-both : (t : Table) (r : Record) (target : Target) → IsUnready t r target → IsReady t r target → ⊥
+not-both t r target (inl disagrees) ready = disagrees ready.agrees
+not-both t r target (inr (inl planless)) ready = false≢true (sym ready.has_plan ∙ planless)
+not-both t r target (inr (inr lacks)) ready = ready.numbers lacks
+
+-- the first of explained entries are explained
+front-explained : (t : Table) (r : Record) (target : Target) (es more whole : List Entry) → whole ≡ es ++ more → IsExplained t r target whole → IsExplained t r target es
+front-explained t r target es more whole split all =
+    let text = text_handed r target in
+    let heirs = heirs_of r target in
+    is-explained t r target es
+    (next-front text heirs (begins t r target) es more (subst (AreNext text heirs (begins t r target)) split (is-next t r target whole all)))
+
+all-explained : (t : Table) (r : Record) (target : Target) (es : List Entry) (k : ℕ) → IsExplained t r target es → IsExplained t r target (take k es)
+all-explained t r target es k = front-explained t r target (take k es) (drop k es) es (sym (take-append-drop k es))
+
+fewer-explained : (t : Table) (r : Record) (target : Target) (es : List Entry) (j k : ℕ) → j ≤ k → IsExplained t r target (take k es) → IsExplained t r target (take j es)
+fewer-explained t r target es j k le =
+    let more : k ≡ j + (k - j) = omega (arith, le) in
+    front-explained t r target (take j es) (take (k - j) (drop j es)) (take k es) (ap (λ n. take n es) more ∙ take-add j (k - j) es)
+
+-- nothing stops before the first that does
+not-earlier : (t : Table) (r : Record) (target : Target) (es : List Entry) (n m : ℕ) → IsStrange t r target es n → IsStrange t r target es m → n < m → ⊥
+not-earlier t r target es n m h k lt =
+    let number = k.number in
+    h.strange (fewer-explained t r target es n k.before (omega (arith, lt, number)) k.explained)
+
+same-step : (t : Table) (r : Record) (target : Target) (es : List Entry) (n m : ℕ) → IsStrange t r target es n → IsStrange t r target es m → n ≡ m
+same-step t r target es n m h k = elim (cases_order n m) [
+  | inl same ↦ same
+  | inr (inl lt) ↦ absurd (not-earlier t r target es n m h k lt)
+  | inr (inr lt) ↦ absurd (not-earlier t r target es m n k h lt)
+]
+
+one : (t : Table) (r : Record) (target : Target) (es : List Entry) (report : Report) (why other : Mismatch) → IsMismatch t r target es report why → IsMismatch t r target es report other → why ≡ other
+one t r target es report mismatch.Refused mismatch.Refused h k = refl
+one t r target es report mismatch.Refused (mismatch.Step m) h k = absurd (not-both t r target h k.ready)
+one t r target es report mismatch.Refused mismatch.Short h k = absurd (not-both t r target h k.ready)
+one t r target es report mismatch.Refused mismatch.Report h k = absurd (not-both t r target h k.ready)
+one t r target es report mismatch.Refused mismatch.Memory h k = absurd k
+one t r target es report (mismatch.Step n) mismatch.Refused h k = absurd (not-both t r target k h.ready)
+one t r target es report (mismatch.Step n) (mismatch.Step m) h k = ap mismatch.Step (same-step t r target es n m h k)
+one t r target es report (mismatch.Step n) mismatch.Short h k = absurd (h.strange (all-explained t r target es n k.explained))
+one t r target es report (mismatch.Step n) mismatch.Report h k = absurd (h.strange (all-explained t r target es n k.explained))
+one t r target es report (mismatch.Step n) mismatch.Memory h k = absurd k
+one t r target es report mismatch.Short mismatch.Refused h k = absurd (not-both t r target k h.ready)
+one t r target es report mismatch.Short (mismatch.Step m) h k = absurd (k.strange (all-explained t r target es m h.explained))
+one t r target es report mismatch.Short mismatch.Short h k = refl
+one t r target es report mismatch.Short mismatch.Report h k = absurd (h.unfinished k.over)
+one t r target es report mismatch.Short mismatch.Memory h k = absurd k
+one t r target es report mismatch.Report mismatch.Refused h k = absurd (not-both t r target k h.ready)
+one t r target es report mismatch.Report (mismatch.Step m) h k = absurd (k.strange (all-explained t r target es m h.explained))
+one t r target es report mismatch.Report mismatch.Short h k = absurd (k.unfinished h.over)
+one t r target es report mismatch.Report mismatch.Report h k = refl
+one t r target es report mismatch.Report mismatch.Memory h k = absurd k
+one t r target es report mismatch.Memory other h k = absurd h
+
+-- none where the transcript holds
+none-fits : (t : Table) (r : Record) (target : Target) (es : List Entry) (report : Report) → IsReady t r target → (pattern : List (ℕ × Moment)) → Holds (text_handed r target) (heirs_of r target) (begins t r target) es report pattern → (why : Mismatch) → IsMismatch t r target es report why → ⊥
+none-fits t r target es report ready pattern holds mismatch.Refused h = not-both t r target h ready
+none-fits t r target es report ready pattern holds (mismatch.Step n) h = h.strange (all-explained t r target es n (is-explained t r target es holds.next))
+none-fits t r target es report ready pattern holds mismatch.Short h = h.unfinished (subst (λ (x : Trail). IsOver x.rest) (ended t r target es report ready) holds.over)
+none-fits t r target es report ready pattern holds mismatch.Report h = h.other (subst (λ (x : Trail). Reports x report) (ended t r target es report ready) holds.reports)
+none-fits t r target es report ready pattern holds mismatch.Memory h = h
+
+---- What a certification answers
+
+-- the result is a mismatch exactly where that fits, want of memory aside
+abbrev pub IsExact : {T : Type 0} → Table → Record → Target → List Entry → Report → Result T Mismatch → Type 0
+IsExact t r target es report result = (why : Mismatch) → IsErrOf result mismatch.Memory ⊎ (IsErrOf result why ↔ IsMismatch t r target es report why)
+
+pub exact-memory : {T : Type 0} (t : Table) (r : Record) (target : Target) (es : List Entry) (report : Report) (result : Result T Mismatch) → result ≡ Err mismatch.Memory → IsExact t r target es report result
+exact-memory t r target es report result is why = inl is
+
+pub exact-mismatch : {T : Type 0} (t : Table) (r : Record) (target : Target) (es : List Entry) (report : Report) (result : Result T Mismatch) (because : Mismatch) → result ≡ Err because → IsMismatch t r target es report because → IsExact t r target es report result
+exact-mismatch t r target es report result because is fits why =
+    inr (λ h. let same : because ≡ why = cc in subst (IsMismatch t r target es report) same fits, λ h. let same : because ≡ why = one t r target es report because why fits h in cc)
+
+exact-held : {T : Type 0} (t : Table) (r : Record) (target : Target) (es : List Entry) (report : Report) (x : T) → ((why : Mismatch) → IsMismatch t r target es report why → ⊥) → IsExact {T = T} t r target es report (Ok x)
+exact-held t r target es report x none why = inr (λ h. cc, λ h. absurd (none why h))
+
+-- what a transcript comes to that is held against a target that could be carried out
+pub answered : (t : Table) (r : Record) (target : Target) (es : List Entry) (report : Report) → IsReady t r target → (result : Result (List (ℕ × Moment)) Mismatch) →
+    IfOk result (Holds (text_handed r target) (heirs_of r target) (begins t r target) es report) →
+    IfErr result (FailsBy (text_handed r target) (heirs_of r target) (begins t r target) es report) →
+    IfOk result (IsCertified t r target es report) × IsExact t r target es report result
+answered t r target es report ready (Ok pattern) holds fails =
+    (certified t r target es report ready pattern holds, exact-held t r target es report pattern (none-fits t r target es report ready pattern holds))
+answered t r target es report ready (Err why) holds fails = (
+  tt,
+  elim (mismatched t r target es report ready why fails) [
+    | inl memory ↦ exact-memory t r target es report (Err why) (ap Err memory)
+    | inr is ↦ exact-mismatch t r target es report (Err why) why refl is
+  ],
+)
+
+---- Targets that can't be carried out
+
+planless : (r : Record) (target : Target) (refusal : PlanRefusal) → HasNoPlan r target refusal → lacks_generation r target ≡ true
+planless r target planner.Unplanned none = absurd none
+planless r target planner.TooLarge none = absurd none
+planless r target planner.NoGeneration none = none
+planless r target planner.Memory none = absurd none
+
+pub exact-planless : {T : Type 0} (t : Table) (r : Record) (target : Target) (es : List Entry) (report : Report) (result : Result T Mismatch) (why : EnactRefusal) → result ≡ Err (mismatch_of why) →
+    (why ≡ refusal.Memory) ⊎ ((p : PlanRefusal) × (why ≡ refusal.Plan p) × HasNoPlan r target p) → IsExact t r target es report result
+exact-planless t r target es report result why is (inl memory) = exact-memory t r target es report result (is ∙ ap (λ w. Err (mismatch_of w)) memory)
+exact-planless t r target es report result why is (inr none) =
+    exact-mismatch t r target es report result mismatch.Refused (is ∙ ap (λ w. Err (mismatch_of w)) none.1) (inr (inl (planless r target none.0 none.2)))
+
+pub exact-short : {T : Type 0} (t : Table) (r : Record) (target : Target) (es : List Entry) (report : Report) (result : Result T Mismatch) (why : EnactRefusal) → result ≡ Err (mismatch_of why) →
+    (why ≡ refusal.Memory) ⊎ ((why ≡ refusal.NoNumbers) × LacksNumbers t (height (plan_tree r target))) → IsExact t r target es report result
+exact-short t r target es report result why is (inl memory) = exact-memory t r target es report result (is ∙ ap (λ w. Err (mismatch_of w)) memory)
+exact-short t r target es report result why is (inr none) =
+    exact-mismatch t r target es report result mismatch.Refused (is ∙ ap (λ w. Err (mismatch_of w)) none.0) (inr (inr none.1))

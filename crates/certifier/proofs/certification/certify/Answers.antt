@@ -1,0 +1,59 @@
+use Rattle.std.proofs.Common.{rules, ◌≡◌, ◌⊎◌, inl, [], ◌∷◌, Err, refl, sym, ◌∙◌, ap, subst, IfOk, IfErr}
+use Rattle.std.proofs.lemmas.Result.{err_from_is_err_and}
+use mathlib.Core.Bool.{true≢false}
+use Rattle.definitions.specs.Record.{Record, Agrees}
+use Rattle.definitions.specs.Tree.{height}
+use Rattle.definitions.specs.Plans.{plan_tree}
+use Rattle.definitions.specs.Path.{begin}
+use Rattle.definitions.specs.Claims.{heirs_of}
+use Rattle.kernel_model.specs.Room.{LacksNumbers}
+use Rattle.plan_executor.specs.Naming.{listed}
+use Rattle.plan_executor.specs.declared.enactment.EnactRefusal.TheVariants.{Memory, NoNumbers}
+use Rattle.plan_executor.proofs.Exact.{no_plan}
+use Rattle.plan_executor.proofs.Reigning.{heirs}
+use Rattle.certifier.specs.declared.mismatch.Mismatch.TheVariants as mismatch
+use Rattle.certifier.specs.Places.{Holds, FailsBy}
+use Rattle.certifier.specs.Explained.{IsReady, mismatch_of}
+use Rattle.certifier.proofs.Explaining.{begins}
+use Rattle.certifier.proofs.Matching.{exact-mismatch, exact-planless, exact-short, answered}
+use Rattle.certifier.proofs.certification.certify.Goals as goal
+
+pub returns-then-not-agrees-clause-exact : goal.returns-then-not-agrees-clause-exact
+returns-then-not-agrees-clause-exact c =
+    exact-mismatch c.args.kernel.now.table c.args.state.now c.args.target.now c.args.log.now.entries c.args.report.now _ mismatch.Refused refl
+    (inl (λ h. let yes = c.agrees.ensures.agrees.1 h in absurd (true≢false (sym yes ∙ c.if-not-agrees.true))))
+
+pub returns-in_err-plan-clause-exact : goal.returns-in_err-plan-clause-exact
+returns-in_err-plan-clause-exact c =
+    let p = err_from_is_err_and c.from_residual.result c.from_residual.ensures.1 in
+    let why = c.in_err-plan.field-0.0 in
+    let same : p.0 ≡ mismatch_of why = cc in
+    exact-planless c.args.kernel.now.table c.args.state.now c.args.target.now c.args.log.now.entries c.args.report.now c.from_residual.result why (p.1 ∙ ap Err same) c.in_err-plan.ensures.refused
+
+pub returns-in_err-copy-clause-exact : goal.returns-in_err-copy-clause-exact
+returns-in_err-copy-clause-exact c =
+    let p = err_from_is_err_and c.from_residual-in_err-copy.result c.from_residual-in_err-copy.ensures.1 in
+    let why = c.in_err-copy.field-0.0 in
+    let same : p.0 ≡ mismatch_of why = cc in
+    exact-short c.args.kernel.now.table c.args.state.now c.args.target.now c.args.log.now.entries c.args.report.now c.from_residual-in_err-copy.result why (p.1 ∙ ap Err same)
+    (subst (λ n. (why ≡ Memory) ⊎ ((why ≡ NoNumbers) × LacksNumbers c.args.kernel.now.table n)) (c.longest.ensures ∙ ap height c.in_ok-plan.ensures.tree) c.in_err-copy.ensures.refused)
+
+pub returns : goal.returns
+returns c =
+    let t = c.args.kernel.now.table in
+    let r = c.args.state.now in
+    let target = c.args.target.now in
+    let es = c.args.log.now.entries in
+    let report = c.args.report.now in
+    let agrees : Agrees t r = c.agrees.ensures.agrees.0 (search rules) in
+    let plan = c.in_ok-plan.ensures.planned in
+    let longest : c.longest.result ≡ height (plan_tree r target) = c.longest.ensures ∙ ap height c.in_ok-plan.ensures.tree in
+    let ready : IsReady t r target = record { agrees = agrees; has_plan = plan; numbers = subst (λ n. LacksNumbers t n → ⊥) longest c.in_ok-copy.ensures.numbers } in
+    let image : c.state.inside.generation.image ≡ r.generation.image = ap (λ (x : Record). x.generation.image) c.state.view_is in
+    let same : listed c.heir_of-heir.result ≡ heirs_of r target = ap listed c.heir_of-heir.ensures ∙ heirs r target plan in
+    let place : record { trail = begin _ _; table = c.in_ok-copy.copy.table; executing = c.state.inside.generation.image ∷ [] } ≡ begins t r target =
+    λ i. record { trail = begin (c.in_ok-plan.ensures.tree i) (c.in_ok-plan.ensures.note i); table = (c.in_ok-copy.ensures.same i).table; executing = image i ∷ [] } in
+    let all = answered t r target es report ready c.hold.result
+    (subst (λ (X : Type 0). X) (λ i. IfOk c.hold.result (Holds (c.in_ok-plan.ensures.text i) (same i) (place i) (c.entries.ensures i) report)) c.hold.ensures.ok)
+    (subst (λ (X : Type 0). X) (λ i. IfErr c.hold.result (FailsBy (c.in_ok-plan.ensures.text i) (same i) (place i) (c.entries.ensures i) report)) c.hold.ensures.err) in
+    record { ok = all.0; exact = all.1; memory = λ _. record { agrees = agrees; spared = λ p none. no_plan r target p none plan } }

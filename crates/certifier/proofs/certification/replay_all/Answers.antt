@@ -1,0 +1,41 @@
+use Rattle.std.proofs.Common.{◌≡◌, ◌+◌, List, ◌∷◌, [], ◌++◌, take, inr, refl, sym, ◌∙◌, ap, subst, arith}
+use Rattle.std.proofs.lemmas.Bool.{false≢true}
+use Rattle.std.proofs.lemmas.List.{take_more}
+use Rattle.vocabulary.specs.declared.reports.Entry.{Entry}
+use Rattle.plan_executor.specs.Naming.{listed}
+use Rattle.certifier.specs.Places.{place_of, HasTaken, AreNext}
+use Rattle.certifier.proofs.Taking.{taken-on, taken-stops}
+use Rattle.certifier.proofs.certification.replay_all.Goals as goal
+
+pub loop-place-preserved : goal.loop-place-preserved
+loop-place-preserved c =
+    let old = c.args.replay.now in
+    let entries = c.args.entries.now in
+    let place = c.loop-place.place in
+    let e = c.index-entries-place.result in
+    let longer : take (place + 1) entries ≡ take place entries ++ e ∷ [] = take_more entries place e c.loop-place-test.true ∙ ap (λ x. take place entries ++ x ∷ []) (sym c.index-entries-place.is) in
+    subst (λ (es : List Entry). HasTaken old.text.now (listed old.heir) (place_of old) es c.take.new.self) (sym longer)
+    (taken-on old.text.now (listed old.heir) (place_of old) (take place entries) e c.loop-place.replay c.take.new.self c.loop-place.invariant
+    (c.in_ok-take.ensures.next.0 c.if-not-branch.false) (c.in_ok-take.ensures.taken c.if-not-branch.false))
+
+pub returns-then-not-branch-clause-err : goal.returns-then-not-branch-clause-err
+returns-then-not-branch-clause-err c =
+    let old = c.args.replay.now in
+    let entries = c.args.entries.now in
+    let place = c.loop-place.place in
+    let e = c.index-entries-place.result in
+    let longer : take (place + 1) entries ≡ take place entries ++ e ∷ [] = take_more entries place e c.loop-place-test.true ∙ ap (λ x. take place entries ++ x ∷ []) (sym c.index-entries-place.is) in
+    inr (
+      place + 1,
+      refl,
+      record {
+        before = place;
+        number = refl;
+        within = omega (arith, c.loop-place-test.true);
+        next = c.loop-place.invariant.next;
+        stops =
+            λ all. taken-stops old.text.now (listed old.heir) (place_of old) (take place entries) e c.loop-place.replay c.loop-place.invariant
+            (λ next. false≢true (sym c.if-not-branch.true ∙ c.in_ok-take.ensures.next.1 next))
+            (subst (λ (es : List Entry). AreNext old.text.now (listed old.heir) (place_of old) es) longer all);
+      },
+    )

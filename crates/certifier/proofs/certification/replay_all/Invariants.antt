@@ -1,0 +1,7 @@
+use Rattle.std.proofs.Common.{take}
+use Rattle.plan_executor.specs.Naming.{listed}
+use Rattle.certifier.specs.Places.{place_of, HasTaken}
+use Rattle.certifier.proofs.certification.replay_all.Given as goal
+
+abbrev pub invariant-loop-place : goal.invariant-loop-place
+invariant-loop-place l = HasTaken l.fn.replay.text.now (listed l.fn.replay.heir) (place_of l.fn.replay) (take l.place l.entries) l.replay

@@ -1,0 +1,83 @@
+-- Which transcripts are explained, and what is wrong with others.
+use Rattle.std.specs.Prelude.{ℕ, ◌+◌, ◌≡◌, ◌≤◌, ◌⊎◌, true, List, [], ◌∷◌, length, take, None, is_some}
+use Rattle.definitions.specs.Table.{Table}
+use Rattle.definitions.specs.Record.{Record, Agrees}
+use Rattle.vocabulary.specs.declared.targets.Target.{Target}
+use Rattle.definitions.specs.Target.{text_handed}
+use Rattle.definitions.specs.After.{lacks_generation}
+use Rattle.definitions.specs.Tree.{height}
+use Rattle.definitions.specs.Plans.{plan_tree}
+use Rattle.definitions.specs.Path.{Entry, Report, Trail, begin, trail_after, Follows, IsOver, Reports}
+use Rattle.definitions.specs.Run.{Pattern, Replays}
+use Rattle.definitions.specs.Claims.{heirs_of, refused_among}
+use Rattle.kernel_model.specs.Room.{LacksNumbers}
+use Rattle.plan_executor.specs.Refusals.{HasPlan}
+use Rattle.plan_executor.specs.declared.enactment.EnactRefusal.{EnactRefusal}
+use Rattle.plan_executor.specs.declared.enactment.EnactRefusal.TheVariants as refusal
+use Rattle.certifier.specs.Shown.{moments_shown, pattern_of}
+use Rattle.certifier.specs.declared.mismatch.Mismatch.{Mismatch}
+use Rattle.certifier.specs.declared.mismatch.Mismatch.TheVariants as mismatch
+
+-- The pattern that the entries of a target show.
+abbrev pub pattern_shown : Table → Record → Target → List Entry → Pattern
+pattern_shown t r target entries = pattern_of (moments_shown (text_handed r target) t entries)
+
+-- how far the target's plan has come by the entries
+abbrev pub trail_by : Record → Target → List Entry → Trail
+trail_by r target entries = trail_after (begin (plan_tree r target) r.note) entries
+
+-- The entries are a path of the target's plan, which has an edge for each of their answers; the kernel answers so under the
+-- pattern that they show, and no executing master exits in that.
+pub record IsExplained (t : Table) (r : Record) (target : Target) (entries : List Entry) : Type 0 where
+  pub path : Follows (begin (plan_tree r target) r.note) entries
+  pub edges : is_some (trail_by r target entries).rest ≡ true
+  pub last : Table
+  pub replays : Replays (text_handed r target) (pattern_shown t r target entries) 0 t entries last
+  pub spares : refused_among (r.generation.image ∷ []) (heirs_of r target) (pattern_shown t r target entries) 0 entries ≡ None
+
+---- What is wrong
+
+-- a refusal to enact, as a mismatch
+abbrev pub mismatch_of : EnactRefusal → Mismatch
+mismatch_of refusal.Memory = mismatch.Memory
+mismatch_of _ = mismatch.Refused
+
+-- The target could be carried out: the record agrees, there is a plan, and numbers suffice.
+pub record IsReady (t : Table) (r : Record) (target : Target) : Type 0 where
+  pub agrees : Agrees t r
+  pub has_plan : HasPlan r target
+  pub numbers : LacksNumbers t (height (plan_tree r target)) → ⊥
+
+-- The record disagrees, there is no plan, or numbers are lacking.
+abbrev pub IsUnready : Table → Record → Target → Type 0
+IsUnready t r target = (Agrees t r → ⊥) ⊎ (lacks_generation r target ≡ true) ⊎ LacksNumbers t (height (plan_tree r target))
+
+-- The entries before the n-th, counted from 1, are explained, and with it they are not.
+pub record IsStrange (t : Table) (r : Record) (target : Target) (entries : List Entry) (n : ℕ) : Type 0 where
+  pub ready : IsReady t r target
+  pub before : ℕ
+  pub number : n ≡ before + 1
+  pub within : n ≤ length entries
+  pub explained : IsExplained t r target (take before entries)
+  pub strange : IsExplained t r target (take n entries) → ⊥
+
+-- All entries are explained, and a step is left.
+pub record IsShort (t : Table) (r : Record) (target : Target) (entries : List Entry) : Type 0 where
+  pub ready : IsReady t r target
+  pub explained : IsExplained t r target entries
+  pub unfinished : IsOver (trail_by r target entries).rest → ⊥
+
+-- All entries are explained, they are a whole path, and the report isn't its report.
+pub record IsMisreported (t : Table) (r : Record) (target : Target) (entries : List Entry) (report : Report) : Type 0 where
+  pub ready : IsReady t r target
+  pub explained : IsExplained t r target entries
+  pub over : IsOver (trail_by r target entries).rest
+  pub other : Reports (trail_by r target entries) report → ⊥
+
+-- When a transcript does not match so, want of memory aside. No two of these hold at once.
+abbrev pub IsMismatch : Table → Record → Target → List Entry → Report → Mismatch → Type 0
+IsMismatch t r target entries report mismatch.Refused = IsUnready t r target
+IsMismatch t r target entries report (mismatch.Step n) = IsStrange t r target entries n
+IsMismatch t r target entries report mismatch.Short = IsShort t r target entries
+IsMismatch t r target entries report mismatch.Report = IsMisreported t r target entries report
+IsMismatch t r target entries report mismatch.Memory = ⊥

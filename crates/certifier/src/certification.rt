@@ -1,0 +1,94 @@
+//! A transcript, held against the modelled kernel.
+ghost use Rattle.std.specs.Prelude.{◌≡◌, ◌⊎◌, ◌↔◌, ℕ, [], ◌∷◌, OnOk, IfOk, IfErr, IsErrOf};
+ghost use Rattle.definitions.specs.Path.{begin};
+ghost use Rattle.definitions.specs.Target.{IsTarget};
+ghost use Rattle.definitions.specs.Tree.{height};
+ghost use Rattle.rollback_plan.specs.Plans.{tree_of, note_of, text_of};
+ghost use Rattle.plan_executor.specs.Naming.{listed};
+ghost use Rattle.plan_executor.specs.Refusals.{IsPlannable};
+ghost use Rattle.certifier.specs.Places.{place_of, HasTaken, StopsAt, Holds, FailsBy};
+ghost use Rattle.certifier.specs.Explained.{IsMismatch};
+ghost use Rattle.certifier.specs.Certified.{IsCertified};
+ghost use Rattle.certifier.specs.declared.mismatch.Mismatch.{Mismatch as Why};
+
+use crate::mismatch::Mismatch;
+use crate::replay::Replay;
+use kernel_model::{Kernel, Pattern};
+use plan_executor::{agrees, heir_of, plan_of, reserved_copy};
+use plan_runner::CallLog;
+use rollback_plan::Plan;
+use service_state::Record;
+use std::alloc::Global;
+use vocabulary::{Entry, Report, Target};
+
+/// Replays all entries; the first that can't stand there is a mismatch.
+fn replay_all(replay: &mut Replay<'_>, entries: &[Entry]) -> Result<(), Mismatch>
+    requires { HasTaken replay.old.text.now (listed replay.old.heir) (place_of replay.old) [] replay.old }
+    ensures ok { OnOk result (HasTaken replay.old.text.now (listed replay.old.heir) (place_of replay.old) entries.now replay.new) }
+    ensures err { IfErr result (λ why.
+        (why ≡ Mismatch.Memory) ⊎ ((n : ℕ) × (why ≡ Mismatch.Step n) × StopsAt replay.old.text.now (listed replay.old.heir) (place_of replay.old) entries.now n)) }
+{
+    for (place, entry) in entries.iter().enumerate() {
+        if !replay.take(entry)? {
+            return Err(Mismatch::Step(place + 1));
+        }
+    }
+    Ok(())
+}
+
+/// Holds entries and a report against a plan, on a kernel with room for its longest path.
+fn hold(
+    alloc: Global,
+    plan: &Plan,
+    kernel: Kernel,
+    image: u32,
+    heir: Option<u32>,
+    entries: &[Entry],
+    report: &Report,
+) -> Result<Pattern, Mismatch>
+    requires { kernel.room ≡ height (tree_of plan.now) }
+    ensures ok { IfOk result (Holds (text_of plan.now) (listed heir) (record { trail = begin (tree_of plan.now) (note_of plan.now); table = kernel.table; executing = image ∷ [] }) entries.now report.now) }
+    ensures err { IfErr result (FailsBy (text_of plan.now) (listed heir) (record { trail = begin (tree_of plan.now) (note_of plan.now); table = kernel.table; executing = image ∷ [] }) entries.now report.now) }
+{
+    let mut replay = Replay::new(alloc, plan, kernel, image, heir);
+    replay_all(&mut replay, entries)?;
+    replay.end(report)
+}
+
+/// Holds a transcript of a target, its calls with their answers and its report, against the modelled kernel.
+///
+/// A yes is the pattern that the transcript shows: an exit at the entry that shows it, and a fate where the answer is a
+/// fault that the kernel would not give by itself. Under this pattern the run of the target's plan on this kernel is
+/// exactly these entries with this report, and no executing master exits. Mismatches in their order: Y4 the target
+/// can't be carried out; Y1 the first entry that can't stand there; Y3 the plan isn't at an end; Y2 the report is
+/// another.
+pub fn certify(
+    alloc: Global,
+    kernel: &Kernel,
+    state: &Record,
+    target: &Target,
+    log: &CallLog,
+    report: &Report,
+) -> Result<Pattern, Mismatch>
+    requires { IsTarget target.now }
+    ensures ok { IfOk result (IsCertified kernel.now.table state.now target.now log.now.entries report.now) }
+    ensures exact { (why : Why)
+        → IsErrOf result Mismatch.Memory ⊎ (IsErrOf result why ↔ IsMismatch kernel.now.table state.now target.now log.now.entries report.now why) }
+    ensures memory { IsErrOf result Mismatch.Memory → IsPlannable kernel.now.table state.now target.now }
+{
+    if !agrees(state, kernel) {
+        return Err(Mismatch::Refused);
+    }
+    let plan = plan_of(alloc, state, target)?;
+    let copy = reserved_copy(kernel, plan.longest())?;
+    let heir = heir_of(state, target);
+    hold(
+        alloc,
+        &plan,
+        copy,
+        state.generation.image,
+        heir,
+        log.entries(),
+        report,
+    )
+}

@@ -1,0 +1,65 @@
+//! Why a transcript is not certified.
+use plan_executor::EnactRefusal;
+use std::alloc::AllocError;
+use std::error::Error;
+use std::fmt;
+
+/// Why a transcript is not certified.
+#[derive(Clone, Copy, Debug, PartialEq, Eq)]
+pub enum Mismatch {
+    /// Y4: the target can't be carried out: the record disagrees, there is no plan, or numbers are lacking.
+    Refused,
+    /// Y1: this entry, counted from 1, can't stand there.
+    Step(usize),
+    /// Y3: the plan isn't at an end.
+    Short,
+    /// Y2: the report is another.
+    Report,
+    /// Memory was refused.
+    Memory,
+}
+
+impl fmt::Display for Mismatch {
+    ghost use Rattle.std.specs.Prelude.{Some};
+    ghost use Rattle.certifier.specs.Codes.{mismatch_code};
+
+    ghost output = { λ why. Some (mismatch_code why) };
+
+    fn fmt<W: fmt::Write>(&self, f: &mut fmt::Formatter<W>) -> fmt::Result {
+        match self {
+            Mismatch::Refused => f.write_str("Y4"),
+            Mismatch::Step(number) => write!(f, "Y1 {number}"),
+            Mismatch::Short => f.write_str("Y3"),
+            Mismatch::Report => f.write_str("Y2"),
+            Mismatch::Memory => f.write_str("memory"),
+        }
+    }
+}
+
+impl Error for Mismatch {}
+
+impl From<AllocError> for Mismatch {
+    ghost use Rattle.std.specs.Prelude.{◌≡◌};
+    ghost use Rattle.certifier.specs.declared.mismatch.Mismatch.TheVariants.{Memory};
+
+    ghost from_gives = { λ _ why. why ≡ Memory };
+
+    fn from(_error: AllocError) -> Mismatch {
+        Mismatch::Memory
+    }
+}
+
+/// What an enactment refuses is refused; want of memory stays that.
+impl From<EnactRefusal> for Mismatch {
+    ghost use Rattle.std.specs.Prelude.{◌≡◌};
+    ghost use Rattle.certifier.specs.Explained.{mismatch_of};
+
+    ghost from_gives = { λ refusal why. why ≡ mismatch_of refusal };
+
+    fn from(refusal: EnactRefusal) -> Mismatch {
+        match refusal {
+            EnactRefusal::Memory => Mismatch::Memory,
+            _ => Mismatch::Refused,
+        }
+    }
+}
