@@ -1,6 +1,6 @@
-//! How long the modelled kernel takes for the calls of a reload, at 128 and at 1,024 workers. It
-//! writes how many calls that are and how the last one is answered, and to the error output the least
-//! time of all runs.
+//! How long the modelled kernel takes for the calls of a reload and of a graceful stop, at 128 and at
+//! 1,024 workers. It writes how many calls that are and how many workers are ready at the end, and to the
+//! error output the least time of all runs.
 #![tactic(auto)]
 
 use anyhow::Context;
@@ -48,6 +48,19 @@ fn calls_of_reload(rt: &HostRuntime, workers: u32) -> anyhow::Result<Vec<Call>> 
         calls.push(Call::Quit(OLD, nr))?;
     }
     calls.push(Call::Census(NEW))?;
+    Ok(calls)
+}
+
+/// Each worker quits and is waited for, the first one first; then who is left is counted.
+fn calls_of_stop(rt: &HostRuntime, workers: u32) -> anyhow::Result<Vec<Call>> {
+    let mut calls = Vec::new(rt.alloc());
+    for nr in 0..workers {
+        calls.push(Call::Quit(OLD, nr))?;
+    }
+    for nr in 0..workers {
+        calls.push(Call::AwaitGone(OLD, nr))?;
+    }
+    calls.push(Call::Census(OLD))?;
     Ok(calls)
 }
 
@@ -104,23 +117,19 @@ fn ready_of(answer: &Option<Answer>) -> Numbers {
     }
 }
 
-/// A reload with that many workers before and after.
-fn reload(rt: &HostRuntime, workers: u32) -> anyhow::Result<()> {
-    let calls = calls_of_reload(rt, workers)?;
-    let (last, least) = measured(rt, workers, &calls)?;
+/// The calls on a kernel with that many workers.
+fn show(rt: &HostRuntime, name: &str, workers: u32, calls: &[Call]) -> anyhow::Result<()> {
+    let (last, least) = measured(rt, workers, calls)?;
     let ready = ready_of(&last).len();
-    println!(rt;
-        "HUP {workers} to {workers}: {} calls, {ready} ready",
-        calls.len()
-    )?;
-    eprintln!(rt;
-        "HUP {workers} to {workers}: {} microseconds",
-        least.as_micros()
-    )?;
+    println!(rt; "{name} at {workers}: {} calls, {ready} ready", calls.len())?;
+    eprintln!(rt; "{name} at {workers}: {} microseconds", least.as_micros())?;
     Ok(())
 }
 
 fn main(rt: HostRuntime) -> anyhow::Result<()> {
-    reload(&rt, 128)?;
-    reload(&rt, 1024)
+    for workers in [128, 1024] {
+        show(&rt, "HUP", workers, &calls_of_reload(&rt, workers)?)?;
+        show(&rt, "QUIT", workers, &calls_of_stop(&rt, workers)?)?;
+    }
+    Ok(())
 }
