@@ -1,6 +1,6 @@
 //! The program over any reader and any two writers.
 ghost use Rattle.std.specs.Prelude.{◌≡◌};
-ghost use Rattle.prefork.specs.Status.{graver, status_of};
+ghost use Rattle.prefork.specs.Status.{body_status, graver, status_of};
 
 use crate::fault::Fault;
 use crate::planning::{self, Form};
@@ -14,7 +14,7 @@ use std::alloc::{AllocError, Global};
 use std::io::{Read, Write};
 use std::rt::Files;
 use vocabulary::Outcome;
-use word_runner::Body;
+use word_runner::{Block, Body};
 
 /// Runs the program, and gives its exit status.
 ///
@@ -148,15 +148,24 @@ fn rehearse(
     let mut status = 0;
     for block in &blocks {
         text.extend_from_slice(transcript::write_transcript(alloc, block)?.as_slice())?;
-        status = graver(status, status_of(&block.body));
+        status = graver(status, status_of(block));
     }
     done?;
     Ok(status)
 }
 
 /// The status that one block asks for.
-fn status_of(body: &Body) -> u8
-    ensures { result ≡ status_of body.now }
+fn status_of(block: &Block) -> u8
+    ensures { result ≡ status_of block.now }
+{
+    match block {
+        Block::Heard(_, body) => body_status(body),
+        Block::Unread(_) => 1,
+    }
+}
+
+fn body_status(body: &Body) -> u8
+    ensures { result ≡ body_status body.now }
 {
     match body {
         Body::Nothing => 0,
