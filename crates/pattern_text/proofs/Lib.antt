@@ -1,2 +1,1 @@
 pub mod PatternLines
-pub mod Lines

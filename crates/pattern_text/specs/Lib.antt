@@ -1,5 +1,4 @@
 pub mod LineText
 pub mod LineReading
-pub mod Codes
 pub mod PatternsText
 pub mod Reader

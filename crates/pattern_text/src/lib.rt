@@ -5,8 +5,7 @@
 
 mod pattern_line;
 mod patterns;
-mod refusal;
 
+pub use call_text::TextRefusal;
 pub use pattern_line::PatternLine;
 pub use patterns::read_patterns;
-pub use refusal::TextRefusal;
