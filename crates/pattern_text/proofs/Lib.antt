@@ -1,1 +1,2 @@
 pub mod PatternLines
+pub mod Sections

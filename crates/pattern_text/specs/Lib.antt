@@ -2,3 +2,4 @@ pub mod LineText
 pub mod LineReading
 pub mod PatternsText
 pub mod Reader
+pub mod PatternsWriting
