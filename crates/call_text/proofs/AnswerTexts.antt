@@ -140,7 +140,7 @@ answer_only answer.IoFault h = word_only answer.IoFault (codes "io-fault") refl 
 answer_only answer.IsAlive h = word_only answer.IsAlive (codes "alive") refl refl
 answer_only answer.MasterGone h = word_only answer.MasterGone (codes "master-gone") refl refl
 
-answers_to : (call : Call) → IsReader (IsAnswerTo call) answer_text (answer_to call)
+pub answers_to : (call : Call) → IsReader (IsAnswerTo call) answer_text (answer_to call)
 answers_to call = record {
   found = λ text a e.
       let from = then (λ a. some_if (listed call a) a) (answer_of text) a e in

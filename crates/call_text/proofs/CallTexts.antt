@@ -169,7 +169,7 @@ master_reads = record { found = found; only = λ n h. number_reads.only n h }
 master_lacks : (n : ℕ) → IsNumber n → lacks 32 (master_text n) ≡ true
 master_lacks n h = number_lacks 32 n refl h
 
-line_reads : IsReader IsCallLine (λ (line : ℕ × Call). call_line line.0 line.1) line_of
+pub line_reads : IsReader IsCallLine (λ (line : ℕ × Call). call_line line.0 line.1) line_of
 line_reads = joined_reads IsNumber IsCall master_text call_text master_of call_of 32 master_lacks master_reads call_reads
 
 pub Reads-line : (text : List ℕ) → Reads IsCallLine (λ (line : ℕ × Call). call_line line.0 line.1) text (line_of text)

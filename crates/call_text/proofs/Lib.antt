@@ -6,3 +6,4 @@ pub mod SetTexts
 pub mod AnswerTexts
 pub mod NameTexts
 pub mod ReportTexts
+pub mod LineTexts

@@ -30,9 +30,12 @@ report_text r = outcome_text r.outcome ++ 32 ∷ ending_text r.cause r.note
 
 ---- Calls that were made
 
--- the n-th call of a block
+-- the line of the n-th call of a block
+abbrev pub entry_line : ℕ → Entry → List ℕ
+entry_line n e = decimal n ++ 32 ∷ (call_line e.by e.call ++ (codes " : " ++ answer_text e.answer))
+
 abbrev pub entry_text : ℕ → Entry → List ℕ
-entry_text n e = decimal n ++ 32 ∷ (call_line e.by e.call ++ codes " : " ++ answer_text e.answer ++ codes "\n")
+entry_text n e = entry_line n e ++ codes "\n"
 
 -- calls in order, the first of them the n-th
 abbrev pub entries_text : ℕ → List Entry → List ℕ

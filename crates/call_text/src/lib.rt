@@ -1,4 +1,4 @@
-//! Texts of calls and their answers, of exits and fates, and of reports.
+//! Texts of calls and their answers, of exits and fates, and of reports; lines of texts.
 //!
 //! Each text is a function to bytes in `specs/`. Writers put it behind what was written before, and
 //! readers accept it and nothing else.
@@ -7,8 +7,10 @@
 mod answers;
 mod calls;
 mod ends;
+mod lines;
 mod names;
 mod parts;
+mod refusal;
 mod replies;
 mod reports;
 mod sets;
@@ -18,7 +20,9 @@ mod words;
 pub use answers::{read_answer, write_answer};
 pub use calls::{write_call, write_order};
 pub use ends::read_report;
+pub use lines::first_line;
 pub use names::{read_fate, read_name, write_name};
+pub use refusal::TextRefusal;
 pub use replies::{replies_of, replies_to};
 pub use reports::{write_entries, write_report};
 pub use sets::{read_set, write_set};

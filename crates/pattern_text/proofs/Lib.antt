@@ -1,2 +1,2 @@
 pub mod PatternLines
-pub mod Lines
+pub mod Sections

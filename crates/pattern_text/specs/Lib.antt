@@ -1,5 +1,5 @@
 pub mod LineText
 pub mod LineReading
-pub mod Codes
 pub mod PatternsText
 pub mod Reader
+pub mod PatternsWriting

@@ -6,20 +6,10 @@ use Rattle.definitions.specs.Run.{quiet, Pattern}
 use Rattle.event_pattern.specs.Pattern.{with_exit, with_fate}
 use Rattle.pattern_text.specs.declared.pattern_line.PatternLine.{PatternLine}
 use Rattle.pattern_text.specs.declared.pattern_line.PatternLine.TheVariants.{Exit, Fail, Next}
+use Rattle.call_text.specs.Lines.{lines_of}
 use Rattle.pattern_text.specs.LineReading.{line_of}
-use Rattle.pattern_text.specs.declared.refusal.TextRefusal.{TextRefusal}
-use Rattle.pattern_text.specs.declared.refusal.TextRefusal.TheVariants.{Line, Order}
-
----- Lines
-
-abbrev pub onto_first : ℕ → List (List ℕ) → List (List ℕ)
-onto_first c [] = (c ∷ []) ∷ []
-onto_first c (line ∷ lines) = (c ∷ line) ∷ lines
-
--- the lines of a text, each ended by a newline, which the last may lack
-abbrev pub lines_of : List ℕ → List (List ℕ)
-lines_of [] = []
-lines_of (c ∷ cs) = if c == 10 then [] ∷ lines_of cs else onto_first c (lines_of cs)
+use Rattle.call_text.specs.declared.refusal.TextRefusal.{TextRefusal}
+use Rattle.call_text.specs.declared.refusal.TextRefusal.TheVariants.{Line, Order}
 
 ---- One line
 

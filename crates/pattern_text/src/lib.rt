@@ -5,8 +5,9 @@
 
 mod pattern_line;
 mod patterns;
-mod refusal;
+mod writing;
 
+pub use call_text::TextRefusal;
 pub use pattern_line::PatternLine;
 pub use patterns::read_patterns;
-pub use refusal::TextRefusal;
+pub use writing::write_patterns;

@@ -1,12 +1,12 @@
 //! Patterns as texts.
-ghost use Rattle.std.specs.Prelude.{◌≡◌, ◌≢◌, ◌<◌, ◌≤◌, ◌++◌, ◌∷◌, [], map, length, Ok, Err, OnOk, IfOk, IfErr};
+ghost use Rattle.std.specs.Prelude.{◌≡◌, ◌≢◌, ◌≤◌, ◌++◌, ◌∷◌, [], map, Ok, Err, OnOk, IfOk, IfErr};
 ghost use Rattle.event_pattern.specs.Pattern.{moment_at, IsNameWithin};
 ghost use Rattle.pattern_text.specs.LineText.{IsLine};
-ghost use Rattle.pattern_text.specs.PatternsText.{lines_of, may_follow, begun, with_exit_in, with_fate_in, may_stand, with_line, line_here, patterns_of};
+ghost use Rattle.pattern_text.specs.PatternsText.{may_follow, begun, with_exit_in, with_fate_in, may_stand, with_line, line_here, patterns_of};
 
-use crate::{PatternLine, TextRefusal};
+use crate::PatternLine;
+use call_text::{TextRefusal, first_line};
 use event_pattern::Pattern;
-use plain_text::around;
 use std::alloc::{AllocError, Global};
 use std::mem;
 use vocabulary::{Fate, Name};
@@ -126,15 +126,6 @@ impl Reader {
         patterns.push(section)?;
         Ok(patterns)
     }
-}
-
-/// The first line of a text, without its newline, and what stands behind it.
-fn first_line(text: &[u8]) -> (&[u8], &[u8])
-    requires { 0 < length text.now }
-    ensures line { lines_of text.now ≡ result.0.now ∷ lines_of result.1.now }
-    ensures shorter { length result.1.now < length text.now }
-{
-    around(text, b'\n')
 }
 
 /// Reads patterns, a section of lines for each: `N exit NAME` for an exit before the N-th call, N from 1,

@@ -87,3 +87,14 @@ impl CallLog {
         self.room -= 1;
     }
 }
+
+/// Entries that were read, without room for more.
+impl From<Vec<Entry>> for CallLog {
+    ghost use Rattle.std.specs.Prelude.{◌≡◌};
+
+    ghost from_gives = { λ entries log. log ≡ record { entries = entries.items; room = 0 } };
+
+    fn from(entries: Vec<Entry>) -> CallLog {
+        CallLog { entries, room: 0 }
+    }
+}

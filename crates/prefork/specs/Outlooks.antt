@@ -20,7 +20,7 @@ use Rattle.word_runner.specs.Asking.{asked_by, IsNoted}
 use Rattle.control_words.specs.declared.words.Word.{Word}
 use Rattle.prefork.specs.Starts.{first_record, silent_workers}
 use Rattle.prefork.specs.declared.start.Start.{Start}
-use Rattle.prefork.specs.Status.{status_of}
+use Rattle.prefork.specs.Status.{body_status}
 use Rattle.prefork.specs.declared.planning.Form.{Form}
 use Rattle.prefork.specs.declared.planning.Form.TheVariants.{Text, Picture}
 use Rattle.prefork.specs.declared.planning.Outlook.{Outlook}
@@ -33,7 +33,7 @@ shown Picture plan = graph_text (steps_of plan)
 -- what a word comes to that asks for no target
 pub record Tells (body : Body) (outlook : Outlook) : Type 0 where
   pub text : outlook.text.items ≡ body_text body
-  pub status : outlook.status ≡ status_of body
+  pub status : outlook.status ≡ body_status body
 
 -- the plan of a target
 pub record Shows (r : Record) (target : Target) (form : Form) (outlook : Outlook) : Type 0 where

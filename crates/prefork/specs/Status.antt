@@ -3,6 +3,7 @@ use Rattle.std.specs.Prelude.{ℕ, ◌==◌, ◌||◌, max, List, [], ◌∷◌,
 use Rattle.vocabulary.specs.declared.reports.Outcome.{Outcome}
 use Rattle.vocabulary.specs.declared.reports.Outcome.TheVariants as outcome
 use Rattle.word_runner.specs.declared.block.Block.{Block}
+use Rattle.word_runner.specs.declared.block.Block.TheVariants.{Heard, Unread}
 use Rattle.word_runner.specs.declared.block.Body.{Body}
 use Rattle.word_runner.specs.declared.block.Body.TheVariants as body
 
@@ -14,10 +15,15 @@ outcome_status (outcome.Degraded side short) = 4
 outcome_status outcome.Lost = 1
 
 -- 1 where the word was refused
-abbrev pub status_of : Body → ℕ
-status_of body.Nothing = 0
-status_of (body.Refused code) = 1
-status_of (body.Ran transcript report) = outcome_status report.outcome
+abbrev pub body_status : Body → ℕ
+body_status body.Nothing = 0
+body_status (body.Refused code) = 1
+body_status (body.Ran transcript report) = outcome_status report.outcome
+
+-- 1 where the line was no word
+abbrev pub status_of : Block → ℕ
+status_of (Heard word body) = body_status body
+status_of (Unread refusal) = 1
 
 -- 1 outweighs 4, and 4 outweighs 3
 abbrev pub graver : ℕ → ℕ → ℕ
@@ -25,7 +31,7 @@ graver one other = if (one == 1) || (other == 1) then 1 else max one other
 
 abbrev pub status_after : ℕ → List Block → ℕ
 status_after status [] = status
-status_after status (block ∷ blocks) = status_after (graver status (status_of block.body)) blocks
+status_after status (block ∷ blocks) = status_after (graver status (status_of block)) blocks
 
 -- that of several words, 0 where there is none
 abbrev pub gravest : List Block → ℕ

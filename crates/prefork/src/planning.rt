@@ -5,7 +5,7 @@ ghost use Rattle.prefork.specs.Outlooks.{shown, Tells, IsPlanned, IsForeseen};
 
 use crate::fault::Fault;
 use crate::start::{Start, silent_workers};
-use crate::status::status_of;
+use crate::status::body_status;
 use control_words::Word;
 use plan_text::{write_graph, write_plan};
 use rollback_plan::Plan;
@@ -55,7 +55,7 @@ fn told(alloc: Global, body: &Body) -> Result<Outlook, AllocError>
     write_body(&mut text, body)?;
     Ok(Outlook {
         text,
-        status: status_of(body),
+        status: body_status(body),
     })
 }
 

@@ -1,13 +1,13 @@
 //! The exit status of words that were carried out.
 ghost use Rattle.std.specs.Prelude.{◌≡◌};
-ghost use Rattle.prefork.specs.Status.{graver, status_of, gravest};
+ghost use Rattle.prefork.specs.Status.{body_status, graver, status_of, gravest};
 
 use vocabulary::Outcome;
 use word_runner::{Block, Body};
 
 /// The status that one word asks for.
-pub fn status_of(body: &Body) -> u8
-    ensures { result ≡ status_of body.now }
+pub fn body_status(body: &Body) -> u8
+    ensures { result ≡ body_status body.now }
 {
     match body {
         Body::Nothing => 0,
@@ -18,6 +18,16 @@ pub fn status_of(body: &Body) -> u8
             Outcome::Degraded { .. } => 4,
             Outcome::Lost => 1,
         },
+    }
+}
+
+/// The status that one block asks for.
+fn status_of(block: &Block) -> u8
+    ensures { result ≡ status_of block.now }
+{
+    match block {
+        Block::Heard(_, body) => body_status(body),
+        Block::Unread(_) => 1,
     }
 }
 
@@ -38,7 +48,7 @@ pub fn gravest(blocks: &[Block]) -> u8
 {
     let mut status = 0;
     for block in blocks {
-        status = graver(status, status_of(&block.body));
+        status = graver(status, status_of(block));
     }
     status
 }

@@ -8,7 +8,7 @@ use service_state::Record;
 use std::alloc::Global;
 use std::test::Fail;
 use vocabulary::{Limits, Settings};
-use word_runner::{Body, CodeText};
+use word_runner::{Block, Body, CodeText};
 use worker_table::{TableRefusal, WorkerTable};
 
 /// The body of a word's block, where no next settings are at hand.
@@ -32,7 +32,10 @@ fn body_of(alloc: Global, state: Option<Record>, word: Word) -> Result<Body, Fai
         None,
         &mut blocks,
     )?;
-    Ok(blocks.pop().ok_or("no block")?.body)
+    match blocks.pop() {
+        Some(Block::Heard(_, body)) => Ok(body),
+        _ => Err(Fail::from("no block of a word")),
+    }
 }
 
 /// Whether a word was refused with this code.

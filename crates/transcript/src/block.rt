@@ -49,14 +49,23 @@ pub fn write_body(out: &mut Vec<u8>, body: &Body) -> Result<(), AllocError>
 }
 
 /// The text of a block: the line `word W`, and then `nothing`, or `refused CODE`, or a line for each call, numbered from 1,
-/// and the report's line. The only refusal is want of memory.
+/// and the report's line; or the line `unread W1` or `unread W2`. The only refusal is want of memory.
 pub fn write_transcript(alloc: Global, block: &Block) -> Result<Vec<u8>, AllocError>
     ensures { IfOk result (λ out. out.items ≡ block_text block.now) }
 {
     let mut out = Vec::new(alloc);
-    out.extend_from_slice(b"word ")?;
-    write_word(&mut out, block.word)?;
-    out.extend_from_slice(b"\n")?;
-    write_body(&mut out, &block.body)?;
+    match block {
+        Block::Heard(word, body) => {
+            out.extend_from_slice(b"word ")?;
+            write_word(&mut out, *word)?;
+            out.extend_from_slice(b"\n")?;
+            write_body(&mut out, body)?;
+        }
+        Block::Unread(refusal) => {
+            out.extend_from_slice(b"unread ")?;
+            out.extend_from_slice(refusal.code().as_bytes())?;
+            out.extend_from_slice(b"\n")?;
+        }
+    }
     Ok(out)
 }

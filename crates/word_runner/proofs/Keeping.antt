@@ -7,6 +7,7 @@ use Rattle.vocabulary.specs.declared.reports.Report.{Report}
 use Rattle.control_words.specs.declared.words.Word.{Word}
 use Rattle.plan_runner.specs.Log.{Told}
 use Rattle.word_runner.specs.declared.block.Block.{Block}
+use Rattle.word_runner.specs.declared.block.Block.TheVariants.{Heard, Unread}
 use Rattle.word_runner.specs.declared.block.Body.{Body}
 use Rattle.word_runner.specs.declared.block.Body.TheVariants.{Nothing, Refused, Ran}
 use Rattle.word_runner.specs.declared.enactor.Enacted.{Enacted}
@@ -42,5 +43,6 @@ module _ {G : Type 0} (enacts : G → ℕ → Record → Target → Enacted → 
   pub done-keeps : (settings : Option Settings) (words : List Word) (place : ℕ) (first : Standing G) (blocks : List Block) (last : Standing G) → AreDone enacts declines settings words place first blocks last → There first → There last
   done-keeps settings words place first [] last done h = still first last done h
   done-keeps settings [] place first (b ∷ blocks) last done h = absurd done
-  done-keeps settings (w ∷ words) place first (b ∷ blocks) last done h =
-      done-keeps settings words (place + 1) done.0 blocks last done.3 (heard first.state settings w place first b.body done.0 done.2 h)
+  done-keeps settings (w ∷ words) place first (Unread refusal ∷ blocks) last done h = absurd done
+  done-keeps settings (w ∷ words) place first (Heard own body ∷ blocks) last done h =
+      done-keeps settings words (place + 1) done.0 blocks last done.3 (heard first.state settings w place first body done.0 done.2 h)

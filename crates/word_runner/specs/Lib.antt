@@ -1,5 +1,6 @@
 pub mod Asking
 pub mod Codes
 pub mod Enactors
+pub mod Spellings
 pub mod Started
 pub mod Words

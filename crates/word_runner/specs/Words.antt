@@ -9,6 +9,7 @@ use Rattle.worker_table.specs.Calls.{beating}
 use Rattle.control_words.specs.declared.words.Word.{Word}
 use Rattle.plan_runner.specs.Log.{Told}
 use Rattle.word_runner.specs.declared.block.Block.{Block}
+use Rattle.word_runner.specs.declared.block.Block.TheVariants.{Heard, Unread}
 use Rattle.word_runner.specs.declared.block.Body.{Body}
 use Rattle.word_runner.specs.declared.block.Body.TheVariants.{Nothing, Refused, Ran}
 use Rattle.word_runner.specs.declared.enactor.Enacted.{Enacted}
@@ -79,5 +80,6 @@ module _ {G : Type 0} (enacts : G → ℕ → Record → Target → Enacted → 
   abbrev pub AreDone : Option Settings → List Word → ℕ → Standing G → List Block → Standing G → Type 0
   AreDone settings words place old [] new = new ≡ old
   AreDone settings [] place old (block ∷ blocks) new = ⊥
-  AreDone settings (word ∷ words) place old (block ∷ blocks) new =
-      (middle : Standing G) × (block.word ≡ word) × ComesTo settings word place old block.body middle × AreDone settings words (place + 1) middle blocks new
+  AreDone settings (word ∷ words) place old (Unread refusal ∷ blocks) new = ⊥
+  AreDone settings (word ∷ words) place old (Heard own body ∷ blocks) new =
+      (middle : Standing G) × (own ≡ word) × ComesTo settings word place old body middle × AreDone settings words (place + 1) middle blocks new

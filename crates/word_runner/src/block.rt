@@ -1,5 +1,6 @@
 //! What a word came to.
 ghost use Rattle.std.specs.Prelude.{◌≡◌, ◌+◌, ◌≤◌, ◌++◌, length};
+ghost use Rattle.std.specs.String.{string_bytes};
 ghost use Rattle.word_runner.specs.Codes.{stopped_code};
 
 use arrayvec::ArrayString;
@@ -15,15 +16,23 @@ use worker_table::TableRefusal;
 /// Contracts see its bytes.
 #[derive(Drop)]
 pub struct CodeText {
-    text: ArrayString<64>,
+    spelling: Spelling,
+}
+
+/// A code of this program stands in place. One that was read may be of any length.
+#[derive(Drop)]
+enum Spelling {
+    Short(ArrayString<64>),
+    Long(String),
 }
 
 impl Model for CodeText {
     ghost use Rattle.std.specs.Prelude.{List, ℕ};
+    ghost use Rattle.word_runner.specs.Spellings.{spelled};
 
     ghost Value = { List ℕ };
 
-    ghost view = { λ code. code.text.bytes };
+    ghost view = { λ code. spelled code.spelling };
 }
 
 impl CodeText {
@@ -35,7 +44,18 @@ impl CodeText {
         let mut text = ArrayString::new();
         text.push_str(code);
         text.push_str(about);
-        CodeText { text }
+        CodeText {
+            spelling: Spelling::Short(text),
+        }
+    }
+
+    /// A code of any length, with what it is about.
+    pub fn long(text: String) -> CodeText
+        ensures { result ≡ string_bytes text }
+    {
+        CodeText {
+            spelling: Spelling::Long(text),
+        }
     }
 
     /// `V1`: the master has stopped, and there is no record.
@@ -49,7 +69,10 @@ impl CodeText {
     pub fn as_str(&self) -> &str
         ensures { result.now ≡ self.now }
     {
-        self.text.as_str()
+        match &self.spelling {
+            Spelling::Short(text) => text.as_str(),
+            Spelling::Long(text) => text.as_str(),
+        }
     }
 }
 
@@ -85,9 +108,11 @@ pub enum Body {
     Ran(CallLog, Report),
 }
 
-/// A word and what it came to.
+/// A line that was heard, and what it came to.
 #[derive(Drop)]
-pub struct Block {
-    pub word: Word,
-    pub body: Body,
+pub enum Block {
+    /// A word, and what it came to.
+    Heard(Word, Body),
+    /// A line that is no word: `W1` or `W2`.
+    Unread(WordRefusal),
 }

@@ -50,7 +50,7 @@ pub fn run_words<E: Enactor>(
         let body = run_word(
             alloc, enactor, world, state, workers, *word, place, settings,
         )?;
-        blocks.push_reserved(Block { word: *word, body });
+        blocks.push_reserved(Block::Heard(*word, body));
     }
     Ok(())
 }

@@ -2,6 +2,7 @@ use Rattle.std.proofs.Common.{◌≡◌, ◌+◌, ◌++◌, [], ◌∷◌, lengt
 use Rattle.std.proofs.lemmas.List.{append-nil}
 use Rattle.control_words.specs.declared.words.Word.TheVariants.{Hup}
 use Rattle.word_runner.specs.declared.block.Block.{Block}
+use Rattle.word_runner.specs.declared.block.Block.TheVariants.{Heard}
 use Rattle.word_runner.specs.Words.{standing}
 use Rattle.word_runner.proofs.Wording.{done-more}
 use Rattle.word_runner.proofs.words.run_words.Goals as goal
@@ -13,7 +14,7 @@ pub loop-place-preserved : goal.loop-place-preserved
 loop-place-preserved g c =
     let h = c.loop-place.invariant in
     let old = c.args.blocks.now.items in
-    let block : Block = record { word = get_or c.args.words.now c.loop-place.place Hup; body = c.in_ok-body.body } in
+    let block : Block = Heard (get_or c.args.words.now c.loop-place.place Hup) c.in_ok-body.body in
     let items = c.push_reserved.ensures.items ∙ (ap (λ xs. xs ++ block ∷ []) h.1 ∙ append_assoc old h.0 (block ∷ [])) in
     let count : length (h.0 ++ block ∷ []) ≡ c.loop-place.place + 1 = omega (arith, length-append h.0 (block ∷ []), h.2) in
     let done =

@@ -1,8 +1,8 @@
 -- What refusals of texts are printed as.
 use Rattle.std.specs.Prelude.{ℕ, List, ◌∷◌, ◌++◌, codes}
 use Rattle.std.specs.Fmt.{decimal}
-use Rattle.pattern_text.specs.declared.refusal.TextRefusal.{TextRefusal}
-use Rattle.pattern_text.specs.declared.refusal.TextRefusal.TheVariants.{Line, Order, Memory}
+use Rattle.call_text.specs.declared.refusal.TextRefusal.{TextRefusal}
+use Rattle.call_text.specs.declared.refusal.TextRefusal.TheVariants.{Line, Order, Memory}
 
 abbrev pub refusal_code : TextRefusal → List ℕ
 refusal_code (Line number) = codes "X1"

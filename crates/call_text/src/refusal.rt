@@ -1,4 +1,4 @@
-//! Why a text is refused.
+//! Why a text of lines is refused.
 use std::alloc::AllocError;
 use std::error::Error;
 use std::fmt;
@@ -17,7 +17,7 @@ pub enum TextRefusal {
 
 impl TextRefusal {
     ghost use Rattle.std.specs.Prelude.{◌≡◌};
-    ghost use Rattle.pattern_text.specs.Codes.{refusal_code};
+    ghost use Rattle.call_text.specs.Codes.{refusal_code};
 
     /// The code of the rule, as it is printed, without the line's number.
     pub fn code(&self) -> &'static str
@@ -33,7 +33,7 @@ impl TextRefusal {
 
 impl fmt::Display for TextRefusal {
     ghost use Rattle.std.specs.Prelude.{Some};
-    ghost use Rattle.pattern_text.specs.Codes.{refusal_text};
+    ghost use Rattle.call_text.specs.Codes.{refusal_text};
 
     ghost output = { λ refusal. Some (refusal_text refusal) };
 
@@ -50,7 +50,7 @@ impl Error for TextRefusal {}
 
 impl From<AllocError> for TextRefusal {
     ghost use Rattle.std.specs.Prelude.{◌≡◌};
-    ghost use Rattle.pattern_text.specs.declared.refusal.TextRefusal.TheVariants.{Memory};
+    ghost use Rattle.call_text.specs.declared.refusal.TextRefusal.TheVariants.{Memory};
 
     ghost from_gives = { λ e r. r ≡ Memory };
 

@@ -1,0 +1,13 @@
+-- The sections of patterns, entry by entry.
+use Rattle.std.proofs.Common.{◌≡◌, ℕ, zero, suc, ◌+◌, List, [], ◌∷◌, ◌++◌, drop, slice_get, refl, sym, ap, ◌∙◌, arith}
+use Rattle.definitions.specs.Run.{Moment}
+use Rattle.pattern_text.specs.PatternsWriting.{event_text, section_text}
+
+pub section_at : (p : List (ℕ × Moment)) (i : ℕ) → section_text (drop i p) ≡ event_text (slice_get p i) ++ section_text (drop (i + 1) p)
+section_at [] zero = refl
+section_at [] (suc i) = let later : suc i + 1 ≡ suc (suc i) = omega arith in ap (λ k. section_text (drop k [])) (sym later)
+section_at (x ∷ xs) zero = refl
+section_at (x ∷ xs) (suc i) =
+    let next : i + 1 ≡ suc i = omega arith in
+    let later : suc i + 1 ≡ suc (suc i) = omega arith in
+    section_at xs i ∙ ap (λ k. event_text (slice_get xs i) ++ section_text (drop k xs)) next ∙ ap (λ k. event_text (slice_get xs i) ++ section_text (drop k (x ∷ xs))) (sym later)

@@ -1,0 +1,6 @@
+pub mod CodeTexts
+pub mod OneLine
+pub mod EntryTexts
+pub mod BlockLines
+pub mod TextLines
+pub mod Transcripts

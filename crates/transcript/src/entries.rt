@@ -1,0 +1,39 @@
+//! Calls with their answers, read.
+ghost use Rattle.std.specs.Prelude.{◌≡◌, option_map};
+ghost use Rattle.transcript.specs.EntryReading.{begins_answer, parted, entry_of};
+
+use call_text::{read_answer, read_call};
+use vocabulary::Entry;
+
+fn begins_answer(text: &[u8]) -> bool
+    ensures { result ≡ begins_answer text.now }
+{
+    match *text {
+        [first, second, third, ..] => first == b' ' && second == b':' && third == b' ',
+        _ => false,
+    }
+}
+
+/// What stands before the last ` : `, and what stands behind it.
+fn parted(text: &[u8]) -> Option<(&[u8], &[u8])>
+    ensures { option_map (λ p. (p.0.now, p.1.now)) result ≡ parted text.now }
+{
+    let mut place = text.len();
+    while place > 0 {
+        place -= 1;
+        if begins_answer(&text[place..]) {
+            return Some((&text[..place], &text[place + 3..]));
+        }
+    }
+    None
+}
+
+/// A call and its answer, without its number.
+pub(crate) fn read_entry(text: &[u8]) -> Option<Entry>
+    ensures { result ≡ entry_of text.now }
+{
+    let (call, answer) = parted(text)?;
+    let (by, call) = read_call(call)?;
+    let answer = read_answer(&call, answer)?;
+    Some(Entry { by, call, answer })
+}
