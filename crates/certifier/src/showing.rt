@@ -6,7 +6,7 @@ ghost use Rattle.certifier.specs.Shown.{fate_of, awaited_one, found_gone, named,
 
 use kernel_model::{Kernel, Pattern};
 use listener_set::{Generation, Numbers, WORKER_LIMIT};
-use rollback_plan::reply_to;
+use call_replies::reply_to;
 use std::alloc::AllocError;
 use vocabulary::{Actor, Answer, Call, Entry, Fate, Name};
 

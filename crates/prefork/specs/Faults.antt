@@ -14,11 +14,14 @@ use Rattle.listener_set.specs.Codes.{address_code}
 use Rattle.master_config.specs.Codes.{config_text}
 use Rattle.master_config.specs.declared.refusal.ConfigRefusal.{ConfigRefusal}
 use Rattle.master_config.specs.declared.refusal.ConfigRefusal.TheVariants as config
-use Rattle.pattern_text.specs.Codes.{refusal_text}
-use Rattle.pattern_text.specs.declared.refusal.TextRefusal.{TextRefusal}
-use Rattle.pattern_text.specs.declared.refusal.TextRefusal.TheVariants as pattern
+use Rattle.call_text.specs.Codes.{refusal_text}
+use Rattle.call_text.specs.declared.refusal.TextRefusal.{TextRefusal}
+use Rattle.call_text.specs.declared.refusal.TextRefusal.TheVariants as pattern
 use Rattle.prefork.specs.declared.fault.Fault.{Fault}
-use Rattle.prefork.specs.declared.fault.Fault.TheVariants.{Usage, Word, Config, Boot, Address, Foreign, Pattern, File, Memory}
+use Rattle.certifier.specs.Codes.{mismatch_code}
+use Rattle.certifier.specs.declared.mismatch.Mismatch.{Mismatch}
+use Rattle.certifier.specs.declared.mismatch.Mismatch.TheVariants as mismatch
+use Rattle.prefork.specs.declared.fault.Fault.TheVariants.{Usage, Word, Config, Boot, Address, Foreign, Pattern, Transcript, Certify, Code, File, Memory}
 
 ---- Which fault a refusal is: want of memory where it is that, and else its own
 
@@ -42,12 +45,22 @@ abbrev pub pattern_fault : TextRefusal → Fault
 pattern_fault pattern.Memory = Memory
 pattern_fault refusal = Pattern refusal
 
+abbrev pub transcript_fault : TextRefusal → Fault
+transcript_fault pattern.Memory = Memory
+transcript_fault refusal = Transcript refusal
+
+abbrev pub block_fault : ℕ → Mismatch → Fault
+block_fault number mismatch.Memory = Memory
+block_fault number other = Certify number other
+
 ---- What a fault says
 
--- the fault of the command line, or of one of its words
+-- 2 for the fault of the command line, or of one of its words, and 5 for a block that is not the master's
 abbrev pub fault_status : Fault → ℕ
 fault_status Usage = 2
 fault_status (Word number refusal) = 2
+fault_status Code = 2
+fault_status (Certify number mismatch) = 5
 fault_status _ = 1
 
 abbrev pub fault_text : Fault → List ℕ
@@ -58,5 +71,8 @@ fault_text (Boot refusal) = codes "boot " ++ boot_code refusal
 fault_text (Address refusal) = codes "held " ++ address_code refusal
 fault_text (Foreign refusal) = codes "held " ++ foreign_code refusal
 fault_text (Pattern refusal) = codes "pattern " ++ refusal_text refusal
+fault_text (Transcript refusal) = codes "transcript " ++ refusal_text refusal
+fault_text (Certify number mismatch) = codes "certify " ++ decimal number ++ codes " " ++ mismatch_code mismatch
+fault_text Code = codes "code"
 fault_text File = codes "file"
 fault_text Memory = codes "memory"

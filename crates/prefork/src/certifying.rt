@@ -1,7 +1,6 @@
 //! `certify`: blocks, compared with plans and kernel.
 use crate::fault::Fault;
 use crate::rehearsal::Rehearsal;
-use certifier::Mismatch;
 use kernel_model::Pattern;
 use std::alloc::{AllocError, Global};
 use word_runner::Block;
@@ -15,10 +14,9 @@ pub fn certify_all(
 ) -> Result<Vec<Pattern>, Fault> {
     let mut patterns = Vec::new(alloc);
     for (place, block) in blocks.iter().enumerate() {
-        match rehearsal.explain(alloc, block) {
+        match rehearsal.certify(alloc, block) {
             Ok(pattern) => patterns.push(pattern).map_err(AllocError::from)?,
-            Err(Mismatch::Memory) => return Err(Fault::Memory),
-            Err(mismatch) => return Err(Fault::Certify(place + 1, mismatch)),
+            Err(mismatch) => return Err(Fault::of_block(place + 1, mismatch)),
         }
     }
     Ok(patterns)

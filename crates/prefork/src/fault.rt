@@ -1,14 +1,15 @@
 //! Faults of the program: a line on standard error and a status.
 ghost use Rattle.std.specs.Prelude.{◌≡◌, Some};
-ghost use Rattle.prefork.specs.Faults.{command_fault, config_fault, boot_fault, foreign_fault, pattern_fault, fault_text, fault_status};
+ghost use Rattle.prefork.specs.Faults.{command_fault, config_fault, boot_fault, foreign_fault, pattern_fault, transcript_fault, block_fault, fault_text, fault_status};
 ghost use Rattle.prefork.specs.declared.fault.Fault.TheVariants.{Memory};
 
+use call_text::TextRefusal;
+use certifier::Mismatch;
 use command_line::Refusal;
 use control_words::WordRefusal;
 use kernel_model::{BootRefusal, ForeignRefusal};
 use listener_set::AddressRefusal;
 use master_config::ConfigRefusal;
-use pattern_text::TextRefusal;
 use std::alloc::AllocError;
 use std::io::{ErrorKind, Write};
 use std::{fmt, io};
@@ -30,6 +31,12 @@ pub enum Fault {
     Foreign(ForeignRefusal),
     /// The patterns on standard input are refused.
     Pattern(TextRefusal),
+    /// The blocks on standard input are refused.
+    Transcript(TextRefusal),
+    /// The block with this number, from 1, is not what the master would have done.
+    Certify(usize, Mismatch),
+    /// The code that is to be explained is none.
+    Code,
     /// A read or a write failed.
     File,
     /// Memory was refused.
@@ -37,6 +44,26 @@ pub enum Fault {
 }
 
 impl Fault {
+    /// Want of memory, or the fault of the blocks.
+    pub fn of_transcript(refusal: TextRefusal) -> Fault
+        ensures { result ≡ transcript_fault refusal }
+    {
+        match refusal {
+            TextRefusal::Memory => Fault::Memory,
+            refusal => Fault::Transcript(refusal),
+        }
+    }
+
+    /// Want of memory, or the fault of the block with this number, from 1.
+    pub fn of_block(number: usize, mismatch: Mismatch) -> Fault
+        ensures { result ≡ block_fault number mismatch }
+    {
+        match mismatch {
+            Mismatch::Memory => Fault::Memory,
+            mismatch => Fault::Certify(number, mismatch),
+        }
+    }
+
     /// Writes the fault's line, and gives the exit status of the program.
     pub fn tell<E: Write>(&self, errors: &mut E) -> u8
         ensures { result ≡ fault_status self.now }
@@ -44,7 +71,8 @@ impl Fault {
         // There is nobody left to tell where standard error is closed too.
         let _ = writeln!(errors, "prefork: {self}");
         match self {
-            Fault::Usage | Fault::Word(..) => 2,
+            Fault::Usage | Fault::Word(..) | Fault::Code => 2,
+            Fault::Certify(..) => 5,
             _ => 1,
         }
     }
@@ -63,6 +91,9 @@ impl fmt::Display for Fault {
             Fault::Address(refusal) => write!(f, "held {}", refusal.code()),
             Fault::Foreign(refusal) => write!(f, "held {}", refusal.code()),
             Fault::Pattern(refusal) => write!(f, "pattern {refusal}"),
+            Fault::Transcript(refusal) => write!(f, "transcript {refusal}"),
+            Fault::Certify(number, mismatch) => write!(f, "certify {number} {mismatch}"),
+            Fault::Code => write!(f, "code"),
             Fault::File => write!(f, "file"),
             Fault::Memory => write!(f, "memory"),
         }

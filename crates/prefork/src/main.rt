@@ -1,12 +1,15 @@
 //! `prefork`: the decision core of a preforking master, whose plans are proved.
 #![tactic(auto)]
 
+mod certifying;
+mod explaining;
 mod fault;
 mod planning;
 mod program;
 mod rehearsal;
 mod start;
 mod status;
+mod why;
 
 use fault::Fault;
 pub use program::run;

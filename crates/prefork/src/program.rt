@@ -9,17 +9,22 @@ ghost use Rattle.prefork.specs.Output.{blocks_text, IsState};
 ghost use Rattle.prefork.specs.Rehearsals.{IsRehearsed};
 ghost use Rattle.prefork.specs.Status.{gravest};
 
+use crate::certifying::certify_all;
+use crate::explaining::explain;
 use crate::fault::Fault;
 use crate::planning::{self, Form};
 use crate::rehearsal::Rehearsal;
 use crate::start::Start;
 use crate::status::gravest;
-use command_line::{EnactOptions, PlanOptions, Request};
+use crate::why;
+use command_line::{CertifyOptions, EnactOptions, PlanOptions, Request};
 use control_words::Word;
 use kernel_model::Pattern;
+use pattern_text::write_patterns;
 use std::alloc::{AllocError, Global};
 use std::io::{Read, Write};
 use std::rt::Files;
+use transcript::read_transcripts;
 use word_runner::Block;
 
 /// Runs the program, and gives its exit status.
@@ -32,21 +37,34 @@ pub fn run<R: AllocGlobal + Files, I: Read, O: Write, E: Write>(
     output: &mut O,
     errors: &mut E,
 ) -> u8 {
-    match answer(rt, args, input, output) {
+    let mut given = Vec::new(rt.alloc());
+    match answer(rt, args, input, &mut given, output) {
         Ok(status) => status,
-        Err(fault) => fault.tell(errors),
+        Err(fault) => {
+            let status = fault.tell(errors);
+            why::tell(rt, args, given.as_slice(), &fault, errors);
+            status
+        }
     }
 }
 
+/// Answers the arguments. What is read of standard input is left in `given`.
 fn answer<R: AllocGlobal + Files, I: Read, O: Write>(
     rt: &R,
     args: &[String],
     input: &mut I,
+    given: &mut Vec<u8>,
     output: &mut O,
 ) -> Result<u8, Fault> {
     match command_line::read(rt.alloc(), args)? {
-        Request::Enact(options) => enact(rt, &options, input, output),
+        Request::Enact(options) => enact(rt, &options, input, given, output),
         Request::Plan(options) => plan(rt, &options, output),
+        Request::Certify(options) => certify(rt, &options, input, given, output),
+        Request::Explain(options) => {
+            let text = explain(rt.alloc(), options.code)?;
+            write(output, text.as_slice())?;
+            Ok(0)
+        }
         Request::Show(text) => {
             write(output, text.as_bytes())?;
             Ok(0)
@@ -70,6 +88,7 @@ fn enact<R: AllocGlobal + Files, I: Read, O: Write>(
     rt: &R,
     options: &EnactOptions<'_>,
     input: &mut I,
+    given: &mut Vec<u8>,
     output: &mut O,
 ) -> Result<u8, Fault> {
     let alloc = rt.alloc();
@@ -79,7 +98,7 @@ fn enact<R: AllocGlobal + Files, I: Read, O: Write>(
     if let Some(address) = options.held {
         rehearsal.hold(address)?;
     }
-    let patterns = read_patterns(alloc, input)?;
+    let patterns = read_patterns(alloc, input, given)?;
     let mut text = Vec::new(alloc);
     let done = rehearse(alloc, &mut rehearsal, &words, &patterns, &mut text);
     let shown = match done {
@@ -102,6 +121,29 @@ fn show_state(rehearsal: &Rehearsal, is_wanted: bool, text: &mut Vec<u8>) -> Res
         text.extend_from_slice(state.as_slice())?;
     }
     Ok(())
+}
+
+/// `certify`: compares the blocks of standard input with plans and kernel, and writes the patterns
+/// that explain them, a section for each.
+fn certify<R: AllocGlobal + Files, I: Read, O: Write>(
+    rt: &R,
+    options: &CertifyOptions<'_>,
+    input: &mut I,
+    given: &mut Vec<u8>,
+    output: &mut O,
+) -> Result<u8, Fault> {
+    let alloc = rt.alloc();
+    let start = Start::read(rt, &options.start)?;
+    let mut rehearsal = Rehearsal::start(alloc, &start)?;
+    if let Some(address) = options.held {
+        rehearsal.hold(address)?;
+    }
+    input.read_to_end(given)?;
+    let blocks = read_transcripts(alloc, given.as_slice()).map_err(Fault::of_transcript)?;
+    let patterns = certify_all(alloc, &mut rehearsal, blocks.as_slice())?;
+    let text = write_patterns(alloc, patterns.as_slice())?;
+    write(output, text.as_slice())?;
+    Ok(0)
 }
 
 /// `plan`: writes what a word would do.
@@ -138,13 +180,17 @@ fn read_words(alloc: Global, texts: &[&str]) -> Result<Vec<Word>, Fault> {
 }
 
 /// The patterns of standard input, one for each word from the first on.
-fn read_patterns<I: Read>(alloc: Global, input: &mut I) -> Result<Vec<Pattern>, Fault>
+fn read_patterns<I: Read>(
+    alloc: Global,
+    input: &mut I,
+    given: &mut Vec<u8>,
+) -> Result<Vec<Pattern>, Fault>
+    requires { given.old.items ≡ [] }
     ensures { IfOk result (λ patterns. IfSome (I.remaining input.old)
         (λ text. patterns_of text ≡ Ok (map moment_at patterns.items))) }
 {
-    let mut text = Vec::new(alloc);
-    input.read_to_end(&mut text)?;
-    Ok(pattern_text::read_patterns(alloc, text.as_slice())?)
+    input.read_to_end(given)?;
+    Ok(pattern_text::read_patterns(alloc, given.as_slice())?)
 }
 
 /// Carries the words out one after another, and appends the block of each to the text. A word

@@ -7,14 +7,16 @@ ghost use Rattle.prefork.specs.Rehearsals.{Held, IsRehearsed};
 
 use crate::fault::Fault;
 use crate::start::{Start, silent_workers};
+use certifier::{Mismatch, certify};
 use control_words::Word;
 use kernel_model::{Kernel, Pattern};
 use listener_set::Address;
 use plan_executor::run_words;
+use plan_runner::CallLog;
 use service_state::Record;
 use std::alloc::Global;
-use vocabulary::{Limits, Settings};
-use word_runner::Block;
+use vocabulary::{Limits, Report, Settings};
+use word_runner::{Asked, Block, Body, asked_by, note};
 use worker_table::WorkerTable;
 
 /// What the modelled kernel of a rehearsal allows.
@@ -91,6 +93,55 @@ impl Rehearsal {
             blocks,
         )?;
         Ok(())
+    }
+
+    /// The pattern that explains a block, from where things stand; then they stand where the block leaves them. A block
+    /// of an unread line or of a refused word changes nothing, and is taken as it is.
+    pub fn certify(&mut self, alloc: Global, block: &Block) -> Result<Pattern, Mismatch> {
+        match block {
+            Block::Unread(_) | Block::Heard(_, Body::Refused(_)) => Ok(Pattern::new(alloc)),
+            Block::Heard(word, Body::Nothing) => self.certify_nothing(alloc, *word),
+            Block::Heard(word, Body::Ran(log, report)) => self.certify_run(alloc, *word, log, report),
+        }
+    }
+
+    /// What a word asks of the master; nothing where it has stopped.
+    fn asked(&self, word: Word) -> Asked {
+        match &self.record {
+            Some(record) => asked_by(word, record, &self.workers, Some(&self.next)),
+            None => Asked::Nothing,
+        }
+    }
+
+    /// A word came to nothing. One with a plan does not; a beat is noted, whatever the table says of it.
+    fn certify_nothing(&mut self, alloc: Global, word: Word) -> Result<Pattern, Mismatch> {
+        match self.asked(word) {
+            Asked::Act(_) => Err(Mismatch::Short),
+            Asked::Beat(heard) => {
+                let _ = note(&mut self.workers, heard);
+                Ok(Pattern::new(alloc))
+            }
+            Asked::Nothing | Asked::Refused(_) => Ok(Pattern::new(alloc)),
+        }
+    }
+
+    /// A word came to calls and a report. Under the pattern that explains them the word is carried out.
+    fn certify_run(
+        &mut self,
+        alloc: Global,
+        word: Word,
+        log: &CallLog,
+        report: &Report,
+    ) -> Result<Pattern, Mismatch> {
+        let (Asked::Act(target), Some(record)) = (self.asked(word), self.record) else {
+            return Err(Mismatch::Step(1));
+        };
+        let pattern = certify(alloc, &self.kernel, &record, &target, log, report)?;
+        let mut patterns = Vec::new(alloc);
+        patterns.push(pattern)?;
+        let mut blocks = Vec::new(alloc);
+        self.act(alloc, &[word], patterns.as_slice(), &mut blocks).map_err(|_| Mismatch::Memory)?;
+        patterns.pop().ok_or(Mismatch::Memory)
     }
 
     /// The table of processes, files and the service.

@@ -1,6 +1,7 @@
 //! `--why`: what is said of a fault behind its line, for people.
 use crate::fault::Fault;
 use call_text::TextRefusal;
+use certifier::Mismatch;
 use command_line::{Request, StartOptions, complaint};
 use explanations::{Explanation, explanation_of};
 use master_config::{ConfigRefusal, Key};
@@ -9,14 +10,7 @@ use std::fs;
 use std::io::Write;
 use std::rt::Files;
 
-/// Whether the arguments ask for more than the line of a fault: `--why` before any `--`.
-pub fn is_asked(args: &[String]) -> bool {
-    args.iter()
-        .take_while(|arg| arg.as_str() != "--")
-        .any(|arg| arg.as_str() == "--why")
-}
-
-/// Says where a fault was found, what stood there, and what its codes mean. `given` is what was read of standard input.
+/// Where the arguments ask for it, says where a fault was found, what stood there, and what its codes mean. `given` is what was read of standard input.
 /// What can't be found out any more, since memory or a file is refused, isn't said.
 pub fn tell<R: AllocGlobal + Files, E: Write>(
     rt: &R,
@@ -26,8 +20,9 @@ pub fn tell<R: AllocGlobal + Files, E: Write>(
     errors: &mut E,
 ) {
     match command_line::read(rt.alloc(), args) {
-        Ok(request) => tell_place(rt, &request, given, fault, errors),
-        Err(_) => tell_complaint(rt.alloc(), args, errors),
+        Ok(request) if is_asked(&request) => tell_place(rt, &request, given, fault, errors),
+        Err(_) if asks(args) => tell_complaint(rt.alloc(), args, errors),
+        _ => return,
     }
     if let Ok(text) = format!(in rt.alloc(); "{fault}") {
         for word in text.as_str().split(' ') {
@@ -36,6 +31,21 @@ pub fn tell<R: AllocGlobal + Files, E: Write>(
             }
         }
     }
+}
+
+/// Whether the request asks for more than the line of a fault. To explain a code there is nothing that can be asked.
+fn is_asked(request: &Request<'_>) -> bool {
+    match start_of(request) {
+        Some(start) => start.why,
+        None => false,
+    }
+}
+
+/// Whether arguments that ask for nothing have a `--why`, before any `--`.
+fn asks(args: &[String]) -> bool {
+    args.iter()
+        .take_while(|arg| arg.as_str() != "--")
+        .any(|arg| arg.as_str() == "--why")
 }
 
 /// What `clap` says of the command line.
@@ -73,7 +83,7 @@ fn tell_place<R: AllocGlobal + Files, E: Write>(
         Fault::Boot(_) => tell_workers(request, errors),
         Fault::Address(_) | Fault::Foreign(_) => tell_held(request, errors),
         Fault::Pattern(refusal) | Fault::Transcript(refusal) => tell_line(given, refusal, errors),
-        Fault::Code => tell_code(request, errors),
+        Fault::Certify(number, mismatch) => tell_block(given, *number, mismatch, errors),
         _ => (),
     }
 }
@@ -97,14 +107,6 @@ fn tell_held<E: Write>(request: &Request<'_>, errors: &mut E) {
     };
     if let Some(held) = held {
         let _ = writeln!(errors, "  --held {held}");
-    }
-}
-
-fn tell_code<E: Write>(request: &Request<'_>, errors: &mut E) {
-    if let Request::Explain(options) = request {
-        if let Some(code) = options.code {
-            let _ = writeln!(errors, "  explain {code}");
-        }
     }
 }
 
@@ -214,4 +216,46 @@ fn tell_key<E: Write>(text: &[u8], key: Key, errors: &mut E) {
             return;
         }
     }
+}
+
+/// A line of standard input, with its number from 1.
+#[derive(Clone, Copy)]
+struct Line<'a> {
+    number: usize,
+    text: &'a [u8],
+}
+
+/// The line of a block that is not as it should be: an entry, or else the block's last line.
+fn tell_block<E: Write>(given: &[u8], number: usize, mismatch: &Mismatch, errors: &mut E) {
+    let wanted = match mismatch {
+        Mismatch::Step(entry) => *entry,
+        _ => usize::MAX,
+    };
+    if let Some(line) = line_of(given, number, wanted) {
+        let _ = write!(errors, "  standard input, line {}: ", line.number);
+        tell_text(Some(line.text), errors);
+    }
+}
+
+/// The line at a place of a block, behind its first line, or the last that the block has before that. Blocks are counted
+/// from 1, and begin with `word` or `unread`.
+fn line_of(given: &[u8], number: usize, place: usize) -> Option<Line<'_>> {
+    let mut begun: usize = 0;
+    let mut behind: usize = 0;
+    let mut found = None;
+    for (index, text) in given.split(|byte| *byte == b'\n').enumerate() {
+        if text.starts_with(b"word ") || text.starts_with(b"unread ") {
+            begun = begun.saturating_add(1);
+            behind = 0;
+        } else {
+            behind = behind.saturating_add(1);
+        }
+        if begun == number && behind <= place && !text.is_empty() {
+            found = Some(Line {
+                number: index.saturating_add(1),
+                text,
+            });
+        }
+    }
+    found
 }

@@ -10,7 +10,6 @@ use Rattle.kernel_model.specs.Room.{LacksNumbers}
 use Rattle.plan_executor.specs.Naming.{listed}
 use Rattle.plan_executor.specs.declared.enactment.EnactRefusal.TheVariants.{Memory, NoNumbers}
 use Rattle.plan_executor.proofs.Exact.{no_plan}
-use Rattle.plan_executor.proofs.Reigning.{heirs}
 use Rattle.certifier.specs.declared.mismatch.Mismatch.TheVariants as mismatch
 use Rattle.certifier.specs.Places.{Holds, FailsBy}
 use Rattle.certifier.specs.Explained.{IsReady, mismatch_of}
@@ -50,7 +49,7 @@ returns c =
     let longest : c.longest.result ≡ height (plan_tree r target) = c.longest.ensures ∙ ap height c.in_ok-plan.ensures.tree in
     let ready : IsReady t r target = record { agrees = agrees; has_plan = plan; numbers = subst (λ n. LacksNumbers t n → ⊥) longest c.in_ok-copy.ensures.numbers } in
     let image : c.state.inside.generation.image ≡ r.generation.image = ap (λ (x : Record). x.generation.image) c.state.view_is in
-    let same : listed c.heir_of-heir.result ≡ heirs_of r target = ap listed c.heir_of-heir.ensures ∙ heirs r target plan in
+    let same : listed c.heir_of-heir.result ≡ heirs_of r target = c.heir_of-heir.ensures in
     let place : record { trail = begin _ _; table = c.in_ok-copy.copy.table; executing = c.state.inside.generation.image ∷ [] } ≡ begins t r target =
     λ i. record { trail = begin (c.in_ok-plan.ensures.tree i) (c.in_ok-plan.ensures.note i); table = (c.in_ok-copy.ensures.same i).table; executing = image i ∷ [] } in
     let all = answered t r target es report ready c.hold.result
