@@ -81,8 +81,8 @@ pub fn enact(
     carry_out(prepared, kernel, state, target, pattern)
 }
 
-/// All that carrying a target out needs: its plan, and room for as many calls as the plan's longest path has steps, on a
-/// copy of the kernel and in a log.
+/// All that carrying a target out needs: its plan, and room for as many calls as the plan's longest path has steps, on
+/// a copy of the kernel and in a log.
 #[derive(Drop)]
 pub(crate) struct Prepared {
     pub(crate) plan: Plan,
@@ -147,8 +147,8 @@ fn planned(alloc: Global, state: &Record, target: &Target) -> Result<Plan, PlanR
     }
 }
 
-/// A copy of a kernel with room for so many calls. Whether numbers are lacking is asked first, so that want of memory is
-/// told only where they are not.
+/// A copy of a kernel with room for so many calls. Whether numbers are lacking is asked first, so that want of memory
+/// is told only where they are not.
 fn reserved_copy(kernel: &Kernel, calls: u32) -> Result<Kernel, EnactRefusal>
     ensures same { IfOk result (λ k. k ≡ record { table = kernel.now.table; room = calls }) }
     ensures formed { IfOk result (λ _. IsFormed kernel.now.table) }
