@@ -5,3 +5,5 @@ pub mod Asking
 pub mod Taking
 pub mod Holding
 pub mod Matching
+pub mod Faults
+pub mod Complete

@@ -21,14 +21,17 @@ use Rattle.reload_planner.specs.declared.refusal.PlanRefusal.{PlanRefusal}
 use Rattle.reload_planner.specs.declared.refusal.PlanRefusal.TheVariants as planner
 use Rattle.plan_executor.specs.declared.enactment.EnactRefusal.{EnactRefusal}
 use Rattle.plan_executor.specs.declared.enactment.EnactRefusal.TheVariants as refusal
-use Rattle.plan_executor.specs.Refusals.{HasNoPlan}
+use Rattle.plan_executor.specs.Refusals.{HasNoPlan, IsRefused}
+use Rattle.plan_executor.proofs.Exact.{no_plan}
+use Rattle.kernel_model.specs.State.{State}
+use Rattle.std.proofs.lemmas.Option.{none-some}
 use Rattle.plan_executor.proofs.Reporting.{whole-run}
 use Rattle.certifier.specs.declared.mismatch.Mismatch.{Mismatch}
 use Rattle.certifier.specs.declared.mismatch.Mismatch.TheVariants as mismatch
 use Rattle.certifier.specs.Shown.{moments_shown}
 use Rattle.certifier.specs.Places.{AreNext, place_after_all, Holds, FailsBy}
 use Rattle.certifier.specs.Explained.{trail_by, IsExplained, IsReady, IsUnready, IsStrange, IsMismatch, mismatch_of}
-use Rattle.certifier.specs.Certified.{IsCertified}
+use Rattle.certifier.specs.Certified.{IsCertified, EnactsSo}
 use Rattle.certifier.proofs.Asking.{not-lost}
 use Rattle.certifier.proofs.Steps.{next-front}
 use Rattle.certifier.proofs.Explaining.{begins, goes-through, next-follows, next-edges, next-trail, next-replays, next-spares, is-explained, is-next}
@@ -103,7 +106,7 @@ front-explained t r target es more whole split all =
     is-explained t r target es
     (next-front text heirs (begins t r target) es more (subst (AreNext text heirs (begins t r target)) split (is-next t r target whole all)))
 
-all-explained : (t : Table) (r : Record) (target : Target) (es : List Entry) (k : ℕ) → IsExplained t r target es → IsExplained t r target (take k es)
+pub all-explained : (t : Table) (r : Record) (target : Target) (es : List Entry) (k : ℕ) → IsExplained t r target es → IsExplained t r target (take k es)
 all-explained t r target es k = front-explained t r target (take k es) (drop k es) es (sym (take-append-drop k es))
 
 fewer-explained : (t : Table) (r : Record) (target : Target) (es : List Entry) (j k : ℕ) → j ≤ k → IsExplained t r target (take k es) → IsExplained t r target (take j es)
@@ -154,6 +157,22 @@ none-fits t r target es report ready pattern holds (mismatch.Step n) h = h.stran
 none-fits t r target es report ready pattern holds mismatch.Short h = h.unfinished (subst (λ (x : Trail). IsOver x.rest) (ended t r target es report ready) holds.over)
 none-fits t r target es report ready pattern holds mismatch.Report h = h.other (subst (λ (x : Trail). Reports x report) (ended t r target es report ready) holds.reports)
 none-fits t r target es report ready pattern holds mismatch.Memory h = h
+
+---- What a certified pattern enacts
+
+pub enacts-so : (first : State) (r : Record) (target : Target) (es : List Entry) (report : Report) (pattern : List (ℕ × Moment)) → IsCertified first.table r target es report pattern → EnactsSo first r target es report pattern
+enacts-so first r target es report pattern is = record {
+  unrefused = unrefused;
+  same_entries = λ last e enacted. sym enacted.is_run.entries_are ∙ is.is_run.entries_are;
+  same_report = λ last e enacted. enacted.is_run.report_is ∙ sym is.is_run.report_is;
+}
+  where
+    unrefused : (why : EnactRefusal) → IsRefused first.table r target (moment_at pattern) why → ⊥
+    unrefused refusal.Memory h = h
+    unrefused refusal.RecordDisagrees h = h is.ready.agrees
+    unrefused (refusal.Plan p) h = no_plan r target p h.no_plan is.ready.has_plan
+    unrefused refusal.NoNumbers h = is.ready.numbers h.lacks
+    unrefused (refusal.MasterNamed k) h = none-some k (sym is.spared ∙ h.first)
 
 ---- What a certification answers
 

@@ -8,7 +8,7 @@ ghost use Rattle.plan_executor.specs.Naming.{listed};
 ghost use Rattle.plan_executor.specs.Refusals.{IsPlannable};
 ghost use Rattle.certifier.specs.Places.{place_of, HasTaken, StopsAt, Holds, FailsBy};
 ghost use Rattle.certifier.specs.Explained.{IsMismatch};
-ghost use Rattle.certifier.specs.Certified.{IsCertified};
+ghost use Rattle.certifier.specs.Certified.{IsCertified, EnactsSo, IsFaultyRun};
 ghost use Rattle.certifier.specs.declared.mismatch.Mismatch.{Mismatch as Why};
 
 use crate::mismatch::Mismatch;
@@ -74,6 +74,9 @@ pub fn certify(
     ensures ok { IfOk result (IsCertified kernel.now.table state.now target.now log.now.entries report.now) }
     ensures exact { (why : Why)
         → IsErrOf result Mismatch.Memory ⊎ (IsErrOf result why ↔ IsMismatch kernel.now.table state.now target.now log.now.entries report.now why) }
+    ensures enacts { IfOk result (EnactsSo kernel.now state.now target.now log.now.entries report.now) }
+    ensures complete { IsFaultyRun kernel.now.table state.now target.now log.now.entries report.now
+        → IfErr result (λ why. (why ≡ Mismatch.Refused) ⊎ (why ≡ Mismatch.Memory)) }
     ensures memory { IsErrOf result Mismatch.Memory → IsPlannable kernel.now.table state.now target.now }
 {
     if !agrees(state, kernel) {

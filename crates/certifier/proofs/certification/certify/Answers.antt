@@ -14,7 +14,10 @@ use Rattle.certifier.specs.declared.mismatch.Mismatch.TheVariants as mismatch
 use Rattle.certifier.specs.Places.{Holds, FailsBy}
 use Rattle.certifier.specs.Explained.{IsReady, mismatch_of}
 use Rattle.certifier.proofs.Explaining.{begins}
-use Rattle.certifier.proofs.Matching.{exact-mismatch, exact-planless, exact-short, answered}
+use Rattle.certifier.proofs.Matching.{exact-mismatch, exact-planless, exact-short, answered, enacts-so}
+use Rattle.certifier.proofs.Complete.{complete-by}
+use Rattle.certifier.specs.Certified.{IsCertified, EnactsSo}
+use Rattle.std.proofs.lemmas.Result.{IfOk-weaker}
 use Rattle.certifier.proofs.certification.certify.Goals as goal
 
 pub returns-then-not-agrees-clause-exact : goal.returns-then-not-agrees-clause-exact
@@ -37,6 +40,19 @@ returns-in_err-copy-clause-exact c =
     exact-short c.args.kernel.now.table c.args.state.now c.args.target.now c.args.log.now.entries c.args.report.now c.from_residual-in_err-copy.result why (p.1 ∙ ap Err same)
     (subst (λ n. (why ≡ Memory) ⊎ ((why ≡ NoNumbers) × LacksNumbers c.args.kernel.now.table n)) (c.longest.ensures ∙ ap height c.in_ok-plan.ensures.tree) c.in_err-copy.ensures.refused)
 
+---- What comes of a run under faults alone
+
+pub returns-then-not-agrees-clause-complete : goal.returns-then-not-agrees-clause-complete
+returns-then-not-agrees-clause-complete c = complete-by c.args.kernel.now.table c.args.state.now c.args.target.now c.args.log.now.entries c.args.report.now _ (returns-then-not-agrees-clause-exact c)
+
+pub returns-in_err-plan-clause-complete : goal.returns-in_err-plan-clause-complete
+returns-in_err-plan-clause-complete c = complete-by c.args.kernel.now.table c.args.state.now c.args.target.now c.args.log.now.entries c.args.report.now c.from_residual.result (returns-in_err-plan-clause-exact c)
+
+pub returns-in_err-copy-clause-complete : goal.returns-in_err-copy-clause-complete
+returns-in_err-copy-clause-complete c = complete-by c.args.kernel.now.table c.args.state.now c.args.target.now c.args.log.now.entries c.args.report.now c.from_residual-in_err-copy.result (returns-in_err-copy-clause-exact c)
+
+---- A target that could be carried out
+
 pub returns : goal.returns
 returns c =
     let t = c.args.kernel.now.table in
@@ -55,4 +71,4 @@ returns c =
     let all = answered t r target es report ready c.hold.result
     (subst (λ (X : Type 0). X) (λ i. IfOk c.hold.result (Holds (c.in_ok-plan.ensures.text i) (same i) (place i) (c.entries.ensures i) report)) c.hold.ensures.ok)
     (subst (λ (X : Type 0). X) (λ i. IfErr c.hold.result (FailsBy (c.in_ok-plan.ensures.text i) (same i) (place i) (c.entries.ensures i) report)) c.hold.ensures.err) in
-    record { ok = all.0; exact = all.1; memory = λ _. record { agrees = agrees; spared = λ p none. no_plan r target p none plan } }
+    record { ok = all.0; exact = all.1; enacts = IfOk-weaker c.hold.result (IsCertified t r target es report) (EnactsSo c.args.kernel.now r target es report) (enacts-so c.args.kernel.now r target es report) all.0; complete = complete-by t r target es report c.hold.result all.1; memory = λ _. record { agrees = agrees; spared = λ p none. no_plan r target p none plan } }

@@ -1,0 +1,145 @@
+-- What comes of a run under faults alone is explained.
+use Rattle.std.proofs.Common.{◌≡◌, ◌⊎◌, inl, inr, ℕ, ◌+◌, true, false, List, [], ◌∷◌, Option, Some, None, Result, Ok, Err, refl, sym, ◌∙◌, ap, subst}
+use Rattle.std.specs.Prelude.{is_some, IfErr}
+use Rattle.definitions.specs.Table.{Table}
+use Rattle.definitions.specs.Record.{Record}
+use Rattle.vocabulary.specs.declared.targets.Target.{Target}
+use Rattle.vocabulary.specs.declared.plans.PidNote.{PidNote}
+use Rattle.vocabulary.specs.declared.plans.Order.{Order}
+use Rattle.vocabulary.specs.declared.calls.Reply.{Reply}
+use Rattle.definitions.specs.Calls.{Fate, Stepped, step_with}
+use Rattle.definitions.specs.Exits.{after_exits}
+use Rattle.definitions.specs.Target.{text_handed}
+use Rattle.definitions.specs.Plans.{plan_tree}
+use Rattle.definitions.specs.Tree.{Tree, Ends, Does, Branches, Nothing, Branch, among, branch, call_of, reply_of}
+use Rattle.definitions.specs.Path.{Entry, Report, Trail, advance, trail_after, IsOver, IsOutcome, Reports}
+use Rattle.definitions.specs.Run.{Progress, Ending, Lost, Ran, start_at, run_with, goes_with, noted, after_moment, after_call, answered, outcome_of}
+use Rattle.definitions.specs.Claims.{names_any, executing_at, executing_after, heirs_of, run_of}
+use Rattle.plan_executor.specs.Lawful.{trail_at, ending_of}
+use Rattle.plan_executor.proofs.Running.{behind}
+use Rattle.certifier.specs.declared.mismatch.Mismatch.{Mismatch}
+use Rattle.certifier.specs.declared.mismatch.Mismatch.TheVariants as mismatch
+use Rattle.certifier.specs.Shown.{moment_shown, stepped_at}
+use Rattle.certifier.specs.Places.{AreNext}
+use Rattle.certifier.specs.Explained.{trail_by, IsMismatch}
+use Rattle.certifier.specs.Certified.{faults_alone, IsFaultyRun}
+use Rattle.certifier.proofs.Faults.{shown-again}
+use Rattle.certifier.proofs.Explaining.{begins, is-explained}
+use Rattle.certifier.proofs.Matching.{IsExact, all-explained}
+
+-- The entries of a run are next one after another from a trail and a table on, and lead to its end.
+pub record Walks (text heirs executing : List ℕ) (start : Trail) (t : Table) (ran : Ran) : Type 0 where
+  pub next : AreNext text heirs (record { trail = start; table = t; executing = executing }) ran.entries
+  pub rest : Option Tree
+  pub trail : trail_after start ran.entries ≡ trail_at rest ran.last
+  pub over : IsOver rest
+  pub ending : ending_of rest ≡ ran.ending
+
+module _ (text heirs : List ℕ) (fates : ℕ → Option Fate) where
+  -- one step, and the walk behind it
+  step-walks : (by : ℕ) (order : Order) (set : List ℕ) (branches : Branches) (p : Progress) (executing : List ℕ) →
+      let s = answered text by order (fates (p.calls + 1)) (after_moment [] p) in
+      let q = after_call order set s (after_moment [] p) in
+      is_some (branch branches (reply_of set s.answer)) ≡ true →
+      Walks text heirs (executing_after (call_of order p.lacking) executing heirs) (behind (branch branches (reply_of set s.answer)) q) q.table (goes_with text branches (reply_of set s.answer) (faults_alone fates) q) →
+      Walks text heirs executing (trail_at (Some (Does by order set branches)) p) p.table (run_with text (Does by order set branches) (faults_alone fates) p)
+  step-walks by order set branches p executing edge walks =
+      let call = call_of order p.lacking in
+      let s = step_with text by call (fates (p.calls + 1)) p.table in
+      let e : Entry = record { by = by; call = call; answer = s.answer } in
+      let start = trail_at (Some (Does by order set branches)) p in
+      let given = answered text by order (fates (p.calls + 1)) (after_moment [] p) in
+      let behind_it = goes_with text branches (reply_of set given.answer) (faults_alone fates) (after_call order set given (after_moment [] p)) in
+      let m = moment_shown text p.table e in
+      let shown = shown-again text by call (fates (p.calls + 1)) p.table in
+      let stepped : stepped_at text p.table m e ≡ s = (λ i. step_with text by call m.fate (after_exits (shown.nobody i) p.table)) ∙ shown.again in
+      record {
+        next = (
+          record {
+            asks = (refl, refl);
+            edge = edge;
+            gives = ap (λ (x : Stepped). x.answer) stepped;
+            spares = ap (names_any (executing_at call executing heirs)) shown.nobody;
+          },
+          subst (λ (t : Table). AreNext text heirs (record { trail = advance start e; table = t; executing = executing_after call executing heirs }) behind_it.entries) (sym (ap (λ (x : Stepped). x.table) stepped)) walks.next,
+        );
+        rest = walks.rest;
+        trail = walks.trail;
+        over = walks.over;
+        ending = walks.ending;
+      }
+
+  -- a note changes nothing of the walk
+  noted-walks : (said : Option PidNote) (rest : Tree) (q : Progress) (executing : List ℕ) → Walks text heirs executing (trail_at (Some rest) (noted said q)) (noted said q).table (run_with text rest (faults_alone fates) (noted said q)) →
+      Walks text heirs executing (behind (Some (said, rest)) q) q.table (run_with text rest (faults_alone fates) (noted said q))
+  noted-walks None rest q executing walks = walks
+  noted-walks (Some n) rest q executing walks = walks
+
+  mutual
+    tree-walks : (tree : Tree) (p : Progress) (executing : List ℕ) → ((run_with text tree (faults_alone fates) p).ending ≡ Lost → ⊥) → Walks text heirs executing (trail_at (Some tree) p) p.table (run_with text tree (faults_alone fates) p)
+    tree-walks (Ends end) p executing not_lost = record { next = tt; rest = Some (Ends end); trail = refl; over = tt; ending = refl }
+    tree-walks (Does by order set branches) p executing not_lost =
+        let s = answered text by order (fates (p.calls + 1)) (after_moment [] p) in
+        let q = after_call order set s (after_moment [] p) in
+        let behind-it = edges-walk branches (reply_of set s.answer) q (executing_after (call_of order p.lacking) executing heirs) not_lost in
+        step-walks by order set branches p executing behind-it.0 behind-it.1
+
+    edges-walk : (bs : Branches) (r : Reply) (q : Progress) (executing : List ℕ) → ((goes_with text bs r (faults_alone fates) q).ending ≡ Lost → ⊥) →
+        (is_some (branch bs r) ≡ true) × Walks text heirs executing (behind (branch bs r) q) q.table (goes_with text bs r (faults_alone fates) q)
+    edges-walk Nothing r q executing not_lost = absurd (not_lost refl)
+    edges-walk (Branch replies said rest more) r q executing not_lost =
+        let here : ((run_with text rest (faults_alone fates) (noted said q)).ending ≡ Lost → ⊥) → Walks text heirs executing (behind (Some (said, rest)) q) q.table (run_with text rest (faults_alone fates) (noted said q)) =
+        λ none. noted-walks said rest q executing (tree-walks rest (noted said q) executing none) in
+        let there = edges-walk more r q executing in
+        elim (among replies r) as (λ b.
+        let ran : Ran = elim b as (λ c. Ran) [ true ↦ run_with text rest (faults_alone fates) (noted said q) | false ↦ goes_with text more r (faults_alone fates) q ] in
+        let found : Option (Option PidNote × Tree) = elim b as (λ c. Option (Option PidNote × Tree)) [ true ↦ Some (said, rest) | false ↦ branch more r ] in
+        (ran.ending ≡ Lost → ⊥) → (is_some found ≡ true) × Walks text heirs executing (behind found q) q.table ran) [
+          | true ↦ λ none. (refl, here none)
+          | false ↦ there
+        ] not_lost
+
+---- Of a target
+
+outcome-so : (rest : Option Tree) (lacking : List ℕ) (ending : Ending) → IsOver rest → ending_of rest ≡ ending → IsOutcome rest lacking (outcome_of ending lacking)
+outcome-so None lacking ending over is = ap (λ e. outcome_of e lacking) (sym is)
+outcome-so (Some (Ends end)) lacking ending over is = ap (λ e. outcome_of e lacking) (sym is)
+outcome-so (Some (Does by order set branches)) lacking ending over is = absurd over
+
+-- what comes of a run under faults alone
+pub record IsGood (t : Table) (r : Record) (target : Target) (entries : List Entry) (report : Report) : Type 0 where
+  pub next : AreNext (text_handed r target) (heirs_of r target) (begins t r target) entries
+  pub over : IsOver (trail_by r target entries).rest
+  pub reports : Reports (trail_by r target entries) report
+
+pub is-good : (t : Table) (r : Record) (target : Target) (entries : List Entry) (report : Report) → IsFaultyRun t r target entries report → IsGood t r target entries report
+is-good t r target entries report h =
+    let text = text_handed r target in
+    let heirs = heirs_of r target in
+    let ran = run_of r target (faults_alone h.fates) t in
+    let not_lost : ran.ending ≡ Lost → ⊥ = λ lost. h.not_lost (ap (λ (x : Report). x.outcome) h.is_run.report_is ∙ ap (λ e. outcome_of e ran.last.lacking) lost) in
+    let w = tree-walks text heirs h.fates (plan_tree r target) (start_at t r.note) (r.generation.image ∷ []) not_lost in
+    let trail : trail_by r target entries ≡ trail_at w.rest ran.last = ap (trail_by r target) (sym h.is_run.entries_are) ∙ w.trail in
+    record {
+      next = subst (AreNext text heirs (begins t r target)) h.is_run.entries_are w.next;
+      over = subst (λ (x : Trail). IsOver x.rest) (sym trail) w.over;
+      reports =
+          subst (λ (x : Trail). Reports x report) (sym trail)
+          (subst (Reports (trail_at w.rest ran.last)) (sym h.is_run.report_is)
+          (record { outcome = outcome-so w.rest ran.last.lacking ran.ending w.over w.ending; cause = refl; note = refl; ready = refl }));
+    }
+
+-- it is refused, if at all, before its first entry
+only-refused : (t : Table) (r : Record) (target : Target) (es : List Entry) (report : Report) → IsGood t r target es report → (why : Mismatch) → IsMismatch t r target es report why → (why ≡ mismatch.Refused) ⊎ (why ≡ mismatch.Memory)
+only-refused t r target es report good mismatch.Refused h = inl refl
+only-refused t r target es report good (mismatch.Step n) h = absurd (h.strange (all-explained t r target es n (is-explained t r target es good.next)))
+only-refused t r target es report good mismatch.Short h = absurd (h.unfinished good.over)
+only-refused t r target es report good mismatch.Report h = absurd (h.other good.reports)
+only-refused t r target es report good mismatch.Memory h = inr refl
+
+pub complete-by : {T : Type 0} (t : Table) (r : Record) (target : Target) (es : List Entry) (report : Report) (result : Result T Mismatch) → IsExact t r target es report result → IsFaultyRun t r target es report → IfErr result (λ why. (why ≡ mismatch.Refused) ⊎ (why ≡ mismatch.Memory))
+complete-by t r target es report (Ok x) exact h = tt
+complete-by t r target es report (Err why) exact h = elim (exact why) [
+  | inl memory ↦ inr (let e : why ≡ mismatch.Memory = cc in e)
+  | inr iff ↦ only-refused t r target es report (is-good t r target es report h) why (iff.0 refl)
+]
