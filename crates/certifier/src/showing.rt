@@ -4,9 +4,9 @@ ghost use Rattle.definitions.specs.Run.{quiet};
 ghost use Rattle.kernel_model.specs.Pattern.{moment_at, IsNameWithin};
 ghost use Rattle.certifier.specs.Shown.{fate_of, awaited_one, found_gone, named, is_count, moment_shown};
 
+use call_replies::reply_to;
 use kernel_model::{Kernel, Pattern};
 use listener_set::{Generation, Numbers, WORKER_LIMIT};
-use call_replies::reply_to;
 use std::alloc::AllocError;
 use vocabulary::{Actor, Answer, Call, Entry, Fate, Name};
 

@@ -22,7 +22,10 @@ fn list(alloc: Global) -> Result<Vec<u8>, AllocError> {
     let mut text = Vec::new(alloc);
     for explanation in &EXPLANATIONS {
         text.extend_from_slice(explanation.code.as_bytes())?;
-        text.resize(text.len() + COLUMN.saturating_sub(explanation.code.len()), b' ')?;
+        text.resize(
+            text.len() + COLUMN.saturating_sub(explanation.code.len()),
+            b' ',
+        )?;
         text.extend_from_slice(explanation.meaning.as_bytes())?;
         text.extend_from_slice(b"\n")?;
     }

@@ -49,7 +49,7 @@ impl Fault {
         ensures { result ≡ transcript_fault refusal }
     {
         match refusal {
-            TextRefusal::Memory => Fault::Memory,
+            TextRefusal::Memory => Self::Memory,
             refusal => Fault::Transcript(refusal),
         }
     }

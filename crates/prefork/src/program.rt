@@ -185,12 +185,14 @@ fn read_patterns<I: Read>(
     input: &mut I,
     given: &mut Vec<u8>,
 ) -> Result<Vec<Pattern>, Fault>
-    requires { given.old.items ≡ [] }
     ensures { IfOk result (λ patterns. IfSome (I.remaining input.old)
         (λ text. patterns_of text ≡ Ok (map moment_at patterns.items))) }
 {
-    input.read_to_end(given)?;
-    Ok(pattern_text::read_patterns(alloc, given.as_slice())?)
+    let mut text = Vec::new(alloc);
+    input.read_to_end(&mut text)?;
+    let patterns = pattern_text::read_patterns(alloc, text.as_slice());
+    *given = text;
+    Ok(patterns?)
 }
 
 /// Carries the words out one after another, and appends the block of each to the text. A word

@@ -2,6 +2,7 @@
 ghost use Rattle.std.specs.Prelude.{◌≡◌, ◌+◌, ◌++◌, List, length, OnOk, IfOk};
 ghost use Rattle.table_text.specs.TableText.{IsTextOf};
 ghost use Rattle.word_runner.specs.declared.block.Block.{Block as Done};
+ghost use Rattle.word_runner.specs.Asking.{IsPossible};
 ghost use Rattle.prefork.specs.Starts.{IsStarted};
 ghost use Rattle.prefork.specs.Rehearsals.{Held, IsRehearsed};
 
@@ -14,7 +15,7 @@ use listener_set::Address;
 use plan_executor::run_words;
 use plan_runner::CallLog;
 use service_state::Record;
-use std::alloc::Global;
+use std::alloc::{AllocError, Global};
 use vocabulary::{Limits, Report, Settings};
 use word_runner::{Asked, Block, Body, asked_by, note};
 use worker_table::WorkerTable;
@@ -101,12 +102,16 @@ impl Rehearsal {
         match block {
             Block::Unread(_) | Block::Heard(_, Body::Refused(_)) => Ok(Pattern::new(alloc)),
             Block::Heard(word, Body::Nothing) => self.certify_nothing(alloc, *word),
-            Block::Heard(word, Body::Ran(log, report)) => self.certify_run(alloc, *word, log, report),
+            Block::Heard(word, Body::Ran(log, report)) => self.certify_run(
+                alloc, *word, log, report,
+            ),
         }
     }
 
     /// What a word asks of the master; nothing where it has stopped.
-    fn asked(&self, word: Word) -> Asked {
+    fn asked(&self, word: Word) -> Asked
+        ensures { IsPossible result }
+    {
         match &self.record {
             Some(record) => asked_by(word, record, &self.workers, Some(&self.next)),
             None => Asked::Nothing,
@@ -138,9 +143,10 @@ impl Rehearsal {
         };
         let pattern = certify(alloc, &self.kernel, &record, &target, log, report)?;
         let mut patterns = Vec::new(alloc);
-        patterns.push(pattern)?;
+        patterns.push(pattern).map_err(AllocError::from)?;
         let mut blocks = Vec::new(alloc);
-        self.act(alloc, &[word], patterns.as_slice(), &mut blocks).map_err(|_| Mismatch::Memory)?;
+        self.act(alloc, &[word], patterns.as_slice(), &mut blocks)
+            .map_err(|_| Mismatch::Memory)?;
         patterns.pop().ok_or(Mismatch::Memory)
     }
 

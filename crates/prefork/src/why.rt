@@ -140,7 +140,8 @@ fn tell_line<E: Write>(given: &[u8], refusal: &TextRefusal, errors: &mut E) {
 
 /// The line with this number, counted from 1; none behind the end.
 fn line_at(text: &[u8], number: usize) -> Option<&[u8]> {
-    text.split(|byte| *byte == b'\n').nth(number.wrapping_sub(1))
+    text.split(|byte| *byte == b'\n')
+        .nth(number.wrapping_sub(1))
 }
 
 /// A text on the rest of the line.

@@ -57,7 +57,10 @@ impl Batch<'_> {
         ensures { slice_get (calls_of self.now) place ≡ Some result }
     {
         match self {
-            Batch::Workers(asked, generation, numbers) => asked.call(*generation, at(numbers, place)),
+            Batch::Workers(asked, generation, numbers) => asked.call(
+                *generation,
+                at(numbers, place),
+            ),
             Batch::Opens(addresses) => Call::OpenAt(at(addresses, place)),
             Batch::Closes(addresses) => Call::CloseAt(at(addresses, place)),
         }
