@@ -1,0 +1,16 @@
+use Rattle.std.proofs.Common.{List, ◌≤◌, ◌-◌, [], vec_len, vec_capacity, drop, take}
+use Rattle.child_edge.specs.Each.{counts_each}
+use Rattle.child_edge.specs.Workers.{Worker}
+use Rattle.child_edge.specs.Table.{Turn}
+use Rattle.child_edge.specs.Turns.{GoesOn}
+use Rattle.child_edge.proofs.each.count_each.Given as goal
+
+abbrev pub invariant-loop-at : goal.invariant-loop-at
+invariant-loop-at g l = record {
+  within : l.at ≤ vec_len l.workers;
+  goes : (rest : List Worker → Turn) → GoesOn (g.F.Family.told l.initial.family) (g.F.Family.told l.family) (counts_each l.who [] l.initial.workers.items rest) (counts_each l.who (take l.at l.workers.items) (drop l.at l.workers.items) rest);
+  spare : vec_capacity l.initial.workers - vec_len l.initial.workers ≤ vec_capacity l.workers - vec_len l.workers;
+}
+
+abbrev pub decreases-loop-at : goal.decreases-loop-at
+decreases-loop-at g l = vec_len l.workers - l.at

@@ -1,0 +1,8 @@
+use Rattle.std.proofs.Common.{drop}
+use Rattle.child_edge.specs.Each.{stops_each}
+use Rattle.child_edge.specs.Turns.{GoesOn}
+use Rattle.child_edge.specs.Table.{Turn}
+use Rattle.child_edge.proofs.each.stop_each.Given as goal
+
+abbrev pub invariant-loop-worker : goal.invariant-loop-worker
+invariant-loop-worker g l = (rest : Turn) → GoesOn (g.F.Family.told l.initial.family) (g.F.Family.told l.family) (stops_each l.who l.workers rest) (stops_each l.who (drop l.worker-index l.workers) rest)

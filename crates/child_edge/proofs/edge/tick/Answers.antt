@@ -1,0 +1,23 @@
+use Rattle.std.proofs.Common.{ℕ, List, [], ◌∙◌, sym, ap, ◌≡◌, length, arith}
+use Rattle.std.proofs.lemmas.List.{with_items_is}
+use Rattle.vocabulary.specs.declared.calls.Answer.TheVariants.{Counted}
+use Rattle.child_edge.specs.State.{state_of}
+use Rattle.child_edge.specs.Workers.{Worker, IsReady}
+use Rattle.child_edge.specs.Each.{says_each, beats_each}
+use Rattle.child_edge.specs.Table.{answers, with_workers}
+use Rattle.child_edge.proofs.Turning.{goes-both, goes-from, goes-into}
+use Rattle.child_edge.proofs.edge.tick.Goals as goal
+
+pub returns-clause-turn : goal.returns-clause-turn
+returns-clause-turn g c =
+    let s = state_of c.args.state.now in
+    let next = λ (p : List Worker × List ℕ). answers (with_workers s p.0) (Counted p.1) in
+    let beats = beats_each c.args.now [] [] c.args.state.now.workers.items (λ ws numbers. next (ws, numbers)) in
+    let said = c.say_each.ensures beats in
+    let heard = c.beat_each.ensures next in
+    let line = c.bytes.ensures.text ∙ c.tick_line.ensures in
+    let sized : length c.beat_each.new.workers ≡ c.args.state.now.workers.len = omega (arith, c.beat_each.auto.workers, c.deref_mut.ensures.len, c.args.state.now.workers.ok.0) in
+    let kept = with_items_is c.args.state.now.workers c.beat_each.new.workers sized in
+    goes-into _ _ _ _ _ (ap (λ ws. next (ws, c.beat_each.result)) (sym kept))
+    (goes-from _ _ _ _ _ (ap (λ t. says_each IsReady t c.args.state.now.workers.items beats) (sym line) ∙ ap (λ ws. says_each IsReady c.bytes.result.now ws beats) (sym c.deref.ensures.value))
+    (goes-both _ _ _ _ _ _ said (goes-from _ _ _ _ _ (ap (λ ws. beats_each c.args.now [] [] ws (λ left numbers. next (left, numbers))) (sym c.deref_mut.ensures.value)) heard)))

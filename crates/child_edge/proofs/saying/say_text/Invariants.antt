@@ -1,0 +1,12 @@
+use Rattle.std.proofs.Common.{length}
+use Rattle.call_text.specs.Lines.{lines_of}
+use Rattle.child_edge.specs.Each.{says_lines}
+use Rattle.child_edge.specs.Table.{Turn}
+use Rattle.child_edge.specs.Turns.{GoesOn}
+use Rattle.child_edge.proofs.saying.say_text.Given as goal
+
+abbrev pub invariant-loop-rest : goal.invariant-loop-rest
+invariant-loop-rest g l = (next : Turn) → GoesOn (g.F.Family.told l.initial.family) (g.F.Family.told l.family) (says_lines l.id (lines_of l.text) next) (says_lines l.id (lines_of l.rest) next)
+
+abbrev pub decreases-loop-rest : goal.decreases-loop-rest
+decreases-loop-rest g l = length l.rest

@@ -1,0 +1,8 @@
+pub mod Workers
+pub mod State
+pub mod Lines
+pub mod Each
+pub mod Table
+pub mod Turns
+pub mod Edge
+pub mod EdgeLemmas

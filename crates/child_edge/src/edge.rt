@@ -1,0 +1,213 @@
+//! The edge: the calls of a plan, made on real children.
+ghost use Rattle.std.specs.Prelude.{◌≡◌, ℕ, ◌≤◌, ◌<◌, ◌-◌, ◌+◌, ◌++◌, ◌∷◌, [], List, Option, max, IsTrue, IfOk, OnOk, OnErr, vec_len, vec_capacity};
+ghost use Rattle.definitions.specs.Tree.{is_listed};
+ghost use Rattle.vocabulary.specs.declared.calls.Answer.TheVariants.{Counted};
+ghost use Rattle.vocabulary.specs.declared.reports.Entry.{Entry};
+ghost use Rattle.child_family.specs.Told.{Told};
+ghost use Rattle.child_family.specs.Talk.{Held};
+ghost use Rattle.child_edge.specs.State.{State, state_of};
+ghost use Rattle.child_edge.specs.Table.{answers, turn_of, tick_turn};
+ghost use Rattle.child_edge.specs.EdgeLemmas.{CallsHeld-none};
+ghost use Rattle.child_edge.specs.Edge.{begun, begun_by, begun_from, start_of, start_after, CallsHeld};
+ghost use Rattle.child_edge.specs.Turns.{GoesOn};
+
+use crate::each::{beat_each, say_each};
+use crate::lines::tick_line;
+use crate::state::EdgeState;
+use crate::who::Who;
+use crate::worker::Worker;
+use crate::{own, passing};
+use child_family::Family;
+use handover_text::{Handover, Listeners};
+use listener_set::Numbers;
+use plan_runner::Calls;
+use service_state::Record;
+use std::alloc::{AllocError, Global};
+use vocabulary::{Actor, Answer, Call};
+
+/// Makes the calls of a plan on a family of real children. All memory that they need is taken beforehand, apart from
+/// what the family itself takes.
+#[derive(Drop)]
+pub struct Edge<F: Family + Drop> {
+    family: F,
+    state: EdgeState,
+    alloc: Global,
+    room: u32,
+    ghost roomy: { room ≤ vec_capacity state.workers - vec_len state.workers },
+}
+
+fn begun(alloc: Global, image: u32, pid: u32, listeners: &Listeners, adopted: bool) -> EdgeState
+    ensures { state_of result ≡ begun image pid listeners.now adopted }
+{
+    EdgeState {
+        image,
+        pid,
+        listeners: *listeners,
+        workers: Vec::new(alloc),
+        starts: 0,
+        child: None,
+        adopted,
+        left: false,
+        text: Vec::new(alloc),
+    }
+}
+
+impl<F: Family + Drop> Edge<F> {
+    /// An edge that knows the state, with room for so many calls.
+    fn with_state(
+        alloc: Global,
+        family: F,
+        mut state: EdgeState,
+        room: u32,
+    ) -> Result<Edge<F>, AllocError>
+        ensures state { IfOk result (λ e. state_of e.state ≡ state_of state) }
+        ensures family { IfOk result (λ e. e.family ≡ family) }
+        ensures room { IfOk result (λ e. e.room ≡ room) }
+    {
+        state.workers.reserve(room as usize)?;
+        Ok(Edge {
+            family,
+            state,
+            alloc,
+            room,
+        })
+    }
+
+    /// The edge of a master that runs by itself, with room for so many calls. The only refusal is want of memory.
+    pub fn new(alloc: Global, family: F, known: &Record, room: u32) -> Result<Edge<F>, AllocError>
+        ensures state { IfOk result (λ e. state_of e.state ≡ begun_by known.now) }
+        ensures family { IfOk result (λ e. e.family ≡ family) }
+        ensures room { IfOk result (λ e. e.room ≡ room) }
+    {
+        let state = begun(
+            alloc,
+            known.generation.image,
+            known.pid,
+            &known.listeners,
+            false,
+        );
+        Edge::with_state(alloc, family, state, room)
+    }
+
+    /// The edge of a new master of that process number which takes over, with room for so many calls. The only refusal is
+    /// want of memory.
+    pub fn adopt(
+        alloc: Global,
+        family: F,
+        handover: &Handover,
+        pid: u32,
+        room: u32,
+    ) -> Result<Edge<F>, AllocError>
+        ensures state { IfOk result (λ e. state_of e.state ≡ begun_from handover.now pid) }
+        ensures family { IfOk result (λ e. e.family ≡ family) }
+        ensures room { IfOk result (λ e. e.room ≡ room) }
+    {
+        let state = begun(
+            alloc,
+            handover.generation.image,
+            pid,
+            &handover.listeners,
+            true,
+        );
+        Edge::with_state(alloc, family, state, room)
+    }
+
+    /// The family of its children.
+    pub fn family(&self) -> &F
+        ensures { result.now ≡ self.now.family }
+    {
+        &self.family
+    }
+
+    /// Raises the room to so many calls where it is less, and keeps a copy of the handover's text. The only refusal is want
+    /// of memory; nothing has changed then.
+    pub fn reserve(&mut self, calls: u32, text: &[u8]) -> Result<(), AllocError>
+        ensures state { OnOk result (state_of self.new.state ≡ record (state_of self.old.state) { text = text.now }) }
+        ensures room { OnOk result (self.new.room ≡ max self.old.room calls) }
+        ensures family { self.new.family ≡ self.old.family }
+        ensures refused { OnErr result (state_of self.new.state ≡ state_of self.old.state) }
+        ensures refused_room { OnErr result (self.new.room ≡ self.old.room) }
+    {
+        let kept = text.to_vec(self.alloc)?;
+        self.state.workers.reserve(calls as usize)?;
+        self.state.text = kept;
+        self.room = self.room.max(calls);
+        Ok(())
+    }
+
+    /// Tells each ready worker the moment, and then hears each. Gives the numbers of those that beat then.
+    pub fn tick(&mut self, now: u64) -> Numbers
+        ensures turn { Held (F.told self.old.family) (F.told self.new.family) (tick_turn (state_of self.old.state) now) (state_of self.new.state, Counted result) }
+        ensures room { self.new.room ≡ self.old.room }
+    {
+        tick(&mut self.family, &mut self.state, now)
+    }
+
+    /// The start that the last beat of a worker's number named.
+    pub fn start_of(&self, nr: u32) -> Option<u32>
+        ensures { result ≡ start_of nr self.now.state.workers.items }
+    {
+        start_of(&self.state.workers, nr)
+    }
+}
+
+fn start_of(workers: &[Worker], nr: u32) -> Option<u32>
+    ensures { result ≡ start_of nr workers.now }
+{
+    let mut found = None;
+    for worker in workers {
+        if Who::IsReady.means(worker) && worker.nr == nr && worker.beat.is_some() {
+            found = worker.beat;
+        }
+    }
+    found
+}
+
+fn tick<F: Family>(family: &mut F, state: &mut EdgeState, now: u64) -> Numbers
+    ensures turn { GoesOn (F.told family.old) (F.told family.new) (tick_turn (state_of state.old) now) (answers (state_of state.new) (Counted result)) }
+    ensures spare { vec_capacity state.old.workers - vec_len state.old.workers ≤ vec_capacity state.new.workers - vec_len state.new.workers }
+{
+    say_each(family, &state.workers, Who::IsReady, tick_line(now).bytes());
+    beat_each(family, &mut state.workers, now)
+}
+
+/// Makes a call: of the edge's own image, or by its child master.
+fn make<F: Family>(family: &mut F, state: &mut EdgeState, by: Actor, call: &Call) -> Answer
+    requires { vec_len state.old.workers < vec_capacity state.old.workers }
+    ensures turn { GoesOn (F.told family.old) (F.told family.new) (turn_of (state_of state.old) by call.now) (answers (state_of state.new) result) }
+    ensures listed { IsTrue (is_listed call.now result) }
+    ensures spare { vec_capacity state.old.workers - vec_len state.old.workers ≤ (vec_capacity state.new.workers - vec_len state.new.workers) + 1 }
+{
+    if by.0 != state.image {
+        return passing::pass(family, state, by, call);
+    }
+    if state.left {
+        return Answer::MasterGone;
+    }
+    own::make(family, state, call)
+}
+
+impl<F: Family + Drop> Calls for Edge<F> {
+    ghost room = { λ e. e.room };
+
+    ghost follows = { λ first entries last. CallsHeld (F.told first.family) (F.told last.family) (state_of first.state) entries (state_of last.state) };
+
+    ghost follows_none = { λ e. CallsHeld-none (F.told e.family) (state_of e.state) };
+
+    fn room(&self) -> u32 {
+        self.room
+    }
+
+    fn make(&mut self, by: Actor, call: &Call) -> Answer
+        requires { 1 ≤ self.old.room }
+        ensures turn { Held (F.told self.old.family) (F.told self.new.family) (turn_of (state_of self.old.state) by call.now) (state_of self.new.state, result) }
+        ensures room { self.old.room ≤ self.new.room + 1 }
+        ensures falls { self.new.room ≤ self.old.room }
+        ensures listed { IsTrue (is_listed call.now result) }
+        ensures follows { (told : Option (List Told)) (first : State) (entries : List Entry) → CallsHeld told (F.told self.old.family) first entries (state_of self.old.state)
+            → CallsHeld told (F.told self.new.family) first (entries ++ (record { by = by; call = call.now; answer = result }) ∷ []) (state_of self.new.state) }
+    {
+        self.room -= 1;
+        make(&mut self.family, &mut self.state, by, call)
+    }
+}

@@ -1,0 +1,44 @@
+-- Conversations that were held, call by call.
+use Rattle.std.proofs.Common.{refl, sym, ◌∙◌, ap, subst, ℕ, Bool, List, [], ◌∷◌, ◌++◌, append_assoc, append-nil, Option, Some, None, Result}
+use Rattle.child_family.specs.Told.{Told, Tells, Hearing, Role, StartFault, started, said, heard, stopped, awaited, wrote, renamed, removed}
+use Rattle.child_family.specs.Talk.{Talk, ends, starts, says, hears, stops, awaits, writes, renames, removes, IsHeld, Held}
+
+-- nothing was told, and nothing was to be told
+pub held-end : {A : Type 0} (now : Option (List Told)) (a : A) → Held now now (ends a) a
+held-end None a = record { told = tt }
+held-end (Some xs) a = record { told = (xs, [], refl, sym (append-nil xs), (refl, refl)) }
+
+-- one call, and then a conversation
+held-step : {A : Type 0} (old mid new : Option (List Told)) (call : Told) (talk next : Talk A) (a : A) → Tells old mid call → Held mid new next a
+    → ((more : List Told) → IsHeld next more a → IsHeld talk (call ∷ more) a) → Held old new talk a
+held-step old mid None call talk next a t h join = record { told = tt }
+held-step {A} old mid (Some zs) call talk next a t h join =
+    let k = h.told in
+    let F : Option (List Told) → Type 0 = λ o. Tells old o call in
+    let first : Tells old (Some k.0) call = subst F k.2 t in
+    let m = first.told in
+    record { told = (m.0, call ∷ k.1, m.1, k.3 ∙ ap (λ l. l ++ k.1) m.2 ∙ append_assoc m.0 (call ∷ []) k.1, join k.1 k.4) }
+
+pub held-starts : {A : Type 0} {old mid new : Option (List Told)} {role : Role} {then : Result ℕ StartFault → Talk A} {a : A} (r : Result ℕ StartFault) → Tells old mid (started role r) → Held mid new (then r) a → Held old new (starts role then) a
+held-starts r t h = held-step _ _ _ _ _ _ _ t h (λ more k. (r, more, refl, k))
+
+pub held-says : {A : Type 0} {old mid new : Option (List Told)} {id : ℕ} {text : List ℕ} {then : Bool → Talk A} {a : A} (r : Bool) → Tells old mid (said id text r) → Held mid new (then r) a → Held old new (says id text then) a
+held-says r t h = held-step _ _ _ _ _ _ _ t h (λ more k. (r, more, refl, k))
+
+pub held-hears : {A : Type 0} {old mid new : Option (List Told)} {id : ℕ} {then : Hearing → Talk A} {a : A} (r : Hearing) → Tells old mid (heard id r) → Held mid new (then r) a → Held old new (hears id then) a
+held-hears r t h = held-step _ _ _ _ _ _ _ t h (λ more k. (r, more, refl, k))
+
+pub held-stops : {A : Type 0} {old mid new : Option (List Told)} {id : ℕ} {then : Talk A} {a : A} → Tells old mid (stopped id) → Held mid new then a → Held old new (stops id then) a
+held-stops t h = held-step _ _ _ _ _ _ _ t h (λ more k. (more, refl, k))
+
+pub held-awaits : {A : Type 0} {old mid new : Option (List Told)} {id : ℕ} {then : Bool → Talk A} {a : A} (r : Bool) → Tells old mid (awaited id r) → Held mid new (then r) a → Held old new (awaits id then) a
+held-awaits r t h = held-step _ _ _ _ _ _ _ t h (λ more k. (r, more, refl, k))
+
+pub held-writes : {A : Type 0} {old mid new : Option (List Told)} {path text : List ℕ} {then : Bool → Talk A} {a : A} (r : Bool) → Tells old mid (wrote path text r) → Held mid new (then r) a → Held old new (writes path text then) a
+held-writes r t h = held-step _ _ _ _ _ _ _ t h (λ more k. (r, more, refl, k))
+
+pub held-renames : {A : Type 0} {old mid new : Option (List Told)} {from to : List ℕ} {then : Bool → Talk A} {a : A} (r : Bool) → Tells old mid (renamed from to r) → Held mid new (then r) a → Held old new (renames from to then) a
+held-renames r t h = held-step _ _ _ _ _ _ _ t h (λ more k. (r, more, refl, k))
+
+pub held-removes : {A : Type 0} {old mid new : Option (List Told)} {path : List ℕ} {then : Bool → Talk A} {a : A} (r : Bool) → Tells old mid (removed path r) → Held mid new (then r) a → Held old new (removes path then) a
+held-removes r t h = held-step _ _ _ _ _ _ _ t h (λ more k. (r, more, refl, k))

@@ -1,0 +1,20 @@
+-- What a family in memory tells.
+use Rattle.std.specs.Prelude.{List, map, Option, Some, None, if◌then◌else◌}
+use Rattle.tests_of_children.specs.declared.recorded.Asked.{Asked}
+use Rattle.tests_of_children.specs.declared.recorded.Asked.TheVariants.{Started, Said, HeardLine, Stopped, Awaited, Wrote, Renamed, Removed}
+use Rattle.tests_of_children.specs.declared.recorded.Recorded.{Recorded}
+use Rattle.child_family.specs.Told.{Told, heard_of, started, said, heard, stopped, awaited, wrote, renamed, removed}
+
+abbrev pub told_of : Asked → Told
+told_of (Started role result) = started role result
+told_of (Said id line ok) = said id line.items ok
+told_of (HeardLine id h line) = heard id (heard_of h line.items)
+told_of (Stopped id) = stopped id
+told_of (Awaited id ok) = awaited id ok
+told_of (Wrote path contents ok) = wrote path contents.items ok
+told_of (Renamed from to ok) = renamed from to ok
+told_of (Removed path ok) = removed path ok
+
+-- the calls that were made, unless one could not be kept
+abbrev pub calls_of : Recorded → Option (List Told)
+calls_of r = if r.is_whole then Some (map told_of r.calls.items) else None

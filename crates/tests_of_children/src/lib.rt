@@ -1,0 +1,15 @@
+//! Tests of children: a family in memory, which tells its calls, and processes of the system.
+#![tactic(auto)]
+
+#[cfg(test)]
+mod edges;
+mod obeying;
+#[cfg(test)]
+mod plans;
+#[cfg(test)]
+mod processes;
+mod recorded;
+#[cfg(test)]
+mod setup;
+
+pub use recorded::{Asked, Recorded};

@@ -1,0 +1,169 @@
+//! Children in memory that obey as workers and masters do.
+use child_family::{Heard, Role, StartFault};
+use plain_text::Line;
+use std::alloc::Global;
+
+/// A child: what it was told last, and the number of its start as text.
+#[derive(Drop)]
+struct Child {
+    id: u32,
+    is_master: bool,
+    start: Vec<u8>,
+    last: Vec<u8>,
+}
+
+/// Children that obey. A worker gives its beat only where every other worker was told the same tick.
+#[derive(Drop)]
+pub(crate) struct Obeying {
+    alloc: Global,
+    children: Vec<Child>,
+    next: u32,
+    made: usize,
+    fails: Option<usize>,
+}
+
+/// The last word of a line.
+fn last_word(line: &[u8]) -> &[u8] {
+    line.rsplit(|byte| *byte == b' ').next().unwrap_or(line)
+}
+
+/// What a worker answers.
+fn obey(child: &Child, line: &mut Line) -> bool {
+    match child.last.as_slice() {
+        b"go" => line.push(b"ready"),
+        b"ping" => line.push(b"pong"),
+        b"quit" => line.push(b"gone"),
+        last => match last.strip_prefix(b"tick ".as_slice()) {
+            Some(now) => {
+                line.push(b"beat ");
+                line.push(now);
+                line.push(b" ");
+                line.push(&child.start);
+            }
+            None => return false,
+        },
+    }
+    true
+}
+
+/// The verb of a call line, `mI VERB ..`.
+fn verb(line: &[u8]) -> &[u8] {
+    line.split(|byte| *byte == b' ').nth(1).unwrap_or(line)
+}
+
+/// What a master answers: plainly, but for a call that asks for another master.
+fn pass(child: &Child, line: &mut Line) -> bool {
+    if child.last.as_slice() == b"alive".as_slice() {
+        line.push(b"alive");
+        return true;
+    }
+    match verb(&child.last) {
+        b"adopt" => line.push(b"adopted"),
+        b"open" => line.push(b"opened 4"),
+        b"fork" => line.push(b"forked"),
+        b"await-ready" => line.push(b"ready"),
+        b"census" => line.push(b"counted 0"),
+        b"alive" => line.push(b"what"),
+        _ => line.push(b"ok"),
+    }
+    true
+}
+
+impl Obeying {
+    pub(crate) fn new(alloc: Global, fails: Option<usize>) -> Obeying {
+        Obeying {
+            alloc,
+            children: Vec::new(alloc),
+            next: 10,
+            made: 0,
+            fails,
+        }
+    }
+
+    /// Counts a call; false for the one that fails.
+    pub(crate) fn does(&mut self) -> bool {
+        let number = self.made;
+        self.made = number.saturating_add(1);
+        self.fails != Some(number)
+    }
+
+    pub(crate) fn start(&mut self, role: &Role) -> Result<u32, StartFault> {
+        if !self.does() {
+            return Err(StartFault::Again);
+        }
+        let id = self.next;
+        self.next = id.saturating_add(1);
+        let child = Child {
+            id,
+            is_master: matches!(role, Role::Master { .. }),
+            start: Vec::new(self.alloc),
+            last: Vec::new(self.alloc),
+        };
+        match self.children.push(child) {
+            Ok(()) => Ok(id),
+            Err(_) => Err(StartFault::NoMemory),
+        }
+    }
+
+    fn place(&self, id: u32) -> Option<usize> {
+        self.children.iter().position(|child| child.id == id)
+    }
+
+    pub(crate) fn say(&mut self, id: u32, line: &[u8]) -> bool {
+        let Some(place) = self.place(id) else {
+            return false;
+        };
+        if !self.does() {
+            return false;
+        }
+        let Ok(last) = line.to_vec(self.alloc) else {
+            return false;
+        };
+        let Some(child) = self.children.get_mut(place) else {
+            return false;
+        };
+        if line.starts_with(b"worker ") {
+            if let Ok(start) = last_word(line).to_vec(self.alloc) {
+                child.start = start;
+            }
+        }
+        child.last = last;
+        true
+    }
+
+    /// Whether a line is no tick, or every worker was told it last.
+    fn may_answer(&self, line: &[u8]) -> bool {
+        !line.starts_with(b"tick ")
+            || self
+                .children
+                .iter()
+                .all(|child| child.is_master || child.last.as_slice() == line)
+    }
+
+    pub(crate) fn hear(&mut self, id: u32, line: &mut Line) -> Heard {
+        line.clear();
+        if !self.does() {
+            return Heard::Ended;
+        }
+        let Some(place) = self.place(id) else {
+            return Heard::Ended;
+        };
+        let Some(child) = self.children.get(place) else {
+            return Heard::Ended;
+        };
+        let answers = if child.is_master {
+            pass(child, line)
+        } else {
+            self.may_answer(&child.last) && obey(child, line)
+        };
+        if answers { Heard::Line } else { Heard::Ended }
+    }
+
+    pub(crate) fn forget(&mut self, id: u32) {
+        if let Some(place) = self.place(id) {
+            if place < self.children.len() {
+                self.children.remove(place);
+            }
+        }
+    }
+}

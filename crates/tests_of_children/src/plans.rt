@@ -1,0 +1,131 @@
+//! Plans carried out on children in memory, of which each call fails in turn.
+ghost use Rattle.definitions.specs.Target.{IsTarget};
+
+use crate::recorded::{Asked, Recorded};
+use crate::setup::ask;
+use child_edge::Edge;
+use listener_set::Numbers;
+use plan_runner::{CallLog, Calls, execute};
+use service_state::Record;
+use std::alloc::Global;
+use std::test::Fail;
+use vocabulary::{Answer, Call, Outcome, Settings, Target};
+
+/// Carries a target out. Gives what the master knows then, or none where nothing runs.
+fn carry_out(
+    alloc: Global,
+    edge: &mut Edge<Recorded>,
+    known: &Record,
+    target: &Target,
+) -> Result<(Outcome, Option<Record>), Fail>
+    requires { IsTarget target.now }
+{
+    let Ok(plan) = target_planner::plan(alloc, known, target) else {
+        return Ok((Outcome::Lost, None));
+    };
+    let longest = plan.longest();
+    edge.reserve(longest, plan.text())?;
+    let mut log = CallLog::with_room(alloc, longest)?;
+    if edge.room() < longest {
+        return Ok((Outcome::Lost, None));
+    }
+    let report = execute(&plan, edge, &mut log);
+    Ok((report.outcome, known.after(target, &report, known.pid)))
+}
+
+/// Whether a line is answered.
+fn is_answered(line: &[u8]) -> bool {
+    match line {
+        b"go" | b"ping" | b"quit" | b"alive" => true,
+        _ => line.starts_with(b"m"),
+    }
+}
+
+/// Whether no child was heard more often than it was told a line with an answer.
+fn hears_no_answer_twice(calls: &[Asked]) -> bool {
+    for (at, call) in calls.iter().enumerate() {
+        if let Asked::HeardLine(id, _, _) = call {
+            if heard(&calls[..at], *id) >= told(&calls[..at], *id) {
+                return false;
+            }
+        }
+    }
+    true
+}
+
+fn heard(calls: &[Asked], id: u32) -> usize {
+    calls
+        .iter()
+        .filter(|call| matches!(call, Asked::HeardLine(other, _, _) if *other == id))
+        .count()
+}
+
+fn told(calls: &[Asked], id: u32) -> usize {
+    calls
+        .iter()
+        .filter(
+            |call| matches!(call, Asked::Said(other, line, _) if *other == id && is_answered(line)),
+        )
+        .count()
+}
+
+/// Whether the edge's own master has left. Whoever runs then can be lost.
+fn has_left(edge: &mut Edge<Recorded>) -> Result<bool, Fail> {
+    edge.reserve(1, &[])?;
+    Ok(ask(edge, 1, Call::Adopt) == Some(Answer::MasterGone))
+}
+
+/// How a start of two workers and a change of them end, where a call of the family fails. A run that is lost once the
+/// edge's own master has left counts as done.
+fn outcomes(alloc: Global, change: &Target, fails: Option<usize>) -> Result<[Outcome; 2], Fail>
+    requires { IsTarget change.now }
+{
+    let known = Record::start(&Settings::plain(), 0, &Numbers::none(), 100);
+    let mut edge = Edge::new(alloc, Recorded::new(alloc, fails), &known, 0)?;
+    let (started, next) = carry_out(alloc, &mut edge, &known, &Target::Workers(2))?;
+    let known = next.unwrap_or(known);
+    let (changed, next) = carry_out(alloc, &mut edge, &known, change)?;
+    if !hears_no_answer_twice(edge.family().calls()) {
+        return Ok([Outcome::Lost, Outcome::Lost]);
+    }
+    if changed == Outcome::Lost && has_left(&mut edge)? {
+        return Ok([started, Outcome::Done]);
+    }
+    if let Some(known) = next {
+        let _ = carry_out(alloc, &mut edge, &known, &Target::Stop { quick: true })?;
+    }
+    Ok([started, changed])
+}
+
+#[test]
+fn carries_targets_out(rt: HostRuntime) -> Result<(), Fail> {
+    let alloc = rt.alloc();
+    for change in &[
+        Target::Reopen,
+        Target::Reload(Settings::plain()),
+        Target::Upgrade(Settings::plain()),
+        Target::Stop { quick: false },
+    ] {
+        let ended = outcomes(alloc, change, None)?;
+        assert!(rt; ended == [Outcome::Done, Outcome::Done]);
+    }
+    Ok(())
+}
+
+#[test]
+fn no_failing_call_loses_a_master(rt: HostRuntime) -> Result<(), Fail> {
+    let alloc = rt.alloc();
+    for fails in 0..40 {
+        for change in &[
+            Target::Reload(Settings::plain()),
+            Target::Upgrade(Settings::plain()),
+        ] {
+            let ended = outcomes(alloc, change, Some(fails))?;
+            assert!(rt;
+                ended[0] != Outcome::Lost && ended[1] != Outcome::Lost,
+                "at {fails}"
+            );
+        }
+    }
+    Ok(())
+}
