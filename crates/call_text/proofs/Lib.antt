@@ -7,3 +7,5 @@ pub mod AnswerTexts
 pub mod NameTexts
 pub mod ReportTexts
 pub mod LineTexts
+pub mod ShortTexts
+pub mod TextLines

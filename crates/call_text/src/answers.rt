@@ -1,16 +1,16 @@
 //! Texts of answers.
-ghost use Rattle.std.specs.Prelude.{◌≡◌, ◌++◌, [], IfOk};
-ghost use Rattle.definitions.specs.Tree.{reply_of};
+ghost use Rattle.std.specs.Prelude.{◌≡◌, ◌<◌, ◌≤◌, ◌++◌, length, IfOk};
+ghost use Rattle.plain_text.specs.Kept.{kept};
 ghost use Rattle.call_text.specs.CallText.{answer_word, answer_text};
 ghost use Rattle.call_text.specs.Reads.{Reads};
 ghost use Rattle.call_text.specs.Ranges.{IsAnswerTo};
 ghost use Rattle.call_text.specs.AnswerReading.{listed, is_answer, plain_of, answer_about, answer_of, answer_to};
 
-use crate::replies::replies_to;
 use crate::sets::{read_numbers, write_set};
-use plain_text::{cut, number_within, write_number};
-use std::alloc::AllocError;
-use vocabulary::{Answer, Call, Reply};
+use call_replies::{replies_to, reply_to};
+use listener_set::Numbers;
+use plain_text::{LINE_BYTES, Line, Sink, cut, number_within, write_number};
+use vocabulary::{Answer, Call};
 
 /// The first word of an answer.
 fn answer_word(answer: &Answer) -> &'static str
@@ -39,56 +39,43 @@ fn answer_word(answer: &Answer) -> &'static str
     }
 }
 
-/// Puts an answer behind what was written, without a newline. The only refusal is want of memory.
-pub fn write_answer(out: &mut Vec<u8>, answer: &Answer) -> Result<(), AllocError>
-    ensures { IfOk result (λ _. out.new.items ≡ out.old.items ++ answer_text answer.now) }
+/// Puts an answer behind what was written, without a newline.
+#[tactic(auto, using(plain_text::proofs::KeptTexts::kept_on))]
+pub(crate) fn put_answer<S: Sink>(out: &mut S, answer: &Answer) -> Result<(), S::Refusal>
+    ensures text { IfOk result (λ _. S.text out.new ≡ kept S.most (S.text out.old ++ answer_text answer.now)) }
+    ensures short { IfOk result (λ _. length (answer_text answer.now) ≤ 3600) }
 {
-    out.extend_from_slice(answer_word(answer).as_bytes())?;
+    out.put(answer_word(answer).as_bytes())?;
     match answer {
         Answer::Opened(descriptor) => {
-            out.extend_from_slice(b" ")?;
+            out.put(b" ")?;
             write_number(out, u64::from(*descriptor))
         }
         Answer::Counted(numbers) => {
-            out.extend_from_slice(b" ")?;
+            out.put(b" ")?;
             write_set(out, numbers)
         }
         _ => Ok(()),
     }
 }
 
-/// What a plan tells apart of an answer; each count is full here.
-fn reply_of(answer: &Answer) -> Reply
-    ensures { result ≡ reply_of [] answer.now }
+/// Makes a line of an answer, without a newline, for which it leaves room. What the line held is
+/// lost.
+pub fn write_answer(answer: &Answer, line: &mut Line)
+    ensures text { line.new ≡ answer_text answer.now }
+    ensures room { length line.new < LINE_BYTES }
 {
-    match answer {
-        Answer::Opened(_) => Reply::Opened,
-        Answer::InUse => Reply::InUse,
-        Answer::TooMany => Reply::TooMany,
-        Answer::Denied => Reply::Denied,
-        Answer::NoMemory => Reply::NoMemory,
-        Answer::Fine => Reply::Fine,
-        Answer::Forked => Reply::Forked,
-        Answer::Again => Reply::Again,
-        Answer::IsReady => Reply::IsReady,
-        Answer::Gone => Reply::Gone,
-        Answer::Late => Reply::Late,
-        Answer::Counted(_) => Reply::Full,
-        Answer::Spawned => Reply::Spawned,
-        Answer::NoImage => Reply::NoImage,
-        Answer::Adopted => Reply::Adopted,
-        Answer::Refused => Reply::Refused,
-        Answer::IoFault => Reply::IoFault,
-        Answer::IsAlive => Reply::IsAlive,
-        Answer::MasterGone => Reply::MasterGone,
+    line.clear();
+    match put_answer(line, answer) {
+        Ok(()) => (),
     }
 }
 
-/// Whether a call can have this answer.
+/// Whether a call can have this answer; each count is full here.
 fn is_listed(call: &Call, answer: &Answer) -> bool
     ensures { result ≡ listed call.now answer.now }
 {
-    replies_to(call).contains(&reply_of(answer))
+    replies_to(call).contains(&reply_to(answer, &Numbers::none()))
 }
 
 /// The answers of one word.

@@ -1,56 +1,93 @@
-//! Texts of calls, put behind what was written before.
-ghost use Rattle.std.specs.Prelude.{◌≡◌, ◌++◌, IfOk};
+//! Texts of calls.
+ghost use Rattle.std.specs.Prelude.{◌≡◌, ◌<◌, ◌≤◌, ◌++◌, ◌∷◌, length, IfOk};
 ghost use Rattle.std.specs.Fmt.{decimal};
-ghost use Rattle.call_text.specs.CallText.{worker_text, missing_text, master_text, call_text, call_line, order_line};
+ghost use Rattle.plain_text.specs.Kept.{kept};
+ghost use Rattle.call_text.specs.CallText.{worker_text, missing_text, master_text, call_text, call_line, order_text, order_line};
+ghost use Rattle.listener_set.specs.GenerationText.{generation_text};
 
-use listener_set::Generation;
-use plain_text::write_number;
-use std::alloc::AllocError;
+use listener_set::{FilePath, Generation};
+use plain_text::{LINE_BYTES, Line, Sink, write_number};
 use vocabulary::{Actor, Call, Order};
 
 /// A verb and a text that it is about.
-fn write_about(out: &mut Vec<u8>, verb: &str, text: &[u8]) -> Result<(), AllocError>
-    ensures { IfOk result (λ _. out.new.items ≡ out.old.items ++ (verb.now ++ text.now)) }
+#[tactic(auto, using(plain_text::proofs::KeptTexts::kept_on))]
+fn write_about<S: Sink>(out: &mut S, verb: &str, text: &[u8]) -> Result<(), S::Refusal>
+    ensures { IfOk result (λ _. S.text out.new ≡ kept S.most (S.text out.old ++ (verb.now ++ text.now))) }
 {
-    out.extend_from_slice(verb.as_bytes())?;
-    out.extend_from_slice(text)
+    out.put(verb.as_bytes())?;
+    out.put(text)
+}
+
+/// A verb and two paths.
+#[tactic(auto, using(plain_text::proofs::KeptTexts::kept_on))]
+fn write_paths<S: Sink>(
+    out: &mut S,
+    verb: &str,
+    from: &FilePath,
+    to: &FilePath,
+) -> Result<(), S::Refusal>
+    ensures text { IfOk result (λ _. S.text out.new ≡ kept S.most (S.text out.old ++ (verb.now ++ (from.now ++ 32 ∷ to.now)))) }
+    ensures short { IfOk result (λ _. length (from.now ++ 32 ∷ to.now) ≤ 215) }
+{
+    write_about(out, verb, from.bytes())?;
+    write_about(out, " ", to.bytes())
+}
+
+/// A verb and a generation.
+#[tactic(auto, using(plain_text::proofs::KeptTexts::kept_on))]
+fn write_generation<S: Sink>(
+    out: &mut S,
+    verb: &str,
+    generation: Generation,
+) -> Result<(), S::Refusal>
+    ensures text { IfOk result (λ _. S.text out.new ≡ kept S.most (S.text out.old ++ (verb.now ++ generation_text generation))) }
+    ensures short { IfOk result (λ _. length (generation_text generation) ≤ 41) }
+{
+    out.put(verb.as_bytes())?;
+    generation.write(out)
 }
 
 /// A verb and the worker that it is about.
-fn write_named(
-    out: &mut Vec<u8>,
+#[tactic(auto, using(plain_text::proofs::KeptTexts::kept_on))]
+fn write_named<S: Sink>(
+    out: &mut S,
     verb: &str,
     generation: Generation,
     nr: u32,
-) -> Result<(), AllocError>
-    ensures { IfOk result (λ _. out.new.items ≡ out.old.items ++ (verb.now ++ worker_text generation nr)) }
+) -> Result<(), S::Refusal>
+    ensures text { IfOk result (λ _. S.text out.new ≡ kept S.most (S.text out.old ++ (verb.now ++ worker_text generation nr))) }
+    ensures short { IfOk result (λ _. length (worker_text generation nr) ≤ 62) }
 {
-    out.extend_from_slice(verb.as_bytes())?;
+    out.put(verb.as_bytes())?;
     generation.write(out)?;
-    out.extend_from_slice(b" ")?;
+    out.put(b" ")?;
     write_number(out, u64::from(nr))
 }
 
 /// A verb and the worker of a settle, which has no number before the plan runs.
-fn write_missing(out: &mut Vec<u8>, verb: &str, generation: Generation) -> Result<(), AllocError>
-    ensures { IfOk result (λ _. out.new.items ≡ out.old.items ++ missing_text verb.now generation) }
+#[tactic(auto, using(plain_text::proofs::KeptTexts::kept_on))]
+fn write_missing<S: Sink>(out: &mut S, verb: &str, generation: Generation) -> Result<(), S::Refusal>
+    ensures { IfOk result (λ _. S.text out.new ≡ kept S.most (S.text out.old ++ missing_text verb.now generation)) }
 {
-    out.extend_from_slice(verb.as_bytes())?;
+    out.put(verb.as_bytes())?;
     generation.write(out)?;
-    out.extend_from_slice(b" missing")
+    out.put(b" missing")
 }
 
 /// A verb and the number of an image.
-fn write_image(out: &mut Vec<u8>, verb: &str, image: u32) -> Result<(), AllocError>
-    ensures { IfOk result (λ _. out.new.items ≡ out.old.items ++ (verb.now ++ decimal image)) }
+#[tactic(auto, using(plain_text::proofs::KeptTexts::kept_on))]
+fn write_image<S: Sink>(out: &mut S, verb: &str, image: u32) -> Result<(), S::Refusal>
+    ensures text { IfOk result (λ _. S.text out.new ≡ kept S.most (S.text out.old ++ (verb.now ++ decimal image))) }
+    ensures short { IfOk result (λ _. length (decimal image) ≤ 20) }
 {
-    out.extend_from_slice(verb.as_bytes())?;
+    out.put(verb.as_bytes())?;
     write_number(out, u64::from(image))
 }
 
 /// A call without its master.
-fn write_verb(out: &mut Vec<u8>, call: &Call) -> Result<(), AllocError>
-    ensures { IfOk result (λ _. out.new.items ≡ out.old.items ++ call_text call.now) }
+fn write_verb<S: Sink>(out: &mut S, call: &Call) -> Result<(), S::Refusal>
+    ensures text { IfOk result (λ _. S.text out.new ≡ kept S.most (S.text out.old ++ call_text call.now)) }
+    ensures short { IfOk result (λ _. length (call_text call.now) ≤ 250) }
 {
     match call {
         Call::OpenAt(address) => write_about(out, "open ", address.bytes()),
@@ -59,56 +96,71 @@ fn write_verb(out: &mut Vec<u8>, call: &Call) -> Result<(), AllocError>
         Call::AwaitReady(generation, nr) => write_named(out, "await-ready ", *generation, *nr),
         Call::Quit(generation, nr) => write_named(out, "quit ", *generation, *nr),
         Call::Kill(generation, nr) => write_named(out, "kill ", *generation, *nr),
-        Call::Census(generation) => {
-            out.extend_from_slice(b"census ")?;
-            generation.write(out)
-        }
+        Call::Census(generation) => write_generation(out, "census ", *generation),
         Call::AwaitGone(generation, nr) => write_named(out, "await-gone ", *generation, *nr),
         Call::SpawnMaster(image) => write_image(out, "spawn-master ", *image),
-        Call::Adopt => out.extend_from_slice(b"adopt"),
+        Call::Adopt => out.put(b"adopt"),
         Call::WritePid(path) => write_about(out, "write-pid ", path.bytes()),
-        Call::MovePid(from, to) => {
-            write_about(out, "move-pid ", from.bytes())?;
-            write_about(out, " ", to.bytes())
-        }
+        Call::MovePid(from, to) => write_paths(out, "move-pid ", from, to),
         Call::RemovePid(path) => write_about(out, "remove-pid ", path.bytes()),
         Call::Alive(image) => write_image(out, "alive ", *image),
-        Call::Leave => out.extend_from_slice(b"leave"),
+        Call::Leave => out.put(b"leave"),
         Call::Usr1(generation, nr) => write_named(out, "usr1 ", *generation, *nr),
         Call::TermMaster(image) => write_image(out, "term-master ", *image),
     }
 }
 
 /// Puts a master behind what was written: `m` and the number of its image.
-fn write_master(out: &mut Vec<u8>, by: Actor) -> Result<(), AllocError>
-    ensures { IfOk result (λ _. out.new.items ≡ out.old.items ++ master_text by) }
+#[tactic(auto, using(plain_text::proofs::KeptTexts::kept_on))]
+fn write_master<S: Sink>(out: &mut S, by: Actor) -> Result<(), S::Refusal>
+    ensures text { IfOk result (λ _. S.text out.new ≡ kept S.most (S.text out.old ++ master_text by)) }
+    ensures short { IfOk result (λ _. length (master_text by) ≤ 21) }
 {
-    out.extend_from_slice(b"m")?;
+    out.put(b"m")?;
     write_number(out, u64::from(by.0))
 }
 
 /// Puts a call behind what was written, without a newline: the master that makes it, and what it
-/// asks for. The only refusal is want of memory.
-pub fn write_call(out: &mut Vec<u8>, by: Actor, call: &Call) -> Result<(), AllocError>
-    ensures { IfOk result (λ _. out.new.items ≡ out.old.items ++ call_line by call.now) }
+/// asks for.
+pub(crate) fn put_call<S: Sink>(out: &mut S, by: Actor, call: &Call) -> Result<(), S::Refusal>
+    ensures text { IfOk result (λ _. S.text out.new ≡ kept S.most (S.text out.old ++ call_line by call.now)) }
+    ensures short { IfOk result (λ _. length (call_line by call.now) ≤ 300) }
 {
     write_master(out, by)?;
-    out.extend_from_slice(b" ")?;
+    out.put(b" ")?;
     write_verb(out, call)
 }
 
-/// Puts a step of a plan behind what was written, without a newline: the master that makes it, and
-/// what it asks for. A worker of a settle has the word `missing` in place of its number. The only
-/// refusal is want of memory.
-pub fn write_order(out: &mut Vec<u8>, by: Actor, order: &Order) -> Result<(), AllocError>
-    ensures { IfOk result (λ _. out.new.items ≡ out.old.items ++ order_line by order.now) }
+/// Makes a line of a call, without a newline, for which it leaves room: the master that makes it,
+/// and what it asks for. What the line held is lost.
+pub fn write_call(by: Actor, call: &Call, line: &mut Line)
+    ensures text { line.new ≡ call_line by call.now }
+    ensures room { length line.new < LINE_BYTES }
 {
-    write_master(out, by)?;
-    out.extend_from_slice(b" ")?;
+    line.clear();
+    match put_call(line, by, call) {
+        Ok(()) => (),
+    }
+}
+
+/// What a step asks for.
+fn write_step<S: Sink>(out: &mut S, order: &Order) -> Result<(), S::Refusal>
+    ensures { IfOk result (λ _. S.text out.new ≡ kept S.most (S.text out.old ++ order_text order.now)) }
+{
     match order {
         Order::Make(call) => write_verb(out, call),
         Order::ForkLacking(generation) => write_missing(out, "fork ", *generation),
         Order::AwaitLacking(generation) => write_missing(out, "await-ready ", *generation),
         Order::KillLacking(generation) => write_missing(out, "kill ", *generation),
     }
+}
+
+/// Puts a step of a plan behind what was written, without a newline: the master that makes it, and
+/// what it asks for. A worker of a settle has the word `missing` in place of its number.
+pub fn write_order<S: Sink>(out: &mut S, by: Actor, order: &Order) -> Result<(), S::Refusal>
+    ensures { IfOk result (λ _. S.text out.new ≡ kept S.most (S.text out.old ++ order_line by order.now)) }
+{
+    write_master(out, by)?;
+    out.put(b" ")?;
+    write_step(out, order)
 }

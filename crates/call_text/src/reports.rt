@@ -1,9 +1,9 @@
 //! Texts of reports and of the calls that were made.
 ghost use Rattle.std.specs.Prelude.{◌≡◌, ◌++◌, IfOk};
-ghost use Rattle.call_text.specs.ReportText.{outcome_text, cause_text, report_text, entry_text, entries_text};
+ghost use Rattle.call_text.specs.ReportText.{outcome_text, cause_text, report_text, entry_text};
 
-use crate::answers::write_answer;
-use crate::calls::write_call;
+use crate::answers::put_answer;
+use crate::calls::put_call;
 use crate::words::{note_text, side_text};
 use plain_text::write_number;
 use std::alloc::AllocError;
@@ -46,25 +46,14 @@ pub fn write_report(out: &mut Vec<u8>, report: &Report) -> Result<(), AllocError
     out.extend_from_slice(note_text(report.note).as_bytes())
 }
 
-/// The line of the n-th call of a block.
-fn write_entry(out: &mut Vec<u8>, number: u64, entry: &Entry) -> Result<(), AllocError>
+/// Puts the line of the n-th call of a block behind what was written. The only refusal is want of memory.
+pub fn write_entry(out: &mut Vec<u8>, number: u64, entry: &Entry) -> Result<(), AllocError>
     ensures { IfOk result (λ _. out.new.items ≡ out.old.items ++ entry_text number entry.now) }
 {
     write_number(out, number)?;
     out.extend_from_slice(b" ")?;
-    write_call(out, entry.by, &entry.call)?;
+    put_call(out, entry.by, &entry.call)?;
     out.extend_from_slice(b" : ")?;
-    write_answer(out, &entry.answer)?;
+    put_answer(out, &entry.answer)?;
     out.extend_from_slice(b"\n")
-}
-
-/// Puts a line for each call behind what was written, numbered from 1. The only refusal is want of
-/// memory.
-pub fn write_entries(out: &mut Vec<u8>, entries: &[Entry]) -> Result<(), AllocError>
-    ensures { IfOk result (λ _. out.new.items ≡ out.old.items ++ entries_text 1 entries.now) }
-{
-    for (place, entry) in entries.iter().enumerate() {
-        write_entry(out, place as u64 + 1, entry)?;
-    }
-    Ok(())
 }

@@ -1,43 +1,46 @@
 //! Texts of sets of numbers.
-ghost use Rattle.std.specs.Prelude.{◌≡◌, ◌<◌, ◌+◌, ◌-◌, ◌++◌, [], IfOk, IfSome, option_map};
+ghost use Rattle.std.specs.Prelude.{◌≡◌, ◌<◌, ◌≤◌, ◌+◌, ◌-◌, ◌++◌, [], length, IfOk, IfSome, option_map};
 ghost use Rattle.std.specs.List.{slice_split};
 ghost use Rattle.listener_set.specs.Numbers.{AreNumbers};
+ghost use Rattle.plain_text.specs.Kept.{kept};
 ghost use Rattle.call_text.specs.SetText.{run_text, set_text};
 ghost use Rattle.call_text.specs.Reads.{Reads};
 ghost use Rattle.call_text.specs.SetReading.{is_comma, with_run, several_of, run_of, begun, with_part, with_parts, numbers_in, set_of};
 
 use crate::parts::read_worker_number;
 use listener_set::{Numbers, WORKER_LIMIT};
-use plain_text::{cut, write_number};
-use std::alloc::AllocError;
+use plain_text::{Sink, cut, write_number};
 
 /// A run of numbers: one number, or the first and the last of several.
-fn write_run(out: &mut Vec<u8>, first: u32, last: u32) -> Result<(), AllocError>
-    ensures { IfOk result (λ _. out.new.items ≡ out.old.items ++ run_text first last) }
+#[tactic(auto, using(plain_text::proofs::KeptTexts::kept_on))]
+fn write_run<S: Sink>(out: &mut S, first: u32, last: u32) -> Result<(), S::Refusal>
+    ensures { IfOk result (λ _. S.text out.new ≡ kept S.most (S.text out.old ++ run_text first last)) }
 {
     write_number(out, u64::from(first))?;
     if first == last {
         return Ok(());
     }
-    out.extend_from_slice(b"-")?;
+    out.put(b"-")?;
     write_number(out, u64::from(last))
 }
 
 /// Puts a set of numbers behind what was written: its maximal runs in ascending order, joined by
-/// commas, or `none`. The only refusal is want of memory.
-pub fn write_set(out: &mut Vec<u8>, numbers: &Numbers) -> Result<(), AllocError>
-    ensures { IfOk result (λ _. out.new.items ≡ out.old.items ++ set_text numbers.now) }
+/// commas, or `none`.
+#[tactic(auto, using(plain_text::proofs::KeptTexts::three_on, crate::proofs::ShortTexts::set_short))]
+pub fn write_set<S: Sink>(out: &mut S, numbers: &Numbers) -> Result<(), S::Refusal>
+    ensures text { IfOk result (λ _. S.text out.new ≡ kept S.most (S.text out.old ++ set_text numbers.now)) }
+    ensures short { length (set_text numbers.now) ≤ 3588 }
 {
     let mut members = numbers.iter();
     let Some(lowest) = members.next() else {
-        return out.extend_from_slice(b"none");
+        return out.put(b"none");
     };
     let mut first = lowest;
     let mut last = lowest;
     for number in members {
         if number.checked_sub(1) != Some(last) {
             write_run(out, first, last)?;
-            out.extend_from_slice(b",")?;
+            out.put(b",")?;
             first = number;
         }
         last = number;

@@ -9,19 +9,24 @@ use Rattle.vocabulary.specs.declared.plans.Order.{Order}
 use Rattle.vocabulary.specs.declared.calls.Reply.{Reply}
 use Rattle.definitions.specs.Calls.{Fate, Stepped, step_with}
 use Rattle.definitions.specs.Exits.{after_exits}
-use Rattle.definitions.specs.Target.{text_handed}
+use Rattle.definitions.specs.Target.{text_handed, want}
 use Rattle.definitions.specs.Plans.{plan_tree}
 use Rattle.definitions.specs.Tree.{Tree, Ends, Does, Branches, Nothing, Branch, among, branch, call_of, reply_of}
 use Rattle.definitions.specs.Path.{Entry, Report, Trail, advance, trail_after, IsOver, IsOutcome, Reports}
 use Rattle.definitions.specs.Run.{Progress, Ending, Lost, Ran, start_at, run_with, goes_with, noted, after_moment, after_call, answered, outcome_of}
-use Rattle.definitions.specs.Claims.{names_any, executing_at, executing_after, heirs_of, run_of}
+use Rattle.definitions.specs.Service.{service}
+use Rattle.definitions.specs.Claims.{IsStart, HasDescriptors, Says, names_any, executing_at, executing_after, refused_among, heirs_of, run_of}
 use Rattle.plan_executor.specs.Lawful.{trail_at, ending_of}
+use Rattle.plan_executor.specs.Enacted.{EndsSo}
+use Rattle.plan_executor.specs.Refusals.{HasPlan}
+use Rattle.plan_executor.specs.declared.enactment.EnactRefusal.{EnactRefusal}
+use Rattle.plan_executor.specs.declared.enactment.EnactRefusal.TheVariants as refusal
 use Rattle.plan_executor.proofs.Running.{behind}
 use Rattle.certifier.specs.declared.mismatch.Mismatch.{Mismatch}
 use Rattle.certifier.specs.declared.mismatch.Mismatch.TheVariants as mismatch
 use Rattle.certifier.specs.Shown.{moment_shown, stepped_at}
 use Rattle.certifier.specs.Places.{AreNext}
-use Rattle.certifier.specs.Explained.{trail_by, IsMismatch}
+use Rattle.certifier.specs.Explained.{trail_by, IsMismatch, mismatch_of}
 use Rattle.certifier.specs.Certified.{faults_alone, IsFaultyRun}
 use Rattle.certifier.proofs.Faults.{shown-again}
 use Rattle.certifier.proofs.Explaining.{begins, is-explained}
@@ -106,19 +111,38 @@ outcome-so None lacking ending over is = ap (λ e. outcome_of e lacking) (sym is
 outcome-so (Some (Ends end)) lacking ending over is = ap (λ e. outcome_of e lacking) (sym is)
 outcome-so (Some (Does by order set branches)) lacking ending over is = absurd over
 
+---- It is not lost
+
+-- where nobody exits, nobody executing does
+none-named : (fates : ℕ → Option Fate) (executing heirs : List ℕ) (n : ℕ) (es : List Entry) → refused_among executing heirs (faults_alone fates) n es ≡ None
+none-named fates executing heirs n [] = refl
+none-named fates executing heirs n (e ∷ es) = none-named fates (executing_after e.call executing heirs) heirs (n + 1) es
+
+-- The target could be carried out, as far as its plan's end rests on that.
+pub record IsDue (t : Table) (r : Record) (target : Target) : Type 0 where
+  pub start : IsStart t r
+  pub descriptors : HasDescriptors t r
+  pub has_plan : HasPlan r target
+  pub ends : EndsSo target
+
+never-lost : (t : Table) (r : Record) (target : Target) → IsDue t r target → (fates : ℕ → Option Fate) → (run_of r target (faults_alone fates) t).ending ≡ Lost → ⊥
+never-lost t r target due fates lost =
+    let ran = run_of r target (faults_alone fates) t in
+    let kept = due.ends t r (faults_alone fates) due.start due.descriptors due.has_plan (none-named fates (r.generation.image ∷ []) (heirs_of r target) 0 ran.entries) in
+    subst (λ e. Says (outcome_of e ran.last.lacking) (service t) (want r target) ran.last.table) lost kept.ends.says
+
 -- what comes of a run under faults alone
 pub record IsGood (t : Table) (r : Record) (target : Target) (entries : List Entry) (report : Report) : Type 0 where
   pub next : AreNext (text_handed r target) (heirs_of r target) (begins t r target) entries
   pub over : IsOver (trail_by r target entries).rest
   pub reports : Reports (trail_by r target entries) report
 
-pub is-good : (t : Table) (r : Record) (target : Target) (entries : List Entry) (report : Report) → IsFaultyRun t r target entries report → IsGood t r target entries report
-is-good t r target entries report h =
+is-good : (t : Table) (r : Record) (target : Target) (entries : List Entry) (report : Report) → IsDue t r target → IsFaultyRun t r target entries report → IsGood t r target entries report
+is-good t r target entries report due h =
     let text = text_handed r target in
     let heirs = heirs_of r target in
     let ran = run_of r target (faults_alone h.fates) t in
-    let not_lost : ran.ending ≡ Lost → ⊥ = λ lost. h.not_lost (ap (λ (x : Report). x.outcome) h.is_run.report_is ∙ ap (λ e. outcome_of e ran.last.lacking) lost) in
-    let w = tree-walks text heirs h.fates (plan_tree r target) (start_at t r.note) (r.generation.image ∷ []) not_lost in
+    let w = tree-walks text heirs h.fates (plan_tree r target) (start_at t r.note) (r.generation.image ∷ []) (never-lost t r target due h.fates) in
     let trail : trail_by r target entries ≡ trail_at w.rest ran.last = ap (trail_by r target) (sym h.is_run.entries_are) ∙ w.trail in
     record {
       next = subst (AreNext text heirs (begins t r target)) h.is_run.entries_are w.next;
@@ -137,9 +161,20 @@ only-refused t r target es report good mismatch.Short h = absurd (h.unfinished g
 only-refused t r target es report good mismatch.Report h = absurd (h.other good.reports)
 only-refused t r target es report good mismatch.Memory h = inr refl
 
-pub complete-by : {T : Type 0} (t : Table) (r : Record) (target : Target) (es : List Entry) (report : Report) (result : Result T Mismatch) → IsExact t r target es report result → IsFaultyRun t r target es report → IfErr result (λ why. (why ≡ mismatch.Refused) ⊎ (why ≡ mismatch.Memory))
-complete-by t r target es report (Ok x) exact h = tt
-complete-by t r target es report (Err why) exact h = elim (exact why) [
+pub complete-by : {T : Type 0} (t : Table) (r : Record) (target : Target) (es : List Entry) (report : Report) (result : Result T Mismatch) → IsExact t r target es report result → IsDue t r target → IsFaultyRun t r target es report → IfErr result (λ why. (why ≡ mismatch.Refused) ⊎ (why ≡ mismatch.Memory))
+complete-by t r target es report (Ok x) exact due h = tt
+complete-by t r target es report (Err why) exact due h = elim (exact why) [
   | inl memory ↦ inr (let e : why ≡ mismatch.Memory = cc in e)
-  | inr iff ↦ only-refused t r target es report (is-good t r target es report h) why (iff.0 refl)
+  | inr iff ↦ only-refused t r target es report (is-good t r target es report due h) why (iff.0 refl)
 ]
+
+-- a target that can't be carried out is refused
+pub unready-refused : {T : Type 0} (result : Result T Mismatch) (why : EnactRefusal) → result ≡ Err (mismatch_of why) → IfErr result (λ why. (why ≡ mismatch.Refused) ⊎ (why ≡ mismatch.Memory))
+unready-refused {T = T} result why is = subst (λ (x : Result T Mismatch). IfErr x (λ why. (why ≡ mismatch.Refused) ⊎ (why ≡ mismatch.Memory))) (sym is) (one why)
+  where
+    one : (why : EnactRefusal) → (mismatch_of why ≡ mismatch.Refused) ⊎ (mismatch_of why ≡ mismatch.Memory)
+    one refusal.Memory = inr refl
+    one refusal.RecordDisagrees = inl refl
+    one (refusal.Plan p) = inl refl
+    one refusal.NoNumbers = inl refl
+    one (refusal.MasterNamed k) = inl refl

@@ -8,9 +8,12 @@ use Rattle.kernel_model.specs.Pattern.{moment_at}
 use Rattle.certifier.specs.declared.replay.Replay.{Replay}
 use Rattle.certifier.specs.declared.mismatch.Mismatch.{Mismatch}
 use Rattle.certifier.specs.declared.mismatch.Mismatch.TheVariants as mismatch
-use Rattle.certifier.specs.Places.{Place, HasTaken, StopsAt, Holds, FailsBy}
+use Rattle.certifier.specs.Places.{Place, HasTaken, StopsAt, Shows, Holds, FailsBy}
 
 module _ (text heirs : List ℕ) (from : Place) (entries : List Entry) (report : Report) (x : Replay) (taken : HasTaken text heirs from entries x) where
+  pub shows-all : Shows text heirs from entries x.pattern
+  shows-all = record { next = taken.next; shown = taken.pattern }
+
   pub ends-well : (result : Result (List (ℕ × Moment)) Mismatch) → IfOk result (λ pattern. (pattern ≡ x.pattern) × IsOver (trail_of x.walk).rest × Reports (trail_of x.walk) report) → IfOk result (Holds text heirs from entries report)
   ends-well (Ok pattern) h = record {
     next = taken.next;

@@ -7,3 +7,5 @@ pub mod Holding
 pub mod Matching
 pub mod Faults
 pub mod Complete
+pub mod Following
+pub mod BlockRuns

@@ -29,12 +29,16 @@ use Rattle.plan_executor.proofs.Reporting.{whole-run}
 use Rattle.certifier.specs.declared.mismatch.Mismatch.{Mismatch}
 use Rattle.certifier.specs.declared.mismatch.Mismatch.TheVariants as mismatch
 use Rattle.certifier.specs.Shown.{moments_shown}
-use Rattle.certifier.specs.Places.{AreNext, place_after_all, Holds, FailsBy}
+use Rattle.certifier.specs.Places.{AreNext, place_after_all, Shows, Holds, FailsBy}
 use Rattle.certifier.specs.Explained.{trail_by, IsExplained, IsReady, IsUnready, IsStrange, IsMismatch, mismatch_of}
-use Rattle.certifier.specs.Certified.{IsCertified, EnactsSo}
+use Rattle.certifier.specs.Certified.{IsBeginning, IsCertified, EnactsSo}
 use Rattle.certifier.proofs.Asking.{not-lost}
 use Rattle.certifier.proofs.Steps.{next-front}
 use Rattle.certifier.proofs.Explaining.{begins, goes-through, next-follows, next-edges, next-trail, next-replays, next-spares, is-explained, is-next}
+
+-- entries that begin a run
+pub begun : (t : Table) (r : Record) (target : Target) (entries : List Entry) (pattern : List (ℕ × Moment)) → Shows (text_handed r target) (heirs_of r target) (begins t r target) entries pattern → IsBeginning t r target entries pattern
+begun t r target entries pattern h = record { explained = is-explained t r target entries h.next; shown = h.shown }
 
 module _ (t : Table) (r : Record) (target : Target) (entries : List Entry) (report : Report) (ready : IsReady t r target) where
   -- the trail at the end

@@ -1,18 +1,15 @@
--- What answers show, and how the moments of a pattern change with them.
-use Rattle.std.proofs.Common.{◌≡◌, ℕ, nat_eq, Bool, true, false, List, [], None, refl, sym, ◌∙◌, ap, arith}
+-- What answers show.
+use Rattle.std.proofs.Common.{◌≡◌, true, false, List, [], None, refl, sym, ◌∙◌, ap}
 use Rattle.std.specs.Prelude.{if◌then◌else◌}
 use Rattle.std.proofs.lemmas.Bool.{false≢true}
-use Rattle.std.proofs.lemmas.Bool.Decides.{nat_tests}
 use Rattle.vocabulary.specs.declared.calls.Call.{Call}
 use Rattle.vocabulary.specs.declared.calls.Answer.{Answer}
 use Rattle.vocabulary.specs.declared.calls.Answer.TheVariants as answer
 use Rattle.definitions.specs.Exits.{Name}
 use Rattle.definitions.specs.Tree.{reply_of, same_reply}
 use Rattle.definitions.specs.Path.{Entry}
-use Rattle.definitions.specs.Run.{Moment, quiet, Pattern}
+use Rattle.definitions.specs.Run.{quiet}
 use Rattle.certifier.specs.Shown.{is_count, uncounted, found_gone, fate_of, moment_by}
-
----- What answers show
 
 -- an answer that counts nobody leaves nobody uncounted
 pub uncounted-none : (call : Call) (a own : Answer) → is_count a ≡ false → uncounted call a own ≡ []
@@ -24,13 +21,3 @@ pub itself-quiet : (own : Answer) (e : Entry) → is_count e.answer ≡ false �
 itself-quiet own e none same =
     ap (λ b. if b then record { exits = uncounted e.call e.answer own; fate = None } else record { exits = found_gone e.by e.call e.answer; fate = fate_of e.answer }) same
     ∙ ap (λ (names : List Name). record { exits = names; fate = None }) (uncounted-none e.call e.answer own none)
-
----- Moments that change
-
--- a moment that is as it was
-pub stays : (at : Pattern) (k : ℕ) (m : Moment) → at k ≡ m → (n : ℕ) → at n ≡ (if nat_eq n k then m else at n)
-stays at k m is n = go (nat_eq n k) refl
-  where
-    go : (b : Bool) → nat_eq n k ≡ b → at n ≡ (if b then m else at n)
-    go true same = let e : n ≡ k = grind (arith, nat_tests) in ap at e ∙ is
-    go false other = refl

@@ -4,7 +4,6 @@ use Rattle.definitions.specs.Table.{Table}
 use Rattle.definitions.specs.Record.{Record}
 use Rattle.definitions.specs.Calls.{Fate}
 use Rattle.vocabulary.specs.declared.targets.Target.{Target}
-use Rattle.vocabulary.specs.declared.reports.Outcome.TheVariants as outcome
 use Rattle.definitions.specs.Path.{Entry, Report}
 use Rattle.definitions.specs.Run.{Moment, Pattern}
 use Rattle.definitions.specs.Claims.{refusal_of}
@@ -15,7 +14,7 @@ use Rattle.plan_executor.specs.declared.enactment.EnactRefusal.{EnactRefusal}
 use Rattle.plan_executor.specs.Refusals.{IsRefused}
 use Rattle.plan_executor.specs.Enacted.{IsEnacted}
 use Rattle.plan_executor.specs.Lawful.{IsWholeRun}
-use Rattle.certifier.specs.Explained.{pattern_shown, IsReady}
+use Rattle.certifier.specs.Explained.{pattern_shown, IsExplained, IsReady}
 
 -- The target could be carried out. The pattern is the one that the entries show; under it the run of the target's plan has
 -- exactly these entries and this report, and no executing master exits in it.
@@ -25,6 +24,11 @@ pub record IsCertified (t : Table) (r : Record) (target : Target) (entries : Lis
   pub last : Table
   pub is_run : IsWholeRun r target (moment_at pattern) t entries last report
   pub spared : refusal_of r target (moment_at pattern) t ≡ None
+
+-- The entries begin a run of the target, and the pattern is the one that they show.
+pub record IsBeginning (t : Table) (r : Record) (target : Target) (entries : List Entry) (pattern : List (ℕ × Moment)) : Type 0 where
+  pub explained : IsExplained t r target entries
+  pub shown : (n : ℕ) → moment_at pattern n ≡ pattern_shown t r target entries n
 
 -- To enact the target under the pattern is refused for want of memory alone, and gives these entries and this report.
 pub record EnactsSo (first : State) (r : Record) (target : Target) (entries : List Entry) (report : Report) (pattern : List (ℕ × Moment)) : Type 0 where
@@ -36,9 +40,8 @@ pub record EnactsSo (first : State) (r : Record) (target : Target) (entries : Li
 abbrev pub faults_alone : (ℕ → Option Fate) → Pattern
 faults_alone fates n = record { exits = []; fate = fates n }
 
--- The entries and the report are those of a run of the target's plan under faults alone, which does not end where a master is gone.
+-- The entries and the report are those of a run of the target's plan under faults alone.
 pub record IsFaultyRun (t : Table) (r : Record) (target : Target) (entries : List Entry) (report : Report) : Type 0 where
   pub fates : ℕ → Option Fate
   pub last : Table
   pub is_run : IsWholeRun r target (faults_alone fates) t entries last report
-  pub not_lost : report.outcome ≡ outcome.Lost → ⊥

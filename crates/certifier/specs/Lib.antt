@@ -3,3 +3,4 @@ pub mod Places
 pub mod Explained
 pub mod Codes
 pub mod Certified
+pub mod Blocks

@@ -82,6 +82,11 @@ pub record StopsAt (text heirs : List ℕ) (from : Place) (entries : List Entry)
   pub next : AreNext text heirs from (take before entries)
   pub stops : AreNext text heirs from (take n entries) → ⊥
 
+-- All entries are next one after another, and the pattern is what they show.
+pub record Shows (text heirs : List ℕ) (from : Place) (entries : List Entry) (pattern : List (ℕ × Moment)) : Type 0 where
+  pub next : AreNext text heirs from entries
+  pub shown : (n : ℕ) → moment_at pattern n ≡ pattern_of (moments_shown text from.table entries) n
+
 -- All entries are next one after another, then the path is over, and the report is its report. The pattern is what they show.
 pub record Holds (text heirs : List ℕ) (from : Place) (entries : List Entry) (report : Report) (pattern : List (ℕ × Moment)) : Type 0 where
   pub next : AreNext text heirs from entries

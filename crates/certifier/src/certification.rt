@@ -14,22 +14,22 @@ ghost use Rattle.certifier.specs.declared.mismatch.Mismatch.{Mismatch as Why};
 use crate::mismatch::Mismatch;
 use crate::replay::Replay;
 use kernel_model::{Kernel, Pattern};
-use plan_executor::{agrees, heir_of, plan_of, reserved_copy};
+use plan_executor::{agrees, ends_as_reported, heir_of, plan_of, reserved_copy};
 use plan_runner::CallLog;
 use rollback_plan::Plan;
 use service_state::Record;
 use std::alloc::Global;
-use vocabulary::{Entry, Report, Target};
+use vocabulary::{Report, Target};
 
 /// Replays all entries; the first that can't stand there is a mismatch.
-fn replay_all(replay: &mut Replay<'_>, entries: &[Entry]) -> Result<(), Mismatch>
+pub(crate) fn replay_all(replay: &mut Replay<'_>, log: &CallLog) -> Result<(), Mismatch>
     requires { HasTaken replay.old.text.now (listed replay.old.heir) (place_of replay.old) [] replay.old }
-    ensures ok { OnOk result (HasTaken replay.old.text.now (listed replay.old.heir) (place_of replay.old) entries.now replay.new) }
+    ensures ok { OnOk result (HasTaken replay.old.text.now (listed replay.old.heir) (place_of replay.old) log.now.entries replay.new) }
     ensures err { IfErr result (λ why.
-        (why ≡ Mismatch.Memory) ⊎ ((n : ℕ) × (why ≡ Mismatch.Step n) × StopsAt replay.old.text.now (listed replay.old.heir) (place_of replay.old) entries.now n)) }
+        (why ≡ Mismatch.Memory) ⊎ ((n : ℕ) × (why ≡ Mismatch.Step n) × StopsAt replay.old.text.now (listed replay.old.heir) (place_of replay.old) log.now.entries n)) }
 {
-    for (place, entry) in entries.iter().enumerate() {
-        if !replay.take(entry)? {
+    for place in 0..log.len() {
+        if !replay.take(&log.entry(place))? {
             return Err(Mismatch::Step(place + 1));
         }
     }
@@ -43,15 +43,15 @@ fn hold(
     kernel: Kernel,
     image: u32,
     heir: Option<u32>,
-    entries: &[Entry],
+    log: &CallLog,
     report: &Report,
 ) -> Result<Pattern, Mismatch>
     requires { kernel.room ≡ height (tree_of plan.now) }
-    ensures ok { IfOk result (Holds (text_of plan.now) (listed heir) (record { trail = begin (tree_of plan.now) (note_of plan.now); table = kernel.table; executing = image ∷ [] }) entries.now report.now) }
-    ensures err { IfErr result (FailsBy (text_of plan.now) (listed heir) (record { trail = begin (tree_of plan.now) (note_of plan.now); table = kernel.table; executing = image ∷ [] }) entries.now report.now) }
+    ensures ok { IfOk result (Holds (text_of plan.now) (listed heir) (record { trail = begin (tree_of plan.now) (note_of plan.now); table = kernel.table; executing = image ∷ [] }) log.now.entries report.now) }
+    ensures err { IfErr result (FailsBy (text_of plan.now) (listed heir) (record { trail = begin (tree_of plan.now) (note_of plan.now); table = kernel.table; executing = image ∷ [] }) log.now.entries report.now) }
 {
     let mut replay = Replay::new(alloc, plan, kernel, image, heir);
-    replay_all(&mut replay, entries)?;
+    replay_all(&mut replay, log)?;
     replay.end(report)
 }
 
@@ -61,7 +61,7 @@ fn hold(
 /// fault that the kernel would not give by itself. Under this pattern the run of the target's plan on this kernel is
 /// exactly these entries with this report, and no executing master exits. Mismatches in their order: Y4 the target
 /// can't be carried out; Y1 the first entry that can't stand there; Y3 the plan isn't at an end; Y2 the report is
-/// another.
+/// another. What a run under faults alone made is never refused by Y1, Y2 or Y3.
 pub fn certify(
     alloc: Global,
     kernel: &Kernel,
@@ -85,13 +85,14 @@ pub fn certify(
     let plan = plan_of(alloc, state, target)?;
     let copy = reserved_copy(kernel, plan.longest())?;
     let heir = heir_of(state, target);
+    ends_as_reported(target);
     hold(
         alloc,
         &plan,
         copy,
         state.generation.image,
         heir,
-        log.entries(),
+        log,
         report,
     )
 }

@@ -1,11 +1,15 @@
 //! Certificates: a transcript of a target, held against the modelled kernel.
 #![tactic(auto)]
 
+mod beginning;
+mod blocks;
 mod certification;
 mod mismatch;
 mod replay;
 mod sameness;
 mod showing;
 
+pub use beginning::certify_beginning;
+pub use blocks::{BlockMismatch, certify_block, certify_blocks};
 pub use certification::certify;
 pub use mismatch::Mismatch;

@@ -118,29 +118,22 @@ fn show_uncounted(
     add_workers(pattern, number, generation, &ready.minus(counted))
 }
 
-/// Adds who is found gone, or the fault, where the call isn't answered so by itself.
-fn show_fault(
-    kernel: &Kernel,
-    text: &[u8],
-    number: u32,
-    entry: &Entry,
-    pattern: &mut Pattern,
-) -> Result<(), AllocError>
-    requires number { 1 ≤ number }
-    requires quiet { moment_at pattern.old number ≡ quiet }
-    requires no_count { is_count entry.now.answer ≡ false }
-    ensures { OnOk result ((n : ℕ) → moment_at pattern.new n ≡ (if n == number then moment_shown text.now kernel.now.table entry.now else moment_at pattern.old n)) }
+/// Who is found gone, and the fault, where the call isn't answered so by itself.
+fn fault_shown(kernel: &Kernel, text: &[u8], entry: &Entry) -> (Option<Name>, Option<Fate>)
+    requires { is_count entry.now.answer ≡ false }
+    ensures shown { moment_shown text.now kernel.now.table entry.now ≡ record { exits = named result.0; fate = result.1 } }
+    ensures within { IfSome result.0 IsNameWithin }
 {
     let gone = found_gone(entry.by, &entry.call, &entry.answer);
     let fate = fate_of(&entry.answer);
     if gone.is_none() && fate.is_none() {
-        return Ok(());
+        return (None, None);
     }
     let own = kernel.own_reply(entry.by, &entry.call, text);
     if own == reply_to(&entry.answer, &Numbers::none()) {
-        return Ok(());
+        return (None, None);
     }
-    add(pattern, number, gone, fate)
+    (gone, fate)
 }
 
 /// Adds to a pattern what an entry shows on the kernel before it.
@@ -159,6 +152,9 @@ pub(crate) fn show(
         Answer::Counted(counted) => {
             show_uncounted(kernel, number, entry.by, &entry.call, counted, pattern)
         }
-        _ => show_fault(kernel, text, number, entry, pattern),
+        _ => {
+            let (gone, fate) = fault_shown(kernel, text, entry);
+            add(pattern, number, gone, fate)
+        }
     }
 }

@@ -1,2 +1,4 @@
 pub mod PatternLines
 pub mod Sections
+pub mod Again
+pub mod Noted

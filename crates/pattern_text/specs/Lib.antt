@@ -3,3 +3,4 @@ pub mod LineReading
 pub mod PatternsText
 pub mod Reader
 pub mod PatternsWriting
+pub mod Written

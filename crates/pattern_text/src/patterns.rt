@@ -1,8 +1,11 @@
 //! Patterns as texts.
-ghost use Rattle.std.specs.Prelude.{◌≡◌, ◌≢◌, ◌≤◌, ◌++◌, ◌∷◌, [], map, Ok, Err, OnOk, IfOk, IfErr};
+ghost use Rattle.std.specs.Prelude.{◌≡◌, ◌≢◌, ◌≤◌, ◌++◌, ◌∷◌, ℕ, List, [], map, Ok, Err, OnOk, IfOk, IfErr};
+ghost use Rattle.definitions.specs.Run.{Moment as Events};
 ghost use Rattle.event_pattern.specs.Pattern.{moment_at, IsNameWithin};
 ghost use Rattle.pattern_text.specs.LineText.{IsLine};
 ghost use Rattle.pattern_text.specs.PatternsText.{may_follow, begun, with_exit_in, with_fate_in, may_stand, with_line, line_here, patterns_of};
+ghost use Rattle.pattern_text.specs.PatternsWriting.{patterns_text};
+ghost use Rattle.pattern_text.specs.Written.{AreSections};
 
 use crate::PatternLine;
 use call_text::{TextRefusal, first_line};
@@ -135,9 +138,13 @@ impl Reader {
 /// be missing.
 ///
 /// The first faulty line is named: X1 for its form, else X2 for its place. Any bytes may come.
+#[tactic(auto, using(crate::proofs::Again::read_again))]
 pub fn read_patterns(alloc: Global, text: &[u8]) -> Result<Vec<Pattern>, TextRefusal>
     ensures ok { IfOk result (λ patterns. patterns_of text.now ≡ Ok (map moment_at patterns.items)) }
     ensures err { IfErr result (λ e. e ≢ TextRefusal.Memory → patterns_of text.now ≡ Err e) }
+
+    // What is written of one pattern or more is read as these.
+    ensures again { (written : List (List (ℕ × Events))) → written ≢ [] → AreSections written → text.now ≡ patterns_text written → patterns_of text.now ≡ Ok (map moment_at written) }
 {
     let mut reader = Reader::new(alloc);
     let mut rest = text;

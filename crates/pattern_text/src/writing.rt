@@ -1,26 +1,44 @@
 //! Patterns, written.
-ghost use Rattle.std.specs.Prelude.{◌≡◌, ◌++◌, IfOk, slice_get};
-ghost use Rattle.event_pattern.specs.Pattern.{seen_moment};
-ghost use Rattle.pattern_text.specs.PatternsWriting.{event_text, exits_text, moment_text, section_text, patterns_text};
+ghost use Rattle.std.specs.Prelude.{◌≡◌, ◌≢◌, ◌≤◌, ◌++◌, [], map, Ok, IfOk, IfSome, slice_get};
+ghost use Rattle.std.specs.List.{AllByRecursion};
+ghost use Rattle.event_pattern.specs.Pattern.{seen_moment, moment_at, IsPattern, IsNameWithin, AreNamesWithin};
+ghost use Rattle.call_text.specs.Ranges.{IsName};
+ghost use Rattle.pattern_text.specs.PatternsText.{patterns_of};
+ghost use Rattle.pattern_text.specs.PatternsWriting.{ended_line, event_text, exits_text, moment_text, section_text, patterns_text};
+ghost use Rattle.pattern_text.specs.Written.{IsNoted, IsSection, AreSections};
 
 use crate::PatternLine;
 use event_pattern::{Moment, Pattern};
 use std::alloc::{AllocError, Global};
 use vocabulary::Name;
 
+/// A line for an exit before the call with this number. The numbers of a name that comes by value have 32 bits.
+fn write_exit(out: &mut Vec<u8>, number: u32, name: Name) -> Result<(), AllocError>
+    requires { IsNameWithin name }
+    ensures text { IfOk result (λ _. out.new.items ≡ out.old.items ++ ended_line (PatternLine.Exit number name)) }
+    ensures name { IsName name }
+{
+    PatternLine::Exit(number, name).write(out)
+}
+
 /// A line for each exit before the call with this number.
 fn write_exits(out: &mut Vec<u8>, number: u32, exits: &[Name]) -> Result<(), AllocError>
-    ensures { IfOk result (λ _. out.new.items ≡ out.old.items ++ exits_text number exits.now) }
+    requires { AreNamesWithin exits.now }
+    ensures text { IfOk result (λ _. out.new.items ≡ out.old.items ++ exits_text number exits.now) }
+    ensures names { IfOk result (λ _. AllByRecursion IsName exits.now) }
 {
     for name in exits {
-        PatternLine::Exit(number, *name).write(out)?;
+        write_exit(out, number, *name)?;
     }
     Ok(())
 }
 
 /// The lines of a moment: its exits in order, and then its fate.
 fn write_moment(out: &mut Vec<u8>, number: u32, moment: &Moment<'_>) -> Result<(), AllocError>
-    ensures { IfOk result (λ _. out.new.items ≡ out.old.items ++ moment_text number (seen_moment moment.now)) }
+    requires number { 1 ≤ number }
+    requires within { AreNamesWithin moment.now.exits.now }
+    ensures text { IfOk result (λ _. out.new.items ≡ out.old.items ++ moment_text number (seen_moment moment.now)) }
+    ensures noted { IfOk result (λ _. IsNoted (number, seen_moment moment.now)) }
 {
     write_exits(out, number, moment.exits)?;
     if let Some(fate) = moment.fate {
@@ -31,7 +49,9 @@ fn write_moment(out: &mut Vec<u8>, number: u32, moment: &Moment<'_>) -> Result<(
 
 /// The lines of the moment at a place of a pattern, where there is one.
 fn write_event(out: &mut Vec<u8>, pattern: &Pattern, place: usize) -> Result<(), AllocError>
-    ensures { IfOk result (λ _. out.new.items ≡ out.old.items ++ event_text (slice_get pattern.now place)) }
+    requires { IsPattern pattern.now }
+    ensures text { IfOk result (λ _. out.new.items ≡ out.old.items ++ event_text (slice_get pattern.now place)) }
+    ensures noted { IfOk result (λ _. IfSome (slice_get pattern.now place) IsNoted) }
 {
     match pattern.entry(place) {
         Some((number, moment)) => write_moment(out, number, &moment),
@@ -42,7 +62,8 @@ fn write_event(out: &mut Vec<u8>, pattern: &Pattern, place: usize) -> Result<(),
 /// The lines of a pattern.
 #[tactic(auto, using(crate::proofs::Sections::section_at))]
 fn write_section(out: &mut Vec<u8>, pattern: &Pattern) -> Result<(), AllocError>
-    ensures { IfOk result (λ _. out.new.items ≡ out.old.items ++ section_text pattern.now) }
+    ensures text { IfOk result (λ _. out.new.items ≡ out.old.items ++ section_text pattern.now) }
+    ensures section { IfOk result (λ _. IsSection pattern.now) }
 {
     for place in 0..pattern.len() {
         write_event(out, pattern, place)?;
@@ -50,10 +71,10 @@ fn write_section(out: &mut Vec<u8>, pattern: &Pattern) -> Result<(), AllocError>
     Ok(())
 }
 
-/// The text of patterns: a section of lines for each, in ascending numbers, and a line `next` between
-/// two. The only refusal is want of memory.
-pub fn write_patterns(alloc: Global, patterns: &[Pattern]) -> Result<Vec<u8>, AllocError>
-    ensures { IfOk result (λ out. out.items ≡ patterns_text patterns.now) }
+/// The sections of patterns, and a line `next` between two.
+fn write_sections(alloc: Global, patterns: &[Pattern]) -> Result<Vec<u8>, AllocError>
+    ensures text { IfOk result (λ out. out.items ≡ patterns_text patterns.now) }
+    ensures sections { IfOk result (λ _. AreSections patterns.now) }
 {
     let mut out = Vec::new(alloc);
     for (place, pattern) in patterns.iter().enumerate() {
@@ -63,4 +84,14 @@ pub fn write_patterns(alloc: Global, patterns: &[Pattern]) -> Result<Vec<u8>, Al
         write_section(&mut out, pattern)?;
     }
     Ok(out)
+}
+
+/// The text of patterns: a section of lines for each, in ascending numbers, and a line `next` between
+/// two. What is written of one pattern or more is read again as these. The only refusal is want of memory.
+#[tactic(auto, using(crate::proofs::Again::read_again))]
+pub fn write_patterns(alloc: Global, patterns: &[Pattern]) -> Result<Vec<u8>, AllocError>
+    ensures exact { IfOk result (λ out. out.items ≡ patterns_text patterns.now) }
+    ensures again { IfOk result (λ out. patterns.now ≢ [] → patterns_of out.items ≡ Ok (map moment_at patterns.now)) }
+{
+    write_sections(alloc, patterns)
 }

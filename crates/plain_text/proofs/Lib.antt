@@ -1,2 +1,3 @@
 pub mod NumberTextLemmas
 pub mod CutTexts
+pub mod KeptTexts

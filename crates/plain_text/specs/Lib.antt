@@ -1,2 +1,3 @@
 pub mod NumberText
 pub mod Cuts
+pub mod Kept

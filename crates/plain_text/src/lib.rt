@@ -1,8 +1,12 @@
-//! Numbers as decimal texts, read and written, and texts cut in two.
+//! Numbers as decimal texts, read and written, texts cut in two, and what texts are put into.
 #![tactic(auto)]
 
 mod cuts;
+mod line;
 mod number_text;
+mod sink;
 
 pub use cuts::{around, cut};
+pub use line::{LINE_BYTES, Line};
 pub use number_text::{number_within, read_count, read_number, read_number64, write_number};
+pub use sink::Sink;

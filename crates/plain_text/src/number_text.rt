@@ -1,10 +1,11 @@
 //! Numbers as texts.
-ghost use Rattle.std.specs.Prelude.{◌≡◌, ◌≤◌, ◌<◌, ◌^◌, ◌++◌, ℕ, IfSome, IfOk, Some};
+ghost use Rattle.std.specs.Prelude.{◌≡◌, ◌≤◌, ◌<◌, ◌^◌, ◌++◌, ℕ, length, IfSome, IfOk, Some};
 ghost use Rattle.std.specs.Fmt.{decimal};
 ghost use Rattle.plain_text.specs.NumberText.{number_of, number64_of, number_within, count_of};
+ghost use Rattle.plain_text.specs.Kept.{kept};
 
+use crate::sink::Sink;
 use itoa::Buffer;
-use std::alloc::AllocError;
 
 /// The number from 0 to 18,446,744,073,709,551,615 that a text is: decimal digits without leading
 /// zeros, and zero is `0`.
@@ -72,10 +73,12 @@ pub fn read_count(text: &[u8]) -> Option<u32>
     number_within(text, 1, u32::MAX)
 }
 
-/// Puts a number in decimal digits behind what was written. The only refusal is want of memory.
-pub fn write_number(out: &mut Vec<u8>, number: u64) -> Result<(), AllocError>
-    ensures { IfOk result (λ _. out.new.items ≡ out.old.items ++ decimal number) }
+/// Puts a number in decimal digits behind what was written.
+#[tactic(auto, using(crate::proofs::KeptTexts::short_decimal))]
+pub fn write_number<S: Sink>(out: &mut S, number: u64) -> Result<(), S::Refusal>
+    ensures text { IfOk result (λ _. S.text out.new ≡ kept S.most (S.text out.old ++ decimal number)) }
+    ensures short { length (decimal number) ≤ 20 }
 {
     let mut buffer = Buffer::new();
-    out.extend_from_slice(buffer.format(number).as_bytes())
+    out.put(buffer.format(number).as_bytes())
 }

@@ -14,22 +14,21 @@ use Rattle.vocabulary.specs.declared.reports.Report.{Report}
 use Rattle.kernel_model.specs.Pattern.{moment_at}
 use Rattle.kernel_model.specs.State.{State}
 use Rattle.definitions.specs.Plans.{plan_tree}
-use Rattle.definitions.specs.Run.{Moment, Pattern, Ran, report_of, Replays}
+use Rattle.definitions.specs.Run.{Moment, Pattern, Replays}
 use Rattle.rollback_plan.specs.Plans.{tree_of, note_of, text_of}
 use Rattle.definitions.specs.Path.{KeepsPathLaw}
 use Rattle.definitions.specs.After.{next_record, next_config, next_image}
 use Rattle.word_runner.specs.declared.enactor.Enacted.{Enacted}
 use Rattle.plan_executor.specs.Lawful.{IsWholeRun}
-use Rattle.plan_executor.specs.Enacted.{HasFloor, IsEnacted}
+use Rattle.plan_executor.specs.Enacted.{EndsSo, IsEnacted}
 use Rattle.plan_executor.specs.Range.{HasRange}
-use Rattle.plan_executor.specs.Refusals.{HasPlan, NamesMaster}
+use Rattle.plan_executor.specs.Refusals.{NamesMaster}
 use Rattle.plan_executor.proofs.Reporting.{whole-run}
 use Rattle.plan_executor.specs.Patterned.{CallsLed}
 use Rattle.plan_executor.specs.Prepared.{IsPrepared}
 use Rattle.plan_executor.specs.declared.enactment.Prepared.{Prepared}
 use Rattle.plan_executor.specs.declared.patterned.Patterned.{Patterned}
-use Rattle.definitions.specs.Claims.{IsStart, IsAccepted, HasDescriptors, heirs_of, refused_among, refusal_of, run_of, EndsAsReported, InManner, WorkersHeadline, MendHeadline, ReopenHeadline, ReopenFloor, ReloadHeadline, UpgradeHeadline, StopHeadline}
-use Rattle.definitions.specs.Manner.{Manner}
+use Rattle.definitions.specs.Claims.{IsAccepted, heirs_of, refused_among, refusal_of, InManner, WorkersHeadline, MendHeadline, ReopenHeadline, ReopenFloor, ReloadHeadline, UpgradeHeadline, StopHeadline}
 use Rattle.vocabulary.specs.Settings.{Settings}
 
 -- what the theorems say of each target
@@ -48,31 +47,30 @@ pub record Headlines : Type 0 where
   pub stops : StopHeadline
   pub stops_manner : (quick : Bool) → InManner (Stop quick)
 
--- the run of a target's plan keeps what it has to
-abbrev pub IsKept : Table → Record → Target → Ran → Type 0
-IsKept t r target ran = EndsAsReported t r target ran × HasFloor t r target ran × Manner r target (report_of ran).outcome t ran
-
 -- a generation that is not lacking is there
 there : (g : Option Generation) → is_none g ≡ false → is_some g ≡ true
 there None h = absurd (false≢true (sym h))
 there (Some g) h = refl
 
-pub keeps : Headlines → (t : Table) (r : Record) (target : Target) (pattern : Pattern) → IsStart t r → HasDescriptors t r → IsTarget target → HasRange target → HasPlan r target → refusal_of r target pattern t ≡ None → IsKept t r target (run_of r target pattern t)
-keeps h t r (Workers n) pattern start ds within range plan spared =
+pub keeps : Headlines → (target : Target) → IsTarget target → HasRange target → EndsSo target
+keeps h (Workers n) within range t r pattern start ds plan spared =
     let a : IsAccepted t r (Workers n) pattern = record { start = start; accepts = within; spared = spared } in
-    let k = h.workers t r n pattern a in (k.0, k.1, h.workers_manner n t r pattern a)
-keeps h t r (Mend overdue) pattern start ds within range plan spared =
-    let a : IsAccepted t r (Mend overdue) pattern = record { start = start; accepts = tt; spared = spared } in (h.mends t r overdue pattern a, tt, h.mends_manner overdue t r pattern a)
-keeps h t r Reopen pattern start ds within range plan spared =
-    let a : IsAccepted t r Reopen pattern = record { start = start; accepts = tt; spared = spared } in (h.reopenings t r pattern a, h.reopenings_floor t r pattern a, h.reopenings_manner t r pattern a)
-keeps h t r (Reload s) pattern start ds within range plan spared =
+    let k = h.workers t r n pattern a in record { ends = k.0; floor = k.1; manner = h.workers_manner n t r pattern a }
+keeps h (Mend overdue) within range t r pattern start ds plan spared =
+    let a : IsAccepted t r (Mend overdue) pattern = record { start = start; accepts = tt; spared = spared } in
+    record { ends = h.mends t r overdue pattern a; floor = tt; manner = h.mends_manner overdue t r pattern a }
+keeps h Reopen within range t r pattern start ds plan spared =
+    let a : IsAccepted t r Reopen pattern = record { start = start; accepts = tt; spared = spared } in
+    record { ends = h.reopenings t r pattern a; floor = h.reopenings_floor t r pattern a; manner = h.reopenings_manner t r pattern a }
+keeps h (Reload s) within range t r pattern start ds plan spared =
     let a : IsAccepted t r (Reload s) pattern = record { start = start; accepts = (range, ds, there (next_config r.generation) plan); spared = spared } in
-    let k = h.reloads t r s pattern a in (k.0, k.1, h.reloads_manner s t r pattern a)
-keeps h t r (Upgrade s) pattern start ds within range plan spared =
+    let k = h.reloads t r s pattern a in record { ends = k.0; floor = k.1; manner = h.reloads_manner s t r pattern a }
+keeps h (Upgrade s) within range t r pattern start ds plan spared =
     let a : IsAccepted t r (Upgrade s) pattern = record { start = start; accepts = (range, ds, there (next_image r.generation) plan); spared = spared } in
-    let k = h.upgrades t r s pattern a in (k.0, k.1, h.upgrades_manner s t r pattern a)
-keeps h t r (Stop quick) pattern start ds within range plan spared =
-    let a : IsAccepted t r (Stop quick) pattern = record { start = start; accepts = tt; spared = spared } in (h.stops t r quick pattern a, tt, h.stops_manner quick t r pattern a)
+    let k = h.upgrades t r s pattern a in record { ends = k.0; floor = k.1; manner = h.upgrades_manner s t r pattern a }
+keeps h (Stop quick) within range t r pattern start ds plan spared =
+    let a : IsAccepted t r (Stop quick) pattern = record { start = start; accepts = tt; spared = spared } in
+    record { ends = h.stops t r quick pattern a; floor = tt; manner = h.stops_manner quick t r pattern a }
 
 ---- What is made of a plan
 
@@ -102,15 +100,15 @@ refusal-is : (r : Record) (target : Target) (pattern : Pattern) (first last : Ta
 refusal-is r target pattern first last entries report found whole naming =
     ap (refused_among (r.generation.image ∷ []) (heirs_of r target) pattern 0) whole.entries_are ∙ naming
 
-pub enacted : Headlines → (first last : State) (r : Record) (target : Target) (pattern : Pattern) (p : Prepared) (e : Enacted) →
-    IsPrepared first r target p → IsTarget target → HasRange target → IsMade first.table r target pattern e.log.entries last.table e.report →
+pub enacted : (first last : State) (r : Record) (target : Target) (pattern : Pattern) (p : Prepared) (e : Enacted) →
+    IsPrepared first r target p → EndsSo target → IsMade first.table r target pattern e.log.entries last.table e.report →
     last.room + length e.log.entries ≡ height (plan_tree r target) →
     refused_among (r.generation.image ∷ []) (heirs_of r target) pattern 0 e.log.entries ≡ None → e.after ≡ next_record r target e.report last.table →
     IsEnacted first last r target pattern e
-enacted headlines first last r target pattern p e is within range runs room spared after =
+enacted first last r target pattern p e is ends runs room spared after =
     let whole = whole-run r target pattern first.table last.table e.log.entries e.report runs.law runs.replays in
     let none = refusal-is r target pattern first.table last.table e.log.entries e.report None whole spared in
-    let kept = keeps headlines first.table r target pattern is.start is.descriptors within range is.has_plan none in
+    let kept = ends first.table r pattern is.start is.descriptors is.has_plan none in
     record {
       agrees = is.start.agrees;
       has_plan = is.has_plan;
@@ -119,9 +117,9 @@ enacted headlines first last r target pattern p e is within range runs room spar
       is_run = whole;
       room = room;
       after = after;
-      ends = kept.0;
-      floor = kept.1;
-      manner = kept.2;
+      ends = kept.ends;
+      floor = kept.floor;
+      manner = kept.manner;
     }
 
 -- The first moment that kills an executing master is refused.

@@ -9,7 +9,7 @@ use Rattle.definitions.specs.Plans.{plan_tree}
 use Rattle.definitions.specs.Run.{Pattern, Ran, report_of}
 use Rattle.definitions.specs.Manner.{Manner}
 use Rattle.definitions.specs.After.{next_record}
-use Rattle.definitions.specs.Claims.{run_of, refusal_of, EndsAsReported, KeepsFloor}
+use Rattle.definitions.specs.Claims.{IsStart, HasDescriptors, run_of, refusal_of, EndsAsReported, KeepsFloor}
 use Rattle.kernel_model.specs.Room.{LacksNumbers}
 use Rattle.kernel_model.specs.State.{State}
 use Rattle.plan_executor.specs.Lawful.{IsWholeRun}
@@ -24,6 +24,19 @@ HasFloor t r (Upgrade s) ran = KeepsFloor t r (Upgrade s) ran
 HasFloor t r (Mend overdue) ran = ⊤
 HasFloor t r Reopen ran = KeepsFloor t r Reopen ran
 HasFloor t r (Stop quick) ran = ⊤
+
+-- The run of a target ends as its report says, keeps what it has to, and has the target's manner.
+pub record IsKept (t : Table) (r : Record) (target : Target) (ran : Ran) : Type 0 where
+  pub ends : EndsAsReported t r target ran
+  pub floor : HasFloor t r target ran
+  pub manner : Manner r target (report_of ran).outcome t ran
+
+-- So does each run of the target that starts where a record is true of a table of the kernel's, where there is a plan and no
+-- executing master exits.
+abbrev pub EndsSo : Target → Type 0
+EndsSo target =
+    (t : Table) (r : Record) (pattern : Pattern) → IsStart t r → HasDescriptors t r → HasPlan r target → refusal_of r target pattern t ≡ None →
+    IsKept t r target (run_of r target pattern t)
 
 -- The record agreed, and the target's plan was run, from the first table to the last, under the pattern: entries and report are
 -- those of its run, the record afterwards is the one that the report leaves to the master that reigns then, and no moment of the

@@ -1,23 +1,22 @@
 //! A target for which all is prepared, carried out.
 ghost use Rattle.std.specs.Prelude.{◌≡◌, ◌↔◌, OnErr, IfOk, IsErrOf};
-ghost use Rattle.vocabulary.specs.Settings.{IsInRange};
 ghost use Rattle.definitions.specs.Target.{IsTarget};
 ghost use Rattle.kernel_model.specs.Pattern.{moment_at};
 ghost use Rattle.plan_executor.specs.Enacted.{IsEnacted};
 ghost use Rattle.plan_executor.specs.Prepared.{IsPrepared};
-ghost use Rattle.plan_executor.specs.Range.{HasRange};
 ghost use Rattle.plan_executor.specs.Refusals.{IsRefused};
 ghost use Rattle.plan_executor.specs.declared.enactment.EnactRefusal.{EnactRefusal as Refusal};
 
 use crate::EnactRefusal;
 use crate::enactment::Prepared;
+use crate::keeping::ends_as_reported;
 use crate::naming::refused_among;
 use crate::patterned::Patterned;
 use crate::succession::{heir_of, record_left};
 use kernel_model::{Kernel, Pattern};
 use plan_runner::execute;
 use service_state::Record;
-use vocabulary::{Settings, Target};
+use vocabulary::Target;
 use word_runner::Enacted;
 
 /// Carries a plan out on the copy, and takes the copy over unless a moment of the run kills an executing master.
@@ -44,38 +43,11 @@ pub(crate) fn carry_out(
     let mut calls = Patterned::new(copy, pattern, plan.text());
     let report = execute(&plan, &mut calls, &mut log);
     let heir = heir_of(state, target);
-    if let Some(moment) = refused_among(pattern, state.generation.image, heir, log.entries()) {
+    if let Some(moment) = refused_among(pattern, state.generation.image, heir, &log) {
         return Err(EnactRefusal::MasterNamed(moment));
     }
-    read_settings(target);
-    theorems::workers_end_as_reported();
-    theorems::mends_end_as_reported();
-    theorems::reopenings_end_as_reported();
-    theorems::reloads_end_as_reported();
-    theorems::upgrades_end_as_reported();
-    theorems::stops_end_as_reported();
+    ends_as_reported(target);
     *kernel = calls.into_kernel();
     let after = record_left(state, target, &report, kernel);
     Ok(Enacted { log, report, after })
-}
-
-/// A target's settings are in range, which only a reading of them tells.
-fn read_settings(target: &Target)
-    ensures { HasRange target.now }
-{
-    match target {
-        Target::Reload(settings) => {
-            let _workers = workers_of(settings);
-        }
-        Target::Upgrade(settings) => {
-            let _workers = workers_of(settings);
-        }
-        _ => (),
-    }
-}
-
-fn workers_of(settings: &Settings) -> u32
-    ensures { IsInRange settings.now }
-{
-    settings.workers
 }

@@ -142,12 +142,8 @@ pub fn reserved_copy(kernel: &Kernel, calls: u32) -> Result<Kernel, EnactRefusal
         (why ≡ EnactRefusal.Memory) ⊎ ((why ≡ EnactRefusal.NoNumbers) × LacksNumbers kernel.now.table calls)) }
     ensures exact { IsErrOf result EnactRefusal.NoNumbers ↔ LacksNumbers kernel.now.table calls }
 {
-    if kernel.lacks_numbers(calls) {
-        return Err(EnactRefusal::NoNumbers);
-    }
-    let mut copy = kernel.copy()?;
-    match copy.reserve(calls) {
-        Ok(()) => Ok(copy),
+    match kernel.copy(calls) {
+        Ok(copy) => Ok(copy),
         Err(ReserveRefusal::NoNumbers) => Err(EnactRefusal::NoNumbers),
         Err(ReserveRefusal::Memory) => Err(EnactRefusal::Memory),
     }

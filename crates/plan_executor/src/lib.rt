@@ -5,6 +5,7 @@ mod agreement;
 mod carrying;
 mod codes;
 mod enactment;
+mod keeping;
 mod naming;
 mod patterned;
 mod rehearsal;
@@ -12,6 +13,7 @@ mod succession;
 
 pub use agreement::agrees;
 pub use enactment::{EnactRefusal, enact, plan_of, reserved_copy};
+pub use keeping::ends_as_reported;
 pub use naming::{executing_after, names_executing};
 pub use rehearsal::run_words;
 pub use succession::heir_of;

@@ -1,5 +1,5 @@
 //! Which moment of a run kills an executing master.
-ghost use Rattle.std.specs.Prelude.{◌≡◌, ◌<◌, ◌∷◌, [], length};
+ghost use Rattle.std.specs.Prelude.{◌≡◌, ◌∷◌, []};
 ghost use Rattle.std.specs.List.{list_any};
 ghost use Rattle.definitions.specs.Manner.{is_leave_call};
 ghost use Rattle.kernel_model.specs.Pattern.{moment_at};
@@ -7,7 +7,8 @@ ghost use Rattle.definitions.specs.Claims.{names_any, executing_at, executing_af
 ghost use Rattle.plan_executor.specs.Naming.{is_exit_of, listed};
 
 use kernel_model::Pattern;
-use vocabulary::{Call, Entry, Name};
+use plan_runner::CallLog;
+use vocabulary::{Call, Name};
 
 /// The first moment of these calls in which an executing master exits: the one of the image up to its Leave, and from
 /// it on the heir. Where there is no heir, nobody executes after the Leave.
@@ -15,13 +16,13 @@ pub(crate) fn refused_among(
     pattern: &Pattern,
     image: u32,
     heir: Option<u32>,
-    entries: &[Entry],
+    log: &CallLog,
 ) -> Option<u32>
-    requires { length entries.now < 4294967296 }
-    ensures { result ≡ refused_among (image ∷ []) (listed heir) (moment_at pattern.now) 0 entries.now }
+    ensures { result ≡ refused_among (image ∷ []) (listed heir) (moment_at pattern.now) 0 log.now.entries }
 {
     let mut executing = Some(image);
-    for (place, entry) in entries.iter().enumerate() {
+    for place in 0..log.len() {
+        let entry = log.entry(place);
         let number = place as u32 + 1;
         if names_executing(pattern.moment(number).exits, &entry.call, executing, heir) {
             return Some(number);

@@ -1,3 +1,4 @@
+pub mod Certificates
 pub mod Faults
 pub mod Outlooks
 pub mod Output

@@ -4,6 +4,7 @@
 mod certifying;
 mod explaining;
 mod fault;
+mod instead;
 mod planning;
 mod program;
 mod rehearsal;

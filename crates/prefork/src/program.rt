@@ -20,7 +20,6 @@ use crate::why;
 use command_line::{CertifyOptions, EnactOptions, PlanOptions, Request};
 use control_words::Word;
 use kernel_model::Pattern;
-use pattern_text::write_patterns;
 use std::alloc::{AllocError, Global};
 use std::io::{Read, Write};
 use std::rt::Files;
@@ -140,8 +139,7 @@ fn certify<R: AllocGlobal + Files, I: Read, O: Write>(
     }
     input.read_to_end(given)?;
     let blocks = read_transcripts(alloc, given.as_slice()).map_err(Fault::of_transcript)?;
-    let patterns = certify_all(alloc, &mut rehearsal, blocks.as_slice())?;
-    let text = write_patterns(alloc, patterns.as_slice())?;
+    let text = certify_all(alloc, &mut rehearsal, blocks.as_slice())?;
     write(output, text.as_slice())?;
     Ok(0)
 }

@@ -1,23 +1,24 @@
 //! A master on the modelled kernel, word by word.
-ghost use Rattle.std.specs.Prelude.{◌≡◌, ◌+◌, ◌++◌, List, length, OnOk, IfOk};
+ghost use Rattle.std.specs.Prelude.{◌≡◌, ◌+◌, ◌++◌, ◌∷◌, [], ℕ, List, length, Some, OnOk, IfOk, IfErr};
+ghost use Rattle.definitions.specs.Run.{Moment};
 ghost use Rattle.table_text.specs.TableText.{IsTextOf};
 ghost use Rattle.word_runner.specs.declared.block.Block.{Block as Done};
-ghost use Rattle.word_runner.specs.Asking.{IsPossible};
+ghost use Rattle.certifier.specs.Blocks.{AreTaken, StopsAtBlock};
 ghost use Rattle.prefork.specs.Starts.{IsStarted};
-ghost use Rattle.prefork.specs.Rehearsals.{Held, IsRehearsed};
+ghost use Rattle.prefork.specs.Rehearsals.{Held, standing_of, IsRehearsed};
 
 use crate::fault::Fault;
 use crate::start::{Start, silent_workers};
-use certifier::{Mismatch, certify};
+use certifier::{BlockMismatch, certify_beginning, certify_blocks};
 use control_words::Word;
 use kernel_model::{Kernel, Pattern};
 use listener_set::Address;
 use plan_executor::run_words;
 use plan_runner::CallLog;
 use service_state::Record;
-use std::alloc::{AllocError, Global};
-use vocabulary::{Limits, Report, Settings};
-use word_runner::{Asked, Block, Body, asked_by, note};
+use std::alloc::Global;
+use vocabulary::{Limits, Settings};
+use word_runner::{Asked, Block, asked_by};
 use worker_table::WorkerTable;
 
 /// What the modelled kernel of a rehearsal allows.
@@ -96,58 +97,58 @@ impl Rehearsal {
         Ok(())
     }
 
-    /// The pattern that explains a block, from where things stand; then they stand where the block leaves them. A block
-    /// of an unread line or of a refused word changes nothing, and is taken as it is.
-    pub fn certify(&mut self, alloc: Global, block: &Block) -> Result<Pattern, Mismatch> {
-        match block {
-            Block::Unread(_) | Block::Heard(_, Body::Refused(_)) => Ok(Pattern::new(alloc)),
-            Block::Heard(word, Body::Nothing) => self.certify_nothing(alloc, *word),
-            Block::Heard(word, Body::Ran(log, report)) => self.certify_run(
-                alloc, *word, log, report,
-            ),
-        }
-    }
-
-    /// What a word asks of the master; nothing where it has stopped.
-    fn asked(&self, word: Word) -> Asked
-        ensures { IsPossible result }
+    /// Compares blocks one after another, each from where the ones before it left things, and gives the patterns that
+    /// explain them, one for each. The first that is none of the master's is the mismatch.
+    pub fn certify(
+        &mut self,
+        alloc: Global,
+        blocks: &[Block],
+    ) -> Result<Vec<Pattern>, BlockMismatch>
+        ensures ok { IfOk result (λ patterns. AreTaken (Some self.old.next) blocks.now (standing_of self.old) patterns.items (standing_of self.new)) }
+        ensures err { IfErr result (λ e. StopsAtBlock (Some self.old.next) blocks.now (standing_of self.old) e.number e.why) }
+        ensures next { self.new.next ≡ self.old.next }
     {
-        match &self.record {
-            Some(record) => asked_by(word, record, &self.workers, Some(&self.next)),
-            None => Asked::Nothing,
-        }
+        let settings = self.next;
+        certify_blocks(
+            alloc,
+            &mut self.kernel,
+            &mut self.record,
+            &mut self.workers,
+            Some(&settings),
+            blocks,
+        )
     }
 
-    /// A word came to nothing. One with a plan does not; a beat is noted, whatever the table says of it.
-    fn certify_nothing(&mut self, alloc: Global, word: Word) -> Result<Pattern, Mismatch> {
-        match self.asked(word) {
-            Asked::Act(_) => Err(Mismatch::Short),
-            Asked::Beat(heard) => {
-                let _ = note(&mut self.workers, heard);
-                Ok(Pattern::new(alloc))
-            }
-            Asked::Nothing | Asked::Refused(_) => Ok(Pattern::new(alloc)),
-        }
-    }
-
-    /// A word came to calls and a report. Under the pattern that explains them the word is carried out.
-    fn certify_run(
+    /// What a word comes to where its first calls are those of a log, as far as they begin a run of the master: the
+    /// block of that run. It is carried out.
+    pub fn go_on(
         &mut self,
         alloc: Global,
         word: Word,
-        log: &CallLog,
-        report: &Report,
-    ) -> Result<Pattern, Mismatch> {
-        let (Asked::Act(target), Some(record)) = (self.asked(word), self.record) else {
-            return Err(Mismatch::Step(1));
-        };
-        let pattern = certify(alloc, &self.kernel, &record, &target, log, report)?;
-        let mut patterns = Vec::new(alloc);
-        patterns.push(pattern).map_err(AllocError::from)?;
+        begun: &CallLog,
+    ) -> Result<Option<Block>, Fault>
+        ensures { IfOk result (λ found. (block : Done) × (pattern : List (ℕ × Moment))
+            × (found ≡ Some block)
+            × IsRehearsed (pattern ∷ []) (word ∷ []) self.old (block ∷ []) self.new) }
+    {
+        let pattern = self.pattern_of(alloc, word, begun);
         let mut blocks = Vec::new(alloc);
-        self.act(alloc, &[word], patterns.as_slice(), &mut blocks)
-            .map_err(|_| Mismatch::Memory)?;
-        patterns.pop().ok_or(Mismatch::Memory)
+        self.act(alloc, &[word], &[pattern], &mut blocks)?;
+        Ok(blocks.pop())
+    }
+
+    /// The pattern that the first calls of a word show; a quiet one where they begin no run of the master.
+    fn pattern_of(&self, alloc: Global, word: Word, begun: &CallLog) -> Pattern {
+        let Some(record) = self.record else {
+            return Pattern::new(alloc);
+        };
+        let Asked::Act(target) = asked_by(word, &record, &self.workers, Some(&self.next)) else {
+            return Pattern::new(alloc);
+        };
+        match certify_beginning(alloc, &self.kernel, &record, &target, begun) {
+            Ok(pattern) => pattern,
+            Err(_) => Pattern::new(alloc),
+        }
     }
 
     /// The table of processes, files and the service.

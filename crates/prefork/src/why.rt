@@ -1,5 +1,6 @@
 //! `--why`: what is said of a fault behind its line, for people.
 use crate::fault::Fault;
+use crate::instead::line_instead;
 use call_text::TextRefusal;
 use certifier::Mismatch;
 use command_line::{Request, StartOptions, complaint};
@@ -83,7 +84,10 @@ fn tell_place<R: AllocGlobal + Files, E: Write>(
         Fault::Boot(_) => tell_workers(request, errors),
         Fault::Address(_) | Fault::Foreign(_) => tell_held(request, errors),
         Fault::Pattern(refusal) | Fault::Transcript(refusal) => tell_line(given, refusal, errors),
-        Fault::Certify(number, mismatch) => tell_block(given, *number, mismatch, errors),
+        Fault::Certify(number, mismatch) => {
+            tell_block(given, *number, mismatch, errors);
+            tell_instead(rt, request, given, *number, mismatch, errors);
+        }
         _ => (),
     }
 }
@@ -235,6 +239,23 @@ fn tell_block<E: Write>(given: &[u8], number: usize, mismatch: &Mismatch, errors
     if let Some(line) = line_of(given, number, wanted) {
         let _ = write!(errors, "  standard input, line {}: ", line.number);
         tell_text(Some(line.text), errors);
+    }
+}
+
+/// The line that the master would have had there.
+fn tell_instead<R: AllocGlobal + Files, E: Write>(
+    rt: &R,
+    request: &Request<'_>,
+    given: &[u8],
+    number: usize,
+    mismatch: &Mismatch,
+    errors: &mut E,
+) {
+    if let Request::Certify(options) = request {
+        if let Ok(Some(line)) = line_instead(rt, options, given, number, mismatch) {
+            let _ = errors.write_all(b"  the master has here: ");
+            tell_text(Some(line.as_slice()), errors);
+        }
     }
 }
 

@@ -2,5 +2,4 @@ pub mod CodeTexts
 pub mod OneLine
 pub mod EntryTexts
 pub mod BlockLines
-pub mod TextLines
 pub mod Transcripts

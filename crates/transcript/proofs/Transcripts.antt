@@ -23,7 +23,7 @@ use Rattle.transcript.specs.Reading.{last_count, with_ready, Opened, Reading, be
 use Rattle.transcript.specs.Block.{body_text, block_text, transcript_text, IsBody, IsBlock, AreBlocks, body_read, block_read, IsTextOf}
 use Rattle.transcript.proofs.OneLine.{line_lacks}
 use Rattle.transcript.proofs.BlockLines.{block_line_reads}
-use Rattle.transcript.proofs.TextLines.{ended_lines, lines_ended, lines_line, lines_lack}
+use Rattle.call_text.proofs.TextLines.{ended_lines, lines_ended, lines_line, lines_lack}
 
 abbrev AreEntries : List Entry → Type 0
 AreEntries es = AllByRecursion IsEntry es

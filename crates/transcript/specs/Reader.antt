@@ -5,7 +5,7 @@ use Rattle.transcript.specs.declared.reading.Reader.{Reader}
 use Rattle.transcript.specs.Reading.{Opened, Reading}
 
 abbrev pub seen_current : Current → Opened
-seen_current o = record { word = o.word; made = o.entries.items }
+seen_current o = record { word = o.word; made = o.log.entries }
 
 abbrev pub seen : Reader → Reading
 seen r = record { done = r.done.items; current = option_map seen_current r.current }

@@ -1,11 +1,13 @@
 //! Blocks as texts.
 ghost use Rattle.std.specs.Prelude.{◌≡◌, ◌++◌, IfOk};
+ghost use Rattle.call_text.specs.ReportText.{entries_text};
 ghost use Rattle.control_words.specs.Words.{word_text};
 ghost use Rattle.transcript.specs.Block.{body_text, block_text};
 
-use call_text::{write_entries, write_report};
+use call_text::{write_entry, write_report};
 use control_words::Word;
 use plain_text::write_number;
+use plan_runner::CallLog;
 use std::alloc::{AllocError, Global};
 use word_runner::{Block, Body};
 
@@ -28,6 +30,16 @@ fn write_word(out: &mut Vec<u8>, word: Word) -> Result<(), AllocError>
     }
 }
 
+/// A line for each call, numbered from 1.
+fn write_entries(out: &mut Vec<u8>, log: &CallLog) -> Result<(), AllocError>
+    ensures { IfOk result (λ _. out.new.items ≡ out.old.items ++ entries_text 1 log.now.entries) }
+{
+    for place in 0..log.len() {
+        write_entry(out, place as u64 + 1, &log.entry(place))?;
+    }
+    Ok(())
+}
+
 /// What a word came to, behind what was written: `nothing`, or `refused CODE`, or a line for each call, numbered from 1, and the
 /// report's line. The only refusal is want of memory.
 pub fn write_body(out: &mut Vec<u8>, body: &Body) -> Result<(), AllocError>
@@ -41,7 +53,7 @@ pub fn write_body(out: &mut Vec<u8>, body: &Body) -> Result<(), AllocError>
             out.extend_from_slice(b"\n")
         }
         Body::Ran(log, report) => {
-            write_entries(out, log.entries())?;
+            write_entries(out, log)?;
             write_report(out, report)?;
             out.extend_from_slice(b"\n")
         }

@@ -1,10 +1,10 @@
 //! Blocks, read.
 ghost use Rattle.std.specs.Prelude.{◌≡◌, ◌≢◌, List, map, Ok, Err, OnOk, IfOk, IfErr, option_map};
+ghost use Rattle.definitions.specs.Path.{ready_after};
 ghost use Rattle.transcript.specs.BlockLine.{seen as seen_line, IsLine};
 ghost use Rattle.transcript.specs.Block.{AreBlocks, IsTextOf, block_read};
 ghost use Rattle.transcript.specs.Reading.{fault_within, fault_of, line_here, last_count, with_entry, with_block, with_line, ran, begun, finished, blocks_of};
 ghost use Rattle.word_runner.specs.declared.block.Block.{Block as Done};
-ghost use Rattle.transcript.specs.Reader.{seen_current};
 
 use crate::block_line::BlockLine;
 use crate::codes::code_of;
@@ -13,40 +13,51 @@ use control_words::Word;
 use listener_set::Numbers;
 use plan_runner::CallLog;
 use std::alloc::{AllocError, Global};
-use vocabulary::{Answer, Call, Entry, Report};
+use vocabulary::{Answer, Entry, Report};
 use word_runner::{Block, Body};
 
 /// A block that has begun: its word, and the calls so far.
 #[derive(Drop)]
 struct Current {
     word: Word,
-    entries: Vec<Entry>,
+    log: CallLog,
+    ghost full: { log.room ≡ 0 },
 }
 
 impl Current {
+    ghost use Rattle.transcript.specs.Reader.{seen_current};
+
     /// Why a line with this number can't stand here.
     fn fault_of(&self, number: usize, line: &BlockLine<'_>) -> Option<TextRefusal>
         ensures { result ≡ fault_within number (seen_line line.now) (seen_current self.now) }
     {
         match line {
-            BlockLine::Made(place, _) if *place as usize == self.entries.len() + 1 => None,
+            BlockLine::Made(place, _) if *place as usize == self.log.len() + 1 => None,
             BlockLine::Made(..) => Some(TextRefusal::Order(number)),
             BlockLine::Ended(_) => None,
-            BlockLine::Nothing | BlockLine::Refused(_) if self.entries.is_empty() => None,
+            BlockLine::Nothing | BlockLine::Refused(_) if self.log.is_empty() => None,
             _ => Some(TextRefusal::Line(number)),
         }
     }
 }
 
+/// The numbers of a call that counts; those before it where it does not.
+fn ready_after(entry: &Entry, before: Numbers) -> Numbers
+    ensures { result ≡ ready_after entry.now.answer before }
+{
+    match entry.answer {
+        Answer::Counted(numbers) => numbers,
+        _ => before,
+    }
+}
+
 /// The numbers of the last count among calls; none where there is no count.
-fn last_count(entries: &[Entry]) -> Numbers
-    ensures { result ≡ last_count entries.now }
+fn last_count(log: &CallLog) -> Numbers
+    ensures { result ≡ last_count log.now.entries }
 {
     let mut ready = Numbers::none();
-    for entry in entries {
-        if let Answer::Counted(numbers) = entry.answer {
-            ready = numbers;
-        }
+    for place in 0..log.len() {
+        ready = ready_after(&log.entry(place), ready);
     }
     ready
 }
@@ -119,9 +130,9 @@ impl Reader {
             outcome: report.outcome,
             cause: report.cause,
             note: report.note,
-            ready: last_count(&current.entries),
+            ready: last_count(&current.log),
         };
-        let body = Body::Ran(CallLog::from(current.entries), report);
+        let body = Body::Ran(current.log, report);
         self.done.push(Block::Heard(current.word, body))?;
         Ok(())
     }
@@ -130,16 +141,10 @@ impl Reader {
         ensures done { OnOk result ((seen self.new).done ≡ (seen self.old).done) }
         ensures entry { OnOk result ((seen self.new).current ≡ option_map (with_entry entry.now) (seen self.old).current) }
     {
-        let call: Call = entry.call;
-        let answer: Answer = entry.answer;
-        if let Some(current) = &mut self.current {
-            current.entries.push(Entry {
-                by: entry.by,
-                call,
-                answer,
-            })?;
+        match &mut self.current {
+            Some(current) => current.log.add(entry),
+            None => Ok(()),
         }
-        Ok(())
     }
 
     /// Takes a line in. The only refusal is want of memory.
@@ -151,7 +156,7 @@ impl Reader {
             BlockLine::Heard(word) => {
                 self.current = Some(Current {
                     word: *word,
-                    entries: Vec::new(alloc),
+                    log: CallLog::with_room(alloc, 0)?,
                 });
                 Ok(())
             }

@@ -15,7 +15,7 @@ use Rattle.certifier.specs.Places.{Holds, FailsBy}
 use Rattle.certifier.specs.Explained.{IsReady, mismatch_of}
 use Rattle.certifier.proofs.Explaining.{begins}
 use Rattle.certifier.proofs.Matching.{exact-mismatch, exact-planless, exact-short, answered, enacts-so}
-use Rattle.certifier.proofs.Complete.{complete-by}
+use Rattle.certifier.proofs.Complete.{IsDue, complete-by, unready-refused}
 use Rattle.certifier.specs.Certified.{IsCertified, EnactsSo}
 use Rattle.std.proofs.lemmas.Result.{IfOk-weaker}
 use Rattle.certifier.proofs.certification.certify.Goals as goal
@@ -43,13 +43,21 @@ returns-in_err-copy-clause-exact c =
 ---- What comes of a run under faults alone
 
 pub returns-then-not-agrees-clause-complete : goal.returns-then-not-agrees-clause-complete
-returns-then-not-agrees-clause-complete c = complete-by c.args.kernel.now.table c.args.state.now c.args.target.now c.args.log.now.entries c.args.report.now _ (returns-then-not-agrees-clause-exact c)
+returns-then-not-agrees-clause-complete c faulty = inl refl
 
 pub returns-in_err-plan-clause-complete : goal.returns-in_err-plan-clause-complete
-returns-in_err-plan-clause-complete c = complete-by c.args.kernel.now.table c.args.state.now c.args.target.now c.args.log.now.entries c.args.report.now c.from_residual.result (returns-in_err-plan-clause-exact c)
+returns-in_err-plan-clause-complete c faulty =
+    let p = err_from_is_err_and c.from_residual.result c.from_residual.ensures.1 in
+    let why = c.in_err-plan.field-0.0 in
+    let same : p.0 ≡ mismatch_of why = cc in
+    unready-refused c.from_residual.result why (p.1 ∙ ap Err same)
 
 pub returns-in_err-copy-clause-complete : goal.returns-in_err-copy-clause-complete
-returns-in_err-copy-clause-complete c = complete-by c.args.kernel.now.table c.args.state.now c.args.target.now c.args.log.now.entries c.args.report.now c.from_residual-in_err-copy.result (returns-in_err-copy-clause-exact c)
+returns-in_err-copy-clause-complete c faulty =
+    let p = err_from_is_err_and c.from_residual-in_err-copy.result c.from_residual-in_err-copy.ensures.1 in
+    let why = c.in_err-copy.field-0.0 in
+    let same : p.0 ≡ mismatch_of why = cc in
+    unready-refused c.from_residual-in_err-copy.result why (p.1 ∙ ap Err same)
 
 ---- A target that could be carried out
 
@@ -64,11 +72,17 @@ returns c =
     let plan = c.in_ok-plan.ensures.planned in
     let longest : c.longest.result ≡ height (plan_tree r target) = c.longest.ensures ∙ ap height c.in_ok-plan.ensures.tree in
     let ready : IsReady t r target = record { agrees = agrees; has_plan = plan; numbers = subst (λ n. LacksNumbers t n → ⊥) longest c.in_ok-copy.ensures.numbers } in
+    let due : IsDue t r target = record {
+      start = record { formed = c.in_ok-copy.ensures.formed; agrees = agrees; record_in_range = c.agrees.ensures.in_range; rising = c.agrees.ensures.rising };
+      descriptors = record { descriptors = c.agrees.ensures.descriptors; limit = c.in_ok-copy.ensures.descriptors };
+      has_plan = plan;
+      ends = c.ends_as_reported.ensures;
+    } in
     let image : c.state.inside.generation.image ≡ r.generation.image = ap (λ (x : Record). x.generation.image) c.state.view_is in
     let same : listed c.heir_of-heir.result ≡ heirs_of r target = c.heir_of-heir.ensures in
     let place : record { trail = begin _ _; table = c.in_ok-copy.copy.table; executing = c.state.inside.generation.image ∷ [] } ≡ begins t r target =
     λ i. record { trail = begin (c.in_ok-plan.ensures.tree i) (c.in_ok-plan.ensures.note i); table = (c.in_ok-copy.ensures.same i).table; executing = image i ∷ [] } in
     let all = answered t r target es report ready c.hold.result
-    (subst (λ (X : Type 0). X) (λ i. IfOk c.hold.result (Holds (c.in_ok-plan.ensures.text i) (same i) (place i) (c.entries.ensures i) report)) c.hold.ensures.ok)
-    (subst (λ (X : Type 0). X) (λ i. IfErr c.hold.result (FailsBy (c.in_ok-plan.ensures.text i) (same i) (place i) (c.entries.ensures i) report)) c.hold.ensures.err) in
-    record { ok = all.0; exact = all.1; enacts = IfOk-weaker c.hold.result (IsCertified t r target es report) (EnactsSo c.args.kernel.now r target es report) (enacts-so c.args.kernel.now r target es report) all.0; complete = complete-by t r target es report c.hold.result all.1; memory = λ _. record { agrees = agrees; spared = λ p none. no_plan r target p none plan } }
+    (subst (λ (X : Type 0). X) (λ i. IfOk c.hold.result (Holds (c.in_ok-plan.ensures.text i) (same i) (place i) es report)) c.hold.ensures.ok)
+    (subst (λ (X : Type 0). X) (λ i. IfErr c.hold.result (FailsBy (c.in_ok-plan.ensures.text i) (same i) (place i) es report)) c.hold.ensures.err) in
+    record { ok = all.0; exact = all.1; enacts = IfOk-weaker c.hold.result (IsCertified t r target es report) (EnactsSo c.args.kernel.now r target es report) (enacts-so c.args.kernel.now r target es report) all.0; complete = complete-by t r target es report c.hold.result all.1 due; memory = λ _. record { agrees = agrees; spared = λ p none. no_plan r target p none plan } }

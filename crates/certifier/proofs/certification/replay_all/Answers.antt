@@ -1,6 +1,7 @@
-use Rattle.std.proofs.Common.{◌≡◌, ◌+◌, List, ◌∷◌, [], ◌++◌, take, inr, refl, sym, ◌∙◌, ap, subst, arith}
+use Rattle.std.proofs.Common.{◌≡◌, ◌+◌, ◌<◌, length, List, ◌∷◌, [], ◌++◌, take, inr, refl, sym, ◌∙◌, ap, subst, arith}
 use Rattle.std.proofs.lemmas.Bool.{false≢true}
 use Rattle.std.proofs.lemmas.List.{take_more}
+use Rattle.std.proofs.lemmas.Option.{get_or_from_slice_get}
 use Rattle.vocabulary.specs.declared.reports.Entry.{Entry}
 use Rattle.plan_executor.specs.Naming.{listed}
 use Rattle.certifier.specs.Places.{place_of, HasTaken, AreNext}
@@ -10,10 +11,11 @@ use Rattle.certifier.proofs.certification.replay_all.Goals as goal
 pub loop-place-preserved : goal.loop-place-preserved
 loop-place-preserved c =
     let old = c.args.replay.now in
-    let entries = c.args.entries.now in
+    let entries = c.args.log.now.entries in
     let place = c.loop-place.place in
-    let e = c.index-entries-place.result in
-    let longer : take (place + 1) entries ≡ take place entries ++ e ∷ [] = take_more entries place e c.loop-place-test.true ∙ ap (λ x. take place entries ++ x ∷ []) (sym c.index-entries-place.is) in
+    let e = c.entry.result in
+    let within : place < length entries = omega (arith, c.loop-place-test.true, c.len-place-end.ensures.count) in
+    let longer : take (place + 1) entries ≡ take place entries ++ e ∷ [] = take_more entries place e within ∙ ap (λ x. take place entries ++ x ∷ []) (((get_or_from_slice_get entries place e e c.entry.ensures))) in
     subst (λ (es : List Entry). HasTaken old.text.now (listed old.heir) (place_of old) es c.take.new.self) (sym longer)
     (taken-on old.text.now (listed old.heir) (place_of old) (take place entries) e c.loop-place.replay c.take.new.self c.loop-place.invariant
     (c.in_ok-take.ensures.next.0 c.if-not-branch.false) (c.in_ok-take.ensures.taken c.if-not-branch.false))
@@ -21,17 +23,18 @@ loop-place-preserved c =
 pub returns-then-not-branch-clause-err : goal.returns-then-not-branch-clause-err
 returns-then-not-branch-clause-err c =
     let old = c.args.replay.now in
-    let entries = c.args.entries.now in
+    let entries = c.args.log.now.entries in
     let place = c.loop-place.place in
-    let e = c.index-entries-place.result in
-    let longer : take (place + 1) entries ≡ take place entries ++ e ∷ [] = take_more entries place e c.loop-place-test.true ∙ ap (λ x. take place entries ++ x ∷ []) (sym c.index-entries-place.is) in
+    let e = c.entry.result in
+    let within : place < length entries = omega (arith, c.loop-place-test.true, c.len-place-end.ensures.count) in
+    let longer : take (place + 1) entries ≡ take place entries ++ e ∷ [] = take_more entries place e within ∙ ap (λ x. take place entries ++ x ∷ []) (((get_or_from_slice_get entries place e e c.entry.ensures))) in
     inr (
       place + 1,
       refl,
       record {
         before = place;
         number = refl;
-        within = omega (arith, c.loop-place-test.true);
+        within = omega (arith, within);
         next = c.loop-place.invariant.next;
         stops =
             λ all. taken-stops old.text.now (listed old.heir) (place_of old) (take place entries) e c.loop-place.replay c.loop-place.invariant

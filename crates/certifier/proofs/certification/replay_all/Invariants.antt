@@ -4,4 +4,4 @@ use Rattle.certifier.specs.Places.{place_of, HasTaken}
 use Rattle.certifier.proofs.certification.replay_all.Given as goal
 
 abbrev pub invariant-loop-place : goal.invariant-loop-place
-invariant-loop-place l = HasTaken l.fn.replay.text.now (listed l.fn.replay.heir) (place_of l.fn.replay) (take l.place l.entries) l.replay
+invariant-loop-place l = HasTaken l.fn.replay.text.now (listed l.fn.replay.heir) (place_of l.fn.replay) (take l.place l.log.entries) l.replay

@@ -6,4 +6,4 @@ use Rattle.plan_executor.proofs.naming.refused_among.Given as goal
 
 abbrev pub invariant-loop-place : goal.invariant-loop-place
 invariant-loop-place l =
-    refused_among (l.image ∷ []) (listed l.heir) (moment_at l.pattern) 0 l.entries ≡ refused_among (listed l.executing) (listed l.heir) (moment_at l.pattern) l.place (drop l.place l.entries)
+    refused_among (l.image ∷ []) (listed l.heir) (moment_at l.pattern) 0 l.log.entries ≡ refused_among (listed l.executing) (listed l.heir) (moment_at l.pattern) l.place (drop l.place l.log.entries)

@@ -1,7 +1,0 @@
-use Rattle.std.proofs.Common.{◌≡◌, ◌+◌, ◌++◌, drop}
-use Rattle.call_text.specs.ReportText.{entries_text}
-use Rattle.call_text.proofs.reports.write_entries.Given as goal
-
-abbrev pub invariant-loop-place : goal.invariant-loop-place
-invariant-loop-place l =
-    l.out.items ++ entries_text (l.place + 1) (drop l.place l.entries) ≡ l.fn.out.items ++ entries_text 1 l.entries

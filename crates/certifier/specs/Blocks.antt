@@ -1,0 +1,105 @@
+-- Blocks, compared one after another with plans and kernel.
+use Rattle.std.specs.Prelude.{⊤, ℕ, ◌≡◌, ◌+◌, ◌⊎◌, List, [], ◌∷◌, ◌++◌, length, Option, Some, None}
+use Rattle.vocabulary.specs.Settings.{Settings}
+use Rattle.vocabulary.specs.declared.targets.Target.{Target}
+use Rattle.vocabulary.specs.declared.reports.Entry.{Entry}
+use Rattle.vocabulary.specs.declared.reports.Report.{Report}
+use Rattle.definitions.specs.Record.{Record}
+use Rattle.kernel_model.specs.State.{State}
+use Rattle.worker_table.specs.Beats.{Workers}
+use Rattle.worker_table.specs.Calls.{beating}
+use Rattle.control_words.specs.declared.words.Word.{Word}
+use Rattle.word_runner.specs.declared.asking.Asked.{Asked}
+use Rattle.word_runner.specs.declared.asking.Asked.TheVariants as asks
+use Rattle.word_runner.specs.declared.block.Block.{Block}
+use Rattle.word_runner.specs.declared.block.Block.TheVariants.{Heard, Unread}
+use Rattle.word_runner.specs.declared.block.Body.{Body}
+use Rattle.word_runner.specs.declared.block.Body.TheVariants.{Nothing, Refused, Ran}
+use Rattle.word_runner.specs.Asking.{asked_by, IsActOn, IsNoted}
+use Rattle.word_runner.specs.Words.{Standing, standing, HasRun}
+use Rattle.plan_executor.specs.Words.{Moments, EnactsAt}
+use Rattle.certifier.specs.declared.mismatch.Mismatch.{Mismatch}
+use Rattle.certifier.specs.declared.mismatch.Mismatch.TheVariants as mismatch
+use Rattle.certifier.specs.Certified.{IsCertified}
+use Rattle.certifier.specs.Explained.{IsMismatch}
+
+-- What a word asks of the master; nothing where it has stopped.
+abbrev pub asked_at : Option Settings → Word → Option Record → Workers → Asked
+asked_at settings word None workers = asks.Nothing
+asked_at settings word (Some r) workers = asked_by word r workers settings
+
+---- One block
+
+-- A word that asks for no target came to nothing: a beat is noted, whatever the table of workers says of it, and all else is as it was.
+abbrev pub IsIdle : Asked → Standing State → Standing State → Type 0
+IsIdle asks.Nothing old new = new ≡ old
+IsIdle (asks.Beat beat) old new =
+    (body : Body) × IsNoted (beating old.workers beat.nr beat.now) beat.nr beat.now old.workers body new.workers × (new ≡ standing old.world old.state new.workers)
+IsIdle (asks.Act target) old new = ⊥
+IsIdle (asks.Refused code) old new = new ≡ old
+
+-- A word asks the master for a target. These calls and this report of it are certified by a pattern, and to carry the target out
+-- under that, which makes just these calls and this report, leads from the one standing to the other.
+pub record IsFollowed (settings : Option Settings) (word : Word) (entries : List Entry) (report : Report) (old : Standing State) (pattern : Moments) (new : Standing State) : Type 0 where
+  pub master : Record
+  pub runs : old.state ≡ Some master
+  pub target : Target
+  pub asks : asked_by word master old.workers settings ≡ asks.Act target
+  pub certified : IsCertified old.world.table master target entries report pattern
+  pub room : ℕ
+  pub carried_out : HasRun (EnactsAt (pattern ∷ [])) 0 old master target (record { entries = entries; room = room }) report new
+
+-- A pattern explains what a word came to, which leads from one standing to the other. A refused word changes nothing, and is taken
+-- as it is.
+abbrev pub IsBodyTaken : Option Settings → Word → Body → Standing State → Moments → Standing State → Type 0
+IsBodyTaken settings word Nothing old pattern new = (pattern ≡ []) × IsIdle (asked_at settings word old.state old.workers) old new
+IsBodyTaken settings word (Refused code) old pattern new = (pattern ≡ []) × (new ≡ old)
+IsBodyTaken settings word (Ran log report) old pattern new = IsFollowed settings word log.entries report old pattern new
+
+-- It explains a block. An unread line changes nothing, and is taken as it is.
+abbrev pub IsTaken : Option Settings → Block → Standing State → Moments → Standing State → Type 0
+IsTaken settings (Heard word body) old pattern new = IsBodyTaken settings word body old pattern new
+IsTaken settings (Unread refusal) old pattern new = (pattern ≡ []) × (new ≡ old)
+
+-- Calls and a report do not match: those of a target as `certify` says, and the first where no target is asked for.
+abbrev pub IsRunFault : Asked → Standing State → Record → List Entry → Report → Mismatch → Type 0
+IsRunFault asks.Nothing s r entries report why = why ≡ mismatch.Step 1
+IsRunFault (asks.Beat beat) s r entries report why = why ≡ mismatch.Step 1
+IsRunFault (asks.Act target) s r entries report why = IsMismatch s.world.table r target entries report why
+IsRunFault (asks.Refused code) s r entries report why = why ≡ mismatch.Step 1
+
+abbrev pub IsRunFaultOf : Option Record → Option Settings → Word → Standing State → List Entry → Report → Mismatch → Type 0
+IsRunFaultOf None settings word s entries report why = why ≡ mismatch.Step 1
+IsRunFaultOf (Some r) settings word s entries report why = IsRunFault (asked_by word r s.workers settings) s r entries report why
+
+-- What is wrong with what a word came to. Where it asks for a target, it does not come to nothing.
+abbrev pub IsBodyFault : Option Settings → Word → Body → Standing State → Mismatch → Type 0
+IsBodyFault settings word Nothing s why = (why ≡ mismatch.Short) × IsActOn (λ target. ⊤) (asked_at settings word s.state s.workers)
+IsBodyFault settings word (Refused code) s why = ⊥
+IsBodyFault settings word (Ran log report) s why = IsRunFaultOf s.state settings word s log.entries report why
+
+-- What is wrong with a block, want of memory aside.
+abbrev pub IsFault : Option Settings → Block → Standing State → Mismatch → Type 0
+IsFault settings (Heard word body) s why = IsBodyFault settings word body s why
+IsFault settings (Unread refusal) s why = ⊥
+
+---- Block after block
+
+-- Patterns explain blocks, one each, which lead from one standing to the other.
+abbrev pub AreTaken : Option Settings → List Block → Standing State → List Moments → Standing State → Type 0
+AreTaken settings [] old [] new = new ≡ old
+AreTaken settings [] old (p ∷ ps) new = ⊥
+AreTaken settings (b ∷ bs) old [] new = ⊥
+AreTaken settings (b ∷ bs) old (p ∷ ps) new = (middle : Standing State) × IsTaken settings b old p middle × AreTaken settings bs middle ps new
+
+-- The blocks before the n-th, counted from 1, are explained, and where they lead to it is wrong for this reason, or memory is wanted.
+pub record StopsAtBlock (settings : Option Settings) (blocks : List Block) (old : Standing State) (n : ℕ) (why : Mismatch) : Type 0 where
+  pub front : List Block
+  pub block : Block
+  pub behind : List Block
+  pub parts : blocks ≡ front ++ block ∷ behind
+  pub number : n ≡ length front + 1
+  pub patterns : List Moments
+  pub there : Standing State
+  pub taken : AreTaken settings front old patterns there
+  pub fault : (why ≡ mismatch.Memory) ⊎ IsFault settings block there why

@@ -1,0 +1,60 @@
+//! The beginning of a run, held against the modelled kernel.
+ghost use Rattle.std.specs.Prelude.{◌≡◌, [], ◌∷◌, IfOk};
+ghost use Rattle.definitions.specs.Path.{begin};
+ghost use Rattle.definitions.specs.Target.{IsTarget};
+ghost use Rattle.definitions.specs.Tree.{height};
+ghost use Rattle.rollback_plan.specs.Plans.{tree_of, note_of, text_of};
+ghost use Rattle.plan_executor.specs.Naming.{listed};
+ghost use Rattle.certifier.specs.Places.{Shows};
+ghost use Rattle.certifier.specs.Certified.{IsBeginning};
+
+use crate::certification::replay_all;
+use crate::mismatch::Mismatch;
+use crate::replay::Replay;
+use kernel_model::{Kernel, Pattern};
+use plan_executor::{agrees, heir_of, plan_of, reserved_copy};
+use plan_runner::CallLog;
+use rollback_plan::Plan;
+use service_state::Record;
+use std::alloc::Global;
+use vocabulary::Target;
+
+/// The pattern that entries show, each of which is next, on a kernel with room for the plan's longest path.
+fn show_all(
+    alloc: Global,
+    plan: &Plan,
+    kernel: Kernel,
+    image: u32,
+    heir: Option<u32>,
+    log: &CallLog,
+) -> Result<Pattern, Mismatch>
+    requires { kernel.room ≡ height (tree_of plan.now) }
+    ensures { IfOk result (Shows (text_of plan.now) (listed heir) (record { trail = begin (tree_of plan.now) (note_of plan.now); table = kernel.table; executing = image ∷ [] }) log.now.entries) }
+{
+    let mut replay = Replay::new(alloc, plan, kernel, image, heir);
+    replay_all(&mut replay, log)?;
+    Ok(replay.pattern)
+}
+
+/// Holds the beginning of a run of a target, its first calls with their answers, against the modelled kernel.
+///
+/// A yes is the pattern that the calls show: under it the run of the target's plan on this kernel begins with them.
+/// Mismatches: Y4 the target can't be carried out; Y1 the first entry that can't stand there.
+pub fn certify_beginning(
+    alloc: Global,
+    kernel: &Kernel,
+    state: &Record,
+    target: &Target,
+    log: &CallLog,
+) -> Result<Pattern, Mismatch>
+    requires { IsTarget target.now }
+    ensures { IfOk result (IsBeginning kernel.now.table state.now target.now log.now.entries) }
+{
+    if !agrees(state, kernel) {
+        return Err(Mismatch::Refused);
+    }
+    let plan = plan_of(alloc, state, target)?;
+    let copy = reserved_copy(kernel, plan.longest())?;
+    let heir = heir_of(state, target);
+    show_all(alloc, &plan, copy, state.generation.image, heir, log)
+}

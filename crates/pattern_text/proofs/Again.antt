@@ -1,0 +1,218 @@
+-- What was written of patterns is read again as these.
+use Rattle.std.proofs.Common.{◌≡◌, ℕ, ◌+◌, ◌<◌, ◌≤◌, ◌==◌, nat_eq, Bool, true, false, cond, List, [], ◌∷◌, ◌++◌, map, Option, Some, None, Ok, Err, refl, sym, ap, subst, ◌∙◌, inl, inr, arith, append_assoc, append-nil}
+use Rattle.std.specs.Prelude.{⊤, codes, if◌then◌else◌, ◌≢◌}
+use Rattle.std.specs.List.{AllByRecursion}
+use Rattle.std.specs.Fmt.{decimal}
+use Rattle.std.proofs.lemmas.Bool.{cases_eq}
+use Rattle.std.proofs.lemmas.Bool.Decides.{nat_tests}
+use Rattle.listener_set.specs.declared.generation.Generation.{Generation}
+use Rattle.vocabulary.specs.declared.names.Name.{Name}
+use Rattle.vocabulary.specs.declared.names.Name.TheVariants as name
+use Rattle.vocabulary.specs.declared.calls.Fate.{Fate}
+use Rattle.vocabulary.specs.declared.calls.Fate.TheVariants as fate
+use Rattle.definitions.specs.Run.{Moment, quiet, Pattern}
+use Rattle.event_pattern.specs.Pattern.{moment_at, with_exit, with_fate, RiseFrom}
+use Rattle.plain_text.proofs.CutTexts.{lacks, lacks-append}
+use Rattle.call_text.specs.Lines.{lines_of}
+use Rattle.call_text.specs.Words.{fate_text}
+use Rattle.call_text.specs.NameText.{worker_name, name_text}
+use Rattle.call_text.specs.Ranges.{IsWorker, IsName, IsCount}
+use Rattle.call_text.specs.declared.refusal.TextRefusal.TheVariants.{Order}
+use Rattle.call_text.proofs.PartTexts.{number_lacks}
+use Rattle.call_text.proofs.TextLines.{lines_line}
+use Rattle.pattern_text.specs.declared.pattern_line.PatternLine.{PatternLine}
+use Rattle.pattern_text.specs.declared.pattern_line.PatternLine.TheVariants.{Exit, Fail, Next}
+use Rattle.pattern_text.specs.LineText.{line_text, IsLine}
+use Rattle.pattern_text.specs.PatternsText.{Reading, may_follow, may_stand, with_exit_at, with_fate_at, with_line, after_line, if_formed, reading_of, patterns_of}
+use Rattle.pattern_text.specs.PatternsWriting.{ended_line, exits_text, fail_text, moment_text, section_text, sections_behind, patterns_text}
+use Rattle.pattern_text.specs.Written.{IsNoted, IsSection, AreSections}
+use Rattle.pattern_text.proofs.PatternLines.{line_reads}
+
+---- No line has a newline within
+
+worker_lacks : (g : Generation) (k : ℕ) → IsWorker g k → lacks 10 (worker_name g k) ≡ true
+worker_lacks g k h =
+    let small : k < 1024 = h.1 in
+    lacks-append 10 (decimal g.image) (codes "." ++ (decimal g.config ++ 46 ∷ decimal k)) (number_lacks 10 g.image refl h.0.0)
+    (lacks-append 10 (codes ".") (decimal g.config ++ 46 ∷ decimal k) refl
+    (lacks-append 10 (decimal g.config) (codes "." ++ decimal k) (number_lacks 10 g.config refl h.0.1) (lacks-append 10 (codes ".") (decimal k) refl (number_lacks 10 k refl (omega (arith, small))))))
+
+name_lacks : (x : Name) → IsName x → lacks 10 (name_text x) ≡ true
+name_lacks (name.Worker g k) h = lacks-append 10 (codes "w") (worker_name g k) refl (worker_lacks g k h)
+name_lacks (name.Draining g k) h = lacks-append 10 (codes "d") (worker_name g k) refl (worker_lacks g k h)
+name_lacks (name.Master i) h = lacks-append 10 (codes "m") (decimal i) refl (number_lacks 10 i refl h)
+
+fate_lacks : (f : Fate) → lacks 10 (fate_text f) ≡ true
+fate_lacks fate.InUse = refl
+fate_lacks fate.TooMany = refl
+fate_lacks fate.Denied = refl
+fate_lacks fate.NoMemory = refl
+fate_lacks fate.Again = refl
+fate_lacks fate.Late = refl
+fate_lacks fate.NoImage = refl
+fate_lacks fate.Refused = refl
+fate_lacks fate.IoFault = refl
+
+line_lacks : (v : PatternLine) → IsLine v → lacks 10 (line_text v) ≡ true
+line_lacks (Exit n x) h =
+    lacks-append 10 (decimal n) (codes " exit " ++ name_text x) (number_lacks 10 n refl h.0.1) (lacks-append 10 (codes " exit ") (name_text x) refl (name_lacks x h.1))
+line_lacks (Fail n f) h =
+    lacks-append 10 (decimal n) (codes " fail " ++ fate_text f) (number_lacks 10 n refl h.1) (lacks-append 10 (codes " fail ") (fate_text f) refl (fate_lacks f))
+line_lacks Next h = refl
+
+---- A pattern with another moment at a number
+
+abbrev put : ℕ → Moment → Pattern → Pattern
+put n m p k = if k == n then m else p k
+
+exit-put : (n : ℕ) (x : Name) (m : Moment) (p : Pattern) (k : ℕ) → with_exit_at n x (put n m p) k ≡ put n (with_exit x m) p k
+exit-put n x m p k =
+    let same : nat_eq n n ≡ true = grind (arith, nat_tests) in
+    rw same (at (nat_eq k n))
+  where
+    at : (t : Bool) → cond t (with_exit x m) (cond t m (p k)) ≡ cond t (with_exit x m) (p k)
+    at true = refl
+    at false = refl
+
+fate-put : (n : ℕ) (f : Fate) (m : Moment) (p : Pattern) (k : ℕ) → with_fate_at n f (put n m p) k ≡ put n (with_fate f m) p k
+fate-put n f m p k =
+    let same : nat_eq n n ≡ true = grind (arith, nat_tests) in
+    rw same (at (nat_eq k n))
+  where
+    at : (t : Bool) → cond t (with_fate f m) (cond t m (p k)) ≡ cond t (with_fate f m) (p k)
+    at true = refl
+    at false = refl
+
+quiet-put : (n : ℕ) (p : Pattern) → p n ≡ quiet → (k : ℕ) → p k ≡ put n quiet p k
+quiet-put n p h k =
+    elim (cases_eq k n) [
+      | inl eq ↦ let here : nat_eq k n ≡ true = grind (arith, nat_tests) in rw here (ap p eq ∙ h)
+      | inr ne ↦ let other : nat_eq k n ≡ false = grind (arith, nat_tests) in rw other refl
+    ]
+
+---- The moments before a number
+
+abbrev AreBelow : ℕ → List (ℕ × Moment) → Type 0
+AreBelow n [] = ⊤
+AreBelow n (x ∷ xs) = (x.0 < n) × AreBelow n xs
+
+below-higher : (front : List (ℕ × Moment)) (n m : ℕ) → n ≤ m → AreBelow n front → AreBelow m front
+below-higher [] n m le h = tt
+below-higher (x ∷ xs) n m le h = let less : x.0 < n = h.0 in (omega (arith, le, less), below-higher xs n m le h.1)
+
+below-more : (front : List (ℕ × Moment)) (e : ℕ × Moment) → AreBelow e.0 front → AreBelow (e.0 + 1) (front ++ e ∷ [])
+below-more [] e h = (omega arith, tt)
+below-more (x ∷ xs) e h = let less : x.0 < e.0 = h.0 in (omega (arith, less), below-more xs e h.1)
+
+quiet-there : (front : List (ℕ × Moment)) (n : ℕ) → AreBelow n front → moment_at front n ≡ quiet
+quiet-there [] n h = refl
+quiet-there (x ∷ xs) n h =
+    let less : x.0 < n = h.0 in
+    let other : nat_eq x.0 n ≡ false = grind (arith, nat_tests) in
+    rw other (quiet-there xs n h.1)
+
+moment-more : (front : List (ℕ × Moment)) (e : ℕ × Moment) → AreBelow e.0 front → (k : ℕ) → put e.0 e.1 (moment_at front) k ≡ moment_at (front ++ e ∷ []) k
+moment-more [] e h k =
+    let turned : nat_eq k e.0 ≡ nat_eq e.0 k = grind (arith, nat_tests) in
+    ap (λ t. cond t e.1 quiet) turned
+moment-more (x ∷ xs) e h k =
+    elim (cases_eq x.0 k) [
+      | inl eq ↦
+          let less : x.0 < e.0 = h.0 in
+          let here : nat_eq x.0 k ≡ true = grind (arith, nat_tests) in
+          let other : nat_eq k e.0 ≡ false = grind (arith, nat_tests) in
+          rw (here, other) refl
+      | inr ne ↦ let other : nat_eq x.0 k ≡ false = grind (arith, nat_tests) in rw other (moment-more xs e h.1 k)
+    ]
+
+---- Line by line
+
+-- what is read of a text from there on, whatever the number of its first line
+abbrev Gives : Reading → List ℕ → List Pattern → Type 0
+Gives r written ps = (number : ℕ) → reading_of number r (lines_of written) ≡ Ok ps
+
+gives_line : (r : Reading) (v : PatternLine) (rest : List ℕ) (ps : List Pattern) → IsLine v → may_stand v r ≡ true → Gives (with_line v r) rest ps → Gives r (ended_line v ++ rest) ps
+gives_line r v rest ps is stands more number =
+    ap (λ t. reading_of number r (lines_of t)) (append_assoc (line_text v) (10 ∷ []) rest)
+    ∙ ap (λ lines. reading_of number r lines) (lines_line (line_text v) rest (line_lacks v is))
+    ∙ ap (λ o. after_line (if_formed number r o) r (λ next. reading_of (number + 1) next (lines_of rest))) (line_reads.only v is)
+    ∙ ap (λ b. after_line (cond b (Ok v) (Err (Order number))) r (λ next. reading_of (number + 1) next (lines_of rest))) stands
+    ∙ more (number + 1)
+
+module _ (done ps : List Pattern) where
+  -- what is read of a text within a section, of which this much is known
+  abbrev Goes : Pattern → ℕ → Bool → List ℕ → Type 0
+  Goes p last failed written = Gives (record { done = done; section = p; last = last; failed = failed }) written ps
+
+  goes-as : (p q : Pattern) (last : ℕ) (failed : Bool) (written : List ℕ) → ((k : ℕ) → q k ≡ p k) → Goes q last failed written → Goes p last failed written
+  goes-as p q last failed written same h = subst (λ (x : Pattern). Goes x last failed written) (λ i k. same k i) h
+
+  -- exits before a call go behind those that are known of it
+  goes_exits : (n : ℕ) (p : Pattern) (rest : List ℕ) → IsCount n → (xs : List Name) (m : Moment) (last : ℕ) (failed : Bool) → AllByRecursion IsName xs → may_follow last failed n ≡ true → last ≤ n →
+      ((l : ℕ) (f : Bool) → may_follow l f n ≡ true → l ≤ n → Goes (put n (record { exits = m.exits ++ xs; fate = m.fate }) p) l f rest) →
+      Goes (put n m p) last failed (exits_text n xs ++ rest)
+  goes_exits n p rest count [] m last failed are follows le more =
+      subst (λ (es : List Name). Goes (put n (record { exits = es; fate = m.fate }) p) last failed rest) (append-nil m.exits) (more last failed follows le)
+  goes_exits n p rest count (x ∷ xs) m last failed are follows le more =
+      let next : may_follow n false n ≡ true = grind (arith, nat_tests) in
+      let later =
+      goes_exits n p rest count xs (with_exit x m) n false are.1 next (omega arith)
+      (λ l f fits le. subst (λ (es : List Name). Goes (put n (record { exits = es; fate = m.fate }) p) l f rest) (sym (append_assoc m.exits (x ∷ []) xs)) (more l f fits le)) in
+      subst (λ t. Goes (put n m p) last failed t) (sym (append_assoc (ended_line (Exit n x)) (exits_text n xs) rest))
+      (gives_line (record { done = done; section = put n m p; last = last; failed = failed }) (Exit n x) (exits_text n xs ++ rest) ps (count, are.0) follows
+      (goes-as (with_exit_at n x (put n m p)) (put n (with_exit x m) p) n false (exits_text n xs ++ rest) (λ k. sym (exit-put n x m p k)) later))
+
+  goes_fate : (n : ℕ) (p : Pattern) (rest : List ℕ) → IsCount n → (es : List Name) (f : Option Fate) (last : ℕ) (failed : Bool) → may_follow last failed n ≡ true → last ≤ n →
+      ((l : ℕ) (b : Bool) → l ≤ n → Goes (put n (record { exits = es; fate = f }) p) l b rest) →
+      Goes (put n (record { exits = es; fate = None }) p) last failed (fail_text n f ++ rest)
+  goes_fate n p rest count es None last failed follows le more = more last failed le
+  goes_fate n p rest count es (Some f) last failed follows le more =
+      let before : Moment = record { exits = es; fate = None } in
+      gives_line (record { done = done; section = put n before p; last = last; failed = failed }) (Fail n f) rest ps count follows
+      (goes-as (with_fate_at n f (put n before p)) (put n (with_fate f before) p) n true rest (λ k. sym (fate-put n f before p k)) (more n true (omega arith)))
+
+  goes_moment : (n : ℕ) (m : Moment) (p : Pattern) (rest : List ℕ) (last : ℕ) (failed : Bool) → IsCount n → AllByRecursion IsName m.exits → p n ≡ quiet → last < n →
+      ((l : ℕ) (f : Bool) → l ≤ n → Goes (put n m p) l f rest) →
+      Goes p last failed (moment_text n m ++ rest)
+  goes_moment n m p rest last failed count are unset less more =
+      let follows : may_follow last failed n ≡ true = grind (arith, nat_tests) in
+      subst (λ t. Goes p last failed t) (sym (append_assoc (exits_text n m.exits) (fail_text n m.fate) rest))
+      (goes-as p (put n quiet p) last failed (exits_text n m.exits ++ (fail_text n m.fate ++ rest)) (λ k. sym (quiet-put n p unset k))
+      (goes_exits n p (fail_text n m.fate ++ rest) count m.exits quiet last failed are follows (omega (arith, less))
+      (λ l f fits le. goes_fate n p rest count m.exits m.fate l f fits le more)))
+
+  goes_section : (es front : List (ℕ × Moment)) (b : ℕ) (rest : List ℕ) (last : ℕ) (failed : Bool) → RiseFrom b es → AllByRecursion IsNoted es → AreBelow b front → last < b →
+      ((l : ℕ) (f : Bool) → Goes (moment_at (front ++ es)) l f rest) →
+      Goes (moment_at front) last failed (section_text es ++ rest)
+  goes_section [] front b rest last failed rise are below less more = subst (λ (xs : List (ℕ × Moment)). Goes (moment_at xs) last failed rest) (append-nil front) (more last failed)
+  goes_section (e ∷ es) front b rest last failed rise are below less more =
+      let over : b ≤ e.0 = rise.0 in
+      let under = below-higher front b e.0 over below in
+      let longer : List (ℕ × Moment) = front ++ e ∷ [] in
+      subst (λ t. Goes (moment_at front) last failed t) (sym (append_assoc (moment_text e.0 e.1) (section_text es) rest))
+      (goes_moment e.0 e.1 (moment_at front) (section_text es ++ rest) last failed are.0.0 are.0.1 (quiet-there front e.0 under) (omega (arith, over, less))
+      (λ l f le. goes-as (put e.0 e.1 (moment_at front)) (moment_at longer) l f (section_text es ++ rest) (λ k. sym (moment-more front e under k))
+      (goes_section es longer (e.0 + 1) rest l f rise.3 are.1 (below-more front e under) (omega (arith, le))
+      (λ l f. subst (λ (xs : List (ℕ × Moment)). Goes (moment_at xs) l f rest) (sym (append_assoc front (e ∷ []) es)) (more l f)))))
+
+---- Section by section
+
+gives_behind : (ps : List (List (ℕ × Moment))) (done : List Pattern) (p : Pattern) (last : ℕ) (failed : Bool) → AllByRecursion IsSection ps →
+    Gives (record { done = done; section = p; last = last; failed = failed }) (sections_behind ps) (done ++ p ∷ map moment_at ps)
+gives_behind [] done p last failed are = λ number. refl
+gives_behind (q ∷ ps) done p last failed are =
+    let all : List Pattern = done ++ p ∷ map moment_at (q ∷ ps) in
+    let more = done ++ p ∷ [] in
+    gives_line (record { done = done; section = p; last = last; failed = failed }) Next (section_text q ++ sections_behind ps) all tt refl
+    (goes_section more all q [] 1 (sections_behind ps) 0 false are.0.0 are.0.1 tt (omega arith)
+    (λ l f. subst (λ (x : List Pattern). Gives (record { done = more; section = moment_at q; last = l; failed = f }) (sections_behind ps) x)
+    (append_assoc done (p ∷ []) (moment_at q ∷ map moment_at ps)) (gives_behind ps more (moment_at q) l f are.1)))
+
+pub read_written : (ps : List (List (ℕ × Moment))) → ps ≢ [] → AreSections ps → patterns_of (patterns_text ps) ≡ Ok (map moment_at ps)
+read_written [] some are = absurd (some refl)
+read_written (p ∷ ps) some are =
+    goes_section [] (map moment_at (p ∷ ps)) p [] 1 (sections_behind ps) 0 false are.0.0 are.0.1 tt (omega arith)
+    (λ l f. gives_behind ps [] (moment_at p) l f are.1) 1
+
+pub read_again : (text : List ℕ) (ps : List (List (ℕ × Moment))) → ps ≢ [] → AreSections ps → text ≡ patterns_text ps → patterns_of text ≡ Ok (map moment_at ps)
+read_again text ps some are is = ap patterns_of is ∙ read_written ps some are

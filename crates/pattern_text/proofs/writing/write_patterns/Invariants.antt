@@ -1,6 +1,0 @@
-use Rattle.std.proofs.Common.{◌≡◌, ◌++◌, drop}
-use Rattle.pattern_text.specs.PatternsWriting.{patterns_text, sections_from}
-use Rattle.pattern_text.proofs.writing.write_patterns.Given as goal
-
-abbrev pub invariant-loop-place : goal.invariant-loop-place
-invariant-loop-place l = l.out.items ++ sections_from l.place (drop l.place l.patterns) ≡ patterns_text l.patterns

@@ -1,0 +1,69 @@
+//! How a run would have gone on where a block is none of the master's.
+use crate::fault::Fault;
+use crate::rehearsal::Rehearsal;
+use crate::start::Start;
+use certifier::Mismatch;
+use command_line::CertifyOptions;
+use plan_runner::CallLog;
+use std::alloc::{AllocError, Global};
+use std::rt::Files;
+use transcript::{read_transcripts, write_transcript};
+use word_runner::{Block, Body};
+
+/// The line that the master would have had in a block where the first is that is not its own, among the blocks of a
+/// text. None where the block is no block of a word.
+pub fn line_instead<R: AllocGlobal + Files>(
+    rt: &R,
+    options: &CertifyOptions<'_>,
+    text: &[u8],
+    number: usize,
+    mismatch: &Mismatch,
+) -> Result<Option<Vec<u8>>, Fault> {
+    let alloc = rt.alloc();
+    let blocks = read_transcripts(alloc, text).map_err(Fault::of_transcript)?;
+    let Some(Block::Heard(word, body)) = blocks.get(number.wrapping_sub(1)) else {
+        return Ok(None);
+    };
+    let start = Start::read(rt, &options.start)?;
+    let mut rehearsal = Rehearsal::start(alloc, &start)?;
+    if let Some(address) = options.held {
+        rehearsal.hold(address)?;
+    }
+    match rehearsal.certify(alloc, &blocks[..number.wrapping_sub(1)]) {
+        Ok(_) => (),
+        Err(_) => return Ok(None),
+    }
+    let begun = beginning(alloc, body, mismatch)?;
+    let Some(block) = rehearsal.go_on(alloc, *word, &begun)? else {
+        return Ok(None);
+    };
+    line_behind(alloc, &block, begun.len())
+}
+
+/// The calls of a block before the first that is not the master's.
+fn beginning(alloc: Global, body: &Body, mismatch: &Mismatch) -> Result<CallLog, AllocError> {
+    let mut begun = CallLog::with_room(alloc, 0)?;
+    let Body::Ran(log, _) = body else {
+        return Ok(begun);
+    };
+    let count = match mismatch {
+        Mismatch::Step(number) => log.len().min(number.wrapping_sub(1)),
+        _ => log.len(),
+    };
+    for place in 0..count {
+        begun.add(&log.entry(place))?;
+    }
+    Ok(begun)
+}
+
+/// The line of a block behind that of the word and so many others, or else the last.
+fn line_behind(alloc: Global, block: &Block, count: usize) -> Result<Option<Vec<u8>>, Fault> {
+    let text = write_transcript(alloc, block)?;
+    let mut lines = text
+        .split(|byte| *byte == b'\n')
+        .filter(|line| !line.is_empty());
+    match lines.nth(count.wrapping_add(1)) {
+        Some(line) => Ok(Some(line.to_vec(alloc)?)),
+        None => Ok(None),
+    }
+}
