@@ -5,7 +5,6 @@ pub mod CallsKept
 pub mod Ended
 pub mod Adopted
 pub mod Foreigners
-pub mod WrittenFiles
 pub mod ExitLoop
 pub mod Room
 pub mod Booting

@@ -8,9 +8,9 @@ ghost use Rattle.process_table.specs.Room.{GrowsByOne, HasRoomFor, IsKept};
 ghost use Rattle.process_table.specs.Rows.{IsOwn};
 ghost use Rattle.process_table.specs.Free.{KnowsFree};
 
-use crate::{files, master_calls};
+use crate::master_calls;
 use listener_set::{Address, FilePath, Generation};
-use process_table::{Caller, Edit, Stances, Store};
+use process_table::{Caller, Edit, Stances, Store, files};
 use vocabulary::{Answer, Call, Fate};
 
 /// A new socket at the caller's lowest free descriptor, unless somebody holds the address or the caller has as many

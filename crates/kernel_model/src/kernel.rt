@@ -119,14 +119,22 @@ impl Kernel {
         Ok(())
     }
 
-    /// The same table, with room for no call.
-    pub fn copy(&self) -> Result<Self, AllocError>
-        ensures same { IfOk result (λ k. k ≡ record { table = self.now.table; room = 0 }) }
+    /// The same table in memory of its own, with room for that many calls. B3 where fewer than that many process or socket
+    /// numbers are left, up to 4,294,967,295.
+    pub fn copy(&self, calls: u32) -> Result<Self, ReserveRefusal>
+        ensures same { IfOk result (λ k. k ≡ record { table = self.now.table; room = calls }) }
         ensures formed { IsFormed self.now.table }
         ensures descriptors { self.now.table.limits.descriptors ≤ 64 }
+        ensures no_numbers { IsErrOf result ReserveRefusal.NoNumbers ↔ LacksNumbers self.now.table calls }
     {
-        let store = self.store.copy()?;
-        Ok(Kernel { store, room: 0 })
+        let _ = &self.room;
+        if self.lacks_numbers(calls) {
+            return Err(ReserveRefusal::NoNumbers);
+        }
+        let Ok(store) = self.store.copy(calls) else {
+            return Err(ReserveRefusal::Memory);
+        };
+        Ok(Kernel { store, room: calls })
     }
 
     /// One moment: the exits, one after another, and then the call by the master of the image. A master that is gone is

@@ -7,7 +7,6 @@
 mod boot;
 mod calls;
 mod exits;
-mod files;
 mod kernel;
 mod master_calls;
 mod readers;

@@ -8,9 +8,9 @@ ghost use Rattle.definitions.specs.Tree.{reply_of};
 ghost use Rattle.process_table.specs.Seen.{seen, seen_caller};
 ghost use Rattle.process_table.specs.Free.{KnowsFree};
 
-use crate::{Kernel, files, master_calls};
+use crate::{Kernel, master_calls};
 use listener_set::{Address, FilePath, Generation, Numbers};
-use process_table::{Caller, Stances, Store, WorkerName};
+use process_table::{Caller, Stances, Store, files};
 use vocabulary::{Actor, Answer, Call, Reply};
 
 fn open_reply(store: &Store, caller: &Caller, address: &Address) -> Reply
@@ -30,12 +30,7 @@ fn fork_reply(store: &Store, caller: &Caller, generation: Generation, nr: u32) -
     requires { KnowsFree store.now }
     ensures { result ≡ reply_of [] (forked (seen_caller store.now.addresses.items caller.now) generation nr (seen store.now)).answer }
 {
-    let name = WorkerName {
-        parent: caller.number,
-        generation,
-        nr,
-    };
-    if store.is_borne(name) {
+    if store.is_borne(caller.worker(generation, nr)) {
         return Reply::Again;
     }
     if store.has_process_room() {
@@ -69,12 +64,7 @@ fn worker_reply(
 ) -> Reply
     ensures { result ≡ (if list_any (is_worker is_active caller.now.number generation nr) (seen store.now).rows then active else other) }
 {
-    let name = WorkerName {
-        parent: caller.number,
-        generation,
-        nr,
-    };
-    if store.has_worker(Stances::Active, name) {
+    if store.has_worker(Stances::Active, caller.worker(generation, nr)) {
         active
     } else {
         other

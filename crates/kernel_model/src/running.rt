@@ -10,11 +10,11 @@ ghost use Rattle.process_table.specs.Seen.{seen, seen_caller, seen_file, seen_ho
 ghost use Rattle.kernel_model.specs.Running.{running, AreRunning, AreReady, MasterAgrees, WorkersAgree};
 
 use crate::Kernel;
-use crate::files::owner_at;
 use listener_set::{
     Address, DescriptorTable, FIRST_DESCRIPTOR, FilePath, Generation, MOST_DESCRIPTORS, Numbers,
     WORKER_LIMIT,
 };
+use process_table::files::owner_at;
 use process_table::{Caller, FileRow, Holder, Row, Stances, Store};
 use vocabulary::{Listener, PidNote, Stance};
 

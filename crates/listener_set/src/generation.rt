@@ -1,9 +1,9 @@
 //! Generations.
-ghost use Rattle.std.specs.Prelude.{◌≡◌, ◌++◌, Some, IfOk};
+ghost use Rattle.std.specs.Prelude.{◌≡◌, ◌≤◌, ◌++◌, length, Some, IfOk};
+ghost use Rattle.plain_text.specs.Kept.{kept};
 ghost use Rattle.listener_set.specs.GenerationText.{generation_text};
 
-use plain_text::write_number;
-use std::alloc::AllocError;
+use plain_text::{Sink, write_number};
 use std::fmt;
 
 /// What a worker runs, by the numbers of its master's executable and configuration. Its text is
@@ -17,12 +17,14 @@ pub struct Generation {
 }
 
 impl Generation {
-    /// Puts its text behind what was written. The only refusal is want of memory.
-    pub fn write(self, out: &mut Vec<u8>) -> Result<(), AllocError>
-        ensures { IfOk result (λ _. out.new.items ≡ out.old.items ++ generation_text self) }
+    /// Puts its text behind what was written.
+    #[tactic(auto, using(plain_text::proofs::KeptTexts::kept_on))]
+    pub fn write<S: Sink>(self, out: &mut S) -> Result<(), S::Refusal>
+        ensures text { IfOk result (λ _. S.text out.new ≡ kept S.most (S.text out.old ++ generation_text self)) }
+        ensures short { IfOk result (λ _. length (generation_text self) ≤ 41) }
     {
         write_number(out, u64::from(self.image))?;
-        out.extend_from_slice(b".")?;
+        out.put(b".")?;
         write_number(out, u64::from(self.config))
     }
 }

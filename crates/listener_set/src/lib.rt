@@ -1,5 +1,5 @@
 //! Addresses, listeners, descriptors, worker numbers and generations: values of fixed size, whose
-//! calls take no memory. Only the text of a generation grows what it is written to.
+//! calls take no memory.
 #![tactic(auto)]
 
 mod address;

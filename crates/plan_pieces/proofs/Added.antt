@@ -1,9 +1,10 @@
 -- Calls that stand in a draft, one after another.
-use Rattle.std.proofs.Common.{◌≡◌, ℕ, ◌+◌, ◌≤◌, List, ◌∷◌, Result, Ok, Err, IsErrAnd, IsErrOf, length, ◌∙◌, ap, subst, arith}
+use Rattle.std.proofs.Common.{◌≡◌, ℕ, ◌+◌, ◌<◌, ◌≤◌, List, ◌∷◌, Result, Ok, Err, IsErrAnd, IsErrOf, length, ◌∙◌, ap, subst, arith}
 use Rattle.definitions.specs.Calls.{Call}
 use Rattle.rollback_plan.specs.declared.draft.Draft.{Draft}
 use Rattle.rollback_plan.specs.declared.draft.DraftRefusal.{DraftRefusal}
 use Rattle.rollback_plan.specs.declared.draft.DraftRefusal.TheVariants.{TooLarge}
+use Rattle.rollback_plan.specs.declared.draft.TheConstants.{MOST_STEPS}
 use Rattle.rollback_plan.specs.declared.step.Place.{Place}
 use Rattle.rollback_plan.specs.Drafts.{trees_of, tree_at, IsMade, Keeps, Grows}
 use Rattle.rollback_plan.proofs.DraftTrees.{keeps_on}
@@ -26,22 +27,10 @@ added_more old mid new by rest next place call calls before made count keeps =
       keeps = keeps_on old mid new before.keeps keeps;
     }
 
--- all that was to be added
-pub added_all : (old new : Draft) (by : ℕ) (rest next : Place) (calls : List Call) (n : ℕ) → Added old new by rest next calls → all_steps calls ≡ n → Grows {T = Place} old new (Ok next) n
-added_all old new by rest next calls n all steps =
-    record {
-      count = omega (arith, all.count, steps);
-      keeps = all.keeps;
-      too_large = λ (is : IsErrOf {T = Place} (Ok next) TooLarge). (cc);
-    }
-
 -- a call that is refused after others
 pub refused : (old mid new : Draft) (by : ℕ) (rest next : Place) (calls : List Call) (m n : ℕ) (e : DraftRefusal) (r : Result Place DraftRefusal) → Added old mid by rest next calls → all_steps calls + m ≤ n
-    → Grows {T = Place} mid new (Err e) m → IsErrAnd r (λ d. d ≡ e) → Grows old new r n
-refused old mid new by rest next calls m n e (Ok place) before low grows none = absurd none
-refused old mid new by rest next calls m n e (Err d) before low grows same =
-    record {
-      count = tt;
-      keeps = keeps_on old mid new before.keeps grows.keeps;
-      too_large = λ is. let far = grows.too_large (subst (λ (x : DraftRefusal). IsErrOf {T = Place} (Err x) TooLarge) same is) in omega (arith, far, before.count, low);
-    }
+    → Grows {T = Place} mid new (Err e) m → IsErrAnd r (λ d. d ≡ e) → IsErrOf r TooLarge → MOST_STEPS < length (trees_of old) + n
+refused old mid new by rest next calls m n e (Ok place) before low grows none is = absurd none
+refused old mid new by rest next calls m n e (Err d) before low grows same is =
+    let far = grows.too_large (subst (λ (x : DraftRefusal). IsErrOf {T = Place} (Err x) TooLarge) same is) in
+    omega (arith, far, before.count, low)

@@ -1,22 +1,14 @@
 -- Calls of one kind.
 use Rattle.std.proofs.Common.{◌≡◌, ℕ, ◌+◌, ◌*◌, List, [], ◌∷◌, ◌++◌, ◌≤◌, length, map, take, drop, reverse, Some, slice_get, refl, ◌∙◌, ap, arith}
-use Rattle.std.proofs.lemmas.List.{length-map, reverse-append, take-append-drop}
-use Rattle.listener_set.specs.declared.generation.Generation.{Generation}
+use Rattle.std.proofs.lemmas.List.{reverse-append, take-append-drop}
 use Rattle.definitions.specs.Calls.{Call, OpenAt, CloseAt, Fork, AwaitReady, Quit, Kill, AwaitGone, Usr1}
 use Rattle.definitions.specs.Tree.{Tree}
 use Rattle.definitions.specs.Plans.{quits, forks_any, awaits_any, kills, usr1s, awaits_gone, closes}
-use Rattle.rollback_plan.specs.declared.batch.Asked.{Asked}
 use Rattle.rollback_plan.specs.declared.batch.Asked.TheVariants as asked
 use Rattle.rollback_plan.specs.declared.batch.Batch.{Batch}
 use Rattle.rollback_plan.specs.declared.batch.Batch.TheVariants.{Workers, Opens, Closes}
-use Rattle.rollback_plan.specs.Batches.{asked_call, calls_of, size_of}
 use Rattle.rollback_plan.proofs.Lists.{drop_at, reverse-map}
-use Rattle.plan_pieces.specs.Pieces.{anyway, anyway_steps, all_anyway, asked_tree, in_turn, in_turn_back, steps_in}
-
-pub size_is : (b : Batch) → length (calls_of b) ≡ size_of b
-size_is (Workers what g numbers) = length-map numbers.now (asked_call what g)
-size_is (Opens addresses) = length-map addresses.now OpenAt
-size_is (Closes addresses) = length-map addresses.now CloseAt
+use Rattle.plan_pieces.specs.Pieces.{anyway, anyway_steps, all_anyway, in_turn, made_calls, steps_in}
 
 ---- Trees
 
@@ -26,23 +18,20 @@ each_is : {X : Type 0} (by : ℕ) (call : X → Call) (all : List X → Tree →
 each_is by call all none more [] rest = none rest
 each_is by call all none more (x ∷ xs) rest = ap (anyway by (call x)) (each_is by call all none more xs rest) ∙ more x xs rest
 
-asked_is : (by : ℕ) (what : Asked) (g : Generation) (ks : List ℕ) (rest : Tree) → all_anyway by (map (asked_call what g) ks) rest ≡ asked_tree by what g ks rest
-asked_is by asked.Fork g ks rest = each_is by (Fork g) (forks_any by g) (λ t. refl) (λ k more t. refl) ks rest
-asked_is by asked.AwaitReady g ks rest = each_is by (AwaitReady g) (awaits_any by g) (λ t. refl) (λ k more t. refl) ks rest
-asked_is by asked.Quit g ks rest = each_is by (Quit g) (quits by g) (λ t. refl) (λ k more t. refl) ks rest
-asked_is by asked.Kill g ks rest = each_is by (Kill g) (kills by g) (λ t. refl) (λ k more t. refl) ks rest
-asked_is by asked.AwaitGone g ks rest = each_is by (AwaitGone g) (awaits_gone by g) (λ t. refl) (λ k more t. refl) ks rest
-asked_is by asked.Usr1 g ks rest = each_is by (Usr1 g) (usr1s by g) (λ t. refl) (λ k more t. refl) ks rest
+-- the same, from the last to the first
+each_back_is : {X : Type 0} (by : ℕ) (call : X → Call) (all : List X → Tree → Tree) → ((rest : Tree) → rest ≡ all [] rest) → ((x : X) (xs : List X) (rest : Tree) → anyway by (call x) (all xs rest) ≡ all (x ∷ xs) rest)
+    → (xs : List X) (rest : Tree) → all_anyway by (reverse (map call xs)) rest ≡ all (reverse xs) rest
+each_back_is by call all none more xs rest = ap (λ calls. all_anyway by calls rest) (reverse-map call xs) ∙ each_is by call all none more (reverse xs) rest
 
-pub in_turn_is : (by : ℕ) (b : Batch) (rest : Tree) → all_anyway by (calls_of b) rest ≡ in_turn by b rest
-in_turn_is by (Workers what g numbers) rest = asked_is by what g numbers.now rest
+pub in_turn_is : (by : ℕ) (b : Batch) (rest : Tree) → all_anyway by (made_calls b) rest ≡ in_turn by b rest
+in_turn_is by (Workers asked.Fork g numbers) rest = each_is by (Fork g) (forks_any by g) (λ t. refl) (λ k more t. refl) numbers.now rest
+in_turn_is by (Workers asked.AwaitReady g numbers) rest = each_is by (AwaitReady g) (awaits_any by g) (λ t. refl) (λ k more t. refl) numbers.now rest
+in_turn_is by (Workers asked.Quit g numbers) rest = each_back_is by (Quit g) (quits by g) (λ t. refl) (λ k more t. refl) numbers.now rest
+in_turn_is by (Workers asked.Kill g numbers) rest = each_is by (Kill g) (kills by g) (λ t. refl) (λ k more t. refl) numbers.now rest
+in_turn_is by (Workers asked.AwaitGone g numbers) rest = each_back_is by (AwaitGone g) (awaits_gone by g) (λ t. refl) (λ k more t. refl) numbers.now rest
+in_turn_is by (Workers asked.Usr1 g numbers) rest = each_is by (Usr1 g) (usr1s by g) (λ t. refl) (λ k more t. refl) numbers.now rest
 in_turn_is by (Opens addresses) rest = refl
 in_turn_is by (Closes addresses) rest = each_is by CloseAt (closes by) (λ t. refl) (λ x more t. refl) addresses.now rest
-
-pub in_turn_back_is : (by : ℕ) (b : Batch) (rest : Tree) → all_anyway by (reverse (calls_of b)) rest ≡ in_turn_back by b rest
-in_turn_back_is by (Workers what g numbers) rest = ap (λ calls. all_anyway by calls rest) (reverse-map (asked_call what g) numbers.now) ∙ asked_is by what g (reverse numbers.now) rest
-in_turn_back_is by (Opens addresses) rest = ap (λ calls. all_anyway by calls rest) (reverse-map OpenAt addresses.now)
-in_turn_back_is by (Closes addresses) rest = ap (λ calls. all_anyway by calls rest) (reverse-map CloseAt addresses.now) ∙ each_is by CloseAt (closes by) (λ t. refl) (λ x more t. refl) (reverse addresses.now) rest
 
 ---- Steps
 
@@ -66,24 +55,17 @@ double : {X : Type 0} (call : X → Call) (xs : List X) → ((x : X) → anyway_
 double call [] h = omega arith
 double call (x ∷ xs) h = omega (arith, h x, double call xs h)
 
-pub steps_are : (b : Batch) → all_steps (calls_of b) ≡ steps_in b
+pub steps_are : (b : Batch) → all_steps (made_calls b) ≡ steps_in b
 steps_are (Workers asked.Fork g numbers) = single (Fork g) numbers.now (λ k. refl)
 steps_are (Workers asked.AwaitReady g numbers) = double (AwaitReady g) numbers.now (λ k. refl)
-steps_are (Workers asked.Quit g numbers) = single (Quit g) numbers.now (λ k. refl)
+steps_are (Workers asked.Quit g numbers) = steps-reverse (map (Quit g) numbers.now) ∙ single (Quit g) numbers.now (λ k. refl)
 steps_are (Workers asked.Kill g numbers) = single (Kill g) numbers.now (λ k. refl)
-steps_are (Workers asked.AwaitGone g numbers) = double (AwaitGone g) numbers.now (λ k. refl)
+steps_are (Workers asked.AwaitGone g numbers) = steps-reverse (map (AwaitGone g) numbers.now) ∙ double (AwaitGone g) numbers.now (λ k. refl)
 steps_are (Workers asked.Usr1 g numbers) = single (Usr1 g) numbers.now (λ k. refl)
 steps_are (Opens addresses) = single OpenAt addresses.now (λ x. refl)
 steps_are (Closes addresses) = single CloseAt addresses.now (λ x. refl)
 
--- so many come before a call and with it, in either order
+-- so many come after a call and with it
 pub steps_with : (calls : List Call) (i : ℕ) (call : Call) → slice_get calls i ≡ Some call → all_steps (drop (i + 1) calls) + anyway_steps call ≤ all_steps calls
 steps_with calls i call at =
     omega (arith, ap all_steps (take-append-drop i calls), steps-append (take i calls) (drop i calls), ap all_steps (drop_at calls i call at))
-
-pub steps_back_with : (calls : List Call) (i : ℕ) (call : Call) → slice_get calls i ≡ Some call → all_steps (reverse (take i calls)) + anyway_steps call ≤ all_steps calls
-steps_back_with calls i call at =
-    omega (arith, steps-reverse (take i calls), ap all_steps (take-append-drop i calls), steps-append (take i calls) (drop i calls), ap all_steps (drop_at calls i call at))
-
-pub steps_back_are : (b : Batch) → all_steps (reverse (calls_of b)) ≡ steps_in b
-steps_back_are b = steps-reverse (calls_of b) ∙ steps_are b

@@ -1,7 +1,6 @@
 -- Places of a draft.
-use Rattle.std.proofs.Common.{◌≡◌, ℕ, zero, suc, ◌<◌, true, List, [], ◌∷◌, length, get_or, refl, subst, arith, Some, slice_get, nat_lt}
+use Rattle.std.proofs.Common.{◌≡◌, ℕ, zero, suc, ◌<◌, true, List, [], ◌∷◌, length, refl, subst, arith, Some, slice_get, nat_lt}
 use Rattle.std.proofs.lemmas.Bool.{and_parts, and_from, ltb-true, lt-ltb}
-use Rattle.std.proofs.lemmas.Option.{slice_get-get_or}
 use Rattle.definitions.specs.Tree.{Tree}
 use Rattle.rollback_plan.specs.declared.draft.Draft.{Draft}
 use Rattle.rollback_plan.specs.declared.step.Place.{Place}
@@ -28,6 +27,3 @@ made_places d places n tree all = each places (λ i place at. (all.made i place 
     each : (ps : List Place) → ((i : ℕ) (place : Place) → slice_get ps i ≡ Some place → place.0 < length (trees_of d)) → are_places d ps ≡ true
     each [] h = refl
     each (p ∷ ps) h = and_from (nat_lt p.0 (length (trees_of d))) (are_places d ps) (lt-ltb p.0 (length (trees_of d)) (h 0 p refl)) (each ps (λ i place at. h (suc i) place at))
-
-pub slice_get_at : (places : List Place) (i : ℕ) (d : Place) → i < length places → slice_get places i ≡ Some (get_or places i d)
-slice_get_at places i d h = slice_get-get_or places i d h

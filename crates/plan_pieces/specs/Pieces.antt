@@ -1,13 +1,14 @@
 -- What plans do for each of a list of calls.
 use Rattle.std.specs.Prelude.{◌≡◌, ℕ, ◌+◌, ◌*◌, List, [], ◌∷◌, Some, length, map, reverse, slice_get}
 use Rattle.listener_set.specs.declared.generation.Generation.{Generation}
-use Rattle.definitions.specs.Calls.{Call, OpenAt, AwaitReady, Kill, AwaitGone}
+use Rattle.definitions.specs.Calls.{Call, OpenAt, AwaitReady, Quit, Kill, AwaitGone}
 use Rattle.definitions.specs.Tree.{Tree, Nothing, plain_reply, replies_to}
 use Rattle.definitions.specs.Plans.{on, does, then_edge, await_any_edges, gone_edges, others, quits, forks_any, awaits_any, kills, usr1s, awaits_gone, closes}
 use Rattle.rollback_plan.specs.declared.batch.Asked.{Asked}
 use Rattle.rollback_plan.specs.declared.batch.Asked.TheVariants as asked
 use Rattle.rollback_plan.specs.declared.batch.Batch.{Batch}
 use Rattle.rollback_plan.specs.declared.batch.Batch.TheVariants.{Workers, Opens, Closes}
+use Rattle.rollback_plan.specs.Batches.{calls_of}
 
 ---- Whatever is answered
 
@@ -22,31 +23,31 @@ anyway_steps (AwaitReady g k) = 2
 anyway_steps (AwaitGone g k) = 2
 anyway_steps call = 1
 
--- the same call for each of some workers, in their order
+-- the same call for each of some workers: quits, and waits until they are gone, from the last to the first
 abbrev pub asked_tree : ℕ → Asked → Generation → List ℕ → Tree → Tree
-asked_tree by asked.Fork = forks_any by
-asked_tree by asked.AwaitReady = awaits_any by
-asked_tree by asked.Quit = quits by
-asked_tree by asked.Kill = kills by
-asked_tree by asked.AwaitGone = awaits_gone by
-asked_tree by asked.Usr1 = usr1s by
+asked_tree by asked.Fork g ks = forks_any by g ks
+asked_tree by asked.AwaitReady g ks = awaits_any by g ks
+asked_tree by asked.Quit g ks = quits by g (reverse ks)
+asked_tree by asked.Kill g ks = kills by g ks
+asked_tree by asked.AwaitGone g ks = awaits_gone by g (reverse ks)
+asked_tree by asked.Usr1 g ks = usr1s by g ks
 
 -- any calls in their order
 abbrev pub all_anyway : ℕ → List Call → Tree → Tree
 all_anyway by [] rest = rest
 all_anyway by (call ∷ calls) rest = anyway by call (all_anyway by calls rest)
 
--- calls of one kind in their order
+-- calls of one kind
 abbrev pub in_turn : ℕ → Batch → Tree → Tree
 in_turn by (Workers what g numbers) rest = asked_tree by what g numbers.now rest
 in_turn by (Opens addresses) rest = all_anyway by (map OpenAt addresses.now) rest
 in_turn by (Closes addresses) rest = closes by addresses.now rest
 
--- the last of them first
-abbrev pub in_turn_back : ℕ → Batch → Tree → Tree
-in_turn_back by (Workers what g numbers) rest = asked_tree by what g (reverse numbers.now) rest
-in_turn_back by (Opens addresses) rest = all_anyway by (map OpenAt (reverse addresses.now)) rest
-in_turn_back by (Closes addresses) rest = closes by (reverse addresses.now) rest
+-- the calls in the order in which they are made
+abbrev pub made_calls : Batch → List Call
+made_calls (Workers asked.Quit g numbers) = reverse (map (Quit g) numbers.now)
+made_calls (Workers asked.AwaitGone g numbers) = reverse (map (AwaitGone g) numbers.now)
+made_calls calls = calls_of calls
 
 -- how many steps that takes
 abbrev pub steps_in : Batch → ℕ

@@ -2,57 +2,17 @@
 ghost use Rattle.std.specs.Prelude.{◌≡◌, ◌+◌, ◌<◌, length, IfOk, IsErrOf, OnOk};
 ghost use Rattle.rollback_plan.specs.declared.draft.DraftRefusal.TheVariants.{TooLarge};
 ghost use Rattle.rollback_plan.specs.declared.draft.TheConstants.{MOST_STEPS};
-ghost use Rattle.vocabulary.specs.declared.calls.Call.TheVariants as call;
 ghost use Rattle.definitions.specs.Plans as plans;
-ghost use Rattle.rollback_plan.specs.Drafts.{trees_of, tree_at, IsMade, Keeps, Grows};
+ghost use Rattle.rollback_plan.specs.Drafts.{trees_of, tree_at, IsMade, Keeps};
 
-use listener_set::{FilePath, Numbers};
+use listener_set::Numbers;
 use rollback_plan::{Draft, DraftRefusal, Edge, Next, Place};
 use vocabulary::{Actor, Call, Order, PidNote, Reply};
 
-/// Adds the removal of a file before the rest, which follows whether or not it goes: the pid file
-/// then stands as `fine` says, or as `fault` says where the file stays. `TooLarge` only where the
-/// draft would pass its most steps; a refused call leaves it as it was.
-pub fn add_remove(
-    draft: &mut Draft,
-    by: Actor,
-    path: FilePath,
-    fine: Option<PidNote>,
-    fault: Option<PidNote>,
-    rest: Place,
-) -> Result<Place, DraftRefusal>
-    requires { rest.0 < length (trees_of draft.old) }
-    ensures made { IfOk result (λ place. IsMade draft.new place (plans.does by (call.RemovePid path) (plans.note_edges fine fault (tree_at draft.old rest)))) }
-    ensures count { OnOk result (length (trees_of draft.new) ≡ length (trees_of draft.old) + 1) }
-    ensures keeps { Keeps draft.old draft.new }
-    ensures too_large { IsErrOf result TooLarge → MOST_STEPS < length (trees_of draft.old) + 1 }
-{
-    add_file_call(draft, by, Call::RemovePid(path), fine, fault, rest)
-}
-
-/// Adds the move of a file before the rest, which follows whether or not it moves: the pid file then stands as `fine`
-/// says, or as `fault` says where the file stays. `TooLarge` only where the draft would pass its most steps; a refused
-/// call leaves it as it was.
-pub fn add_move(
-    draft: &mut Draft,
-    by: Actor,
-    from: FilePath,
-    to: FilePath,
-    fine: Option<PidNote>,
-    fault: Option<PidNote>,
-    rest: Place,
-) -> Result<Place, DraftRefusal>
-    requires { rest.0 < length (trees_of draft.old) }
-    ensures made { IfOk result (λ place. IsMade draft.new place (plans.does by (call.MovePid from to) (plans.note_edges fine fault (tree_at draft.old rest)))) }
-    ensures count { OnOk result (length (trees_of draft.new) ≡ length (trees_of draft.old) + 1) }
-    ensures keeps { Keeps draft.old draft.new }
-    ensures too_large { IsErrOf result TooLarge → MOST_STEPS < length (trees_of draft.old) + 1 }
-{
-    add_file_call(draft, by, Call::MovePid(from, to), fine, fault, rest)
-}
-
-/// Adds a call about a file before the rest, which follows whether or not it goes well.
-fn add_file_call(
+/// Adds a call that moves or removes a file before the rest, which follows whether or not it goes well: the pid file
+/// then stands as `fine` says, or as `fault` says where the call fails. `TooLarge` only where the draft would pass its
+/// most steps; a refused call leaves it as it was.
+pub fn add_file_call(
     draft: &mut Draft,
     by: Actor,
     call: Call,
@@ -62,7 +22,9 @@ fn add_file_call(
 ) -> Result<Place, DraftRefusal>
     requires { rest.0 < length (trees_of draft.old) }
     ensures made { IfOk result (λ place. IsMade draft.new place (plans.does by call (plans.note_edges fine fault (tree_at draft.old rest)))) }
-    ensures grows { Grows draft.old draft.new result 1 }
+    ensures count { OnOk result (length (trees_of draft.new) ≡ length (trees_of draft.old) + 1) }
+    ensures keeps { Keeps draft.old draft.new }
+    ensures too_large { IsErrOf result TooLarge → MOST_STEPS < length (trees_of draft.old) + 1 }
 {
     let next = Next::To(rest);
     let edges = [

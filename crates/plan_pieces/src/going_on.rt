@@ -1,15 +1,21 @@
 //! What plans do one call after another, whatever is answered.
-ghost use Rattle.std.specs.Prelude.{◌<◌, length, IfOk};
-ghost use Rattle.rollback_plan.specs.Drafts.{trees_of, tree_at, IsMade, Grows};
-ghost use Rattle.plan_pieces.specs.Pieces.{anyway, anyway_steps, in_turn, in_turn_back, steps_in};
+ghost use Rattle.std.specs.Prelude.{◌≡◌, ◌+◌, ◌*◌, ◌<◌, Some, length, slice_get, IfOk, IsErrOf, OnOk};
+ghost use Rattle.rollback_plan.specs.declared.draft.DraftRefusal.TheVariants.{TooLarge};
+ghost use Rattle.rollback_plan.specs.declared.draft.TheConstants.{MOST_STEPS};
+ghost use Rattle.definitions.specs.Plans.{starts_any};
+ghost use Rattle.rollback_plan.specs.Batches.{size_of};
+ghost use Rattle.rollback_plan.specs.Drafts.{trees_of, tree_at, IsMade, Keeps, Grows};
+ghost use Rattle.plan_pieces.specs.Pieces.{anyway, anyway_steps, in_turn, made_calls, steps_in};
 
 use call_replies::all_replies;
 use listener_set::{Generation, Numbers};
-use rollback_plan::{Batch, Draft, DraftRefusal, Edge, Place};
+use rollback_plan::{Asked, Batch, Draft, DraftRefusal, Edge, Place};
 use vocabulary::{Actor, Call, Order, Reply};
 
-/// Adds these calls, in their order, before the rest.
-pub(crate) fn add_each(
+/// Adds these calls before the rest, each of which is followed by the next whatever is answered: in their order, but
+/// quits, and waits until workers are gone, from the last to the first. A worker that is late is killed. `TooLarge`
+/// only where the draft would pass its most steps. A refused call may leave some of the steps.
+pub fn add_each(
     draft: &mut Draft,
     by: Actor,
     calls: &Batch<'_>,
@@ -17,31 +23,50 @@ pub(crate) fn add_each(
 ) -> Result<Place, DraftRefusal>
     requires { rest.0 < length (trees_of draft.old) }
     ensures made { IfOk result (λ place. IsMade draft.new place (in_turn by calls.now (tree_at draft.old rest))) }
-    ensures grows { Grows draft.old draft.new result (steps_in calls.now) }
+    ensures count { OnOk result (length (trees_of draft.new) ≡ length (trees_of draft.old) + steps_in calls.now) }
+    ensures keeps { Keeps draft.old draft.new }
+    ensures too_large { IsErrOf result TooLarge → MOST_STEPS < length (trees_of draft.old) + steps_in calls.now }
 {
     let mut next = rest;
     for i in (0..calls.len()).rev() {
-        next = add_anyway(draft, by, calls.get(i), next)?;
+        next = add_anyway(draft, by, made_at(calls, i), next)?;
     }
     Ok(next)
 }
 
-/// Adds these calls, the last of them first, before the rest.
-pub(crate) fn add_each_back(
+/// Adds the forks of these numbers and then a wait for each, upwards, before the rest, which
+/// follows whatever is answered; a worker that is late is killed. `TooLarge` only where the draft
+/// would pass its most steps. A refused call may leave some of the steps.
+pub fn add_starts_any(
     draft: &mut Draft,
     by: Actor,
-    calls: &Batch<'_>,
+    generation: Generation,
+    numbers: &[u32],
     rest: Place,
 ) -> Result<Place, DraftRefusal>
     requires { rest.0 < length (trees_of draft.old) }
-    ensures made { IfOk result (λ place. IsMade draft.new place (in_turn_back by calls.now (tree_at draft.old rest))) }
-    ensures grows { Grows draft.old draft.new result (steps_in calls.now) }
+    ensures made { IfOk result (λ place. IsMade draft.new place (starts_any by generation numbers.now (tree_at draft.old rest))) }
+    ensures count { OnOk result (length (trees_of draft.new) ≡ length (trees_of draft.old) + 3 * length numbers.now) }
+    ensures keeps { Keeps draft.old draft.new }
+    ensures too_large { IsErrOf result TooLarge → MOST_STEPS < length (trees_of draft.old) + 3 * length numbers.now }
 {
-    let mut next = rest;
-    for i in 0..calls.len() {
-        next = add_anyway(draft, by, calls.get(i), next)?;
+    let waits = Batch::Workers(Asked::AwaitReady, generation, numbers);
+    let forks = Batch::Workers(Asked::Fork, generation, numbers);
+    let waiting = add_each(draft, by, &waits, rest)?;
+    add_each(draft, by, &forks, waiting)
+}
+
+/// The call that is made at this place, counted from 0.
+fn made_at(calls: &Batch<'_>, place: usize) -> Call
+    requires { place < size_of calls.now }
+    ensures { slice_get (made_calls calls.now) place ≡ Some result }
+{
+    match calls {
+        Batch::Workers(Asked::Quit | Asked::AwaitGone, _, numbers) => calls.get(
+            numbers.len() - 1 - place,
+        ),
+        _ => calls.get(place),
     }
-    Ok(next)
 }
 
 /// Adds a call before the rest; a worker that is late is killed first.

@@ -1,4 +1,4 @@
-//! How plans open and close sockets.
+//! How plans open sockets.
 ghost use Rattle.std.specs.Prelude.{◌≡◌, ◌+◌, ◌<◌, List, [], length, reverse, take, IfOk, IsErrOf, IsTrue, OnOk};
 ghost use Rattle.rollback_plan.specs.declared.draft.DraftRefusal.TheVariants.{TooLarge};
 ghost use Rattle.rollback_plan.specs.declared.draft.TheConstants.{MOST_STEPS};
@@ -9,7 +9,6 @@ ghost use Rattle.rollback_plan.specs.Drafts.{trees_of, tree_at, are_places, IsMa
 ghost use Rattle.rollback_plan.specs.Back.{AreMade};
 
 use crate::attempting::add_attempts;
-use crate::going_on::add_each;
 use listener_set::Address;
 use rollback_plan::{Batch, Draft, DraftRefusal, Place};
 use vocabulary::Actor;
@@ -34,21 +33,4 @@ pub fn add_opens(
     ensures too_large { IsErrOf result TooLarge → MOST_STEPS < length (trees_of draft.old) + length addresses.now }
 {
     add_attempts(draft, by, &Batch::Opens(addresses), rest, ways_back)
-}
-
-/// Adds the closes of these addresses, in their order, before the rest. `TooLarge` only where the
-/// draft would pass its most steps. A refused call may leave some of the steps.
-pub fn add_closes(
-    draft: &mut Draft,
-    by: Actor,
-    addresses: &[Address],
-    rest: Place,
-) -> Result<Place, DraftRefusal>
-    requires { rest.0 < length (trees_of draft.old) }
-    ensures made { IfOk result (λ place. IsMade draft.new place (plans.closes by addresses.now (tree_at draft.old rest))) }
-    ensures count { OnOk result (length (trees_of draft.new) ≡ length (trees_of draft.old) + length addresses.now) }
-    ensures keeps { Keeps draft.old draft.new }
-    ensures too_large { IsErrOf result TooLarge → MOST_STEPS < length (trees_of draft.old) + length addresses.now }
-{
-    add_each(draft, by, &Batch::Closes(addresses), rest)
 }

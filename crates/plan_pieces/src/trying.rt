@@ -1,16 +1,15 @@
 //! What a new master tries, while there is a way back: the plain reply goes on, and any other, or that the master is
 //! gone, goes back.
-ghost use Rattle.std.specs.Prelude.{◌≡◌, ◌+◌, ◌<◌, length, map, IfOk, IsErrOf, OnOk};
+ghost use Rattle.std.specs.Prelude.{◌≡◌, ◌+◌, ◌<◌, length, IfOk, IsErrOf, OnOk};
 ghost use Rattle.rollback_plan.specs.declared.draft.DraftRefusal.TheVariants.{TooLarge};
 ghost use Rattle.rollback_plan.specs.declared.draft.TheConstants.{MOST_STEPS};
-ghost use Rattle.vocabulary.specs.declared.calls.Call.TheVariants as call;
 ghost use Rattle.definitions.specs.Plans as plans;
 ghost use Rattle.rollback_plan.specs.Batches.{calls_of, size_of};
-ghost use Rattle.rollback_plan.specs.Drafts.{trees_of, tree_at, IsMade, Keeps, Grows};
+ghost use Rattle.rollback_plan.specs.Drafts.{trees_of, tree_at, IsMade, Keeps};
 
 use call_replies::{other_replies, plain_replies};
-use listener_set::{Address, Generation, Numbers};
-use rollback_plan::{Asked, Batch, Draft, DraftRefusal, Edge, Place};
+use listener_set::Numbers;
+use rollback_plan::{Batch, Draft, DraftRefusal, Edge, Place};
 use vocabulary::{Actor, Call, Order};
 
 /// Adds a call that a new master tries, before the rest and with a way back; a census must contain the set. `TooLarge`
@@ -37,89 +36,9 @@ pub fn add_tried(
     draft.add(by, Order::Make(call), set, &edges)
 }
 
-/// Adds that a new master tries to close these addresses, in their order, before the rest and with a way back.
-/// `TooLarge` only where the draft would pass its most steps. A refused call may leave some of the steps.
-pub fn add_tried_closes(
-    draft: &mut Draft,
-    by: Actor,
-    addresses: &[Address],
-    rest: Place,
-    back: Place,
-) -> Result<Place, DraftRefusal>
-    requires rest { rest.0 < length (trees_of draft.old) }
-    requires back { back.0 < length (trees_of draft.old) }
-    ensures made { IfOk result (λ place. IsMade draft.new place (plans.tries_all by (map call.CloseAt addresses.now) (tree_at draft.old rest) (tree_at draft.old back))) }
-    ensures count { OnOk result (length (trees_of draft.new) ≡ length (trees_of draft.old) + length addresses.now) }
-    ensures keeps { Keeps draft.old draft.new }
-    ensures too_large { IsErrOf result TooLarge → MOST_STEPS < length (trees_of draft.old) + length addresses.now }
-{
-    add_tried_all(draft, by, &Batch::Closes(addresses), rest, back)
-}
-
-/// Adds that a new master tries to open these addresses, in their order, before the rest and with a way back.
-/// `TooLarge` only where the draft would pass its most steps. A refused call may leave some of the steps.
-pub fn add_tried_opens(
-    draft: &mut Draft,
-    by: Actor,
-    addresses: &[Address],
-    rest: Place,
-    back: Place,
-) -> Result<Place, DraftRefusal>
-    requires rest { rest.0 < length (trees_of draft.old) }
-    requires back { back.0 < length (trees_of draft.old) }
-    ensures made { IfOk result (λ place. IsMade draft.new place (plans.tries_all by (map call.OpenAt addresses.now) (tree_at draft.old rest) (tree_at draft.old back))) }
-    ensures count { OnOk result (length (trees_of draft.new) ≡ length (trees_of draft.old) + length addresses.now) }
-    ensures keeps { Keeps draft.old draft.new }
-    ensures too_large { IsErrOf result TooLarge → MOST_STEPS < length (trees_of draft.old) + length addresses.now }
-{
-    add_tried_all(draft, by, &Batch::Opens(addresses), rest, back)
-}
-
-/// Adds that a new master tries to fork these numbers, upwards, before the rest and with a way back. `TooLarge` only
-/// where the draft would pass its most steps. A refused call may leave some of the steps.
-pub fn add_tried_forks(
-    draft: &mut Draft,
-    by: Actor,
-    generation: Generation,
-    numbers: &[u32],
-    rest: Place,
-    back: Place,
-) -> Result<Place, DraftRefusal>
-    requires rest { rest.0 < length (trees_of draft.old) }
-    requires back { back.0 < length (trees_of draft.old) }
-    ensures made { IfOk result (λ place. IsMade draft.new place (plans.tries_all by (map (call.Fork generation) numbers.now) (tree_at draft.old rest) (tree_at draft.old back))) }
-    ensures count { OnOk result (length (trees_of draft.new) ≡ length (trees_of draft.old) + length numbers.now) }
-    ensures keeps { Keeps draft.old draft.new }
-    ensures too_large { IsErrOf result TooLarge → MOST_STEPS < length (trees_of draft.old) + length numbers.now }
-{
-    let forks = Batch::Workers(Asked::Fork, generation, numbers);
-    add_tried_all(draft, by, &forks, rest, back)
-}
-
-/// Adds that a new master tries to wait until these numbers are ready, upwards, before the rest and with a way back,
-/// which one that is late takes too. `TooLarge` only where the draft would pass its most steps. A refused call may
-/// leave some of the steps.
-pub fn add_tried_awaits(
-    draft: &mut Draft,
-    by: Actor,
-    generation: Generation,
-    numbers: &[u32],
-    rest: Place,
-    back: Place,
-) -> Result<Place, DraftRefusal>
-    requires rest { rest.0 < length (trees_of draft.old) }
-    requires back { back.0 < length (trees_of draft.old) }
-    ensures made { IfOk result (λ place. IsMade draft.new place (plans.tries_all by (map (call.AwaitReady generation) numbers.now) (tree_at draft.old rest) (tree_at draft.old back))) }
-    ensures count { OnOk result (length (trees_of draft.new) ≡ length (trees_of draft.old) + length numbers.now) }
-    ensures keeps { Keeps draft.old draft.new }
-    ensures too_large { IsErrOf result TooLarge → MOST_STEPS < length (trees_of draft.old) + length numbers.now }
-{
-    let waits = Batch::Workers(Asked::AwaitReady, generation, numbers);
-    add_tried_all(draft, by, &waits, rest, back)
-}
-
-/// Adds that a new master tries these calls, in their order, before the rest and with a way back.
-fn add_tried_all(
+/// Adds that a new master tries these calls, in their order, before the rest and with a way back. `TooLarge` only where
+/// the draft would pass its most steps. A refused call may leave some of the steps.
+pub fn add_tried_all(
     draft: &mut Draft,
     by: Actor,
     calls: &Batch<'_>,
@@ -129,7 +48,9 @@ fn add_tried_all(
     requires rest { rest.0 < length (trees_of draft.old) }
     requires back { back.0 < length (trees_of draft.old) }
     ensures made { IfOk result (λ place. IsMade draft.new place (plans.tries_all by (calls_of calls.now) (tree_at draft.old rest) (tree_at draft.old back))) }
-    ensures grows { Grows draft.old draft.new result (size_of calls.now) }
+    ensures count { OnOk result (length (trees_of draft.new) ≡ length (trees_of draft.old) + size_of calls.now) }
+    ensures keeps { Keeps draft.old draft.new }
+    ensures too_large { IsErrOf result TooLarge → MOST_STEPS < length (trees_of draft.old) + size_of calls.now }
 {
     let none = Numbers::none();
     let mut next = rest;

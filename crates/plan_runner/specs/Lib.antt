@@ -1,3 +1,5 @@
 pub mod Log
 pub mod Fit
+pub mod WorkerAnswers
+pub mod Slots
 pub mod Walk

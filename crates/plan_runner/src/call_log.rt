@@ -1,28 +1,38 @@
 //! The calls that were made, with their answers.
-ghost use Rattle.std.specs.Prelude.{◌≡◌, ◌+◌, ◌≤◌, ◌<◌, ◌++◌, ◌∷◌, [], IfOk, IsTrue, ◌↔◌, length, slice_get};
+ghost use Rattle.std.specs.Prelude.{◌≡◌, ◌+◌, ◌≤◌, ◌<◌, ◌^◌, ◌++◌, ◌∷◌, [], IfOk, OnOk, OnErr, IsTrue, ◌↔◌, Some, length, slice_get};
 
+use crate::slot::{Slot, WorkerEntry};
 use std::alloc::{AllocError, Global};
 use std::marker::Model;
 use vocabulary::{Answer, Call, Entry};
 
 /// Entries, with room for more that was found beforehand.
 ///
-/// Contracts see the list of its entries, and beside it the room.
+/// Contracts see the list of its entries, and beside it the room. The entry of a call that names a worker, as most
+/// are, stands in its slot. Any other is kept whole, in room of its own: what of that is never used costs no memory.
 #[derive(Drop)]
 pub struct CallLog {
-    entries: Vec<Entry>,
+    slots: Vec<Slot>,
+    whole: Vec<Entry>,
     room: u32,
 }
 
 impl Model for CallLog {
-    ghost use Rattle.std.specs.Prelude.{◌≤◌, ◌+◌, vec_len, vec_capacity};
+    ghost use Rattle.std.specs.Prelude.{◌≡◌, ◌≤◌, ◌<◌, ◌^◌, ◌+◌, true, vec_len, vec_capacity};
     ghost use Rattle.plan_runner.specs.Log.{Told};
+    ghost use Rattle.plan_runner.specs.Slots.{entries_in, are_kept};
 
     ghost Value = { Told };
 
-    ghost view = { λ t. record { entries = t.entries.items; room = t.room } };
+    ghost view = { λ t. record { entries = entries_in t.whole.items t.slots.items; room = t.room } };
 
-    ghost invariant = { λ t. vec_len t.entries + t.room ≤ vec_capacity t.entries };
+    ghost invariant = { λ t. record {
+      slots : vec_len t.slots + t.room ≤ vec_capacity t.slots;
+      whole : vec_len t.whole + t.room ≤ vec_capacity t.whole;
+      few : vec_len t.slots + t.room < 2 ^ 32;
+      fewer : vec_len t.whole ≤ vec_len t.slots;
+      kept : are_kept (vec_len t.whole) t.slots.items ≡ true;
+    } };
 }
 
 impl CallLog {
@@ -31,23 +41,25 @@ impl CallLog {
         ensures { IfOk result (λ t. t ≡ record { entries = []; room = room }) }
     {
         Ok(CallLog {
-            entries: Vec::with_capacity(alloc, room as usize)?,
+            slots: Vec::with_capacity(alloc, room as usize)?,
+            whole: Vec::with_capacity(alloc, room as usize)?,
             room,
         })
     }
 
     /// How many entries there are.
     pub fn len(&self) -> usize
-        ensures { result ≡ length self.now.entries }
+        ensures count { result ≡ length self.now.entries }
+        ensures few { result < 2 ^ 32 }
     {
-        self.entries.len()
+        self.slots.len()
     }
 
     /// Whether there is none.
     pub fn is_empty(&self) -> bool
         ensures { IsTrue result ↔ (self.now.entries ≡ []) }
     {
-        self.entries.is_empty()
+        self.slots.is_empty()
     }
 
     /// For how many more entries there is room.
@@ -58,17 +70,14 @@ impl CallLog {
     }
 
     /// The entry at a place, counted from 0.
-    pub fn get(&self, place: usize) -> Option<Entry>
-        ensures { result ≡ slice_get self.now.entries place }
+    pub fn entry(&self, place: usize) -> Entry
+        requires { place < length self.now.entries }
+        ensures { slice_get self.now.entries place ≡ Some result }
     {
-        self.entries.get(place).copied()
-    }
-
-    /// All entries in their order.
-    pub fn entries(&self) -> &[Entry]
-        ensures { result.now ≡ self.now.entries }
-    {
-        &self.entries
+        match &self.slots[place] {
+            Slot::Worker(kept) => kept.entry(),
+            Slot::Whole(at) => self.whole[*at as usize],
+        }
     }
 
     /// Puts an entry at the end. It takes no memory.
@@ -77,24 +86,37 @@ impl CallLog {
         ensures entries { self.new.entries ≡ self.old.entries ++ entry.now ∷ [] }
         ensures room { self.new.room + 1 ≡ self.old.room }
     {
-        let call: Call = entry.call;
-        let answer: Answer = entry.answer;
-        let _ = self.entries.push(Entry {
-            by: entry.by,
-            call,
-            answer,
-        });
         self.room -= 1;
+        match WorkerEntry::of(entry) {
+            Some(kept) => self.slots.push_reserved(Slot::Worker(kept)),
+            None => {
+                let place = self.whole.len() as u32;
+                let call: Call = entry.call;
+                let answer: Answer = entry.answer;
+                self.whole.push_reserved(Entry {
+                    by: entry.by,
+                    call,
+                    answer,
+                });
+                self.slots.push_reserved(Slot::Whole(place));
+            }
+        }
     }
-}
 
-/// Entries that were read, without room for more.
-impl From<Vec<Entry>> for CallLog {
-    ghost use Rattle.std.specs.Prelude.{◌≡◌};
-
-    ghost from_gives = { λ entries log. log ≡ record { entries = entries.items; room = 0 } };
-
-    fn from(entries: Vec<Entry>) -> CallLog {
-        CallLog { entries, room: 0 }
+    /// Puts an entry at the end, and leaves as much room as there was. The only refusal is want of memory; a log that
+    /// would have 2^32 entries or more, its room counted, wants it always.
+    pub fn add(&mut self, entry: &Entry) -> Result<(), AllocError>
+        ensures ok { OnOk result (self.new ≡ record { entries = self.old.entries ++ entry.now ∷ []; room = self.old.room }) }
+        ensures err { OnErr result (self.new ≡ self.old) }
+    {
+        let room = self.room.checked_add(1).ok_or(AllocError)?;
+        if self.len() + room as usize > u32::MAX as usize {
+            return Err(AllocError);
+        }
+        self.slots.reserve(room as usize)?;
+        self.whole.reserve(room as usize)?;
+        self.room = room;
+        self.push(entry);
+        Ok(())
     }
 }

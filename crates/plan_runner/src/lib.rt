@@ -4,6 +4,7 @@
 mod call_log;
 mod calls;
 mod execution;
+mod slot;
 mod walk;
 
 pub use call_log::CallLog;

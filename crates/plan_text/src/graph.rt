@@ -2,11 +2,12 @@
 ghost use Rattle.std.specs.Prelude.{◌≡◌, ◌++◌, IfOk};
 ghost use Rattle.std.specs.Fmt.{decimal};
 ghost use Rattle.rollback_plan.specs.Plans.{steps_of};
-ghost use Rattle.plan_text.specs.Graph.{quoted, is_plain, note_line, style_part, way_text, label_text, arrow_text, opening, box_text, step_line, drawn_step, drawn_steps, graph_text};
+ghost use Rattle.plan_text.specs.Graph.{quoted, is_plain, note_line, style_part, way_text, arrow_text, opening, box_text, step_line, drawn_step, drawn_steps, graph_text};
 
 use crate::edges::{Form, goes, write_edges, write_place, write_replies};
 use crate::plans::write_wanted;
-use call_text::{note_text, replies_of, write_order};
+use call_replies::replies_of;
+use call_text::{note_text, write_order};
 use plain_text::write_number;
 use rollback_plan::{Edge, Plan, Step};
 use std::alloc::{AllocError, Global};
@@ -66,22 +67,7 @@ fn write_way(out: &mut Vec<u8>, number: u64, edge: &Edge) -> Result<(), AllocErr
     out.extend_from_slice(b"\"")
 }
 
-/// A line for each reply that goes the way of an edge, and one for its note.
-fn write_label(
-    out: &mut Vec<u8>,
-    step: &Step,
-    edge: &Edge,
-    replies: &[Reply],
-) -> Result<(), AllocError>
-    ensures { IfOk result (λ _. out.new.items ≡ out.old.items ++ label_text step.now edge.now replies.now) }
-{
-    out.extend_from_slice(b" [label=\"")?;
-    write_replies(out, step, edge, replies, b"\\l")?;
-    write_note(out, edge.note)?;
-    out.extend_from_slice(b"\"")
-}
-
-/// The arrow of an edge.
+/// The arrow of an edge, with a line for each reply that goes its way, and one for its note.
 pub(crate) fn write_arrow(
     out: &mut Vec<u8>,
     number: u64,
@@ -92,7 +78,10 @@ pub(crate) fn write_arrow(
     ensures { IfOk result (λ _. out.new.items ≡ out.old.items ++ arrow_text number step.now replies.now edge.now) }
 {
     write_way(out, number, edge)?;
-    write_label(out, step, edge, replies)?;
+    out.extend_from_slice(b" [label=\"")?;
+    write_replies(out, step, edge, replies, b"\\l")?;
+    write_note(out, edge.note)?;
+    out.extend_from_slice(b"\"")?;
     write_style(out, is_plain(step, edge, replies))?;
     out.extend_from_slice(b"];\n")
 }

@@ -5,7 +5,8 @@ ghost use Rattle.rollback_plan.specs.Plans.{tree_of, steps_of};
 ghost use Rattle.plan_text.specs.PlanText.{set_part, step_text, steps_text, plan_text};
 
 use crate::edges::{Form, write_edges};
-use call_text::{replies_of, write_order, write_set};
+use call_replies::replies_of;
+use call_text::{write_order, write_set};
 use listener_set::Numbers;
 use plain_text::write_number;
 use rollback_plan::{Plan, Step};

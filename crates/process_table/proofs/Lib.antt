@@ -7,4 +7,5 @@ pub mod First
 pub mod Lone
 pub mod Free
 pub mod Opening
+pub mod WrittenFiles
 pub mod Foreigners

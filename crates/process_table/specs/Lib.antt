@@ -5,4 +5,5 @@ pub mod Places
 pub mod Free
 pub mod Room
 pub mod Rows
+pub mod Files
 pub mod Foreign

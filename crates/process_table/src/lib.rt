@@ -6,6 +6,7 @@
 
 mod edits;
 mod file_row;
+pub mod files;
 mod free_names;
 pub mod holds;
 mod process;

@@ -32,6 +32,17 @@ pub struct Store {
     pub free: FreeNames,
 }
 
+/// The same items in memory of their own, which is taken at once for so many more.
+fn copy_with_room<T: Copy>(items: &Vec<T>, more: usize) -> Result<Vec<T>, AllocError>
+    ensures items { IfOk result (λ copy. copy.items ≡ items.now.items) }
+    ensures room { IfOk result (λ copy. vec_len copy + more ≤ vec_capacity copy) }
+{
+    let room = items.len().checked_add(more).ok_or(AllocError)?;
+    let mut copy = Vec::with_capacity(*items.allocator(), room)?;
+    copy.extend_from_slice(items)?;
+    Ok(copy)
+}
+
 fn edit_all(holders: &mut Vec<Holder>, addresses: &[Address], edit: &Edit)
     ensures rows { seen_rows addresses.now holders.new.items ≡ filter_map (edited addresses.now edit.now) (seen_rows addresses.now holders.old.items) }
     ensures len { vec_len holders.new ≤ vec_len holders.old }
@@ -351,15 +362,17 @@ impl Store {
         Ok(())
     }
 
-    /// The same rows in memory of their own.
-    pub fn copy(&self) -> Result<Self, AllocError>
+    /// The same rows in memory of their own, with memory for that many rows, sockets and files more.
+    pub fn copy(&self, calls: u32) -> Result<Self, AllocError>
         ensures same { IfOk result (λ s. seen s ≡ seen self.now) }
         ensures free { IfOk result (λ s. s.free ≡ self.now.free) }
+        ensures room { IfOk result (HasMemoryFor calls) }
     {
+        let more = calls as usize;
         Ok(Store {
-            holders: self.holders.clone()?,
-            addresses: self.addresses.clone()?,
-            files: self.files.clone()?,
+            holders: copy_with_room(&self.holders, more)?,
+            addresses: copy_with_room(&self.addresses, more)?,
+            files: copy_with_room(&self.files, more)?,
             next_process: self.next_process,
             limits: self.limits,
             last: self.last,

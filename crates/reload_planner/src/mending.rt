@@ -10,8 +10,8 @@ ghost use Rattle.reload_planner.specs.Changes.{repair_tree};
 
 use crate::{PlanRefusal, Scene};
 use listener_set::{Numbers, WORKER_LIMIT};
-use plan_pieces::{add_kills, add_starts_any, listed};
-use rollback_plan::{Draft, DraftRefusal, Place, Plan};
+use plan_pieces::{add_each, add_starts_any, listed};
+use rollback_plan::{Asked, Batch, Draft, DraftRefusal, Place, Plan};
 use std::alloc::Global;
 use vocabulary::{PidNote, Side};
 
@@ -31,7 +31,8 @@ fn add_mending(
     let (by, generation) = (scene.by, scene.generation);
     let settled = draft.settle(by, generation, wanted, Side::Target, scene.rounds)?;
     let starting = add_starts_any(draft, by, generation, starts, settled)?;
-    add_kills(draft, by, generation, kills, starting)
+    let overdue = Batch::Workers(Asked::Kill, generation, kills);
+    add_each(draft, by, &overdue, starting)
 }
 
 /// The plan of a mending: it kills the workers that are overdue and ready, starts each wanted number

@@ -6,15 +6,15 @@ ghost use Rattle.definitions.specs.Tree.{Tree};
 ghost use Rattle.definitions.specs.Plans.{census, census_edges, reload_tree};
 ghost use Rattle.rollback_plan.specs.declared.draft.DraftRefusal.TheVariants.{TooLarge};
 ghost use Rattle.rollback_plan.specs.declared.draft.TheConstants.{MOST_STEPS};
-ghost use Rattle.rollback_plan.specs.Drafts.{trees_of, tree_at, are_places, IsMade, Keeps};
+ghost use Rattle.rollback_plan.specs.Drafts.{trees_of, tree_at, are_places, IsMade, Grows};
 ghost use Rattle.rollback_plan.specs.Back.{AreMade};
 ghost use Rattle.rollback_plan.specs.Plans.{tree_of, note_of, text_of, trees_in};
 ghost use Rattle.reload_planner.specs.Changes.{on_tree, trial_tree, renewal_tree};
 
 use crate::{PlanRefusal, Scene};
 use listener_set::{Address, Generation, ListenerSet, Numbers};
-use plan_pieces::{add_closes, add_opens, add_quits, add_starts, listed};
-use rollback_plan::{Draft, DraftRefusal, Edge, Place, Plan, Undone};
+use plan_pieces::{add_each, add_opens, add_starts, listed};
+use rollback_plan::{Asked, Batch, Draft, DraftRefusal, Edge, Place, Plan, Undone};
 use service_state::next_config;
 use std::alloc::Global;
 use vocabulary::{Actor, Call, Order, PidNote, Reply, Settings, Side};
@@ -42,9 +42,7 @@ fn add_on(
     ready: &[u32],
 ) -> Result<Place, DraftRefusal>
     ensures made { IfOk result (λ place. IsMade draft.new place (on_tree scene.now.by scene.now.generation renewal.now.generation ready.now scene.now.rounds renewal.now.dropped.now renewal.now.wanted)) }
-    ensures count { OnOk result (length (trees_of draft.new) ≡ length (trees_of draft.old) + ((1 + 4 * scene.now.rounds) + length renewal.now.dropped.now + length ready.now)) }
-    ensures keeps { Keeps draft.old draft.new }
-    ensures too_large { IsErrOf result TooLarge → MOST_STEPS < length (trees_of draft.old) + ((1 + 4 * scene.now.rounds) + length renewal.now.dropped.now + length ready.now) }
+    ensures grows { Grows draft.old draft.new result ((1 + 4 * scene.now.rounds) + length renewal.now.dropped.now + length ready.now) }
 {
     let by = scene.by;
     let settled = draft.settle(
@@ -54,8 +52,9 @@ fn add_on(
         Side::Target,
         scene.rounds,
     )?;
-    let closing = add_closes(draft, by, renewal.dropped, settled)?;
-    add_quits(draft, by, scene.generation, ready, closing)
+    let closing = add_each(draft, by, &Batch::Closes(renewal.dropped), settled)?;
+    let quits = Batch::Workers(Asked::Quit, scene.generation, ready);
+    add_each(draft, by, &quits, closing)
 }
 
 /// Adds a census of the new workers.
@@ -69,9 +68,7 @@ fn add_count(
     requires full { full.0 < length (trees_of draft.old) }
     requires short { short.0 < length (trees_of draft.old) }
     ensures made { IfOk result (λ place. IsMade draft.new place (census by renewal.now.generation renewal.now.wanted (census_edges (tree_at draft.old full) (tree_at draft.old short)))) }
-    ensures count { OnOk result (length (trees_of draft.new) ≡ length (trees_of draft.old) + 1) }
-    ensures keeps { Keeps draft.old draft.new }
-    ensures too_large { IsErrOf result TooLarge → MOST_STEPS < length (trees_of draft.old) + 1 }
+    ensures grows { Grows draft.old draft.new result 1 }
 {
     draft.add(
         by,
@@ -98,9 +95,7 @@ fn add_trial(
     requires ways { IsTrue (are_places draft.old ways_back.now) }
     ensures made { IfOk result (λ place. (bad : List ℕ → Tree) → AreMade draft.old ways_back.now (length renewal.now.starts.now) (λ i. bad (reverse (take i renewal.now.starts.now)))
         → IsMade draft.new place (trial_tree by renewal.now.generation renewal.now.wanted renewal.now.starts.now (tree_at draft.old full) bad)) }
-    ensures count { OnOk result (length (trees_of draft.new) ≡ length (trees_of draft.old) + (1 + 3 * length renewal.now.starts.now)) }
-    ensures keeps { Keeps draft.old draft.new }
-    ensures too_large { IsErrOf result TooLarge → MOST_STEPS < length (trees_of draft.old) + (1 + 3 * length renewal.now.starts.now) }
+    ensures grows { Grows draft.old draft.new result (1 + 3 * length renewal.now.starts.now) }
 {
     let (generation, starts) = (renewal.generation, renewal.starts);
     let counting = add_count(draft, by, renewal, full, ways_back[starts.len()])?;

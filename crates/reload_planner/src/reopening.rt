@@ -8,8 +8,8 @@ ghost use Rattle.rollback_plan.specs.Drafts.{trees_of, IsMade};
 ghost use Rattle.rollback_plan.specs.Plans.{tree_of, note_of, text_of, trees_in};
 
 use crate::{PlanRefusal, Scene};
-use plan_pieces::{add_usr1s, listed};
-use rollback_plan::{Draft, DraftRefusal, Place, Plan};
+use plan_pieces::{add_each, listed};
+use rollback_plan::{Asked, Batch, Draft, DraftRefusal, Place, Plan};
 use std::alloc::Global;
 use vocabulary::{PidNote, Side};
 
@@ -21,7 +21,8 @@ fn add_reopening(draft: &mut Draft, scene: &Scene, ready: &[u32]) -> Result<Plac
 {
     let (by, generation) = (scene.by, scene.generation);
     let settled = draft.settle(by, generation, &scene.ready, Side::Target, scene.rounds)?;
-    add_usr1s(draft, by, generation, ready, settled)
+    let usr1s = Batch::Workers(Asked::Usr1, generation, ready);
+    add_each(draft, by, &usr1s, settled)
 }
 
 /// The plan of a reopening: it tells each ready worker, upwards, and settles on them. Only `Memory`

@@ -5,14 +5,14 @@ ghost use Rattle.definitions.specs.Plans as plans;
 ghost use Rattle.definitions.specs.Plans.{stop_tree, stopped, removes};
 ghost use Rattle.rollback_plan.specs.declared.draft.DraftRefusal.TheVariants.{TooLarge};
 ghost use Rattle.rollback_plan.specs.declared.draft.TheConstants.{MOST_STEPS};
-ghost use Rattle.rollback_plan.specs.Drafts.{trees_of, tree_at, IsMade, Keeps};
+ghost use Rattle.rollback_plan.specs.Drafts.{trees_of, tree_at, IsMade, Grows, GrowsWithin};
 ghost use Rattle.rollback_plan.specs.Plans.{tree_of, note_of, text_of, trees_in};
 ghost use Rattle.reload_planner.specs.Changes.{ends_tree};
 
 use crate::{PlanRefusal, Scene};
 use listener_set::{FilePath, Numbers};
-use plan_pieces::{add_awaits_gone, add_kills, add_quits, add_remove, listed};
-use rollback_plan::{Draft, DraftRefusal, Edge, Place, Plan};
+use plan_pieces::{add_each, add_file_call, listed};
+use rollback_plan::{Asked, Batch, Draft, DraftRefusal, Edge, Place, Plan};
 use std::alloc::Global;
 use vocabulary::{Actor, Call, End, Order, PidNote, Reply};
 
@@ -29,9 +29,7 @@ fn has_oldbin(note: PidNote) -> bool
 /// Adds that the master leaves, which ends the plan.
 fn add_leave(draft: &mut Draft, by: Actor) -> Result<Place, DraftRefusal>
     ensures made { IfOk result (λ place. IsMade draft.new place (stopped by)) }
-    ensures count { OnOk result (length (trees_of draft.new) ≡ length (trees_of draft.old) + 1) }
-    ensures keeps { Keeps draft.old draft.new }
-    ensures too_large { IsErrOf result TooLarge → MOST_STEPS < length (trees_of draft.old) + 1 }
+    ensures grows { Grows draft.old draft.new result 1 }
 {
     draft.add(
         by,
@@ -53,9 +51,7 @@ fn add_removes(
     requires rest { rest.0 < length (trees_of draft.old) }
     requires room { HasSuffixRoom path }
     ensures made { IfOk result (λ place. IsMade draft.new place (removes by path note (tree_at draft.old rest))) }
-    ensures count { OnOk result (length (trees_of draft.new) ≤ length (trees_of draft.old) + 2) }
-    ensures keeps { Keeps draft.old draft.new }
-    ensures too_large { IsErrOf result TooLarge → MOST_STEPS < length (trees_of draft.old) + 2 }
+    ensures grows { GrowsWithin draft.old draft.new result 2 }
 {
     let Some(path) = path else {
         return Ok(rest);
@@ -63,9 +59,11 @@ fn add_removes(
     let left = Some(PidNote::Left);
     let mut next = rest;
     if has_oldbin(note) {
-        next = add_remove(draft, by, path.oldbin(), None, left, next)?;
+        let call = Call::RemovePid(path.oldbin());
+        next = add_file_call(draft, by, call, None, left, next)?;
     }
-    add_remove(draft, by, path, Some(PidNote::NoFile), left, next)
+    let call = Call::RemovePid(path);
+    add_file_call(draft, by, call, Some(PidNote::NoFile), left, next)
 }
 
 /// Adds the ends of these workers before the rest: they are killed upwards where it is to be quick,
@@ -84,10 +82,13 @@ fn add_ends(
 {
     let (by, generation) = (scene.by, scene.generation);
     if quick {
-        return add_kills(draft, by, generation, ready, rest);
+        let kills = Batch::Workers(Asked::Kill, generation, ready);
+        return add_each(draft, by, &kills, rest);
     }
-    let waits = add_awaits_gone(draft, by, generation, ready, rest)?;
-    add_quits(draft, by, generation, ready, waits)
+    let waits = Batch::Workers(Asked::AwaitGone, generation, ready);
+    let quits = Batch::Workers(Asked::Quit, generation, ready);
+    let waiting = add_each(draft, by, &waits, rest)?;
+    add_each(draft, by, &quits, waiting)
 }
 
 /// Adds the ends of these workers, the removal of the pid files, and that the master leaves.

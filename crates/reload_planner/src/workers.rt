@@ -9,8 +9,8 @@ ghost use Rattle.reload_planner.specs.Changes.{change_tree};
 
 use crate::{PlanRefusal, Scene};
 use listener_set::{Numbers, WORKER_LIMIT};
-use plan_pieces::{add_quits, add_starts, listed};
-use rollback_plan::{Draft, DraftRefusal, Place, Plan, Undone};
+use plan_pieces::{add_each, add_starts, listed};
+use rollback_plan::{Asked, Batch, Draft, DraftRefusal, Place, Plan, Undone};
 use std::alloc::Global;
 use vocabulary::{PidNote, Side};
 
@@ -28,7 +28,8 @@ fn add_workers(
 {
     let (by, generation) = (scene.by, scene.generation);
     let settled = draft.settle(by, generation, wanted, Side::Target, scene.rounds)?;
-    let quitting = add_quits(draft, by, generation, quits, settled)?;
+    let surplus = Batch::Workers(Asked::Quit, generation, quits);
+    let quitting = add_each(draft, by, &surplus, settled)?;
     let undone = Undone {
         generation,
         forked: starts,

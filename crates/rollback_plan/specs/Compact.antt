@@ -3,18 +3,24 @@ use Rattle.std.specs.Prelude.{ℕ, List, [], Option, Some, None}
 use Rattle.std.specs.Global.{Box}
 use Rattle.vocabulary.specs.declared.plans.Order.{Order}
 use Rattle.vocabulary.specs.declared.plans.Order.TheVariants.{Make}
-use Rattle.rollback_plan.specs.declared.compact.WorkerOrder.{WorkerOrder}
 use Rattle.rollback_plan.specs.declared.compact.Kept.{Kept}
 use Rattle.rollback_plan.specs.declared.compact.Kept.TheVariants as kept
-use Rattle.rollback_plan.specs.Batches.{asked_call}
+use Rattle.definitions.specs.Calls.{Call}
+use Rattle.vocabulary.specs.declared.calls.Call.TheVariants as call
 
--- the order of a worker
-abbrev pub order_of_worker : WorkerOrder → Order
-order_of_worker w = Make (asked_call w.asked w.generation w.number)
+-- the call, where it names a worker
+abbrev pub call_of_worker : Call → Option Call
+call_of_worker (call.Fork g k) = Some (call.Fork g k)
+call_of_worker (call.AwaitReady g k) = Some (call.AwaitReady g k)
+call_of_worker (call.Quit g k) = Some (call.Quit g k)
+call_of_worker (call.Kill g k) = Some (call.Kill g k)
+call_of_worker (call.AwaitGone g k) = Some (call.AwaitGone g k)
+call_of_worker (call.Usr1 g k) = Some (call.Usr1 g k)
+call_of_worker _ = None
 
 -- the order that is kept
 abbrev pub order_of : Kept → Order
-order_of (kept.Worker w) = order_of_worker w
+order_of (kept.Worker w) = Make w
 order_of (kept.Boxed b) = b.value
 
 -- the set that is kept; where there is none it is empty

@@ -1,5 +1,5 @@
 -- What a contract sees of a draft.
-use Rattle.std.specs.Prelude.{◌≡◌, ℕ, ◌+◌, ◌<◌, Bool, List, [], ◌++◌, length, nat_lt, Result, OnOk, IsErrOf}
+use Rattle.std.specs.Prelude.{◌≡◌, ℕ, ◌+◌, ◌<◌, ◌≤◌, Bool, List, [], ◌++◌, length, nat_lt, Result, OnOk, IsErrOf}
 use Rattle.std.specs.List.{list_all}
 use Rattle.definitions.specs.Tree.{Tree, Branches}
 use Rattle.rollback_plan.specs.declared.step.Edge.{Edge}
@@ -39,6 +39,12 @@ pub record Grows {T : Type 0} (old new : Draft) (result : Result T DraftRefusal)
   pub count : OnOk result (length (trees_of new) ≡ length (trees_of old) + n)
   pub keeps : Keeps old new
   pub too_large : IsErrOf result TooLarge → MOST_STEPS < length (trees_of old) + n
+
+-- What is added is at most so many steps; it is too large only where so many would be too many.
+pub record GrowsWithin {T : Type 0} (old new : Draft) (result : Result T DraftRefusal) (most : ℕ) : Type 0 where
+  pub count : OnOk result (length (trees_of new) ≤ length (trees_of old) + most)
+  pub keeps : Keeps old new
+  pub too_large : IsErrOf result TooLarge → MOST_STEPS < length (trees_of old) + most
 
 -- the branches of edges in a draft
 abbrev pub branches_in : Draft → List Edge → Branches

@@ -1,25 +1,16 @@
 //! What a step asks for, in little room: an order of one worker stands in the step, and any other is
 //! boxed, since it may hold two paths.
 ghost use Rattle.std.specs.Prelude.{◌≡◌, IfOk, IfSome};
-ghost use Rattle.rollback_plan.specs.Compact.{order_of_worker};
 
-use crate::Asked;
-use listener_set::{Generation, Numbers};
+use crate::WorkerCall;
+use listener_set::Numbers;
 use std::alloc::{AllocError, Global};
 use std::marker::Model;
-use vocabulary::{Call, Order};
-
-/// A call that names one worker.
-#[derive(Clone, Copy, Debug)]
-pub(crate) struct WorkerOrder {
-    asked: Asked,
-    generation: Generation,
-    number: u32,
-}
+use vocabulary::Order;
 
 #[derive(Debug, Drop)]
 enum Kept {
-    Worker(WorkerOrder),
+    Worker(WorkerCall),
     Boxed(Box<Order>),
 }
 
@@ -38,34 +29,13 @@ impl Model for CompactOrder {
     ghost view = { λ o. order_of o.kept };
 }
 
-/// The order as one of a worker, if it is one.
-fn worker_order(order: &Order) -> Option<WorkerOrder>
-    ensures { IfSome result (λ worker. order_of_worker worker ≡ order.now) }
+/// The order as a call that names a worker, if it is one.
+fn worker_call(order: &Order) -> Option<WorkerCall>
+    ensures { IfSome result (λ call. Order.Make call ≡ order.now) }
 {
-    let Order::Make(call) = order else {
-        return None;
-    };
-    let (asked, generation, number) = match call {
-        Call::Fork(generation, number) => (Asked::Fork, *generation, *number),
-        Call::AwaitReady(generation, number) => (Asked::AwaitReady, *generation, *number),
-        Call::Quit(generation, number) => (Asked::Quit, *generation, *number),
-        Call::Kill(generation, number) => (Asked::Kill, *generation, *number),
-        Call::AwaitGone(generation, number) => (Asked::AwaitGone, *generation, *number),
-        Call::Usr1(generation, number) => (Asked::Usr1, *generation, *number),
-        _ => return None,
-    };
-    Some(WorkerOrder {
-        asked,
-        generation,
-        number,
-    })
-}
-
-impl WorkerOrder {
-    fn call(&self) -> Call
-        ensures { Order.Make result ≡ order_of_worker self.now }
-    {
-        self.asked.call(self.generation, self.number)
+    match order {
+        Order::Make(call) => WorkerCall::of(call),
+        _ => None,
     }
 }
 
@@ -74,9 +44,9 @@ impl CompactOrder {
     pub(crate) fn new(alloc: Global, order: &Order) -> Result<CompactOrder, AllocError>
         ensures { IfOk result (λ kept. kept ≡ order.now) }
     {
-        if let Some(worker) = worker_order(order) {
+        if let Some(call) = worker_call(order) {
             return Ok(CompactOrder {
-                kept: Kept::Worker(worker),
+                kept: Kept::Worker(call),
             });
         }
         Ok(CompactOrder {
@@ -89,7 +59,7 @@ impl CompactOrder {
         ensures { IfOk result (λ kept. kept ≡ self.now) }
     {
         let kept = match &self.kept {
-            Kept::Worker(worker) => Kept::Worker(*worker),
+            Kept::Worker(call) => Kept::Worker(call.copy()),
             Kept::Boxed(order) => Kept::Boxed(Box::new(alloc, **order)?),
         };
         Ok(CompactOrder { kept })
@@ -100,7 +70,7 @@ impl CompactOrder {
         ensures { result ≡ self.now }
     {
         match &self.kept {
-            Kept::Worker(worker) => Order::Make(worker.call()),
+            Kept::Worker(call) => Order::Make(call.call()),
             Kept::Boxed(order) => **order,
         }
     }

@@ -17,6 +17,7 @@ mod plan;
 mod settling;
 mod step;
 mod walking;
+mod worker_call;
 
 pub use batch::{Asked, Batch};
 pub use bound::Bound;
@@ -25,3 +26,4 @@ pub use draft::{Draft, DraftRefusal, MOST_STEPS};
 pub use plan::Plan;
 pub use settling::{Undone, WaysBack};
 pub use step::{Edge, Next, Place, Step};
+pub use worker_call::WorkerCall;

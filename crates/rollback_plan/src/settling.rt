@@ -1,5 +1,5 @@
 //! How plans end: a settle, and the ways back to one.
-ghost use Rattle.std.specs.Prelude.{◌≡◌, ◌+◌, ◌*◌, ◌<◌, length, IfOk, IsErrOf, IsTrue, OnOk, OnErr};
+ghost use Rattle.std.specs.Prelude.{◌≡◌, ◌+◌, ◌*◌, ◌<◌, length, take, IfOk, IsErrOf, IsTrue, OnOk, OnErr};
 ghost use Rattle.vocabulary.specs.declared.plans.Side.TheVariants.{Old};
 ghost use Rattle.definitions.specs.Tree.{Ends};
 ghost use Rattle.definitions.specs.Plans as plans;
@@ -76,10 +76,23 @@ impl Draft {
     {
         let before = self.len();
         let settled = self.add_settle(by, generation, set, side, rounds);
-        if settled.is_err() {
+        self.unless_refused(settled, before)
+    }
+
+    /// What was added to so many steps. Where it was refused, they alone are left.
+    fn unless_refused<T: Drop>(
+        &mut self,
+        added: Result<T, DraftRefusal>,
+        before: usize,
+    ) -> Result<T, DraftRefusal>
+        ensures same { result ≡ added }
+        ensures ok { OnOk added (self.new ≡ self.old) }
+        ensures err { OnErr added (trees_of self.new ≡ take before (trees_of self.old)) }
+    {
+        if added.is_err() {
             self.shorten(before);
         }
-        settled
+        added
     }
 
     /// Adds a settle. A refused call may leave some steps of it.
@@ -186,10 +199,7 @@ impl Draft {
     {
         let before = self.len();
         let ways = self.add_back(by, undone, generation, ready, rounds);
-        if ways.is_err() {
-            self.shorten(before);
-        }
-        ways
+        self.unless_refused(ways, before)
     }
 
     /// Adds the ways back of one master. A refused call may leave some steps of them.

@@ -1,7 +1,8 @@
 //! How large plans are, and what no word of one master asks for.
 ghost use Rattle.definitions.specs.Target.{IsTarget};
 
-use listener_set::{Address, FilePath, Generation, ListenerSet, Numbers};
+use crate::records::settings_of;
+use listener_set::{FilePath, Generation, Numbers};
 use reload_planner::{PlanRefusal, Scene, plan, plan_reopen, plan_stop, plan_workers};
 use rollback_plan::{Edge, MOST_STEPS, Next, Place, Plan, Step};
 use service_state::Record;
@@ -26,17 +27,9 @@ fn scene(ready: u32) -> Scene {
 
 /// Settings with these addresses and so many workers, with two rounds and a pid file.
 fn settings(addresses: &[&str], workers: u32) -> Result<Settings, Fail> {
-    let mut listeners = ListenerSet::new();
-    for address in addresses {
-        listeners.add(&Address::read(address.as_bytes())?)?;
-    }
-    let mut settings = Settings::plain();
-    if listeners.len() >= 1 {
-        settings.listeners = listeners;
-    }
+    let mut settings = settings_of(addresses)?;
     settings.workers = workers.min(1024);
     settings.retries = 2;
-    settings.pid = Some(FilePath::read(b"/run/a.pid")?);
     Ok(settings)
 }
 

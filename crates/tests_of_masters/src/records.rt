@@ -4,8 +4,8 @@ use service_state::{Listeners, Record, want};
 use std::test::Fail;
 use vocabulary::{Outcome, PidNote, Report, Settings, Target};
 
-/// The settings with these addresses, a pid file, two workers, and values of their own for the rest.
-fn settings(addresses: &[&str]) -> Result<Settings, Fail> {
+/// Plain settings with these addresses, where there are any, and a pid file.
+pub(crate) fn settings_of(addresses: &[&str]) -> Result<Settings, Fail> {
     let mut listeners = ListenerSet::new();
     for address in addresses {
         listeners.add(&Address::read(address.as_bytes())?)?;
@@ -15,6 +15,12 @@ fn settings(addresses: &[&str]) -> Result<Settings, Fail> {
         settings.listeners = listeners;
     }
     settings.pid = Some(FilePath::read(b"/run/a.pid")?);
+    Ok(settings)
+}
+
+/// The settings with these addresses, a pid file, two workers, and values of their own for the rest.
+fn settings(addresses: &[&str]) -> Result<Settings, Fail> {
+    let mut settings = settings_of(addresses)?;
     settings.workers = 2;
     settings.retries = 5;
     settings.timeout = 7;

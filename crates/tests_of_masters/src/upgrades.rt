@@ -37,7 +37,7 @@ fn is_left_to(state: Option<Record>, image: u32, pid: u32) -> bool {
 fn an_upgrade_leaves_the_new_master(rt: HostRuntime) -> Result<(), Fail> {
     let enacted = upgraded(rt.alloc(), &Pattern::new(rt.alloc()))??;
     assert_eq!(rt; enacted.report.outcome, Outcome::Done);
-    assert_eq!(rt; enacted.log.entries().len(), 17);
+    assert_eq!(rt; enacted.log.len(), 17);
     assert!(rt; is_left_to(enacted.after, 2, 103));
     Ok(())
 }

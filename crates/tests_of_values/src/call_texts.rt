@@ -3,7 +3,7 @@ use call_text::{
     read_answer, read_call, read_report, read_set, write_answer, write_call, write_report,
 };
 use listener_set::{Address, FilePath, Generation, Numbers};
-use std::alloc::Global;
+use plain_text::Line;
 use std::test::Fail;
 use vocabulary::{Actor, Answer, Call, Outcome, PidNote, Report, Side};
 
@@ -21,20 +21,18 @@ fn set(numbers: &[u32]) -> Numbers {
     set
 }
 
-/// Whether a call is written so, and read back.
-fn is_call(alloc: Global, call: Call, text: &str) -> Result<bool, Fail> {
-    let mut out = Vec::new(alloc);
-    write_call(&mut out, Actor(7), &call)?;
+/// Whether a call is written so, in place of what the line held, and read back.
+fn is_call(line: &mut Line, call: Call, text: &str) -> bool {
+    write_call(Actor(7), &call, line);
     let read = read_call(text.as_bytes()) == Some((Actor(7), call));
-    Ok(read && out.as_slice() == text.as_bytes())
+    read && line.bytes() == text.as_bytes()
 }
 
-/// Whether an answer to a call is written so, and read back.
-fn is_answer(alloc: Global, call: Call, answer: Answer, text: &str) -> Result<bool, Fail> {
-    let mut out = Vec::new(alloc);
-    write_answer(&mut out, &answer)?;
+/// Whether an answer to a call is written so, in place of what the line held, and read back.
+fn is_answer(line: &mut Line, call: Call, answer: Answer, text: &str) -> bool {
+    write_answer(&answer, line);
     let read = read_answer(&call, text.as_bytes()) == Some(answer);
-    Ok(read && out.as_slice() == text.as_bytes())
+    read && line.bytes() == text.as_bytes()
 }
 
 #[test]
@@ -70,8 +68,9 @@ fn calls_are_read_as_they_are_written(rt: HostRuntime) -> Result<(), Fail> {
         (Call::Usr1(FIRST, 0), "m7 usr1 1.1 0"),
         (Call::TermMaster(2), "m7 term-master 2"),
     ];
+    let mut line = Line::new();
     for (call, text) in texts {
-        assert!(rt; is_call(rt.alloc(), call, text)?, "{text}");
+        assert!(rt; is_call(&mut line, call, text), "{text}");
     }
     Ok(())
 }
@@ -112,8 +111,9 @@ fn answers_are_read_as_they_are_written(rt: HostRuntime) -> Result<(), Fail> {
         (Call::Alive(2), Answer::IsAlive, "alive"),
         (Call::Alive(2), Answer::MasterGone, "master-gone"),
     ];
+    let mut line = Line::new();
     for (call, answer, text) in texts {
-        assert!(rt; is_answer(rt.alloc(), call, answer, text)?, "{text}");
+        assert!(rt; is_answer(&mut line, call, answer, text), "{text}");
     }
     Ok(())
 }

@@ -1,10 +1,12 @@
-//! Tests of values: numbers, listeners, texts, patterns, and plans that are drawn up by hand.
+//! Tests of values: numbers, listeners, texts, lines, patterns, and plans that are drawn up by hand.
 #![tactic(auto)]
 
 #[cfg(test)]
 mod call_texts;
 #[cfg(test)]
 mod handovers;
+#[cfg(test)]
+mod lines;
 #[cfg(test)]
 mod listeners;
 #[cfg(test)]

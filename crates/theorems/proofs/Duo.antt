@@ -191,8 +191,9 @@ framed-change v m test f rows ne mine stays looks = record {
   same = λ t. change-same (Row v) (ready_in v.number t) (change test f) (λ p h. (changed-row v m test f ne mine stays p h).1 (ready_in v.number t) (other-unready v t)) rows looks.fine;
 }
 
-dropped-row : (v : View) (m : ℕ) (test : Process → Bool) → v.number ≢ m → OnlyOf m test → (u : Process → ℕ) → ((p : Process) → Other v p → u p ≡ 0) → (p : Process) → Row v p → worth u (drop_where test p) ≡ u p
-dropped-row v m test ne mine u z p h = ⊎_elim (λ a. stays (test p) (misses v m test ne mine p a)) (λ o. goes (test p) (z p o)) h
+-- a row that is the view's own, and is not tested for, stays; another counts nothing
+spared-row : (v : View) (test : Process → Bool) → ((p : Process) → Fine v p → test p ≡ false) → (u : Process → ℕ) → ((p : Process) → Other v p → u p ≡ 0) → (p : Process) → Row v p → worth u (drop_where test p) ≡ u p
+spared-row v test spared u z p h = ⊎_elim (λ a. stays (test p) (spared p a)) (λ o. goes (test p) (z p o)) h
   where
     stays : (b : Bool) → b ≡ false → worth u (if b then None else Some p) ≡ u p
     stays true e = absurd (cc)
@@ -201,6 +202,9 @@ dropped-row v m test ne mine u z p h = ⊎_elim (λ a. stays (test p) (misses v 
     goes : (b : Bool) → u p ≡ 0 → worth u (if b then None else Some p) ≡ u p
     goes true e = sym e
     goes false e = refl
+
+dropped-row : (v : View) (m : ℕ) (test : Process → Bool) → v.number ≢ m → OnlyOf m test → (u : Process → ℕ) → ((p : Process) → Other v p → u p ≡ 0) → (p : Process) → Row v p → worth u (drop_where test p) ≡ u p
+dropped-row v m test ne mine = spared-row v test (misses v m test ne mine)
 
 pub framed-drop : (v : View) (m : ℕ) (test : Process → Bool) (rows : List Process) → v.number ≢ m → OnlyOf m test → Looks v rows → Framed v rows (filter_map (drop_where test) rows)
 framed-drop v m test rows ne mine looks = record {
@@ -414,15 +418,7 @@ no-corpse v image ne (Worker n q g k s hs) f = refl
 no-corpse v image ne (Foreign n hs) f = refl
 
 corpse-row : (v : View) (image : ℕ) → v.image ≢ image → (u : Process → ℕ) → ((p : Process) → Other v p → u p ≡ 0) → (p : Process) → Row v p → worth u (drop_where (is_image image) p) ≡ u p
-corpse-row v image ne u z p h = ⊎_elim (λ f. stays (is_image image p) (no-corpse v image ne p f)) (λ o. goes (is_image image p) (z p o)) h
-  where
-    stays : (b : Bool) → b ≡ false → worth u (if b then None else Some p) ≡ u p
-    stays true e = absurd (cc)
-    stays false e = refl
-
-    goes : (b : Bool) → u p ≡ 0 → worth u (if b then None else Some p) ≡ u p
-    goes true e = sym e
-    goes false e = refl
+corpse-row v image ne = spared-row v (is_image image) (no-corpse v image ne)
 
 pub asked-looks : (v : View) (image : ℕ) (rows : List Process) → v.image ≢ image → Looks v rows → Framed v rows (filter_map (drop_where (is_image image)) rows)
 asked-looks v image rows ne looks = record {

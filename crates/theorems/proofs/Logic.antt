@@ -174,16 +174,9 @@ fork-own text image c g x t P again ok =
     pick P (list_any (is_worker is_active c.number g x) t.rows) (gives Again t) (if has_process_room t then forked else gives Again t) (λ e. again) (λ off. pick P (has_process_room t) forked (gives Again t) (λ e. ok off) (λ e. again))
 
 pub fork-cases : (text : List ℕ) (image : ℕ) (c : Caller) (g : Generation) (x : ℕ) (fate : Option Fate) (t : Table) (P : Stepped → Type 0) → P (gives Again t) → P (gives NoMemory t) → (list_any (is_worker is_active c.number g x) t.rows ≡ false → P (gives Forked (with_new_row t (λ n. Worker n c.number g x Starting c.holds)))) → P (step_by text image (Some c) (Fork g x) fate t)
-fork-cases text image c g x None t P again memory ok = fork-own text image c g x t P again ok
-fork-cases text image c g x (Some fate.NoImage) t P again memory ok = fork-own text image c g x t P again ok
-fork-cases text image c g x (Some fate.Refused) t P again memory ok = fork-own text image c g x t P again ok
-fork-cases text image c g x (Some fate.IoFault) t P again memory ok = fork-own text image c g x t P again ok
-fork-cases text image c g x (Some fate.InUse) t P again memory ok = fork-own text image c g x t P again ok
-fork-cases text image c g x (Some fate.TooMany) t P again memory ok = fork-own text image c g x t P again ok
-fork-cases text image c g x (Some fate.Denied) t P again memory ok = fork-own text image c g x t P again ok
 fork-cases text image c g x (Some fate.NoMemory) t P again memory ok = memory
 fork-cases text image c g x (Some fate.Again) t P again memory ok = again
-fork-cases text image c g x (Some fate.Late) t P again memory ok = fork-own text image c g x t P again ok
+fork-cases text image c g x _ t P again memory ok = fork-own text image c g x t P again ok
 
 await-own : (text : List ℕ) (image : ℕ) (c : Caller) (g : Generation) (x : ℕ) (t : Table) (P : Stepped → Type 0) → (list_any (is_worker is_active c.number g x) t.rows ≡ true → P (gives IsReady (each_row (change (is_worker is_starting c.number g x) made_ready) t))) → (list_any (is_worker is_active c.number g x) t.rows ≡ false → P (gives Gone (each_row (drop_where (is_worker is_exited c.number g x)) t))) → P (own_step text image c (AwaitReady g x) t)
 await-own text image c g x t P ok gone = pick P (list_any (is_worker is_active c.number g x) t.rows) _ _ ok gone
@@ -193,16 +186,8 @@ late-or true text image c call t P late h = late
 late-or false text image c call t P late h = h
 
 pub await-cases : (text : List ℕ) (image : ℕ) (c : Caller) (g : Generation) (x : ℕ) (fate : Option Fate) (t : Table) (P : Stepped → Type 0) → P (gives Late t) → (list_any (is_worker is_active c.number g x) t.rows ≡ true → P (gives IsReady (each_row (change (is_worker is_starting c.number g x) made_ready) t))) → (list_any (is_worker is_active c.number g x) t.rows ≡ false → P (gives Gone (each_row (drop_where (is_worker is_exited c.number g x)) t))) → P (step_by text image (Some c) (AwaitReady g x) fate t)
-await-cases text image c g x None t P late ok gone = await-own text image c g x t P ok gone
-await-cases text image c g x (Some fate.NoImage) t P late ok gone = await-own text image c g x t P ok gone
-await-cases text image c g x (Some fate.Refused) t P late ok gone = await-own text image c g x t P ok gone
-await-cases text image c g x (Some fate.IoFault) t P late ok gone = await-own text image c g x t P ok gone
-await-cases text image c g x (Some fate.InUse) t P late ok gone = await-own text image c g x t P ok gone
-await-cases text image c g x (Some fate.TooMany) t P late ok gone = await-own text image c g x t P ok gone
-await-cases text image c g x (Some fate.Denied) t P late ok gone = await-own text image c g x t P ok gone
-await-cases text image c g x (Some fate.NoMemory) t P late ok gone = await-own text image c g x t P ok gone
-await-cases text image c g x (Some fate.Again) t P late ok gone = await-own text image c g x t P ok gone
 await-cases text image c g x (Some fate.Late) t P late ok gone = late-or (list_any (is_worker is_starting c.number g x) t.rows) text image c (AwaitReady g x) t P late (await-own text image c g x t P ok gone)
+await-cases text image c g x _ t P late ok gone = await-own text image c g x t P ok gone
 
 -- calls that no fate fails
 abbrev pub Unfailing : Call → Type 0
@@ -241,86 +226,41 @@ open-own text image c a t P used many ok =
     pick P (is_held a t.rows) (gives InUse t) (if nat_lt (length c.holds) t.limits.descriptors then done else gives TooMany t) (λ e. used) (λ off. pick P (nat_lt (length c.holds) t.limits.descriptors) done (gives TooMany t) (λ e. ok off e) (λ e. many))
 
 pub open-cases : (text : List ℕ) (image : ℕ) (c : Caller) (a : Address) (fate : Option Fate) (t : Table) (P : Stepped → Type 0) → P (gives InUse t) → P (gives TooMany t) → P (gives Denied t) → P (gives NoMemory t) → (is_held a t.rows ≡ false → nat_lt (length c.holds) t.limits.descriptors ≡ true → P (gives (Opened (lowest_free c.holds)) (with_new_socket t c.number (record { fd = lowest_free c.holds; socket = t.next_socket; address = a })))) → P (step_by text image (Some c) (OpenAt a) fate t)
-open-cases text image c a None t P used many denied memory ok = open-own text image c a t P used many ok
-open-cases text image c a (Some fate.NoImage) t P used many denied memory ok = open-own text image c a t P used many ok
-open-cases text image c a (Some fate.Refused) t P used many denied memory ok = open-own text image c a t P used many ok
-open-cases text image c a (Some fate.IoFault) t P used many denied memory ok = open-own text image c a t P used many ok
 open-cases text image c a (Some fate.InUse) t P used many denied memory ok = used
 open-cases text image c a (Some fate.TooMany) t P used many denied memory ok = many
 open-cases text image c a (Some fate.Denied) t P used many denied memory ok = denied
 open-cases text image c a (Some fate.NoMemory) t P used many denied memory ok = memory
-open-cases text image c a (Some fate.Again) t P used many denied memory ok = open-own text image c a t P used many ok
-open-cases text image c a (Some fate.Late) t P used many denied memory ok = open-own text image c a t P used many ok
+open-cases text image c a _ t P used many denied memory ok = open-own text image c a t P used many ok
 
 gone-own : (text : List ℕ) (image : ℕ) (c : Caller) (g : Generation) (x : ℕ) (t : Table) (P : Stepped → Type 0) → P (gives Late t) → P (gives Gone (each_row (drop_where (is_worker is_any c.number g x)) t)) → P (own_step text image c (AwaitGone g x) t)
 gone-own text image c g x t P late gone = pick P (list_any (is_worker is_active c.number g x) t.rows) _ _ (λ e. late) (λ e. gone)
 
 pub gone-cases : (text : List ℕ) (image : ℕ) (c : Caller) (g : Generation) (x : ℕ) (fate : Option Fate) (t : Table) (P : Stepped → Type 0) → P (gives Late t) → P (gives Gone (each_row (drop_where (is_worker is_any c.number g x)) t)) → P (step_by text image (Some c) (AwaitGone g x) fate t)
-gone-cases text image c g x None t P late gone = gone-own text image c g x t P late gone
-gone-cases text image c g x (Some fate.NoImage) t P late gone = gone-own text image c g x t P late gone
-gone-cases text image c g x (Some fate.Refused) t P late gone = gone-own text image c g x t P late gone
-gone-cases text image c g x (Some fate.IoFault) t P late gone = gone-own text image c g x t P late gone
-gone-cases text image c g x (Some fate.InUse) t P late gone = gone-own text image c g x t P late gone
-gone-cases text image c g x (Some fate.TooMany) t P late gone = gone-own text image c g x t P late gone
-gone-cases text image c g x (Some fate.Denied) t P late gone = gone-own text image c g x t P late gone
-gone-cases text image c g x (Some fate.NoMemory) t P late gone = gone-own text image c g x t P late gone
-gone-cases text image c g x (Some fate.Again) t P late gone = gone-own text image c g x t P late gone
 gone-cases text image c g x (Some fate.Late) t P late gone = late-or (list_any (is_worker is_draining c.number g x) t.rows) text image c (AwaitGone g x) t P late (gone-own text image c g x t P late gone)
+gone-cases text image c g x _ t P late gone = gone-own text image c g x t P late gone
 
 pub remove-cases : (text : List ℕ) (image : ℕ) (c : Caller) (path : FilePath) (fate : Option Fate) (t : Table) (P : Stepped → Type 0) → P (gives IoFault t) → P (gives Fine (with_files (without_file path t.files) t)) → P (step_by text image (Some c) (RemovePid path) fate t)
-remove-cases text image c path None t P fault fine = fine
-remove-cases text image c path (Some fate.NoImage) t P fault fine = fine
-remove-cases text image c path (Some fate.Refused) t P fault fine = fine
 remove-cases text image c path (Some fate.IoFault) t P fault fine = fault
-remove-cases text image c path (Some fate.InUse) t P fault fine = fine
-remove-cases text image c path (Some fate.TooMany) t P fault fine = fine
-remove-cases text image c path (Some fate.Denied) t P fault fine = fine
-remove-cases text image c path (Some fate.NoMemory) t P fault fine = fine
-remove-cases text image c path (Some fate.Again) t P fault fine = fine
-remove-cases text image c path (Some fate.Late) t P fault fine = fine
+remove-cases text image c path _ t P fault fine = fine
 
 pub write-cases : (text : List ℕ) (image : ℕ) (c : Caller) (path : FilePath) (fate : Option Fate) (t : Table) (P : Stepped → Type 0) → P (gives IoFault t) → P (gives Fine (with_files (with_file path c.number t.files) t)) → P (step_by text image (Some c) (WritePid path) fate t)
-write-cases text image c path None t P fault fine = fine
-write-cases text image c path (Some fate.NoImage) t P fault fine = fine
-write-cases text image c path (Some fate.Refused) t P fault fine = fine
 write-cases text image c path (Some fate.IoFault) t P fault fine = fault
-write-cases text image c path (Some fate.InUse) t P fault fine = fine
-write-cases text image c path (Some fate.TooMany) t P fault fine = fine
-write-cases text image c path (Some fate.Denied) t P fault fine = fine
-write-cases text image c path (Some fate.NoMemory) t P fault fine = fine
-write-cases text image c path (Some fate.Again) t P fault fine = fine
-write-cases text image c path (Some fate.Late) t P fault fine = fine
+write-cases text image c path _ t P fault fine = fine
 
 move-own : (o : Option ℕ) (from to : FilePath) (t : Table) (P : Stepped → Type 0) → P (gives IoFault t) → ((owner : ℕ) → o ≡ Some owner → P (gives Fine (with_files (with_file to owner (without_file from t.files)) t))) → P (moved_if o from to t)
 move-own None from to t P fault fine = fault
 move-own (Some owner) from to t P fault fine = fine owner refl
 
 pub move-cases : (text : List ℕ) (image : ℕ) (c : Caller) (from to : FilePath) (fate : Option Fate) (t : Table) (P : Stepped → Type 0) → P (gives IoFault t) → ((owner : ℕ) → owner_at from t.files ≡ Some owner → P (gives Fine (with_files (with_file to owner (without_file from t.files)) t))) → P (step_by text image (Some c) (MovePid from to) fate t)
-move-cases text image c from to None t P fault fine = move-own (owner_at from t.files) from to t P fault fine
-move-cases text image c from to (Some fate.NoImage) t P fault fine = move-own (owner_at from t.files) from to t P fault fine
-move-cases text image c from to (Some fate.Refused) t P fault fine = move-own (owner_at from t.files) from to t P fault fine
 move-cases text image c from to (Some fate.IoFault) t P fault fine = fault
-move-cases text image c from to (Some fate.InUse) t P fault fine = move-own (owner_at from t.files) from to t P fault fine
-move-cases text image c from to (Some fate.TooMany) t P fault fine = move-own (owner_at from t.files) from to t P fault fine
-move-cases text image c from to (Some fate.Denied) t P fault fine = move-own (owner_at from t.files) from to t P fault fine
-move-cases text image c from to (Some fate.NoMemory) t P fault fine = move-own (owner_at from t.files) from to t P fault fine
-move-cases text image c from to (Some fate.Again) t P fault fine = move-own (owner_at from t.files) from to t P fault fine
-move-cases text image c from to (Some fate.Late) t P fault fine = move-own (owner_at from t.files) from to t P fault fine
+move-cases text image c from to _ t P fault fine = move-own (owner_at from t.files) from to t P fault fine
 
 adopt-own : (text : List ℕ) (image : ℕ) (c : Caller) (t : Table) (P : Stepped → Type 0) → P (gives Refused t) → P (gives Adopted t) → P (own_step text image c Adopt t)
 adopt-own text image c t P refused ok = pick P (suits (reading text) image c.holds) (gives Adopted t) (gives Refused t) (λ e. ok) (λ e. refused)
 
 pub adopt-cases : (text : List ℕ) (image : ℕ) (c : Caller) (fate : Option Fate) (t : Table) (P : Stepped → Type 0) → P (gives Refused t) → P (gives Adopted t) → P (step_by text image (Some c) Adopt fate t)
-adopt-cases text image c None t P refused ok = adopt-own text image c t P refused ok
-adopt-cases text image c (Some fate.NoImage) t P refused ok = adopt-own text image c t P refused ok
 adopt-cases text image c (Some fate.Refused) t P refused ok = refused
-adopt-cases text image c (Some fate.IoFault) t P refused ok = adopt-own text image c t P refused ok
-adopt-cases text image c (Some fate.InUse) t P refused ok = adopt-own text image c t P refused ok
-adopt-cases text image c (Some fate.TooMany) t P refused ok = adopt-own text image c t P refused ok
-adopt-cases text image c (Some fate.Denied) t P refused ok = adopt-own text image c t P refused ok
-adopt-cases text image c (Some fate.NoMemory) t P refused ok = adopt-own text image c t P refused ok
-adopt-cases text image c (Some fate.Again) t P refused ok = adopt-own text image c t P refused ok
-adopt-cases text image c (Some fate.Late) t P refused ok = adopt-own text image c t P refused ok
+adopt-cases text image c _ t P refused ok = adopt-own text image c t P refused ok
 
 spawn-own : (text : List ℕ) (image : ℕ) (c : Caller) (i : ℕ) (t : Table) (P : Stepped → Type 0) → P (gives Again t) → P (gives Spawned (with_new_row t (λ n. Master n c.number i true c.holds))) → P (own_step text image c (SpawnMaster i) t)
 spawn-own text image c i t P again ok =
@@ -328,13 +268,7 @@ spawn-own text image c i t P again ok =
     pick P (list_any (is_image i) t.rows) (gives Again t) (if has_process_room t then done else gives Again t) (λ e. again) (λ off. pick P (has_process_room t) done (gives Again t) (λ e. ok) (λ e. again))
 
 pub spawn-cases : (text : List ℕ) (image : ℕ) (c : Caller) (i : ℕ) (fate : Option Fate) (t : Table) (P : Stepped → Type 0) → P (gives Again t) → P (gives NoMemory t) → P (gives NoImage t) → P (gives Spawned (with_new_row t (λ n. Master n c.number i true c.holds))) → P (step_by text image (Some c) (SpawnMaster i) fate t)
-spawn-cases text image c i None t P again memory image_gone ok = spawn-own text image c i t P again ok
 spawn-cases text image c i (Some fate.NoImage) t P again memory image_gone ok = image_gone
-spawn-cases text image c i (Some fate.Refused) t P again memory image_gone ok = spawn-own text image c i t P again ok
-spawn-cases text image c i (Some fate.IoFault) t P again memory image_gone ok = spawn-own text image c i t P again ok
-spawn-cases text image c i (Some fate.InUse) t P again memory image_gone ok = spawn-own text image c i t P again ok
-spawn-cases text image c i (Some fate.TooMany) t P again memory image_gone ok = spawn-own text image c i t P again ok
-spawn-cases text image c i (Some fate.Denied) t P again memory image_gone ok = spawn-own text image c i t P again ok
 spawn-cases text image c i (Some fate.NoMemory) t P again memory image_gone ok = memory
 spawn-cases text image c i (Some fate.Again) t P again memory image_gone ok = again
-spawn-cases text image c i (Some fate.Late) t P again memory image_gone ok = spawn-own text image c i t P again ok
+spawn-cases text image c i _ t P again memory image_gone ok = spawn-own text image c i t P again ok

@@ -33,7 +33,7 @@ use Rattle.theorems.proofs.Addresses.{stays-lacks, stays-put, any-put, has-lacks
 use Rattle.theorems.proofs.After.{agrees-after}
 use Rattle.theorems.proofs.Logic.{Unasked, Course, Along, Anyhow, from-along, are-mild-anyhow}
 use Rattle.theorems.proofs.Small.{in-reverse, every-is_in, off-from, true-false, or-elim, map-addresses}
-use Rattle.theorems.proofs.Rules.{Scene, plain_scene, Still, floor-by, view, any, plus, seen, ready_of, also, Marks, Band, Less, Only, band-part, band-anew, band-still, rule-quits, rule-starts, rule-settle, rule-count, rule-open, rule-close}
+use Rattle.theorems.proofs.Rules.{Scene, plain_scene, Still, floor-by, view, any, plus, seen, ready_of, also, Marks, Band, band-holds, Less, Only, band-part, band-anew, band-still, rule-quits, rule-starts, rule-settle, rule-count, rule-open, rule-close}
 
 next-other : (g : Generation) → same_generation (reload_generation g) g ≡ false
 next-other g = go (g.image == g.image) (eqb-off (g.config + 1) g.config (omega arith))
@@ -303,25 +303,8 @@ module _ (t : Table) (rec : Record) (st : Settings) (pattern : Pattern) (s : IsS
       rule-settle inv post co (both H0) acts sc (good-both H0 common0) Old g R (held-old H0 g refl) dR low-R rec.retries true old-full old-short rec.retries 0 (omega arith) true (λ e. refl) r ls q only (band-anew inv post co (both H0) acts sc (good-both H0 common0) none r (named g (is_in R)) (length R) c true ls q b')
   close-old (a ∷ l) hs o common r c ls q only b =
       rule-close inv post co (both hs) acts sc (good-both hs common) (closes g.image l (settle g.image g R Old rec.retries)) a r (named g (is_in R)) (length R) c true ls q
-      (λ q' b'. close-old l o.before o.rest o.common r c ls q' only (record {
-        looks = looks-allows (view (after_close a (both hs)) none r) (view (both o.before) none r) (record {
-          number = refl;
-          others = λ n e. e;
-          image = refl;
-          holds = ap (lacks_address a) o.is ∙ lacks-put a o.hold o.before o.names o.fresh;
-          starting = λ h k e. e;
-          ready = λ h k e. e;
-          held_starting = λ h k e. absurd (cc e);
-          held = λ h k e. ap (lacks_address a) (held-old hs h (only h k e).0) ∙ lacks-none a H0 o.apart ∙ sym (held-old o.before h (only h k e).0);
-        }) q'.table.rows b'.looks;
-        enough = b'.enough;
-        secured = b'.secured;
-        budget = b'.budget;
-        lacking = b'.lacking;
-        still = b'.still;
-        marks = b'.marks;
-        beside = tt;
-      })) b
+      (λ q' b'. close-old l o.before o.rest o.common r c ls q' only (band-holds (after_close a (both hs)) (both o.before) sc none r (named g (is_in R)) (length R) c true ls q' (ap (lacks_address a) o.is ∙ lacks-put a o.hold o.before o.names o.fresh) (λ h k e. cc e)
+      (λ h k e. ap (lacks_address a) (held-old hs h (only h k e).0) ∙ lacks-none a H0 o.apart ∙ sym (held-old o.before h (only h k e).0)) b')) b
 
   abbrev St : List ℕ → List ℕ → Names → Names → ℕ → Type 0
   St ks done r names count = Started g new R n ks done r names count
@@ -434,25 +417,7 @@ module _ (t : Table) (rec : Record) (st : Settings) (pattern : Pattern) (s : IsS
       let only : Only new (numbers_below n) r' = λ h k e.
       let l = less h k e in
       ⊎_elim (λ a. absurd (true-false (is_in (reverse R) k) (in-reverse R k ∙ a.1) (l.1 a.0))) (λ a. (a.0, below-on n k (st.started k a.1))) (st.only h k (within h k l.0)) in
-      close-new dropped hs lists (every-filter (λ a. not (has wanted a)) (λ b. has wanted b ≡ false) A0 (λ a e. not-off (has wanted a) e)) (keys-of hs has_it) common r' c q' only (record {
-        looks = looks-allows (view (both hs) none r') (view (same hs) none r') (record {
-          number = refl;
-          others = λ n e. e;
-          image = refl;
-          holds = refl;
-          starting = λ h k e. e;
-          ready = λ h k e. e;
-          held_starting = λ h k e. absurd (cc e);
-          held = λ h k e. held-new hs h (only h k e).0;
-        }) q'.table.rows b'.looks;
-        enough = b'.enough;
-        secured = b'.secured;
-        budget = b'.budget;
-        lacking = b'.lacking;
-        still = b'.still;
-        marks = b'.marks;
-        beside = tt;
-      })) b
+      close-new dropped hs lists (every-filter (λ a. not (has wanted a)) (λ b. has wanted b ≡ false) A0 (λ a e. not-off (has wanted a) e)) (keys-of hs has_it) common r' c q' only (band-holds (both hs) (same hs) sc none r' (named new (is_in (numbers_below n))) (length (numbers_below n)) c false [] q' refl (λ h k e. cc e) (λ h k e. held-new hs h (only h k e).0) b')) b
 
   -- every way covers what was started
   count-step : (l : List Address) (hs : List Hold) → Lists (all_closed dropped hs) → From H0 Common l hs → ((a : Address) → has_address a hs ≡ (has added a || has_address a H0)) → Common hs → (done : List ℕ) (r names : Names) (count c : ℕ) (q : Progress) → St [] done r names count → Band (both hs) sc none r names count c false [] q → Goes (census g.image new (numbers_below n) (census_edges way_on (reload_back g.image g R rec.retries l (reverse (numbers_below n))))) q
@@ -504,25 +469,8 @@ module _ (t : Table) (rec : Record) (st : Settings) (pattern : Pattern) (s : IsS
       or-false false = refl
   opening (x ∷ todo) l hs listing off o in_all common r c q only b =
       rule-open inv post co (both hs) acts sc (good-both hs common) _ _ x r (named g (is_in R)) (length R) c false [] q
-      (λ h q' is fd room fresh b'. opening todo (x ∷ l) (put_hold h hs) (opens-on t.limits.descriptors h hs todo (with_added st.listeners rec.listeners) ds.limit listing.1 fd room (subst (λ z. all_opened (z ∷ todo) (map listener_of hs) ≡ with_added st.listeners rec.listeners) (sym is) listing.0)) off.1 (record { hold = h; before = hs; is = refl; names = is; fresh = fresh; apart = off.0; common = common; rest = o }) (λ a. move (bytes_eq x a) (has l a) (has todo a) ∙ in_all a) (put-common h hs common) r c q' only (record {
-        looks = looks-allows (view (after_open h (both hs)) none r) (view (both (put_hold h hs)) none r) (record {
-          number = refl;
-          others = λ n e. e;
-          image = refl;
-          holds = refl;
-          starting = λ h k e. e;
-          ready = λ h k e. e;
-          held_starting = λ j k e. absurd (cc e);
-          held = λ j k e. held-old hs j (only j k e).0 ∙ sym (held-old (put_hold h hs) j (only j k e).0);
-        }) q'.table.rows b'.looks;
-        enough = b'.enough;
-        secured = b'.secured;
-        budget = b'.budget;
-        lacking = b'.lacking;
-        still = b'.still;
-        marks = b'.marks;
-        beside = tt;
-      }))
+      (λ h q' is fd room fresh b'. opening todo (x ∷ l) (put_hold h hs) (opens-on t.limits.descriptors h hs todo (with_added st.listeners rec.listeners) ds.limit listing.1 fd room (subst (λ z. all_opened (z ∷ todo) (map listener_of hs) ≡ with_added st.listeners rec.listeners) (sym is) listing.0)) off.1 (record { hold = h; before = hs; is = refl; names = is; fresh = fresh; apart = off.0; common = common; rest = o }) (λ a. move (bytes_eq x a) (has l a) (has todo a) ∙ in_all a) (put-common h hs common) r c q' only (band-holds (after_open h (both hs)) (both (put_hold h hs)) sc none r (named g (is_in R)) (length R) c false [] q' refl (λ j k e. cc e)
+      (λ j k e. held-old hs j (only j k e).0 ∙ sym (held-old (put_hold h hs) j (only j k e).0)) b'))
       (λ q' b'. close-old l hs o common r (c + 1) [] q' only b') b
     where
       move : (e p t : Bool) → ((e || p) || t) ≡ (p || (e || t))

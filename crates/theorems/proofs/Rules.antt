@@ -29,7 +29,7 @@ use Rattle.definitions.specs.Path.{went_wrong, first_cause}
 use Rattle.theorems.proofs.Rows.{one, weigh, weigh-le-all, count-weigh, and-left, and-right, both-true, or-left, or-right}
 use Rattle.theorems.proofs.Views.{Names, named, View, Looks, live_any, ready_in, finds, eqb-is}
 use Rattle.theorems.proofs.Exits.{Spares, spares-each, shrinks}
-use Rattle.theorems.proofs.Effects.{Mine, mine-worker, mine-exited, StaysOther, ready-stays, draining-stays, none, looks-allows, fork-looks, fork-weigh, await-looks, await-gains, gone-looks, gone-weigh, kill-looks, kill-weigh, quit-looks, quit-weigh, bears-is, bears-refl, same-refl, cut-weigh, after_close, cut-looks, after_open, close-weigh, close-looks, mine-of, holds-stay, open-weigh, unheld, open-looks, mine-row}
+use Rattle.theorems.proofs.Effects.{Allows, Mine, mine-worker, mine-exited, StaysOther, ready-stays, draining-stays, none, looks-allows, fork-looks, fork-weigh, await-looks, await-gains, gone-looks, gone-weigh, kill-looks, kill-weigh, quit-looks, quit-weigh, bears-is, bears-refl, same-refl, cut-weigh, after_close, cut-looks, after_open, close-weigh, close-looks, mine-of, holds-stay, open-weigh, unheld, open-looks, mine-row}
 use Rattle.theorems.proofs.Counts.{census-looks, census-weigh, census-in, count-set, Distinct}
 use Rattle.theorems.proofs.Sets.{in-here, in-there, in-cases, every-in}
 use Rattle.theorems.proofs.After.{census-exact}
@@ -164,6 +164,17 @@ pub record Band (u : View) (sc : Scene u.number u.image) (s r t : Names) (n c : 
   pub still : Still sc.files sc.note sc.limits p.table.files p.note p.table.limits
   pub beside : sc.Holds p.table.rows p.losses p.faults
 
+-- the master and its workers, seen as they are seen elsewhere
+abbrev pub seen_as : View → View → View
+seen_as u v = record { number = u.number; others = u.others; image = u.image; holds = v.holds; starting = v.starting; ready = v.ready; held = v.held }
+
+-- the same is known where nobody starts, and the master and those that are ready hold the same
+pub band-holds : (u v : View) (sc : Scene u.number u.image) (s r t : Names) (n c : ℕ) (w : Bool) (ls : List ℕ) (p : Progress) → u.holds ≡ v.holds → ((g : Generation) (k : ℕ) → s g k ≡ true → ⊥) → ((g : Generation) (k : ℕ) → r g k ≡ true → u.held g ≡ v.held g)
+    → Band u sc s r t n c w ls p → Band (seen_as u v) sc none r t n c w ls p
+band-holds u v sc s r t n c w ls p holds idle held b =
+    let same : Allows (view u s r) (view (seen_as u v) none r) = record { number = refl; others = λ n e. e; image = refl; holds = holds; starting = λ g k e. absurd (idle g k e); ready = λ g k e. e; held_starting = λ g k e. absurd (idle g k e); held = held } in
+    record { looks = looks-allows (view u s r) (view (seen_as u v) none r) same p.table.rows b.looks; enough = b.enough; secured = b.secured; budget = b.budget; lacking = b.lacking; marks = b.marks; still = b.still; beside = b.beside }
+
 pub losses-are : (es : List Name) (t : Table) → weigh live_any (all_exited es t.rows) ≤ weigh live_any t.rows → losses_of es t + weigh live_any (all_exited es t.rows) ≡ weigh live_any t.rows
 losses-are es t le = omega (arith, count-weigh is_active_worker t.rows, count-weigh is_active_worker (all_exited es t.rows))
 
@@ -235,9 +246,9 @@ module _ (inv : Progress → Type 0) (post : Ending → Progress → Type 0) (co
   abbrev passed_at : Table → Progress → Progress
   passed_at t q = record q { table = t; calls = q.calls + 1; cause = first_cause q.cause false (q.calls + 1) }
 
-  -- Of the names of t as many are Ready as before the call.
-  band-passed : (s s' r r' t : Names) (n c : ℕ) (w : Bool) (ls : List ℕ) (after : Table) (q : Progress) → Looks (view u s' r') after.rows → weigh (ready_in u.number t) after.rows ≡ ready_of u t q → Still sc.files sc.note sc.limits after.files q.note after.limits → sc.Holds after.rows q.losses q.faults → Band u sc s r t n c w ls q → Band u sc s' r' t n c w ls (passed_at after q)
-  band-passed s s' r r' t n c w ls after q looks same still beside b = record {
+  -- Of the names of t as many are Ready as before the call, which may change who holds what.
+  band-moved : (v : View) (s s' r r' t : Names) (n c : ℕ) (w : Bool) (ls : List ℕ) (after : Table) (q : Progress) → Looks (view (seen_as u v) s' r') after.rows → weigh (ready_in u.number t) after.rows ≡ ready_of u t q → Still sc.files sc.note sc.limits after.files q.note after.limits → sc.Holds after.rows q.losses q.faults → Band u sc s r t n c w ls q → Band (seen_as u v) sc s' r' t n c w ls (passed_at after q)
+  band-moved v s s' r r' t n c w ls after q looks same still beside b = record {
     looks = looks;
     enough = b.enough;
     secured = λ e. omega (arith, b.secured e, same);
@@ -279,7 +290,7 @@ module _ (inv : Progress → Type 0) (post : Ending → Progress → Type 0) (co
       (λ off.
       let k = q.table.next_process in
       let after = with_new_row q.table (λ j. Worker j u.number g x Starting u.holds) in
-      on_ok (passed_at after q) (band-passed s (plus s g x) r r t n c w ls after q
+      on_ok (passed_at after q) (band-moved u s (plus s g x) r r t n c w ls after q
       (fork-looks (view u s r) g x k q.table.rows same off b'.looks) (fork-weigh u.number g t x k u.holds q.table.rows)
       b'.still (sc.grows k g x u.holds q.table.rows q.losses q.faults b'.beside) b')))
 
@@ -294,7 +305,7 @@ module _ (inv : Progress → Type 0) (post : Ending → Progress → Type 0) (co
   rule-kill rest g x s r t n c w ls p off next b =
       rule-sure (Kill g x) rest s r t n c w ls p refl tt (λ q b'.
       let after = each_row (drop_where (is_worker is_any u.number g x)) q.table in
-      next (passed_at after q) (band-passed s (minus s g x) r r t n c w ls after q
+      next (passed_at after q) (band-moved u s (minus s g x) r r t n c w ls after q
       (kill-looks (view u s r) g x q.table.rows b'.looks) (kill-weigh (view u s r) g x t q.table.rows off b'.looks)
       b'.still (drops-name g x q b'.beside) b')) b
 
@@ -344,7 +355,7 @@ module _ (inv : Progress → Type 0) (post : Ending → Progress → Type 0) (co
   rule-quit rest g x s r t n c w ls p off next b =
       rule-sure (Quit g x) rest s r t n c w ls p refl tt (λ q b'.
       let after = each_row (change (is_worker is_active u.number g x) made_draining) q.table in
-      next (passed_at after q) (band-passed s (minus s g x) r (minus r g x) t n c w ls after q
+      next (passed_at after q) (band-moved u s (minus s g x) r (minus r g x) t n c w ls after q
       (quit-looks (view u s r) g x q.table.rows b'.looks) (quit-weigh u.number g x t q.table.rows off) b'.still
       (sc.changes (is_worker is_active u.number g x) made_draining q.table.rows q.losses q.faults (mine-worker is_active u.number g x, λ z zs. refl) draining-stays b'.beside) b')) b
 
@@ -360,31 +371,16 @@ module _ (inv : Progress → Type 0) (post : Ending → Progress → Type 0) (co
       (λ off room.
       let h : Hold = record { fd = lowest_free u.holds; socket = q.table.next_socket; address = a } in
       let same = open-weigh u.number t h q.table.rows in
-      on_ok h (after_call order [] (gives (Opened (lowest_free u.holds)) (with_new_socket q.table u.number h)) q) refl refl (ap (λ (l : Limits). nat_lt (length u.holds) l.descriptors) (sym b'.still.limits_stay) ∙ room) (unheld (view u none r) a q.table.rows off b'.looks.fine (omega (arith, b'.looks.alone))) (record {
-        looks = open-looks (view u none r) h q.table.rows b'.looks;
-        enough = b'.enough;
-        secured = λ e. omega (arith, b'.secured e, same);
-        budget = omega (arith, b'.budget, same);
-        lacking = b'.lacking;
-        still = b'.still;
-        marks = marks-plain w q.faults q.losses (q.calls + 1) q.cause b'.marks;
-        beside = sc.changes (is_row u.number) (with_holds (put_hold h)) q.table.rows q.losses q.faults (mine-row u.number, λ z zs. refl) (holds-stay (put_hold h)) b'.beside;
-      })))
+      on_ok h (after_call order [] (gives (Opened (lowest_free u.holds)) (with_new_socket q.table u.number h)) q) refl refl (ap (λ (l : Limits). nat_lt (length u.holds) l.descriptors) (sym b'.still.limits_stay) ∙ room) (unheld (view u none r) a q.table.rows off b'.looks.fine (omega (arith, b'.looks.alone))) (band-moved (after_open h u) none none r r t n c w ls (with_new_socket q.table u.number h) q (open-looks (view u none r) h q.table.rows b'.looks) same b'.still
+      (sc.changes (is_row u.number) (with_holds (put_hold h)) q.table.rows q.losses q.faults (mine-row u.number, λ z zs. refl) (holds-stay (put_hold h)) b'.beside) b')))
 
   pub rule-close : (rest : Tree) (a : Address) (r t : Names) (n c : ℕ) (w : Bool) (ls : List ℕ) (p : Progress) → ((q : Progress) → Band (after_close a u) sc none r t n c w ls q → Runs rest q) → Band u sc none r t n c w ls p → Runs (does u.image (CloseAt a) (then_edge rest)) p
   rule-close rest a r t n c w ls p next b =
       rule-sure (CloseAt a) rest none r t n c w ls p refl tt (λ q b'.
       let same = close-weigh u.number t a q.table.rows in
-      next (passed_at (each_row (change (is_of u.number) (with_holds (lacks_address a))) q.table) q) (record {
-        looks = close-looks (view u none r) a q.table.rows b'.looks;
-        enough = b'.enough;
-        secured = λ e. omega (arith, b'.secured e, same);
-        budget = omega (arith, b'.budget, same);
-        lacking = b'.lacking;
-        still = b'.still;
-        marks = marks-plain w q.faults q.losses (q.calls + 1) q.cause b'.marks;
-        beside = sc.changes (is_of u.number) (with_holds (lacks_address a)) q.table.rows q.losses q.faults (mine-of u.number, λ z zs. refl) (holds-stay (lacks_address a)) b'.beside;
-      })) b
+      let after = each_row (change (is_of u.number) (with_holds (lacks_address a))) q.table in
+      next (passed_at after q) (band-moved (after_close a u) none none r r t n c w ls after q (close-looks (view u none r) a q.table.rows b'.looks) same b'.still
+      (sc.changes (is_of u.number) (with_holds (lacks_address a)) q.table.rows q.losses q.faults (mine-of u.number, λ z zs. refl) (holds-stay (lacks_address a)) b'.beside) b')) b
 
   ---- Census
 
@@ -610,7 +606,7 @@ module _ (inv : Progress → Type 0) (post : Ending → Progress → Type 0) (co
   rule-usr1s rest g [] s r t n c w ls p next b = next p b
   rule-usr1s rest g (x ∷ ks) s r t n c w ls p next b =
       rule-sure (Usr1 g x) (usr1s u.image g ks rest) s r t n c w ls p refl tt (λ q b'.
-      rule-usr1s rest g ks s r t n c w ls (passed_at q.table q) next (band-passed s s r r t n c w ls q.table q b'.looks refl b'.still b'.beside b')) b
+      rule-usr1s rest g ks s r t n c w ls (passed_at q.table q) next (band-moved u s s r r t n c w ls q.table q b'.looks refl b'.still b'.beside b')) b
 
   ---- Start whatever is answered
 
@@ -620,7 +616,7 @@ module _ (inv : Progress → Type 0) (post : Ending → Progress → Type 0) (co
 
   band-cut : (g : Generation) (x : ℕ) (s r t : Names) (n c : ℕ) (w : Bool) (ls : List ℕ) (q : Progress) → t g x ≡ false → Band u sc s r t n c w ls q → Band u sc (minus s g x) (minus r g x) t n c w ls (cut_at g x q)
   band-cut g x s r t n c w ls q off b =
-      band-passed s (minus s g x) r (minus r g x) t n c w ls (cut_at g x q).table q
+      band-moved u s (minus s g x) r (minus r g x) t n c w ls (cut_at g x q).table q
       (cut-looks (view u s r) g x q.table.rows b.looks) (cut-weigh u.number g x t q.table.rows off) b.still (drops-name g x q b.beside) b
 
   pub rule-cut : (rest : Tree) (g : Generation) (x : ℕ) (s r t : Names) (n c : ℕ) (w : Bool) (ls : List ℕ) (p : Progress) → t g x ≡ false → ((q : Progress) → Band u sc (minus s g x) (minus r g x) t n c w ls q → Runs rest q) → Band u sc s r t n c w ls p → Runs (does u.image (Kill g x) (then_edge rest)) p

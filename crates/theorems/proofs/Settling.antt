@@ -27,13 +27,13 @@ use Rattle.definitions.specs.Claims.{refused_among}
 use Rattle.definitions.specs.Settling.{PlansGoBack, IsOnly, HasSide, missing, Settles, SettlesAlways, IsReturning, back, without, ReturnsAlways}
 use Rattle.theorems.proofs.Rows.{one, weigh, every-more, every-both, count-weigh, and-left, and-right, both-true, or-left, or-right}
 use Rattle.theorems.proofs.Views.{Row, Fine, FineLive, Other, Names, master_of, named, View, Looks, ready_in, finds, eqb-refl, eqb-off, eqb-is}
-use Rattle.theorems.proofs.Effects.{none, same-is, bears-is, same-refl, after_close, looks-allows}
+use Rattle.theorems.proofs.Effects.{none, same-is, bears-is, same-refl, after_close}
 use Rattle.theorems.proofs.Counts.{Distinct, count-set, every-any_of, in-filter}
 use Rattle.theorems.proofs.Sets.{in-here, every-in}
 use Rattle.theorems.proofs.Small.{every-is_in, or-elim, true-false}
 use Rattle.theorems.proofs.Begins.{rising-distinct}
 use Rattle.theorems.proofs.Logic.{Course, Anyhow, Unasked, Along, from-along, are-mild-anyhow}
-use Rattle.theorems.proofs.Rules.{Scene, plain_scene, Band, Only, Less, view, rule-settle, rule-close, rule-quits}
+use Rattle.theorems.proofs.Rules.{Scene, plain_scene, Band, band-holds, seen_as, Only, Less, view, rule-settle, rule-close, rule-quits}
 use Rattle.theorems.proofs.Addresses.{same-address, address-refl, lacks-none}
 use Rattle.theorems.proofs.Listeners.{all_closed, all-closed-is}
 use Rattle.definitions.specs.Calls.{gives, lacks_address}
@@ -393,9 +393,10 @@ module _ (image pid : ℕ) (holds : List Hold) (g : Generation) (S : List ℕ) w
     abbrev begun : Progress
     begun = recounted p (p.faults + more) (Some 0)
 
-    first-band : Looks u p.table.rows → Band u sc none (named g (is_in S)) (named g (is_in S)) (length S) owed false p.lacking begun
-    first-band looks =
-        let count = missing-count u g p.table S _ looks dS (ready-among pid g p.table.rows S) in
+    -- however the workers are seen that are no part of the set
+    begun-band : (v : View) (s r : Names) → Looks (view (seen_as u v) s r) p.table.rows → Band (seen_as u v) sc s r (named g (is_in S)) (length S) owed false p.lacking begun
+    begun-band v s r looks =
+        let count = missing-count (view (seen_as u v) s r) g p.table S _ looks dS (ready-among pid g p.table.rows S) in
         record {
           looks = looks;
           enough = omega arith;
@@ -406,6 +407,9 @@ module _ (image pid : ℕ) (holds : List Hold) (g : Generation) (S : List ℕ) w
           still = record { files_stay = refl; note_stays = refl; limits_stay = refl };
           beside = tt;
         }
+
+    first-band : Looks u p.table.rows → Band u sc none (named g (is_in S)) (named g (is_in S)) (length S) owed false p.lacking begun
+    first-band looks = begun-band u none (named g (is_in S)) looks
 
     abbrev Goes : Tree → Progress → Type 0
     Goes tree q = Along inv post Anyhow Unasked co tree q
@@ -552,25 +556,7 @@ module _ (image pid : ℕ) (holds : List Hold) (opened : List Address) (g : Gene
         settle-goes image pid kept g S text Old rounds pattern p dS below r false ls q only (subst (λ x. Band (narrow x) sc' none r t (length S) paid false ls q) is b)
     close-all (a ∷ l) hs is off r ls q only b =
         rule-close inv' post' co' (narrow hs) acts' sc' (λ t n w q a b c d e. tt) (closes image l (settle image g S Old rounds)) a r t (length S) paid false ls q
-        (λ q' b'. close-all l (lacks_address a hs) is off.1 r ls q' only (record {
-          looks = looks-allows (view (after_close a (narrow hs)) none r) (view (narrow (lacks_address a hs)) none r) (record {
-            number = refl;
-            others = λ n e. e;
-            image = refl;
-            holds = refl;
-            starting = λ h k e. e;
-            ready = λ h k e. e;
-            held_starting = λ h k e. absurd (cc e);
-            held = λ h k e. lacks-none a kept off.0;
-          }) q'.table.rows b'.looks;
-          enough = b'.enough;
-          secured = b'.secured;
-          budget = b'.budget;
-          lacking = b'.lacking;
-          still = b'.still;
-          marks = b'.marks;
-          beside = tt;
-        })) b
+        (λ q' b'. close-all l (lacks_address a hs) is off.1 r ls q' only (band-holds (after_close a (narrow hs)) (narrow (lacks_address a hs)) sc' none r t (length S) paid false ls q' refl (λ h k e. cc e) (λ h k e. lacks-none a kept off.0) b')) b
 
     off-old : (k : ℕ) → is_in forked k ≡ true → t new k ≡ false
     off-old k e = go (same_generation new g) refl
@@ -595,38 +581,10 @@ module _ (image pid : ℕ) (holds : List Hold) (opened : List Address) (g : Gene
     back-goes looks =
         let q0 = begun image pid kept g S text Old rounds pattern p dS in
         let rest = closes image opened (settle image g S Old rounds) in
-        let count = missing-count wide g p.table S _ looks dS (ready-among pid g p.table.rows S) in
         let gone : AllByRecursion (λ a. has_address a kept ≡ false) opened = every-more (λ a. has opened a ≡ true) (λ a. has_address a kept ≡ false) (λ a e. without-off opened a holds e) opened (all-has opened opened (λ a e. e)) in
         rule-quits inv' post' co' wide acts' sc' (λ t n w q a b c d e. tt) rest new forked (named new (is_in forked)) either t (length S) paid false p.lacking q0 off-old
-        (λ s' r' q less_s less b. close-all opened holds (all-closed-is opened holds) gone r' p.lacking q (left-over r' less) (record {
-          looks = looks-allows (view wide s' r') (view (narrow holds) none r') (record {
-            number = refl;
-            others = λ n e. e;
-            image = refl;
-            holds = refl;
-            starting = λ h k e. absurd (none-starts s' less_s h k e);
-            ready = λ h k e. e;
-            held_starting = λ h k e. absurd (none-starts s' less_s h k e);
-            held = λ h k e. ap held_by (left-over r' less h k e).0 ∙ held-old;
-          }) q.table.rows b.looks;
-          enough = b.enough;
-          secured = b.secured;
-          budget = b.budget;
-          lacking = b.lacking;
-          still = b.still;
-          marks = b.marks;
-          beside = tt;
-        }))
-        (record {
-          looks = looks;
-          enough = omega arith;
-          secured = λ e. absurd (omega (arith, e));
-          budget = omega (arith, count);
-          lacking = refl;
-          marks = record { clean = λ e. absurd (cc e); blamed = λ e. omega arith; caused = λ e. absurd (cc e) };
-          still = record { files_stay = refl; note_stays = refl; limits_stay = refl };
-          beside = tt;
-        })
+        (λ s' r' q less_s less b. close-all opened holds (all-closed-is opened holds) gone r' p.lacking q (left-over r' less) (band-holds wide (narrow holds) sc' s' r' t (length S) paid false p.lacking q refl (none-starts s' less_s) (λ h k e. ap held_by (left-over r' less h k e).0 ∙ held-old) b))
+        (begun-band image pid kept g S text Old rounds pattern p dS wide (named new (is_in forked)) either looks)
 
 pub returns_always : ReturnsAlways
 returns_always text image pid holds opened g set new forked rounds pattern first formed on rising below spared =

@@ -24,7 +24,7 @@ use Rattle.theorems.proofs.Sets.{in-here, in-there, below-of, below-distinct, be
 use Rattle.theorems.proofs.Small.{in-reverse, true-false}
 use Rattle.theorems.proofs.Files.{gone-file, other-removed, oldbin-other, no-path}
 use Rattle.theorems.proofs.Logic.{Unasked, Anyhow, Behind, course_after, remove-cases, unfailing}
-use Rattle.theorems.proofs.Rules.{Scene, view, any, ready_of, Marks, Band, Only, marks-plain, marks-wrong, rule-step, rule-quits, rule-waits, rule-settle, band-exits, band-inv, band-anew, band-failed, failed_at, Answers}
+use Rattle.theorems.proofs.Rules.{Still, Scene, view, any, ready_of, Marks, Band, Only, marks-plain, marks-wrong, rule-step, rule-quits, rule-waits, rule-settle, band-exits, band-inv, band-anew, band-failed, failed_at, Answers}
 use Rattle.theorems.proofs.Duo.{OneOther, alone-left, dead-none, dead-weigh, asked-looks, asked-dead, with_other}
 use Rattle.theorems.proofs.UpgradeStage.{Given, g, new, R, H0, f, n, low, wanted, few-new, co, co_after, acts, acts-after, inv, post, Goes, u, w, x, Common, Lists, Second, alone_scene, good-alone, pair_scene, good-pair, new-full, new-short}
 use Rattle.theorems.proofs.UpgradeBack.{Aside, goes-back-late}
@@ -59,18 +59,24 @@ module _ (c : Given) (m : ℕ) (ne : m ≢ c.rec.pid) (some : 1 ≤ m) (r0 : Nam
   abbrev Beside : List File → Names → Names → Bool → Progress → Type 0
   Beside files st rd b q = Band v (both files) st rd none 0 0 b [] q
 
-  -- no worker of the old master is left
-  bared : (files : List File) (st rd : Names) (k : ℕ) (b : Bool) (q : Progress) → ((h : Generation) (j : ℕ) → st h j ≡ true → none h j ≡ true) → ((h : Generation) (j : ℕ) → rd h j ≡ true → none h j ≡ true) → Band v (both files) st rd none 0 k b [] q → Beside files none none b q
-  bared files st rd k b q off_st off_rd h = record {
-    looks = looks-allows (view v st rd) (view v none none) (record { number = refl; others = λ j e. e; image = refl; holds = refl; starting = off_st; ready = off_rd; held_starting = λ j i e. refl; held = λ j i e. refl }) q.table.rows h.looks;
+  beside : (files : List File) (st rd : Names) (b : Bool) (q : Progress) → Looks (view v st rd) q.table.rows → q.lacking ≡ [] → Marks b q.faults q.losses q.cause → Still (both files).files (both files).note (both files).limits q.table.files q.note q.table.limits → (both files).Holds q.table.rows q.losses q.faults → Beside files st rd b q
+  beside files st rd b q looks lacking marks still holds = record {
+    looks = looks;
     enough = omega arith;
     secured = λ e. absurd (omega (arith, e));
     budget = omega arith;
-    lacking = h.lacking;
-    marks = h.marks;
-    still = h.still;
-    beside = h.beside;
+    lacking = lacking;
+    marks = marks;
+    still = still;
+    beside = holds;
   }
+
+  -- no worker of the old master is left
+  bared : (files : List File) (st rd : Names) (k : ℕ) (b : Bool) (q : Progress) → ((h : Generation) (j : ℕ) → st h j ≡ true → none h j ≡ true) → ((h : Generation) (j : ℕ) → rd h j ≡ true → none h j ≡ true) → Band v (both files) st rd none 0 k b [] q → Beside files none none b q
+  bared files st rd k b q off_st off_rd h =
+      beside files none none b q
+      (looks-allows (view v st rd) (view v none none) (record { number = refl; others = λ j e. e; image = refl; holds = refl; starting = off_st; ready = off_rd; held_starting = λ j i e. refl; held = λ j i e. refl }) q.table.rows h.looks)
+      h.lacking h.marks h.still h.beside
 
   ---- The new master is alone
 
@@ -177,13 +183,4 @@ module _ (c : Given) (m : ℕ) (ne : m ≢ c.rec.pid) (some : 1 ≤ m) (r0 : Nam
       (λ st rd q' less_st less_rd h'. rule-waits I P (co c) v (acts c) (both files) (good files) ask (g c) (reverse (R c)) none none none 0 false [] q' (λ k e. refl)
       (λ st' rd' b k q'' sub_st sub_rd up h''. asks files b q'' aside written (bared files st' rd' k b q'' sub_st sub_rd h''))
       0 (bared files st rd 0 false q' (λ j i e. (less_st j i e).0) (λ j i e. let l = less_rd j i e in let o = only0 j i l.0 in absurd (true-false (is_in (reverse (R c)) i) (in-reverse (R c) i ∙ o.1) (l.1 o.0))) h'))
-      (record {
-        looks = h.looks;
-        enough = omega arith;
-        secured = λ e. absurd (omega (arith, e));
-        budget = omega arith;
-        lacking = h.lacking;
-        marks = h.marks;
-        still = h.still;
-        beside = h.beside;
-      })
+      (beside files none r0 false q h.looks h.lacking h.marks h.still h.beside)

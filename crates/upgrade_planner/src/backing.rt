@@ -5,7 +5,7 @@ ghost use Rattle.vocabulary.specs.declared.plans.Side.TheVariants as side;
 ghost use Rattle.definitions.specs.Plans.{settle, back_alone, back_from, back_late};
 ghost use Rattle.rollback_plan.specs.declared.draft.DraftRefusal.TheVariants.{TooLarge};
 ghost use Rattle.rollback_plan.specs.declared.draft.TheConstants.{MOST_STEPS};
-ghost use Rattle.rollback_plan.specs.Drafts.{trees_of, IsMade, Keeps};
+ghost use Rattle.rollback_plan.specs.Drafts.{trees_of, IsMade, GrowsWithin};
 
 use crate::pid_file::{Aside, add_cleared};
 use crate::upgrade::Upgrade;
@@ -37,9 +37,7 @@ fn add_restart(
     requires alone { IsMade draft.old alone (back_alone upgrade.now.old.generation.image upgrade.now.old.generation upgrade.now.old.numbers upgrade.now.rounds upgrade.now.path) }
     requires stopped { IsMade draft.old stopped (back_from upgrade.now.old.generation.image upgrade.now.new.generation.image upgrade.now.old.generation upgrade.now.old.numbers upgrade.now.rounds upgrade.now.path) }
     ensures made { IfOk result (λ place. IsMade draft.new place (back_late upgrade.now.old.generation.image upgrade.now.new.generation.image upgrade.now.old.generation upgrade.now.old.numbers upgrade.now.rounds upgrade.now.path)) }
-    ensures count { OnOk result (length (trees_of draft.new) ≤ length (trees_of draft.old) + (3 * length upgrade.now.old.numbers + 1)) }
-    ensures keeps { Keeps draft.old draft.new }
-    ensures too_large { IsErrOf result TooLarge → MOST_STEPS < length (trees_of draft.old) + (3 * length upgrade.now.old.numbers + 1) }
+    ensures grows { GrowsWithin draft.old draft.new result (3 * length upgrade.now.old.numbers + 1) }
 {
     let old = &upgrade.old;
     if upgrade.leaving.is_empty() {

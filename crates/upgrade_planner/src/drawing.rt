@@ -5,7 +5,7 @@ ghost use Rattle.vocabulary.specs.declared.calls.Call.TheVariants as call;
 ghost use Rattle.definitions.specs.Plans.{does, spawn_edges};
 ghost use Rattle.rollback_plan.specs.declared.draft.DraftRefusal.TheVariants.{TooLarge};
 ghost use Rattle.rollback_plan.specs.declared.draft.TheConstants.{MOST_STEPS};
-ghost use Rattle.rollback_plan.specs.Drafts.{trees_of, tree_at, IsMade, Keeps};
+ghost use Rattle.rollback_plan.specs.Drafts.{trees_of, tree_at, IsMade, Grows};
 ghost use Rattle.upgrade_planner.specs.Trees.{taking_over, succession};
 
 use crate::backing::add_ways_back;
@@ -28,9 +28,7 @@ fn add_spawn(
     requires spawned { spawned.0 < length (trees_of draft.old) }
     requires failed { failed.0 < length (trees_of draft.old) }
     ensures made { IfOk result (λ place. IsMade draft.new place (does by (call.SpawnMaster image) (spawn_edges (tree_at draft.old spawned) (tree_at draft.old failed)))) }
-    ensures count { OnOk result (length (trees_of draft.new) ≡ length (trees_of draft.old) + 1) }
-    ensures keeps { Keeps draft.old draft.new }
-    ensures too_large { IsErrOf result TooLarge → MOST_STEPS < length (trees_of draft.old) + 1 }
+    ensures grows { Grows draft.old draft.new result 1 }
 {
     draft.add(
         by,

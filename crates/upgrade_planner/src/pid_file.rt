@@ -4,11 +4,11 @@ ghost use Rattle.vocabulary.specs.Settings.{HasSuffixRoom};
 ghost use Rattle.definitions.specs.Plans.{move_aside};
 ghost use Rattle.rollback_plan.specs.declared.draft.DraftRefusal.TheVariants.{TooLarge};
 ghost use Rattle.rollback_plan.specs.declared.draft.TheConstants.{MOST_STEPS};
-ghost use Rattle.rollback_plan.specs.Drafts.{trees_of, tree_at, IsMade, Keeps};
+ghost use Rattle.rollback_plan.specs.Drafts.{trees_of, tree_at, IsMade, GrowsWithin};
 ghost use Rattle.upgrade_planner.specs.Trees.{clearing};
 
 use listener_set::{FilePath, Numbers};
-use plan_pieces::{add_move, add_remove};
+use plan_pieces::add_file_call;
 use rollback_plan::{Draft, DraftRefusal, Edge, Place};
 use vocabulary::{Actor, Call, Order, PidNote, Reply};
 
@@ -65,16 +65,14 @@ pub fn add_cleared(
     requires rest { rest.0 < length (trees_of draft.old) }
     requires room { HasSuffixRoom path }
     ensures made { IfOk result (λ place. IsMade draft.new place (clearing aside by path (tree_at draft.old rest))) }
-    ensures count { OnOk result (length (trees_of draft.new) ≤ length (trees_of draft.old) + 1) }
-    ensures keeps { Keeps draft.old draft.new }
-    ensures too_large { IsErrOf result TooLarge → MOST_STEPS < length (trees_of draft.old) + 1 }
+    ensures grows { GrowsWithin draft.old draft.new result 1 }
 {
     let Some(path) = path else {
         return Ok(rest);
     };
-    let (oldbin, fine) = (path.oldbin(), Some(PidNote::InPlace));
-    match aside {
-        Aside::Returns => add_move(draft, by, oldbin, path, fine, Some(PidNote::AtOldbin), rest),
-        Aside::Goes => add_remove(draft, by, oldbin, fine, Some(PidNote::OldbinLeft), rest),
-    }
+    let (call, fault) = match aside {
+        Aside::Returns => (Call::MovePid(path.oldbin(), path), PidNote::AtOldbin),
+        Aside::Goes => (Call::RemovePid(path.oldbin()), PidNote::OldbinLeft),
+    };
+    add_file_call(draft, by, call, Some(PidNote::InPlace), Some(fault), rest)
 }

@@ -2,24 +2,20 @@
 ghost use Rattle.std.specs.Prelude.{◌≤◌, ◌<◌, ◌+◌, ◌*◌, length, IfOk, IsErrOf, OnOk};
 ghost use Rattle.vocabulary.specs.Settings.{HasSuffixRoom};
 ghost use Rattle.definitions.specs.Plans.{back_late, hand_over, relieve};
-ghost use Rattle.rollback_plan.specs.declared.draft.DraftRefusal.TheVariants.{TooLarge};
-ghost use Rattle.rollback_plan.specs.declared.draft.TheConstants.{MOST_STEPS};
-ghost use Rattle.rollback_plan.specs.Drafts.{trees_of, IsMade, Keeps};
+ghost use Rattle.rollback_plan.specs.Drafts.{IsMade, GrowsWithin};
 
 use crate::pid_file::{Aside, add_cleared};
 use crate::upgrade::Upgrade;
 use listener_set::Numbers;
-use plan_pieces::{add_awaits_gone, add_quits};
-use rollback_plan::{Draft, DraftRefusal, Edge, Place};
+use plan_pieces::add_each;
+use rollback_plan::{Asked, Batch, Draft, DraftRefusal, Edge, Place};
 use vocabulary::{Call, Order, Reply, Side};
 
 /// Adds that the old master leaves; the new one removes the old file and settles.
 fn add_hand_over(draft: &mut Draft, upgrade: &Upgrade<'_>) -> Result<Place, DraftRefusal>
     requires room { HasSuffixRoom upgrade.now.path }
     ensures made { IfOk result (λ place. IsMade draft.new place (hand_over upgrade.now.old.generation.image upgrade.now.new.generation.image upgrade.now.old.generation upgrade.now.rounds upgrade.now.path upgrade.now.workers)) }
-    ensures count { OnOk result (length (trees_of draft.new) ≤ length (trees_of draft.old) + (4 * upgrade.now.rounds + 3)) }
-    ensures keeps { Keeps draft.old draft.new }
-    ensures too_large { IsErrOf result TooLarge → MOST_STEPS < length (trees_of draft.old) + (4 * upgrade.now.rounds + 3) }
+    ensures grows { GrowsWithin draft.old draft.new result (4 * upgrade.now.rounds + 3) }
 {
     let new = &upgrade.new;
     let (by, rounds) = (new.master(), upgrade.rounds);
@@ -38,9 +34,7 @@ pub fn add_relief(
     requires room { HasSuffixRoom upgrade.now.path }
     requires restarted { IsMade draft.old restarted (back_late upgrade.now.old.generation.image upgrade.now.new.generation.image upgrade.now.old.generation upgrade.now.old.numbers upgrade.now.rounds upgrade.now.path) }
     ensures made { IfOk result (λ place. IsMade draft.new place (relieve upgrade.now.old.generation.image upgrade.now.new.generation.image upgrade.now.old.generation upgrade.now.old.numbers upgrade.now.rounds upgrade.now.path upgrade.now.workers)) }
-    ensures count { OnOk result (length (trees_of draft.new) ≤ length (trees_of draft.old) + (4 * upgrade.now.rounds + 3 * length upgrade.now.old.numbers + 4)) }
-    ensures keeps { Keeps draft.old draft.new }
-    ensures too_large { IsErrOf result TooLarge → MOST_STEPS < length (trees_of draft.old) + (4 * upgrade.now.rounds + 3 * length upgrade.now.old.numbers + 4) }
+    ensures grows { GrowsWithin draft.old draft.new result (4 * upgrade.now.rounds + 3 * length upgrade.now.old.numbers + 4) }
 {
     let old = &upgrade.old;
     let by = old.master();
@@ -49,6 +43,8 @@ pub fn add_relief(
     let here = Edge::to(&[Reply::IsAlive], leaving);
     let gone = Edge::to(&[Reply::Gone], restarted);
     let asking = draft.add(by, lives, &Numbers::none(), &[here, gone])?;
-    let waiting = add_awaits_gone(draft, by, old.generation, upgrade.leaving, asking)?;
-    add_quits(draft, by, old.generation, upgrade.leaving, waiting)
+    let waits = Batch::Workers(Asked::AwaitGone, old.generation, upgrade.leaving);
+    let quits = Batch::Workers(Asked::Quit, old.generation, upgrade.leaving);
+    let waiting = add_each(draft, by, &waits, asking)?;
+    add_each(draft, by, &quits, waiting)
 }

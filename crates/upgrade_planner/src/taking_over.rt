@@ -2,17 +2,13 @@
 ghost use Rattle.std.specs.Prelude.{◌≡◌, ◌≤◌, ◌<◌, ◌+◌, ◌*◌, length, IfOk, IsErrOf, OnOk};
 ghost use Rattle.vocabulary.specs.declared.calls.Call.TheVariants as call;
 ghost use Rattle.definitions.specs.Plans.{pid_calls, tries, tries_all};
-ghost use Rattle.rollback_plan.specs.declared.draft.DraftRefusal.TheVariants.{TooLarge};
-ghost use Rattle.rollback_plan.specs.declared.draft.TheConstants.{MOST_STEPS};
-ghost use Rattle.rollback_plan.specs.Drafts.{trees_of, tree_at, IsMade, Keeps};
+ghost use Rattle.rollback_plan.specs.Drafts.{trees_of, tree_at, IsMade, GrowsWithin};
 ghost use Rattle.upgrade_planner.specs.Trees.{staffing, taking_over};
 
 use crate::upgrade::Upgrade;
 use listener_set::{FilePath, Numbers};
-use plan_pieces::{
-    add_tried, add_tried_awaits, add_tried_closes, add_tried_forks, add_tried_opens,
-};
-use rollback_plan::{Draft, DraftRefusal, Place};
+use plan_pieces::{add_tried, add_tried_all};
+use rollback_plan::{Asked, Batch, Draft, DraftRefusal, Place};
 use vocabulary::{Actor, Call};
 
 /// Adds that a new master writes its pid file, where there is one, before the rest and with a way back.
@@ -26,9 +22,7 @@ fn add_written(
     requires rest { rest.0 < length (trees_of draft.old) }
     requires back { back.0 < length (trees_of draft.old) }
     ensures made { IfOk result (λ place. IsMade draft.new place (tries_all by (pid_calls path call.WritePid) (tree_at draft.old rest) (tree_at draft.old back))) }
-    ensures count { OnOk result (length (trees_of draft.new) ≤ length (trees_of draft.old) + 1) }
-    ensures keeps { Keeps draft.old draft.new }
-    ensures too_large { IsErrOf result TooLarge → MOST_STEPS < length (trees_of draft.old) + 1 }
+    ensures grows { GrowsWithin draft.old draft.new result 1 }
 {
     let Some(path) = path else {
         return Ok(rest);
@@ -55,9 +49,7 @@ fn add_staffing(
     requires back { back.0 < length (trees_of draft.old) }
     ensures made { IfOk result (λ place. IsMade draft.new place (tries_all upgrade.now.new.generation.image (staffing upgrade.now.new.generation upgrade.now.path upgrade.now.coming.now)
         (tries upgrade.now.new.generation.image (call.Census upgrade.now.new.generation) upgrade.now.new.numbers (tree_at draft.old full) (tree_at draft.old back)) (tree_at draft.old back))) }
-    ensures count { OnOk result (length (trees_of draft.new) ≤ length (trees_of draft.old) + (2 * length upgrade.now.coming.now + 2)) }
-    ensures keeps { Keeps draft.old draft.new }
-    ensures too_large { IsErrOf result TooLarge → MOST_STEPS < length (trees_of draft.old) + (2 * length upgrade.now.coming.now + 2) }
+    ensures grows { GrowsWithin draft.old draft.new result (2 * length upgrade.now.coming.now + 2) }
 {
     let new = &upgrade.new;
     let (by, generation) = (new.master(), new.generation);
@@ -70,8 +62,10 @@ fn add_staffing(
         back,
     )?;
     let writing = add_written(draft, by, upgrade.path, counting, back)?;
-    let waiting = add_tried_awaits(draft, by, generation, upgrade.coming, writing, back)?;
-    add_tried_forks(draft, by, generation, upgrade.coming, waiting, back)
+    let waits = Batch::Workers(Asked::AwaitReady, generation, upgrade.coming);
+    let forks = Batch::Workers(Asked::Fork, generation, upgrade.coming);
+    let waiting = add_tried_all(draft, by, &waits, writing, back)?;
+    add_tried_all(draft, by, &forks, waiting, back)
 }
 
 /// Adds that the new master adopts what it was handed, closes what is listened on no more, opens what is added, and
@@ -86,13 +80,12 @@ pub fn add_takeover(
     requires back { back.0 < length (trees_of draft.old) }
     ensures made { IfOk result (λ place. IsMade draft.new place (tries_all upgrade.now.new.generation.image (taking_over upgrade.now.new.generation upgrade.now.path upgrade.now.dropped.now upgrade.now.added.now upgrade.now.coming.now)
         (tries upgrade.now.new.generation.image (call.Census upgrade.now.new.generation) upgrade.now.new.numbers (tree_at draft.old full) (tree_at draft.old back)) (tree_at draft.old back))) }
-    ensures count { OnOk result (length (trees_of draft.new) ≤ length (trees_of draft.old) + (2 * length upgrade.now.coming.now + length upgrade.now.dropped.now + length upgrade.now.added.now + 3)) }
-    ensures keeps { Keeps draft.old draft.new }
-    ensures too_large { IsErrOf result TooLarge → MOST_STEPS < length (trees_of draft.old) + (2 * length upgrade.now.coming.now + length upgrade.now.dropped.now + length upgrade.now.added.now + 3) }
+    ensures grows { GrowsWithin draft.old draft.new result (2 * length upgrade.now.coming.now + length upgrade.now.dropped.now + length upgrade.now.added.now + 3) }
 {
     let by = upgrade.new.master();
     let staffing = add_staffing(draft, upgrade, full, back)?;
-    let opening = add_tried_opens(draft, by, upgrade.added, staffing, back)?;
-    let closing = add_tried_closes(draft, by, upgrade.dropped, opening, back)?;
+    let (opens, closes) = (Batch::Opens(upgrade.added), Batch::Closes(upgrade.dropped));
+    let opening = add_tried_all(draft, by, &opens, staffing, back)?;
+    let closing = add_tried_all(draft, by, &closes, opening, back)?;
     add_tried(draft, by, Call::Adopt, &Numbers::none(), closing, back)
 }

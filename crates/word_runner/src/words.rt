@@ -13,6 +13,7 @@ use crate::asking::{Asked, asked_by, note};
 use crate::{Block, Body, CodeText, Enactor, TargetRefusal};
 use control_words::Word;
 use listener_set::{Generation, Numbers, WORKER_LIMIT};
+use plan_runner::CallLog;
 use service_state::Record;
 use std::alloc::{AllocError, Global};
 use vocabulary::{Answer, Call, Entry, Settings, Target};
@@ -105,7 +106,7 @@ fn act<E: Enactor>(
         Ok(enacted) => enacted,
         Err(refusal) => return told(refusal),
     };
-    let started = started(enacted.after.as_ref(), enacted.log.entries());
+    let started = started(enacted.after.as_ref(), &enacted.log);
     // `lowest` says that the numbers are below the limit, which the proof cites.
     let _ = enacted.report.ready.lowest();
     workers.follow(&enacted.report.ready, &started);
@@ -125,22 +126,22 @@ fn told(refusal: TargetRefusal) -> Result<Body, AllocError>
 }
 
 /// The workers that a run started and that are of the generation that runs then.
-fn started(after: Option<&Record>, entries: &[Entry]) -> Numbers
-    ensures { (k : ℕ) → k < WORKER_LIMIT → is_in result k ≡ is_in (started (option_copied after.entry) entries.now) k }
+fn started(after: Option<&Record>, log: &CallLog) -> Numbers
+    ensures { (k : ℕ) → k < WORKER_LIMIT → is_in result k ≡ is_in (started (option_copied after.entry) log.now.entries) k }
 {
     match after {
         None => Numbers::none(),
-        Some(after) => started_in(after.generation, entries),
+        Some(after) => started_in(after.generation, log),
     }
 }
 
 /// The workers of a generation that a run started.
-fn started_in(generation: Generation, entries: &[Entry]) -> Numbers
-    ensures { (k : ℕ) → k < WORKER_LIMIT → is_in result k ≡ is_in (started_in generation entries.now) k }
+fn started_in(generation: Generation, log: &CallLog) -> Numbers
+    ensures { (k : ℕ) → k < WORKER_LIMIT → is_in result k ≡ is_in (started_in generation log.now.entries) k }
 {
     let mut started = Numbers::none();
-    for entry in entries {
-        if let Some(nr) = start_of(generation, entry) {
+    for place in 0..log.len() {
+        if let Some(nr) = start_of(generation, &log.entry(place)) {
             if nr < WORKER_LIMIT {
                 started.add(nr);
             }

@@ -40,7 +40,7 @@ pub add_opens-requires-clause-ways : goal.add_opens-requires-clause-ways
 add_opens-requires-clause-ways c =
     let opened = c.in_ok-ways_back.ways_back.opened.items in
     subst (λ (places : List Place). are_places c.add_trial.new.draft places ≡ true) (sym c.deref-2.ensures.value)
-    (places_kept c.back.new.self c.add_trial.new.draft opened c.in_ok-trial.ensures.keeps (made_places c.back.new.self opened _ _ c.in_ok-ways_back.ensures.opened))
+    (places_kept c.back.new.self c.add_trial.new.draft opened c.in_ok-trial.ensures.grows.keeps (made_places c.back.new.self opened _ _ c.in_ok-ways_back.ensures.opened))
 
 pub returns-clause-made : goal.returns-clause-made
 returns-clause-made c =
@@ -54,7 +54,7 @@ returns-clause-made c =
     let on = made_kept c.add_on.new.draft c.back.new.self c.in_ok-on.on _ c.in_ok-ways_back.ensures.keeps c.in_ok-on.ensures.made in
     let there = trial.is ∙ ap (λ t. trial_tree s.by u.generation u.wanted fresh t bad) on.is in
     let closed = λ (opened : List Address). closes s.by opened (settle s.by s.generation s.ready Old s.rounds) in
-    let opened = all_kept c.back.new.self c.add_trial.new.draft ways.opened.items (length added) (λ i. closed (reverse (take i added))) c.in_ok-trial.ensures.keeps c.in_ok-ways_back.ensures.opened in
+    let opened = all_kept c.back.new.self c.add_trial.new.draft ways.opened.items (length added) (λ i. closed (reverse (take i added))) c.in_ok-trial.ensures.grows.keeps c.in_ok-ways_back.ensures.opened in
     IfOk-weaker c.add_opens.result _ _
     (λ place made.
     made (λ opened. trial_tree s.by u.generation u.wanted fresh (on_tree s.by s.generation u.generation c.args.ready.now s.rounds u.dropped.now u.wanted) (back_tree s.by s.generation u.generation s.ready s.rounds opened)) closed

@@ -11,7 +11,7 @@ use Rattle.plan_pieces.proofs.Places.{made_places}
 use Rattle.reload_planner.proofs.workers.add_workers.Goals as goal
 
 pub add_starts-requires-clause-rest : goal.add_starts-requires-clause-rest
-add_starts-requires-clause-rest c = (made_kept c.add_quits.new.draft c.back.new.self c.in_ok-quitting.quitting _ c.in_ok-ways_back.ensures.keeps c.in_ok-quitting.ensures.made).below
+add_starts-requires-clause-rest c = (made_kept c.add_each.new.draft c.back.new.self c.in_ok-quitting.quitting _ c.in_ok-ways_back.ensures.keeps c.in_ok-quitting.ensures.made).below
 
 pub add_starts-requires-clause-ways : goal.add_starts-requires-clause-ways
 add_starts-requires-clause-ways c =
@@ -22,7 +22,7 @@ returns-clause-made c =
     let s = c.args.scene.now in
     let fresh = c.args.starts.now in
     let surplus = c.args.quits.now in
-    let way = made_kept c.add_quits.new.draft c.back.new.self c.in_ok-quitting.quitting _ c.in_ok-ways_back.ensures.keeps c.in_ok-quitting.ensures.made in
+    let way = made_kept c.add_each.new.draft c.back.new.self c.in_ok-quitting.quitting _ c.in_ok-ways_back.ensures.keeps c.in_ok-quitting.ensures.made in
     let bad = λ (forked : List ℕ). quits s.by s.generation forked (settle s.by s.generation s.ready Old s.rounds) in
     let quit = way.is ∙ ap (quits s.by s.generation (reverse surplus)) c.in_ok-settled.ensures.made.is in
     IfOk-weaker c.add_starts.result _ _

@@ -11,9 +11,9 @@ pub returns-clause-made : goal.returns-clause-made
 returns-clause-made c =
     let u = c.args.upgrade.now in
     let old = c.args.draft.now in
-    IfOk-weaker c.add_tried_forks.result _ _
+    IfOk-weaker c.add_tried_all-2.result _ _
     (λ place made.
-    subst (λ (by : ℕ). IsMade c.add_tried_forks.new.draft place (tries_all by (staffing u.new.generation u.path u.coming.now) (tries by (Census u.new.generation) u.new.numbers (tree_at old c.args.full) (tree_at old c.args.back)) (tree_at old c.args.back))) c.master-by.ensures
-    (staffed c.master-by.result u.new.generation u.path u.coming.now u.new.numbers old c.add_tried.new.draft c.add_written.new.draft c.add_tried_awaits.new.draft c.add_tried_forks.new.draft c.args.full c.args.back c.in_ok-counting.counting c.in_ok-writing.writing c.in_ok-waiting.waiting place
-    c.requires.back c.in_ok-counting.ensures.keeps c.in_ok-writing.ensures.keeps c.in_ok-waiting.ensures.keeps c.in_ok-counting.ensures.made c.in_ok-writing.ensures.made c.in_ok-waiting.ensures.made made))
-    c.add_tried_forks.ensures.made
+    subst (λ (by : ℕ). IsMade c.add_tried_all-2.new.draft place (tries_all by (staffing u.new.generation u.path u.coming.now) (tries by (Census u.new.generation) u.new.numbers (tree_at old c.args.full) (tree_at old c.args.back)) (tree_at old c.args.back))) c.master-by.ensures
+    (staffed c.master-by.result u.new.generation u.path u.coming.now u.new.numbers old c.add_tried.new.draft c.add_written.new.draft c.add_tried_all.new.draft c.add_tried_all-2.new.draft c.args.full c.args.back c.in_ok-counting.counting c.in_ok-writing.writing c.in_ok-waiting.waiting place
+    c.requires.back c.in_ok-counting.ensures.keeps c.in_ok-writing.ensures.grows.keeps c.in_ok-waiting.ensures.keeps c.in_ok-counting.ensures.made c.in_ok-writing.ensures.made c.in_ok-waiting.ensures.made made))
+    c.add_tried_all-2.ensures.made

@@ -17,6 +17,6 @@ returns-clause-made c =
     IfOk-weaker c.add_tried.result _ _
     (λ place made.
     subst (λ (by : ℕ). IsMade c.add_tried.new.draft place (tries_all by (taking_over u.new.generation u.path u.dropped.now u.added.now u.coming.now) (counts image) (tree_at old c.args.back))) c.master-by.ensures
-    (taken_over c.master-by.result (staffing u.new.generation u.path u.coming.now) u.dropped.now u.added.now c.none.result old c.add_staffing.new.draft c.add_tried_opens.new.draft c.add_tried_closes.new.draft c.add_tried.new.draft c.args.back c.in_ok-staffing.staffing c.in_ok-opening.opening c.in_ok-closing.closing place (counts image)
-    c.requires.back c.none.ensures c.in_ok-staffing.ensures.keeps c.in_ok-opening.ensures.keeps c.in_ok-closing.ensures.keeps staffs c.in_ok-opening.ensures.made c.in_ok-closing.ensures.made made))
+    (taken_over c.master-by.result (staffing u.new.generation u.path u.coming.now) u.dropped.now u.added.now c.none.result old c.add_staffing.new.draft c.add_tried_all.new.draft c.add_tried_all-2.new.draft c.add_tried.new.draft c.args.back c.in_ok-staffing.staffing c.in_ok-opening.opening c.in_ok-closing.closing place (counts image)
+    c.requires.back c.none.ensures c.in_ok-staffing.ensures.grows.keeps c.in_ok-opening.ensures.keeps c.in_ok-closing.ensures.keeps staffs c.in_ok-opening.ensures.made c.in_ok-closing.ensures.made made))
     c.add_tried.ensures.made

@@ -1,0 +1,107 @@
+//! Certificates: what a run came to, compared with the modelled kernel.
+ghost use Rattle.std.specs.Prelude.{◌≤◌};
+
+use certifier::{BlockMismatch, Mismatch, certify, certify_blocks};
+use control_words::Word;
+use kernel_model::{Kernel, Pattern};
+use listener_set::Numbers;
+use plan_executor::{enact, run_words};
+use service_state::Record;
+use std::alloc::Global;
+use std::test::Fail;
+use vocabulary::{Limits, Settings, Target};
+use word_runner::Block;
+use worker_table::WorkerTable;
+
+/// A kernel with a master, whose process number is 100, and two workers.
+fn booted(alloc: Global) -> Result<Kernel, Fail> {
+    let settings = Settings::plain();
+    let limits = Limits {
+        processes: 65_535,
+        descriptors: 64,
+    };
+    Ok(Kernel::boot(alloc, &settings.listeners, 2, settings.pid, limits)?)
+}
+
+/// What a master with two workers and that process number knows.
+fn known(pid: u32) -> Record
+    requires { 1 ≤ pid }
+{
+    Record::start(&Settings::plain(), 2, &Numbers::below(2), pid)
+}
+
+#[test]
+fn a_certificate_wants_the_masters_own_number(rt: HostRuntime) -> Result<(), Fail> {
+    let alloc = rt.alloc();
+    let target = Target::Workers(3);
+    let quiet = Pattern::new(alloc);
+    let done = enact(alloc, &mut booted(alloc)?, &known(100), &target, &quiet)?;
+    let kernel = booted(alloc)?;
+    let own = certify(
+        alloc,
+        &kernel,
+        &known(100),
+        &target,
+        &done.log,
+        &done.report,
+    )?;
+    assert!(rt; own.is_empty());
+    let other = certify(
+        alloc,
+        &kernel,
+        &known(101),
+        &target,
+        &done.log,
+        &done.report,
+    );
+    assert!(rt; matches!(other, Err(Mismatch::Refused)));
+    Ok(())
+}
+
+/// The blocks of two TTIN.
+fn grown(alloc: Global) -> Result<Vec<Block>, Fail> {
+    let mut blocks = Vec::new(alloc);
+    run_words(
+        alloc,
+        &mut booted(alloc)?,
+        &mut Some(known(100)),
+        &mut WorkerTable::new(alloc)?,
+        &[Word::Ttin, Word::Ttin],
+        &[],
+        None,
+        &mut blocks,
+    )?;
+    Ok(blocks)
+}
+
+/// The patterns of blocks, from the start on.
+fn explained(alloc: Global, blocks: &[Block]) -> Result<Result<Vec<Pattern>, BlockMismatch>, Fail> {
+    Ok(certify_blocks(
+        alloc,
+        &mut booted(alloc)?,
+        &mut Some(known(100)),
+        &mut WorkerTable::new(alloc)?,
+        None,
+        blocks,
+    ))
+}
+
+#[test]
+fn each_block_is_compared_from_where_the_last_one_led(rt: HostRuntime) -> Result<(), Fail> {
+    let alloc = rt.alloc();
+    let blocks = grown(alloc)?;
+    let Ok(patterns) = explained(alloc, &blocks)? else {
+        return Err(Fail::from("own blocks are refused"));
+    };
+    assert_eq!(rt; patterns.len(), 2);
+    assert!(rt; patterns.iter().all(|pattern| pattern.is_empty()));
+    let Some((_, behind)) = blocks.split_first() else {
+        return Err(Fail::from("two words have no block"));
+    };
+    let Err(mismatch) = explained(alloc, behind)? else {
+        return Err(Fail::from("the second block is taken first"));
+    };
+    assert_eq!(rt; mismatch.number, 1);
+    assert_eq!(rt; mismatch.why, Mismatch::Step(1));
+    Ok(())
+}

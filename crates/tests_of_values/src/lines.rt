@@ -1,0 +1,101 @@
+//! Lines: the longest texts that are put into one, and where a line ends.
+use call_text::{read_answer, read_call, write_answer, write_call, write_set};
+use listener_set::{FILE_PATH_BYTES, FilePath, Generation, Numbers};
+use plain_text::{LINE_BYTES, Line, Sink, write_number};
+use std::test::Fail;
+use vocabulary::{Actor, Answer, Call};
+
+const MOST: u32 = 4_294_967_295;
+
+const FARTHEST: Generation = Generation {
+    image: MOST,
+    config: MOST,
+};
+
+/// The set with the longest text: a single number, and then pairs.
+fn longest_set() -> Numbers {
+    let mut set = Numbers::none();
+    for number in 0..1024 {
+        if number % 3 != 1 {
+            set.add(number);
+        }
+    }
+    set
+}
+
+#[test]
+fn the_longest_calls_fit_and_are_read(rt: HostRuntime) -> Result<(), Fail> {
+    let mut text = [b'a'; FILE_PATH_BYTES];
+    text[0] = b'/';
+    let path = FilePath::read(&text)?.oldbin();
+    let calls = [
+        (Call::MovePid(path, path), 236),
+        (Call::AwaitReady(FARTHEST, 1023), 50),
+        (Call::SpawnMaster(MOST), 35),
+    ];
+    let mut line = Line::new();
+    for (call, bytes) in calls {
+        write_call(Actor(MOST), &call, &mut line);
+        assert!(rt; line.bytes().len() == bytes, "{bytes}");
+        assert!(rt;
+            read_call(line.bytes()) == Some((Actor(MOST), call)),
+            "{bytes}"
+        );
+    }
+    Ok(())
+}
+
+#[test]
+fn the_longest_answer_fits_and_is_read(rt: HostRuntime) -> Result<(), Fail> {
+    let census = Call::Census(FARTHEST);
+    let answer = Answer::Counted(longest_set());
+    let mut line = Line::new();
+    write_answer(&answer, &mut line);
+    assert!(rt; line.bytes().len() == 2681);
+    assert!(rt; line.bytes().starts_with(b"counted 0,2-3,5-6,8-9,11-12,"));
+    assert!(rt; line.bytes().ends_with(b",1019-1020,1022-1023"));
+    assert!(rt; read_answer(&census, line.bytes()) == Some(answer));
+    Ok(())
+}
+
+#[test]
+fn an_empty_line_is_no_call_and_no_answer(rt: HostRuntime) -> Result<(), Fail> {
+    let mut line = Line::new();
+    line.push(b"");
+    assert!(rt; line.bytes().is_empty());
+    assert!(rt; read_call(line.bytes()).is_none());
+    assert!(rt; read_answer(&Call::Leave, line.bytes()).is_none());
+    Ok(())
+}
+
+#[test]
+fn a_line_keeps_its_first_bytes_until_it_is_cleared(rt: HostRuntime) -> Result<(), Fail> {
+    let mut line = Line::new();
+    line.push(&[b'a'; LINE_BYTES - 2]);
+    assert!(rt; !line.is_full());
+    line.push(b"bcd");
+    assert!(rt; line.is_full());
+    line.push(b"e");
+    assert!(rt; line.bytes().len() == LINE_BYTES);
+    assert!(rt; line.bytes().ends_with(b"abc"));
+    line.clear();
+    assert!(rt; line.bytes().is_empty());
+    line.push(b"d");
+    assert!(rt; line.bytes() == b"d".as_slice());
+    Ok(())
+}
+
+#[test]
+fn a_vector_and_a_line_hold_the_same_text(rt: HostRuntime) -> Result<(), Fail> {
+    let mut line = Line::new();
+    let mut bytes = Vec::new(rt.alloc());
+    line.put(b"at ")?;
+    bytes.put(b"at ")?;
+    write_number(&mut line, u64::MAX)?;
+    write_number(&mut bytes, u64::MAX)?;
+    write_set(&mut line, &longest_set())?;
+    write_set(&mut bytes, &longest_set())?;
+    assert!(rt; line.bytes() == bytes.as_slice());
+    assert!(rt; line.bytes().len() == 3 + 20 + 2673);
+    Ok(())
+}
