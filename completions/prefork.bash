@@ -8,7 +8,7 @@ _prefork() {
 
     COMPREPLY=()
     if ((COMP_CWORD == 1)); then
-        mapfile -t COMPREPLY < <(compgen -W 'enact plan certify explain --help --version' -- "$cur")
+        mapfile -t COMPREPLY < <(compgen -W 'enact plan certify supervise adopt child explain --help --version' -- "$cur")
         return
     fi
 
@@ -16,7 +16,7 @@ _prefork() {
     [[ $cur == = ]] && cur=''
     [[ $prev == = ]] && prev=${COMP_WORDS[COMP_CWORD - 2]}
     case $prev in
-        --from | --to)
+        --from | --to | --program)
             compopt -o default
             return
             ;;
@@ -28,6 +28,9 @@ _prefork() {
         enact) options='--from --to --workers --bare --why --held --state --help' ;;
         plan) options='--from --to --workers --bare --why --dot --help' ;;
         certify) options='--from --to --workers --bare --why --held --help' ;;
+        supervise) options='--program --from --to --verbose --why --help' ;;
+        adopt) options='--program --help' ;;
+        child) options='--help' ;;
         explain) options='--help' ;;
         *) return ;;
     esac
@@ -43,9 +46,9 @@ _prefork() {
         return
     fi
 
-    # A transcript comes on standard input, and the program itself knows the codes.
+    # Transcripts and words come on standard input, and the program itself knows the codes.
     case ${COMP_WORDS[1]} in
-        certify) return ;;
+        certify | supervise | adopt | child) return ;;
         explain)
             [[ ${#before[@]} -gt 0 ]] && return
             mapfile -t COMPREPLY < <(compgen -W "$("${COMP_WORDS[0]}" explain 2>/dev/null | cut -d ' ' -f 1)" -- "$cur")

@@ -1,6 +1,6 @@
-/* Refuses one growth of memory, read or write of a program, for ci/hostile.
+/* Refuses one growth of memory, read or write of a program, for ci/hostile and ci/children.
  *
- * Preloaded into the program. REFUSE is a letter and a number: m5 refuses the 5th growth of memory
+ * Preloaded into the program, and into none that it starts. REFUSE is a letter and a number: m5 refuses the 5th growth of memory
  * (malloc, realloc), r2 fails the 2nd read, w1 the 1st write to standard output. REFUSE_TELL is the
  * number of a descriptor that gets a byte when that has come. */
 #include <errno.h>
@@ -22,6 +22,8 @@ __attribute__((constructor)) static void begin(void) {
         left = atol(refuse + 1);
         tell = atoi(descriptor);
     }
+    unsetenv("REFUSE");
+    unsetenv("LD_PRELOAD");
 }
 
 /* Whether this is the one that is refused. */

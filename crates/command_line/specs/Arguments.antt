@@ -12,13 +12,15 @@ use Rattle.clap.specs.declared.parser.matches.ArgMatches.{ArgMatches}
 use Rattle.clap.specs.declared.error.kind.ErrorKind.{ErrorKind}
 use Rattle.clap.specs.declared.error.kind.ErrorKind.TheVariants.{DisplayHelp, DisplayVersion, OutOfMemory}
 use Rattle.command_line.specs.Number.{Spells}
+use Rattle.command_line.specs.declared.options.AdoptOptions.{AdoptOptions}
 use Rattle.command_line.specs.declared.options.CertifyOptions.{CertifyOptions}
 use Rattle.command_line.specs.declared.options.EnactOptions.{EnactOptions}
 use Rattle.command_line.specs.declared.options.ExplainOptions.{ExplainOptions}
 use Rattle.command_line.specs.declared.options.PlanOptions.{PlanOptions}
 use Rattle.command_line.specs.declared.options.StartOptions.{StartOptions}
+use Rattle.command_line.specs.declared.options.SuperviseOptions.{SuperviseOptions}
 use Rattle.command_line.specs.declared.Request.{Request}
-use Rattle.command_line.specs.declared.Request.TheVariants.{Certify, Enact, Explain, Plan, Show}
+use Rattle.command_line.specs.declared.Request.TheVariants.{Adopt, Certify, Child, Enact, Explain, Plan, Show, Supervise}
 use Rattle.command_line.specs.declared.refusal.Refusal.{Refusal}
 use Rattle.command_line.specs.declared.refusal.Refusal.TheVariants.{Usage, Memory}
 
@@ -83,6 +85,18 @@ plan_app = with_rule (with_rule (with_start (new_app (codes "plan"))) (flag_rule
 abbrev pub certify_app : App
 certify_app = with_rule (with_start (new_app (codes "certify"))) (option_rule (codes "held"))
 
+abbrev pub program_rule : Rule
+program_rule = record (option_rule (codes "program")) { required = true }
+
+abbrev pub supervise_app : App
+supervise_app = with_rule (with_rule (with_files (with_rule (new_app (codes "supervise")) program_rule)) (flag_rule (codes "verbose"))) (flag_rule (codes "why"))
+
+abbrev pub adopt_app : App
+adopt_app = with_rule (new_app (codes "adopt")) (option_rule (codes "program"))
+
+abbrev pub child_app : App
+child_app = new_app (codes "child")
+
 abbrev pub explain_app : App
 explain_app = with_rule (new_app (codes "explain")) code_rule
 
@@ -98,8 +112,12 @@ bare_app = on_top (λ top. record top {
 abbrev pub with_words : App → App
 with_words app = with_subcommand (with_subcommand app enact_app.top) plan_app.top
 
+-- the subcommands that are masters and workers
+abbrev pub with_children : App → App
+with_children app = with_subcommand (with_subcommand (with_subcommand app supervise_app.top) adopt_app.top) child_app.top
+
 abbrev pub prefork_app : App
-prefork_app = with_subcommand (with_subcommand (with_words bare_app) certify_app.top) explain_app.top
+prefork_app = with_subcommand (with_subcommand (with_children (with_words bare_app)) certify_app.top) explain_app.top
 
 -- ---- what a subcommand is given
 
@@ -129,6 +147,14 @@ pub record Certification : Type 0 where
   pub start : Start
   pub held : Option Text
 
+-- what `supervise` is given
+pub record Supervision : Type 0 where
+  pub program : Text
+  pub from : Option Text
+  pub to : Option Text
+  pub verbose : Bool
+  pub why : Bool
+
 abbrev pub start_of : StartOptions → Start
 start_of options = record {
   from = option_map (λ text. text.now) options.from;
@@ -157,6 +183,15 @@ abbrev pub certification_of : CertifyOptions → Certification
 certification_of options = record {
   start = start_of options.start;
   held = option_map (λ text. text.now) options.held;
+}
+
+abbrev pub supervision_of : SuperviseOptions → Supervision
+supervision_of options = record {
+  program = options.program.now;
+  from = option_map (λ text. text.now) options.from;
+  to = option_map (λ text. text.now) options.to;
+  verbose = options.verbose;
+  why = options.why;
 }
 
 -- ---- what `clap` finds for a subcommand
@@ -194,6 +229,13 @@ pub record FindsCertification (rows : List Row) (values : Certification) : Type 
   pub start : FindsStart rows values.start
   pub held : values.held ≡ first_of (codes "held") rows
 
+pub record FindsSupervision (rows : List Row) (values : Supervision) : Type 0 where
+  pub program : first_of (codes "program") rows ≡ Some values.program
+  pub from : values.from ≡ first_of (codes "from") rows
+  pub to : values.to ≡ first_of (codes "to") rows
+  pub verbose : values.verbose ≡ is_given (first_of (codes "verbose") rows)
+  pub why : values.why ≡ is_given (first_of (codes "why") rows)
+
 -- ---- what arguments ask for
 
 -- `clap` takes the arguments as those of a subcommand, and finds what the test says
@@ -212,6 +254,16 @@ AsksPlan arguments values = AsksFor (codes "plan") (λ rows. FindsPlanning rows 
 abbrev pub AsksCertify : List Text → Certification → Type 0
 AsksCertify arguments values = AsksFor (codes "certify") (λ rows. FindsCertification rows values) arguments
 
+abbrev pub AsksSupervise : List Text → Supervision → Type 0
+AsksSupervise arguments values = AsksFor (codes "supervise") (λ rows. FindsSupervision rows values) arguments
+
+-- the program of the workers, where one is named
+abbrev pub AsksAdopt : List Text → Option Text → Type 0
+AsksAdopt arguments program = AsksFor (codes "adopt") (λ rows. program ≡ first_of (codes "program") rows) arguments
+
+abbrev pub AsksChild : List Text → Type 0
+AsksChild arguments = AsksFor (codes "child") (λ rows. ⊤) arguments
+
 -- the code that is to be explained, if there is one
 abbrev pub AsksExplain : List Text → Option Text → Type 0
 AsksExplain arguments code = AsksFor (codes "explain") (λ rows. code ≡ first_of (codes "code") rows) arguments
@@ -225,14 +277,24 @@ abbrev pub Asks : List Text → Request → Type 0
 Asks arguments (Enact options) = AsksEnact arguments (enactment_of options)
 Asks arguments (Plan options) = AsksPlan arguments (planning_of options)
 Asks arguments (Certify options) = AsksCertify arguments (certification_of options)
+Asks arguments (Supervise options) = AsksSupervise arguments (supervision_of options)
+Asks arguments (Adopt options) = AsksAdopt arguments (option_map (λ text. text.now) options.program)
+Asks arguments Child = AsksChild arguments
 Asks arguments (Explain options) = AsksExplain arguments (option_map (λ text. text.now) options.code)
 Asks arguments (Show text) = AsksText arguments
+
+-- the arguments ask for no master that runs, nor for one of its children
+pub record AsksForNoChild (arguments : List Text) : Type 0 where
+  pub no_supervise : (values : Supervision) → ¬ AsksSupervise arguments values
+  pub no_adopt : (program : Option Text) → ¬ AsksAdopt arguments program
+  pub no_child : ¬ AsksChild arguments
 
 -- the arguments ask for nothing: neither for a subcommand nor for a text alone
 pub record IsUsageFault (arguments : List Text) : Type 0 where
   pub no_enact : (values : Enactment) → ¬ AsksEnact arguments values
   pub no_plan : (values : Planning) → ¬ AsksPlan arguments values
   pub no_certify : (values : Certification) → ¬ AsksCertify arguments values
+  pub no_child : AsksForNoChild arguments
   pub no_explain : (code : Option Text) → ¬ AsksExplain arguments code
   pub no_help : fault_of prefork_app arguments ≢ DisplayHelp ∷ []
   pub no_version : fault_of prefork_app arguments ≢ DisplayVersion ∷ []

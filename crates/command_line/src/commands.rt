@@ -2,11 +2,12 @@
 ghost use Rattle.std.specs.Prelude.{◌≡◌, IfOk, false};
 ghost use Rattle.clap.specs.Words.{app_of, rule_of};
 ghost use Rattle.clap.specs.declared.builder.command.Command.TheViews.{out-Command};
-ghost use Rattle.command_line.specs.Arguments.{bare_app, certify_app, code_rule, enact_app, explain_app, flag_rule, option_rule, plan_app, prefork_app, required_rule, with_files, with_start, with_words, word_rule, words_rule};
+ghost use Rattle.command_line.specs.Arguments.{adopt_app, bare_app, certify_app, child_app, code_rule, enact_app, explain_app, flag_rule, option_rule, plan_app, prefork_app, required_rule, supervise_app, with_children, with_files, with_start, with_words, word_rule, words_rule};
 
 use crate::help::{
-    BARE_HELP, CERTIFY_NOTES, CODE_HELP, DOT_HELP, ENACT_NOTES, EXPLAIN_NOTES, FROM_HELP,
-    HELD_HELP, PLAN_NOTES, PROGRAM_NOTES, STATE_HELP, TO_HELP, WHY_HELP, WORD_HELP, WORDS_HELP,
+    ADOPT_HELP, ADOPT_NOTES, BARE_HELP, CERTIFY_NOTES, CHILD_NOTES, CODE_HELP, DOT_HELP,
+    ENACT_NOTES, EXPLAIN_NOTES, FROM_HELP, HELD_HELP, PLAN_NOTES, PROGRAM_HELP, PROGRAM_NOTES,
+    STATE_HELP, SUPERVISE_NOTES, TO_HELP, VERBOSE_HELP, WHY_HELP, WORD_HELP, WORDS_HELP,
     WORKERS_HELP,
 };
 use clap::{Arg, ArgAction, Command};
@@ -16,7 +17,7 @@ use std::alloc::{AllocError, Global};
 pub fn program<'a>(alloc: Global) -> Result<Command<'a>, AllocError>
     ensures { IfOk result (λ command. app_of command ≡ prefork_app) }
 {
-    with_words(alloc, bare(alloc))?
+    with_children(alloc, with_words(alloc, bare(alloc))?)?
         .subcommand(certify(alloc)?)?
         .subcommand(explain(alloc)?)
 }
@@ -38,6 +39,16 @@ fn with_words<'a>(alloc: Global, command: Command<'a>) -> Result<Command<'a>, Al
     ensures { IfOk result (λ more. app_of more ≡ with_words (app_of command.entry)) }
 {
     command.subcommand(enact(alloc)?)?.subcommand(plan(alloc)?)
+}
+
+/// The subcommands that are masters and workers.
+fn with_children<'a>(alloc: Global, command: Command<'a>) -> Result<Command<'a>, AllocError>
+    ensures { IfOk result (λ more. app_of more ≡ with_children (app_of command.entry)) }
+{
+    command
+        .subcommand(supervise(alloc)?)?
+        .subcommand(adopt(alloc)?)?
+        .subcommand(child(alloc))
 }
 
 fn enact<'a>(alloc: Global) -> Result<Command<'a>, AllocError>
@@ -63,6 +74,38 @@ fn plan<'a>(alloc: Global) -> Result<Command<'a>, AllocError>
     with_start(alloc, command)?
         .arg(flag(alloc, "dot", DOT_HELP))?
         .arg(word(alloc))
+}
+
+fn supervise<'a>(alloc: Global) -> Result<Command<'a>, AllocError>
+    ensures app { IfOk result (λ command. app_of command ≡ supervise_app) }
+    ensures own { IfOk result (λ command. (out-Command command).has_globals ≡ false) }
+{
+    let command = Command::new(alloc, "supervise")
+        .about("Run a master and its workers; control words come on standard input")
+        .after_help(SUPERVISE_NOTES)
+        .arg(option(alloc, "program", "PROGRAM", PROGRAM_HELP).required(true))?;
+    with_files(alloc, command)?
+        .arg(flag(alloc, "verbose", VERBOSE_HELP))?
+        .arg(flag(alloc, "why", WHY_HELP))
+}
+
+fn adopt<'a>(alloc: Global) -> Result<Command<'a>, AllocError>
+    ensures app { IfOk result (λ command. app_of command ≡ adopt_app) }
+    ensures own { IfOk result (λ command. (out-Command command).has_globals ≡ false) }
+{
+    Command::new(alloc, "adopt")
+        .about("Be the new master of an upgrade; started by the old one")
+        .after_help(ADOPT_NOTES)
+        .arg(option(alloc, "program", "PROGRAM", ADOPT_HELP))
+}
+
+fn child<'a>(alloc: Global) -> Command<'a>
+    ensures app { app_of result ≡ child_app }
+    ensures own { (out-Command result).has_globals ≡ false }
+{
+    Command::new(alloc, "child")
+        .about("Be a worker that serves nothing; started by a master")
+        .after_help(CHILD_NOTES)
 }
 
 fn certify<'a>(alloc: Global) -> Result<Command<'a>, AllocError>

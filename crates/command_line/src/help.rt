@@ -6,7 +6,10 @@ Example: what a master with two workers does on TTIN:
   prefork enact --workers 2 TTIN </dev/null
 
 Example: the plan of a reload, before anything is done:
-  prefork plan --from a.toml --to b.toml HUP";
+  prefork plan --from a.toml --to b.toml HUP
+
+Example: a master with a worker that is looked after once, and stopped:
+  printf 'tick 1\nQUIT\n' | prefork supervise --program prefork";
 
 pub(crate) const FROM_HELP: &str = "\
 The configuration of the start, a TOML file
@@ -15,6 +18,17 @@ The configuration of the start, a TOML file
 pub(crate) const TO_HELP: &str = "\
 The configuration that HUP and USR2 go over to
 [default: that of the start]";
+
+pub(crate) const PROGRAM_HELP: &str = "\
+The executable of the workers, started with the word
+'child', unless the configuration has a command, and
+of a new master, started with 'adopt'";
+
+pub(crate) const ADOPT_HELP: &str = "\
+The executable of its workers and of the next master
+[default: this one]";
+
+pub(crate) const VERBOSE_HELP: &str = "A line for each block on standard error";
 
 pub(crate) const WORKERS_HELP: &str = "\
 How many workers are wanted and run at the start,
@@ -97,6 +111,46 @@ Exit status: 0 accepted, 5 a block is not, 1 nothing could be compared, 2 usage.
 
 Example: what is printed is accepted:
   prefork enact --workers 2 TTIN </dev/null | prefork certify --workers 2";
+
+pub(crate) const SUPERVISE_NOTES: &str = "\
+Standard input has a control word on each line, as those of `prefork enact
+--help`; its end means QUIT. The master writes its pid file, starts its workers
+as on 'tick 0', and then does word after word. HUP and USR2 read the file of
+--to anew.
+
+For each word the output has a block, as `prefork enact` prints them, before the
+next line is read. At a tick each worker is asked for a beat, and each that comes
+has a block before the tick's. A line that is no word has the block 'unread' and
+a code. `prefork certify --bare` accepts what is printed.
+
+Workers are told lines on standard input and answer on standard output; their
+standard error is the master's. When the master ends, however it does, their
+input ends, and so do they. Each worker takes two descriptors of the master.
+
+Exit status: 0 all done, 1 a word was refused, unread or lost, or a file or
+memory was wanting, 2 usage, 3 rolled back, 4 degraded; of several, 1 comes
+before 4 and 4 before 3.
+
+Example: two ticks, a reload, and a graceful stop:
+  printf 'tick 1\ntick 2\nHUP\nQUIT\n' | prefork supervise --program prefork";
+
+pub(crate) const ADOPT_NOTES: &str = "\
+An upgrade starts the new executable with the word 'adopt'. Its standard input
+has the handover of the old master, then a line for each call, which it answers
+on standard output. At the end of its input it stops its children and ends.
+
+A service whose executable wraps prefork passes its own name on:
+  exec prefork adopt --program \"$0\"
+
+Exit status: 0 its input has ended, 1 a line could not be read or memory was
+wanting, 2 usage.";
+
+pub(crate) const CHILD_NOTES: &str = "\
+A worker answers what a master asks of it, and serves nothing: it shows how one
+behaves, and is what a master starts whose configuration has no command.
+
+Exit status: 0 it was told to quit or its input has ended, 1 a line could not be
+read.";
 
 pub(crate) const EXPLAIN_NOTES: &str = "\
 Exit status: 0, or 2 where there is no such code.

@@ -3,7 +3,7 @@
 
 ghost use Rattle.std.specs.Prelude.{◌≡◌, IfErr, IfOk, IsErrOf, List, ℕ, map, string_bytes};
 ghost use Rattle.clap.specs.Words.{HasKind, fault_of, kind_of};
-ghost use Rattle.command_line.specs.Arguments.{AreMatchesOf, Asks, IsRefusedBy, TakesMemory, prefork_app};
+ghost use Rattle.command_line.specs.Arguments.{AreMatchesOf, Asks, AsksForNoChild, IsRefusedBy, TakesMemory, prefork_app};
 
 mod commands;
 mod help;
@@ -12,9 +12,15 @@ mod refusal;
 
 use clap::error::ErrorKind;
 use clap::{ArgMatches, Error};
-pub use options::{CertifyOptions, EnactOptions, ExplainOptions, PlanOptions, StartOptions};
-use options::{certify_options, enact_options, explain_options, plan_options};
+pub use options::{
+    AdoptOptions, CertifyOptions, EnactOptions, ExplainOptions, PlanOptions, StartOptions,
+    SuperviseOptions,
+};
+use options::{
+    adopt_options, certify_options, enact_options, explain_options, plan_options, supervise_options,
+};
 pub use refusal::Refusal;
+use refusal::UsageFault;
 use std::alloc::{AllocError, Global};
 
 /// What the command line asks for.
@@ -26,6 +32,12 @@ pub enum Request<'a> {
     Plan(PlanOptions<'a>),
     /// `certify`: compare blocks with plans and kernel.
     Certify(CertifyOptions<'a>),
+    /// `supervise`: run a master and its workers.
+    Supervise(SuperviseOptions<'a>),
+    /// `adopt`: be the new master of an upgrade.
+    Adopt(AdoptOptions<'a>),
+    /// `child`: be a worker that serves nothing.
+    Child,
     /// `explain`: say what a code means.
     Explain(ExplainOptions<'a>),
     /// `--help` or `--version`: write this text to standard output.
@@ -74,9 +86,28 @@ fn request_of<'a>(alloc: Global, matches: &ArgMatches<'a>) -> Result<Request<'a>
     if let Some(found) = matches.subcommand_matches("certify") {
         return Ok(Request::Certify(certify_options(found)?));
     }
-    match matches.subcommand_matches("explain") {
-        Some(found) => Ok(Request::Explain(explain_options(found))),
-        None => Err(Refusal::Usage),
+    if let Some(found) = matches.subcommand_matches("explain") {
+        return Ok(Request::Explain(explain_options(found)));
+    }
+    Ok(child_request_of(matches)?)
+}
+
+/// A request for a master that runs, or for one of its children.
+fn child_request_of<'a>(matches: &ArgMatches<'a>) -> Result<Request<'a>, UsageFault>
+    ensures asks { (arguments : List (List ℕ)) → AreMatchesOf arguments matches.now
+        → IfOk result (Asks arguments) }
+    ensures usage { (arguments : List (List ℕ)) → AreMatchesOf arguments matches.now
+        → IfErr result (λ _. AsksForNoChild arguments) }
+{
+    if let Some(found) = matches.subcommand_matches("supervise") {
+        return Ok(Request::Supervise(supervise_options(found)?));
+    }
+    if let Some(found) = matches.subcommand_matches("adopt") {
+        return Ok(Request::Adopt(adopt_options(found)));
+    }
+    match matches.subcommand_matches("child") {
+        Some(_) => Ok(Request::Child),
+        None => Err(UsageFault),
     }
 }
 

@@ -1,7 +1,7 @@
 //! The options and words of the subcommands, as `clap` found them.
 ghost use Rattle.std.specs.Prelude.{◌≡◌, IfErr, IfOk, IsErrOf, Option, ℕ, codes, option_map};
 ghost use Rattle.clap.specs.Words.{first_of, found_of, rows_of};
-ghost use Rattle.command_line.specs.Arguments.{Certification, Enactment, FindsCertification, FindsEnactment, FindsPlanning, FindsStart, IsWorkers, Planning, Start, certification_of, enactment_of, is_given, planning_of, start_of};
+ghost use Rattle.command_line.specs.Arguments.{Certification, Enactment, FindsCertification, FindsEnactment, FindsPlanning, FindsStart, FindsSupervision, IsWorkers, Planning, Start, Supervision, certification_of, enactment_of, is_given, planning_of, start_of, supervision_of};
 
 use crate::Refusal;
 use crate::refusal::UsageFault;
@@ -57,6 +57,28 @@ pub struct CertifyOptions<'a> {
     pub start: StartOptions<'a>,
     /// `--held`: an address that a foreign process holds.
     pub held: Option<&'a str>,
+}
+
+/// The options of `supervise`.
+#[derive(Clone, Copy)]
+pub struct SuperviseOptions<'a> {
+    /// `--program`: the executable of workers and of a new master.
+    pub program: &'a str,
+    /// `--from`: the file of the start's configuration. Without it the defaults hold.
+    pub from: Option<&'a str>,
+    /// `--to`: the file that HUP and USR2 read anew. Without it it is the start's.
+    pub to: Option<&'a str>,
+    /// `--verbose`: a line for each block on standard error.
+    pub verbose: bool,
+    /// `--why`: behind the line of a fault more is said of it.
+    pub why: bool,
+}
+
+/// The options of `adopt`.
+#[derive(Clone, Copy)]
+pub struct AdoptOptions<'a> {
+    /// `--program`: the executable of its workers. Without it it is the master's own.
+    pub program: Option<&'a str>,
 }
 
 /// What `explain` is asked.
@@ -117,6 +139,36 @@ pub(crate) fn certify_options<'a>(found: &ArgMatches<'a>) -> Result<CertifyOptio
     let start = start_options(found)?;
     let held = text_of(found, "held");
     Ok(CertifyOptions { start, held })
+}
+
+/// The options of `supervise`; a fault only where no program is given.
+pub(crate) fn supervise_options<'a>(
+    found: &ArgMatches<'a>,
+) -> Result<SuperviseOptions<'a>, UsageFault>
+    ensures found { IfOk result (λ options.
+        FindsSupervision (rows_of (found_of found.now)) (supervision_of options)) }
+    ensures usage { IfErr result (λ _. (values : Supervision)
+        → ¬ FindsSupervision (rows_of (found_of found.now)) values) }
+{
+    match text_of(found, "program") {
+        Some(program) => Ok(SuperviseOptions {
+            program,
+            from: text_of(found, "from"),
+            to: text_of(found, "to"),
+            verbose: has_flag(found, "verbose"),
+            why: has_flag(found, "why"),
+        }),
+        None => Err(UsageFault),
+    }
+}
+
+/// The options of `adopt`.
+pub(crate) fn adopt_options<'a>(found: &ArgMatches<'a>) -> AdoptOptions<'a>
+    ensures { option_map (λ text. text.now) result.program ≡ first_of (codes "program") (rows_of (found_of found.now)) }
+{
+    AdoptOptions {
+        program: text_of(found, "program"),
+    }
 }
 
 /// What `explain` is asked.
