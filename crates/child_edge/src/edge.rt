@@ -53,31 +53,37 @@ fn begun(alloc: Global, image: u32, pid: u32, listeners: &Listeners, adopted: bo
 }
 
 impl<F: Family + Drop> Edge<F> {
-    /// An edge that knows the state, with room for so many calls.
-    fn with_state(
-        alloc: Global,
-        family: F,
-        mut state: EdgeState,
-        room: u32,
-    ) -> Result<Edge<F>, AllocError>
-        ensures state { IfOk result (λ e. state_of e.state ≡ state_of state) }
-        ensures family { IfOk result (λ e. e.family ≡ family) }
-        ensures room { IfOk result (λ e. e.room ≡ room) }
+    /// An edge that knows the state, with room for no call.
+    fn with_state(alloc: Global, family: F, state: EdgeState) -> Edge<F>
+        ensures state { state_of result.state ≡ state_of state }
+        ensures family { result.family ≡ family }
+        ensures room { result.room ≡ 0 }
     {
-        state.workers.reserve(room as usize)?;
-        Ok(Edge {
+        Edge {
             family,
             state,
             alloc,
-            room,
-        })
+            room: 0,
+        }
     }
 
-    /// The edge of a master that runs by itself, with room for so many calls. The only refusal is want of memory.
-    pub fn new(alloc: Global, family: F, known: &Record, room: u32) -> Result<Edge<F>, AllocError>
-        ensures state { IfOk result (λ e. state_of e.state ≡ begun_by known.now) }
-        ensures family { IfOk result (λ e. e.family ≡ family) }
+    /// The same edge, with room for so many calls. The only refusal is want of memory.
+    fn with_room(self, room: u32) -> Result<Edge<F>, AllocError>
+        ensures state { IfOk result (λ e. state_of e.state ≡ state_of self.state) }
+        ensures family { IfOk result (λ e. e.family ≡ self.family) }
         ensures room { IfOk result (λ e. e.room ≡ room) }
+    {
+        let mut edge = self;
+        edge.state.workers.reserve(room as usize)?;
+        edge.room = room;
+        Ok(edge)
+    }
+
+    /// The edge of a master that runs by itself, with room for no call. It takes no memory.
+    pub fn begin(alloc: Global, family: F, known: &Record) -> Edge<F>
+        ensures state { state_of result.state ≡ begun_by known.now }
+        ensures family { result.family ≡ family }
+        ensures room { result.room ≡ 0 }
     {
         let state = begun(
             alloc,
@@ -86,7 +92,16 @@ impl<F: Family + Drop> Edge<F> {
             &known.listeners,
             false,
         );
-        Edge::with_state(alloc, family, state, room)
+        Edge::with_state(alloc, family, state)
+    }
+
+    /// The edge of a master that runs by itself, with room for so many calls. The only refusal is want of memory.
+    pub fn new(alloc: Global, family: F, known: &Record, room: u32) -> Result<Edge<F>, AllocError>
+        ensures state { IfOk result (λ e. state_of e.state ≡ begun_by known.now) }
+        ensures family { IfOk result (λ e. e.family ≡ family) }
+        ensures room { IfOk result (λ e. e.room ≡ room) }
+    {
+        Edge::begin(alloc, family, known).with_room(room)
     }
 
     /// The edge of a new master of that process number which takes over, with room for so many calls. The only refusal is
@@ -109,7 +124,7 @@ impl<F: Family + Drop> Edge<F> {
             &handover.listeners,
             true,
         );
-        Edge::with_state(alloc, family, state, room)
+        Edge::with_state(alloc, family, state).with_room(room)
     }
 
     /// The family of its children.
@@ -119,17 +134,32 @@ impl<F: Family + Drop> Edge<F> {
         &self.family
     }
 
+    /// The family of its children, when no more calls are to be made.
+    pub fn into_family(self) -> F
+        ensures { result ≡ self.family }
+    {
+        let Edge {
+            family,
+            state: _,
+            alloc: _,
+            room: _,
+        } = self;
+        family
+    }
+
     /// Raises the room to so many calls where it is less, and keeps a copy of the handover's text. The only refusal is want
     /// of memory; nothing has changed then.
     pub fn reserve(&mut self, calls: u32, text: &[u8]) -> Result<(), AllocError>
         ensures state { OnOk result (state_of self.new.state ≡ record (state_of self.old.state) { text = text.now }) }
         ensures room { OnOk result (self.new.room ≡ max self.old.room calls) }
         ensures family { self.new.family ≡ self.old.family }
-        ensures refused { OnErr result (state_of self.new.state ≡ state_of self.old.state) }
-        ensures refused_room { OnErr result (self.new.room ≡ self.old.room) }
+        ensures refused { OnErr result (self.new ≡ self.old) }
     {
         let kept = text.to_vec(self.alloc)?;
-        self.state.workers.reserve(calls as usize)?;
+        let workers = &self.state.workers;
+        if workers.capacity() - workers.len() < calls as usize {
+            self.state.workers = with_spare(self.alloc, workers, calls)?;
+        }
         self.state.text = kept;
         self.room = self.room.max(calls);
         Ok(())
@@ -149,6 +179,16 @@ impl<F: Family + Drop> Edge<F> {
     {
         start_of(&self.state.workers, nr)
     }
+}
+
+/// A copy of a list of workers, with room for so many more. The only refusal is want of memory.
+fn with_spare(alloc: Global, workers: &[Worker], spare: u32) -> Result<Vec<Worker>, AllocError>
+    ensures items { IfOk result (λ copy. copy.items ≡ workers.now) }
+    ensures spare { IfOk result (λ copy. spare ≤ vec_capacity copy - vec_len copy) }
+{
+    let mut copy = workers.to_vec(alloc)?;
+    copy.reserve(spare as usize)?;
+    Ok(copy)
 }
 
 fn start_of(workers: &[Worker], nr: u32) -> Option<u32>

@@ -19,6 +19,7 @@ mod worker;
 mod workers;
 
 pub use edge::Edge;
+pub use lines::pid_text;
 pub use state::{ChildMaster, EdgeState};
 pub use who::Who;
 pub use worker::{Stage, Worker};

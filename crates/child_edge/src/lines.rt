@@ -79,7 +79,7 @@ pub(crate) fn tick_line(now: u64) -> Line
 }
 
 /// What stands in a pid file.
-pub(crate) fn pid_text(pid: u32) -> Line
+pub fn pid_text(pid: u32) -> Line
     ensures { result ≡ pid_text pid }
 {
     let mut line = Line::new();

@@ -1,6 +1,7 @@
 //! Children that are processes of the system, on pipes.
 #![tactic(auto)]
 
+mod buffer;
 mod os_family;
 mod reader;
 mod writing;

@@ -18,10 +18,24 @@ struct Open<P: OpenProcess + Drop> {
     told_to_quit: bool,
 }
 
+impl<P: OpenProcess + Drop> Open<P> {
+    /// Waits for its end. Its output is closed before, so that a child which says more than a pipe holds can end.
+    fn end(self) {
+        let Open {
+            mut child,
+            heard,
+            ..
+        } = self;
+        drop(heard);
+        let _ = child.wait();
+    }
+}
+
 /// Children that are processes of the system, told and heard over pipes. It tells none of its calls.
 ///
-/// A child that was told `quit` and has ended is waited for of itself, at the start of another child or when a line is
-/// said; its pipes are closed then, and its number may come again.
+/// A child that was told `quit` and has ended is waited for of itself, at the start of another child or when another line
+/// is said; its pipes are closed then, and its number may come again. Not when others are told to quit: what it says last
+/// can be heard after that. A master that ends calls `finish`, which waits for all children.
 #[derive(Drop)]
 pub struct OsFamily<R: Processes + Files + Drop> {
     rt: R,
@@ -29,6 +43,8 @@ pub struct OsFamily<R: Processes + Files + Drop> {
     program: String,
     command: Vec<String>,
     children: Vec<Option<Open<R::Started>>>,
+    /// How many of them were told to quit.
+    quitting: usize,
     /// The place that is looked at next for a child that has ended.
     next: usize,
 }
@@ -52,6 +68,7 @@ impl<R: Processes + Files + Drop> OsFamily<R> {
             program: String::from_str(alloc, program)?,
             command: words,
             children: Vec::new(alloc),
+            quitting: 0,
             next: 0,
         })
     }
@@ -94,7 +111,11 @@ impl<R: Processes + Files + Drop> OsFamily<R> {
                 heard: LineReader::new(stdout),
                 told_to_quit: false,
             }),
-            None => Err(io::Error::from(ErrorKind::BrokenPipe)),
+            None => {
+                let _ = child.kill();
+                let _ = child.wait();
+                Err(io::Error::from(ErrorKind::BrokenPipe))
+            }
         }
     }
 
@@ -128,25 +149,54 @@ impl<R: Processes + Files + Drop> OsFamily<R> {
         self.children.get_mut(id as usize)?.as_mut()
     }
 
-    fn forget(&mut self, place: usize) {
-        if let Some(child) = self.children.get_mut(place) {
-            *child = None;
+    /// Keeps in mind that a child is told to quit.
+    fn mark_quitting(&mut self, id: u32) {
+        if self.was_told_to_quit(id as usize) {
+            return;
+        }
+        if let Some(open) = self.open_mut(id) {
+            open.told_to_quit = true;
+            self.quitting = self.quitting.saturating_add(1);
         }
     }
 
-    /// Whether the child at a place was told to quit and has ended.
-    fn has_quit(&mut self, place: usize) -> bool {
-        match self.children.get_mut(place) {
-            Some(Some(open)) => open.told_to_quit && matches!(open.child.try_wait(), Ok(Some(_))),
+    /// Takes a child out.
+    fn take(&mut self, place: usize) -> Option<Open<R::Started>> {
+        let open = self.children.get_mut(place)?.take()?;
+        if open.told_to_quit {
+            self.quitting = self.quitting.saturating_sub(1);
+        }
+        Some(open)
+    }
+
+    fn was_told_to_quit(&self, place: usize) -> bool {
+        match self.children.get(place) {
+            Some(Some(open)) => open.told_to_quit,
             _ => false,
         }
     }
 
-    /// Waits for all children that were told to quit and have ended.
+    /// Takes a child out that was told to quit, where it has ended: it is waited for with that.
+    fn reap(&mut self, place: usize) {
+        let has_ended = match self.children.get_mut(place) {
+            Some(Some(open)) => matches!(open.child.try_wait(), Ok(Some(_))),
+            _ => false,
+        };
+        if has_ended {
+            self.take(place);
+        }
+    }
+
+    /// Waits for all children that were told to quit and have ended. Where none was told, it looks at none.
     fn reap_all(&mut self) {
+        let mut left = self.quitting;
         for place in 0..self.children.len() {
-            if self.has_quit(place) {
-                self.forget(place);
+            if left == 0 {
+                return;
+            }
+            if self.was_told_to_quit(place) {
+                self.reap(place);
+                left -= 1;
             }
         }
     }
@@ -157,10 +207,29 @@ impl<R: Processes + Files + Drop> OsFamily<R> {
             self.next = 0;
         }
         let place = self.next;
-        if self.has_quit(place) {
-            self.forget(place);
+        if self.was_told_to_quit(place) {
+            self.reap(place);
         }
         self.next = place.saturating_add(1);
+    }
+
+    fn close_inputs(&mut self) {
+        for place in 0..self.children.len() {
+            if let Some(Some(open)) = self.children.get_mut(place) {
+                open.child.stdin = None;
+            }
+        }
+    }
+
+    /// Closes the input of every child that it has, and then waits for the end of each; no more is heard of them. It has no
+    /// children then. A child that does not end with its input is waited for as long as it runs.
+    pub fn finish(&mut self) {
+        self.close_inputs();
+        for place in 0..self.children.len() {
+            if let Some(open) = self.take(place) {
+                open.end();
+            }
+        }
     }
 }
 
@@ -179,13 +248,14 @@ impl<R: Processes + Files + Drop> Family for OsFamily<R> {
     }
 
     fn say(&mut self, id: u32, line: &[u8]) -> bool {
-        self.reap_next();
+        if line == b"quit".as_slice() {
+            self.mark_quitting(id);
+        } else {
+            self.reap_next();
+        }
         let Some(open) = self.open_mut(id) else {
             return false;
         };
-        if line == b"quit".as_slice() {
-            open.told_to_quit = true;
-        }
         match open.child.stdin.as_mut() {
             Some(stdin) => write_line(stdin, line).is_ok(),
             None => false,
@@ -200,20 +270,17 @@ impl<R: Processes + Files + Drop> Family for OsFamily<R> {
     }
 
     fn stop(&mut self, id: u32) {
-        if let Some(open) = self.open_mut(id) {
+        if let Some(mut open) = self.take(id as usize) {
             let _ = open.child.kill();
             let _ = open.child.wait();
         }
-        self.forget(id as usize);
     }
 
     fn gone(&mut self, id: u32) -> bool {
-        let is_gone = match self.open_mut(id) {
-            Some(open) => open.child.wait().is_ok(),
+        match self.take(id as usize) {
+            Some(mut open) => open.child.wait().is_ok(),
             None => false,
-        };
-        self.forget(id as usize);
-        is_gone
+        }
     }
 
     fn write_file(&mut self, path: &FilePath, contents: &[u8]) -> bool {

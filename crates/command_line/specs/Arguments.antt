@@ -15,7 +15,6 @@ use Rattle.command_line.specs.Number.{Spells}
 use Rattle.command_line.specs.declared.options.AdoptOptions.{AdoptOptions}
 use Rattle.command_line.specs.declared.options.CertifyOptions.{CertifyOptions}
 use Rattle.command_line.specs.declared.options.EnactOptions.{EnactOptions}
-use Rattle.command_line.specs.declared.options.ExplainOptions.{ExplainOptions}
 use Rattle.command_line.specs.declared.options.PlanOptions.{PlanOptions}
 use Rattle.command_line.specs.declared.options.StartOptions.{StartOptions}
 use Rattle.command_line.specs.declared.options.SuperviseOptions.{SuperviseOptions}
@@ -85,11 +84,12 @@ plan_app = with_rule (with_rule (with_start (new_app (codes "plan"))) (flag_rule
 abbrev pub certify_app : App
 certify_app = with_rule (with_start (new_app (codes "certify"))) (option_rule (codes "held"))
 
+-- `--program PROGRAM`, which must be there
 abbrev pub program_rule : Rule
 program_rule = record (option_rule (codes "program")) { required = true }
 
 abbrev pub supervise_app : App
-supervise_app = with_rule (with_rule (with_files (with_rule (new_app (codes "supervise")) program_rule)) (flag_rule (codes "verbose"))) (flag_rule (codes "why"))
+supervise_app = with_rule (with_rule (with_rule (with_files (new_app (codes "supervise"))) program_rule) (flag_rule (codes "verbose"))) (flag_rule (codes "why"))
 
 abbrev pub adopt_app : App
 adopt_app = with_rule (new_app (codes "adopt")) (option_rule (codes "program"))
@@ -272,6 +272,10 @@ AsksExplain arguments code = AsksFor (codes "explain") (λ rows. code ≡ first_
 abbrev pub AsksText : List Text → Type 0
 AsksText arguments = IsAmong DisplayHelp (fault_of prefork_app arguments)
     ⊎ IsAmong DisplayVersion (fault_of prefork_app arguments)
+
+-- `clap` takes the arguments, or answers them with the help or the version
+abbrev pub Takes : List Text → Type 0
+Takes arguments = (fault_of prefork_app arguments ≡ []) ⊎ AsksText arguments
 
 abbrev pub Asks : List Text → Request → Type 0
 Asks arguments (Enact options) = AsksEnact arguments (enactment_of options)

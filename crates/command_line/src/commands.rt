@@ -2,7 +2,7 @@
 ghost use Rattle.std.specs.Prelude.{◌≡◌, IfOk, false};
 ghost use Rattle.clap.specs.Words.{app_of, rule_of};
 ghost use Rattle.clap.specs.declared.builder.command.Command.TheViews.{out-Command};
-ghost use Rattle.command_line.specs.Arguments.{adopt_app, bare_app, certify_app, child_app, code_rule, enact_app, explain_app, flag_rule, option_rule, plan_app, prefork_app, required_rule, supervise_app, with_children, with_files, with_start, with_words, word_rule, words_rule};
+ghost use Rattle.command_line.specs.Arguments.{adopt_app, bare_app, certify_app, child_app, code_rule, enact_app, explain_app, flag_rule, option_rule, plan_app, prefork_app, program_rule, required_rule, supervise_app, with_children, with_files, with_start, with_words, word_rule, words_rule};
 
 use crate::help::{
     ADOPT_HELP, ADOPT_NOTES, BARE_HELP, CERTIFY_NOTES, CHILD_NOTES, CODE_HELP, DOT_HELP,
@@ -82,9 +82,9 @@ fn supervise<'a>(alloc: Global) -> Result<Command<'a>, AllocError>
 {
     let command = Command::new(alloc, "supervise")
         .about("Run a master and its workers; control words come on standard input")
-        .after_help(SUPERVISE_NOTES)
-        .arg(option(alloc, "program", "PROGRAM", PROGRAM_HELP).required(true))?;
+        .after_help(SUPERVISE_NOTES);
     with_files(alloc, command)?
+        .arg(program_option(alloc))?
         .arg(flag(alloc, "verbose", VERBOSE_HELP))?
         .arg(flag(alloc, "why", WHY_HELP))
 }
@@ -161,6 +161,14 @@ fn option<'a>(alloc: Global, name: &'a str, value: &'a str, help: &'a str) -> Ar
         .value_name(value)
         .action(ArgAction::Set)
         .help(help)
+}
+
+/// `--program PROGRAM`, which must be there.
+fn program_option<'a>(alloc: Global) -> Arg<'a>
+    ensures rule { rule_of result ≡ program_rule }
+    ensures own { result.global ≡ false }
+{
+    option(alloc, "program", "PROGRAM", PROGRAM_HELP).required(true)
 }
 
 /// `--NAME`

@@ -9,7 +9,7 @@ Example: the plan of a reload, before anything is done:
   prefork plan --from a.toml --to b.toml HUP
 
 Example: a master with a worker that is looked after once, and stopped:
-  printf 'tick 1\nQUIT\n' | prefork supervise --program prefork";
+  printf 'tick 1\\nQUIT\\n' | prefork supervise --program prefork";
 
 pub(crate) const FROM_HELP: &str = "\
 The configuration of the start, a TOML file
@@ -132,7 +132,7 @@ memory was wanting, 2 usage, 3 rolled back, 4 degraded; of several, 1 comes
 before 4 and 4 before 3.
 
 Example: two ticks, a reload, and a graceful stop:
-  printf 'tick 1\ntick 2\nHUP\nQUIT\n' | prefork supervise --program prefork";
+  printf 'tick 1\\ntick 2\\nHUP\\nQUIT\\n' | prefork supervise --program prefork";
 
 pub(crate) const ADOPT_NOTES: &str = "\
 An upgrade starts the new executable with the word 'adopt'. Its standard input

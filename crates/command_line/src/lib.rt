@@ -1,9 +1,9 @@
 //! The command line of `prefork`, read by `clap`.
 #![tactic(auto)]
 
-ghost use Rattle.std.specs.Prelude.{◌≡◌, IfErr, IfOk, IsErrOf, List, ℕ, map, string_bytes};
+ghost use Rattle.std.specs.Prelude.{◌≡◌, IfErr, IfNone, IfOk, IfSome, IsErrOf, List, ℕ, map, string_bytes};
 ghost use Rattle.clap.specs.Words.{HasKind, fault_of, kind_of};
-ghost use Rattle.command_line.specs.Arguments.{AreMatchesOf, Asks, AsksForNoChild, IsRefusedBy, TakesMemory, prefork_app};
+ghost use Rattle.command_line.specs.Arguments.{AreMatchesOf, Asks, AsksForNoChild, AsksText, IsRefusedBy, IsUsageFault, Takes, TakesMemory, prefork_app};
 
 mod commands;
 mod help;
@@ -60,13 +60,28 @@ pub fn read<'a>(alloc: Global, args: &'a [String]) -> Result<Request<'a>, Refusa
 }
 
 /// What `clap` says of arguments that ask for nothing: a text of some lines, for people. None where
-/// it takes them, or answers them with the help or the version.
-pub fn complaint(alloc: Global, args: &[String]) -> Result<Option<String>, AllocError> {
-    let Err(error) = commands::program(alloc)?.try_get_matches_from(args) else {
-        return Ok(None);
-    };
+/// it takes them, or answers them with the help or the version. `AllocError` where memory was
+/// refused, in `clap` too.
+pub fn complaint(alloc: Global, args: &[String]) -> Result<Option<String>, AllocError>
+    ensures said { IfOk result (λ said. IfSome said (λ _. IsUsageFault (map string_bytes args.now))) }
+    ensures silent { IfOk result (λ said. IfNone said (Takes (map string_bytes args.now))) }
+{
+    match commands::program(alloc)?.try_get_matches_from(args) {
+        Ok(_) => Ok(None),
+        Err(error) => complaint_in(alloc, &error),
+    }
+}
+
+/// What a fault of `clap` says; none where that is the help or the version.
+fn complaint_in(alloc: Global, error: &Error) -> Result<Option<String>, AllocError>
+    ensures said { (arguments : List (List ℕ)) → HasKind (fault_of prefork_app arguments) error.now
+        → IfOk result (λ said. IfSome said (λ _. IsUsageFault arguments)) }
+    ensures silent { (arguments : List (List ℕ)) → HasKind (fault_of prefork_app arguments) error.now
+        → IfOk result (λ said. IfNone said (AsksText arguments)) }
+{
     match error.kind() {
-        ErrorKind::DisplayHelp | ErrorKind::DisplayVersion | ErrorKind::OutOfMemory => Ok(None),
+        ErrorKind::OutOfMemory => Err(AllocError),
+        ErrorKind::DisplayHelp | ErrorKind::DisplayVersion => Ok(None),
         _ => Ok(Some(format!(in alloc; "{error}")?)),
     }
 }

@@ -150,16 +150,18 @@ pub(crate) fn supervise_options<'a>(
     ensures usage { IfErr result (λ _. (values : Supervision)
         → ¬ FindsSupervision (rows_of (found_of found.now)) values) }
 {
-    match text_of(found, "program") {
-        Some(program) => Ok(SuperviseOptions {
-            program,
-            from: text_of(found, "from"),
-            to: text_of(found, "to"),
-            verbose: has_flag(found, "verbose"),
-            why: has_flag(found, "why"),
-        }),
-        None => Err(UsageFault),
-    }
+    let Some(program) = text_of(found, "program") else {
+        return Err(UsageFault);
+    };
+    let (from, to) = (text_of(found, "from"), text_of(found, "to"));
+    let (verbose, why) = (has_flag(found, "verbose"), has_flag(found, "why"));
+    Ok(SuperviseOptions {
+        program,
+        from,
+        to,
+        verbose,
+        why,
+    })
 }
 
 /// The options of `adopt`.

@@ -1,7 +1,6 @@
 //! Explanations of codes.
-ghost use Rattle.std.specs.Prelude.{◌≡◌, IfSome};
-
-use crate::EXPLANATIONS;
+ghost use Rattle.std.specs.Prelude.{◌≡◌, bytes_eq};
+ghost use Rattle.std.specs.List.{find};
 
 /// What a code means, and what to do about it.
 #[derive(Clone, Copy, Debug)]
@@ -14,11 +13,11 @@ pub struct Explanation {
     pub remedy: &'static str,
 }
 
-/// The explanation of a code; none where there is no such code.
-pub fn explanation_of(code: &str) -> Option<Explanation>
-    ensures { IfSome result (λ found. found.code.now ≡ code.now) }
+/// The first of these explanations that has the code; none where no one has it.
+pub fn explanation_of(explanations: &[Explanation], code: &str) -> Option<Explanation>
+    ensures { result ≡ find (λ explanation. bytes_eq explanation.code.now code.now) explanations.now }
 {
-    EXPLANATIONS
+    explanations
         .iter()
         .copied()
         .find(|explanation| explanation.code == code)

@@ -64,9 +64,9 @@ that wrote the transcript.",
         code: "file",
         meaning: "a read or a write failed",
         remedy: "\
-Of a configuration, of standard input, or of standard output where its reader
-has gone. An argument that is not UTF-8 is told so too. What was written
-before is whole blocks.",
+Of a configuration, of standard input, of the pid file of a master that starts,
+or of standard output where its reader has gone. An argument that is not UTF-8
+is told so too. What was written before is whole blocks.",
     },
     Explanation {
         code: "memory",

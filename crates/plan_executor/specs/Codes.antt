@@ -1,7 +1,7 @@
 -- The codes of refusals, as they are printed.
 use Rattle.std.specs.Prelude.{ℕ, List, ◌++◌, codes}
 use Rattle.std.specs.Fmt.{decimal}
-use Rattle.reload_planner.specs.Codes.{plan_code}
+use Rattle.word_runner.specs.Codes.{unplanned_code}
 use Rattle.word_runner.specs.declared.enactor.TargetRefusal.{TargetRefusal}
 use Rattle.word_runner.specs.declared.enactor.TargetRefusal.TheVariants as lack
 use Rattle.plan_executor.specs.declared.enactment.EnactRefusal.{EnactRefusal}
@@ -10,7 +10,7 @@ use Rattle.plan_executor.specs.declared.enactment.EnactRefusal.TheVariants.{Memo
 abbrev pub enact_code : EnactRefusal → List ℕ
 enact_code Memory = codes "E1"
 enact_code RecordDisagrees = codes "E2"
-enact_code (Plan refusal) = codes "E3 " ++ plan_code refusal
+enact_code (Plan refusal) = unplanned_code refusal
 enact_code (MasterNamed moment) = codes "E4 " ++ decimal moment
 enact_code NoNumbers = codes "E5"
 

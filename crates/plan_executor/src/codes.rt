@@ -31,7 +31,7 @@ impl From<EnactRefusal> for CodeText {
         match refusal {
             EnactRefusal::Memory => CodeText::of("E1", ""),
             EnactRefusal::RecordDisagrees => CodeText::of("E2", ""),
-            EnactRefusal::Plan(refusal) => CodeText::of("E3 ", refusal.code()),
+            EnactRefusal::Plan(refusal) => CodeText::unplanned(refusal),
             EnactRefusal::MasterNamed(moment) => {
                 CodeText::of("E4 ", Buffer::new().format(moment))
             }

@@ -17,6 +17,8 @@ use Rattle.master_config.specs.declared.refusal.ConfigRefusal.TheVariants as con
 use Rattle.call_text.specs.Codes.{refusal_text}
 use Rattle.call_text.specs.declared.refusal.TextRefusal.{TextRefusal}
 use Rattle.call_text.specs.declared.refusal.TextRefusal.TheVariants as pattern
+use Rattle.supervisor.specs.declared.fault.SupervisorFault.{SupervisorFault}
+use Rattle.supervisor.specs.declared.fault.SupervisorFault.TheVariants as supervisor
 use Rattle.prefork.specs.declared.fault.Fault.{Fault}
 use Rattle.certifier.specs.Codes.{mismatch_code}
 use Rattle.certifier.specs.declared.mismatch.Mismatch.{Mismatch}
@@ -48,6 +50,10 @@ pattern_fault refusal = Pattern refusal
 abbrev pub transcript_fault : TextRefusal → Fault
 transcript_fault pattern.Memory = Memory
 transcript_fault refusal = Transcript refusal
+
+abbrev pub supervisor_fault : SupervisorFault → Fault
+supervisor_fault supervisor.Memory = Memory
+supervisor_fault supervisor.File = File
 
 abbrev pub block_fault : ℕ → Mismatch → Fault
 block_fault number mismatch.Memory = Memory

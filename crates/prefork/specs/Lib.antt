@@ -4,4 +4,3 @@ pub mod Outlooks
 pub mod Output
 pub mod Rehearsals
 pub mod Starts
-pub mod Status

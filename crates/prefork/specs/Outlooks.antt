@@ -20,7 +20,7 @@ use Rattle.word_runner.specs.Asking.{asked_by, IsNoted}
 use Rattle.control_words.specs.declared.words.Word.{Word}
 use Rattle.prefork.specs.Starts.{first_record, silent_workers}
 use Rattle.prefork.specs.declared.start.Start.{Start}
-use Rattle.prefork.specs.Status.{body_status}
+use Rattle.word_runner.specs.Status.{body_status}
 use Rattle.prefork.specs.declared.planning.Form.{Form}
 use Rattle.prefork.specs.declared.planning.Form.TheVariants.{Text, Picture}
 use Rattle.prefork.specs.declared.planning.Outlook.{Outlook}

@@ -11,7 +11,7 @@ pub fn explain(alloc: Global, code: Option<&str>) -> Result<Vec<u8>, Fault> {
     let Some(code) = code else {
         return Ok(list(alloc)?);
     };
-    match explanation_of(code) {
+    match explanation_of(&EXPLANATIONS, code) {
         Some(found) => Ok(page(alloc, &found)?),
         None => Err(Fault::Code),
     }

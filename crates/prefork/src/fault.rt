@@ -1,6 +1,6 @@
 //! Faults of the program: a line on standard error and a status.
 ghost use Rattle.std.specs.Prelude.{◌≡◌, Some};
-ghost use Rattle.prefork.specs.Faults.{command_fault, config_fault, boot_fault, foreign_fault, pattern_fault, transcript_fault, block_fault, fault_text, fault_status};
+ghost use Rattle.prefork.specs.Faults.{command_fault, config_fault, boot_fault, foreign_fault, pattern_fault, transcript_fault, supervisor_fault, block_fault, fault_text, fault_status};
 ghost use Rattle.prefork.specs.declared.fault.Fault.TheVariants.{Memory};
 
 use call_text::TextRefusal;
@@ -13,6 +13,7 @@ use master_config::ConfigRefusal;
 use std::alloc::AllocError;
 use std::io::{ErrorKind, Write};
 use std::{fmt, io};
+use supervisor::SupervisorFault;
 
 /// Why the program stops before its work is done.
 #[derive(Debug, Drop)]
@@ -165,6 +166,18 @@ impl From<AllocError> for Fault {
 
     fn from(_error: AllocError) -> Fault {
         Fault::Memory
+    }
+}
+
+/// Want of memory, or a file, of a master that ran.
+impl From<SupervisorFault> for Fault {
+    ghost from_gives = { λ why fault. fault ≡ supervisor_fault why };
+
+    fn from(fault: SupervisorFault) -> Fault {
+        match fault {
+            SupervisorFault::Memory => Fault::Memory,
+            SupervisorFault::File => Fault::File,
+        }
     }
 }
 

@@ -1,4 +1,4 @@
-//! `prefork`: the decision core of a preforking master, whose plans are proved.
+//! `prefork`: a preforking master, whose plans are proved.
 #![tactic(auto)]
 
 mod certifying;
@@ -8,15 +8,16 @@ mod instead;
 mod planning;
 mod program;
 mod rehearsal;
+mod serving;
 mod start;
-mod status;
 mod why;
 
 use fault::Fault;
 pub use program::run;
+pub use serving::OwnNumber;
 use std::env::Env;
 use std::process::ExitCode;
-use std::{env, io};
+use std::{env, io, process};
 
 fn main(rt: HostRuntime) -> ExitCode {
     let stdout = rt.stdout();
@@ -29,6 +30,13 @@ fn main(rt: HostRuntime) -> ExitCode {
     let mut input = rt.reader();
     let mut output = io::writer(&stdout);
     ExitCode::from(run(&rt, args.as_slice(), &mut input, &mut output, &mut errors))
+}
+
+impl OwnNumber for HostRuntime {
+    fn own_number(&self) -> u32 {
+        // The system counts processes from 1.
+        process::id(self.process()).max(1)
+    }
 }
 
 /// The words of the command line, of which the first is the program's name.

@@ -5,7 +5,6 @@ ghost use Rattle.prefork.specs.Outlooks.{shown, Tells, IsPlanned, IsForeseen};
 
 use crate::fault::Fault;
 use crate::start::{Start, silent_workers};
-use crate::status::body_status;
 use control_words::Word;
 use plan_text::{write_graph, write_plan};
 use rollback_plan::Plan;
@@ -14,7 +13,7 @@ use std::alloc::{AllocError, Global};
 use target_planner::PlanRefusal;
 use transcript::write_body;
 use vocabulary::Target;
-use word_runner::{Asked, Body, CodeText, asked_by, note};
+use word_runner::{Asked, Body, CodeText, asked_by, body_status, note};
 
 /// How a plan is shown.
 #[derive(Clone, Copy)]

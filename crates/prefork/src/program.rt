@@ -7,29 +7,30 @@ ghost use Rattle.table_text.specs.TableText.{IsTextOf};
 ghost use Rattle.word_runner.specs.declared.block.Block.{Block as Done};
 ghost use Rattle.prefork.specs.Output.{blocks_text, IsState};
 ghost use Rattle.prefork.specs.Rehearsals.{IsRehearsed};
-ghost use Rattle.prefork.specs.Status.{gravest};
+ghost use Rattle.word_runner.specs.Status.{gravest};
 
 use crate::certifying::certify_all;
 use crate::explaining::explain;
 use crate::fault::Fault;
 use crate::planning::{self, Form};
 use crate::rehearsal::Rehearsal;
+use crate::serving::{OwnNumber, adopt, child, supervise};
 use crate::start::Start;
-use crate::status::gravest;
 use crate::why;
 use command_line::{CertifyOptions, EnactOptions, PlanOptions, Request};
 use control_words::Word;
 use kernel_model::Pattern;
 use std::alloc::{AllocError, Global};
 use std::io::{Read, Write};
+use std::process::Processes;
 use std::rt::Files;
 use transcript::read_transcripts;
-use word_runner::Block;
+use word_runner::{Block, gravest};
 
 /// Runs the program, and gives its exit status.
 ///
 /// Faults are one line on standard error; blocks of words that were done are written first.
-pub fn run<R: AllocGlobal + Files, I: Read, O: Write, E: Write>(
+pub fn run<R: AllocGlobal + Files + Processes + OwnNumber, I: Read, O: Write, E: Write>(
     rt: &R,
     args: &[String],
     input: &mut I,
@@ -37,7 +38,7 @@ pub fn run<R: AllocGlobal + Files, I: Read, O: Write, E: Write>(
     errors: &mut E,
 ) -> u8 {
     let mut given = Vec::new(rt.alloc());
-    match answer(rt, args, input, &mut given, output) {
+    match answer(rt, args, input, &mut given, output, errors) {
         Ok(status) => status,
         Err(fault) => {
             let status = fault.tell(errors);
@@ -48,17 +49,21 @@ pub fn run<R: AllocGlobal + Files, I: Read, O: Write, E: Write>(
 }
 
 /// Answers the arguments. What is read of standard input is left in `given`.
-fn answer<R: AllocGlobal + Files, I: Read, O: Write>(
+fn answer<R: AllocGlobal + Files + Processes + OwnNumber, I: Read, O: Write, E: Write>(
     rt: &R,
     args: &[String],
     input: &mut I,
     given: &mut Vec<u8>,
     output: &mut O,
+    errors: &mut E,
 ) -> Result<u8, Fault> {
     match command_line::read(rt.alloc(), args)? {
         Request::Enact(options) => enact(rt, &options, input, given, output),
         Request::Plan(options) => plan(rt, &options, output),
         Request::Certify(options) => certify(rt, &options, input, given, output),
+        Request::Supervise(options) => supervise(rt, &options, input, output, errors),
+        Request::Adopt(options) => adopt(rt, &options, input, output),
+        Request::Child => Ok(child(input, output)),
         Request::Explain(options) => {
             let text = explain(rt.alloc(), options.code)?;
             write(output, text.as_slice())?;

@@ -9,7 +9,7 @@ ghost use Rattle.prefork.specs.Rehearsals.{Held, standing_of, IsRehearsed};
 
 use crate::fault::Fault;
 use crate::start::{Start, silent_workers};
-use certifier::{BlockMismatch, certify_beginning, certify_blocks};
+use certifier::{BlockMismatch, Mismatch, certify_beginning, certify_blocks};
 use control_words::Word;
 use kernel_model::{Kernel, Pattern};
 use listener_set::Address;
@@ -131,23 +131,25 @@ impl Rehearsal {
             × (found ≡ Some block)
             × IsRehearsed (pattern ∷ []) (word ∷ []) self.old (block ∷ []) self.new) }
     {
-        let pattern = self.pattern_of(alloc, word, begun);
+        let pattern = self.pattern_of(alloc, word, begun)?;
         let mut blocks = Vec::new(alloc);
         self.act(alloc, &[word], &[pattern], &mut blocks)?;
         Ok(blocks.pop())
     }
 
-    /// The pattern that the first calls of a word show; a quiet one where they begin no run of the master.
-    fn pattern_of(&self, alloc: Global, word: Word, begun: &CallLog) -> Pattern {
+    /// The pattern that the first calls of a word show; a quiet one where they begin no run of the master. The only fault
+    /// is want of memory.
+    fn pattern_of(&self, alloc: Global, word: Word, begun: &CallLog) -> Result<Pattern, Fault> {
         let Some(record) = self.record else {
-            return Pattern::new(alloc);
+            return Ok(Pattern::new(alloc));
         };
         let Asked::Act(target) = asked_by(word, &record, &self.workers, Some(&self.next)) else {
-            return Pattern::new(alloc);
+            return Ok(Pattern::new(alloc));
         };
         match certify_beginning(alloc, &self.kernel, &record, &target, begun) {
-            Ok(pattern) => pattern,
-            Err(_) => Pattern::new(alloc),
+            Ok(pattern) => Ok(pattern),
+            Err(Mismatch::Memory) => Err(Fault::Memory),
+            Err(_) => Ok(Pattern::new(alloc)),
         }
     }
 

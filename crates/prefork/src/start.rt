@@ -66,7 +66,7 @@ pub fn silent_workers(alloc: Global, state: &Record) -> Result<WorkerTable, Allo
 }
 
 /// The settings of a file, where one is named.
-fn settings_in<R: AllocGlobal + Files>(
+pub fn settings_in<R: AllocGlobal + Files>(
     rt: &R,
     path: Option<&str>,
     without: Settings,

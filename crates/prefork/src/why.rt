@@ -4,7 +4,7 @@ use crate::instead::line_instead;
 use call_text::TextRefusal;
 use certifier::Mismatch;
 use command_line::{Request, StartOptions, complaint};
-use explanations::{Explanation, explanation_of};
+use explanations::{EXPLANATIONS, Explanation, explanation_of};
 use master_config::{ConfigRefusal, Key};
 use std::alloc::Global;
 use std::fs;
@@ -27,7 +27,7 @@ pub fn tell<R: AllocGlobal + Files, E: Write>(
     }
     if let Ok(text) = format!(in rt.alloc(); "{fault}") {
         for word in text.as_str().split(' ') {
-            if let Some(explanation) = explanation_of(word) {
+            if let Some(explanation) = explanation_of(&EXPLANATIONS, word) {
                 tell_meaning(&explanation, errors);
             }
         }
@@ -128,6 +128,13 @@ fn start_of<'a>(request: &Request<'a>) -> Option<StartOptions<'a>> {
         Request::Enact(options) => Some(options.start),
         Request::Plan(options) => Some(options.start),
         Request::Certify(options) => Some(options.start),
+        Request::Supervise(options) => Some(StartOptions {
+            from: options.from,
+            to: None,
+            workers: None,
+            bare: true,
+            why: options.why,
+        }),
         _ => None,
     }
 }

@@ -2,12 +2,20 @@
 #![tactic(auto)]
 
 #[cfg(test)]
+mod closings;
+#[cfg(test)]
 mod edges;
+#[cfg(test)]
+mod endings;
+#[cfg(test)]
+mod lives;
 mod obeying;
 #[cfg(test)]
 mod plans;
 #[cfg(test)]
 mod processes;
+#[cfg(test)]
+mod readers;
 mod recorded;
 #[cfg(test)]
 mod setup;

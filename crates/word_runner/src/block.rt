@@ -1,11 +1,12 @@
 //! What a word came to.
 ghost use Rattle.std.specs.Prelude.{◌≡◌, ◌+◌, ◌≤◌, ◌++◌, length};
 ghost use Rattle.std.specs.String.{string_bytes};
-ghost use Rattle.word_runner.specs.Codes.{stopped_code};
+ghost use Rattle.word_runner.specs.Codes.{stopped_code, unplanned_code};
 
 use arrayvec::ArrayString;
 use control_words::{Word, WordRefusal};
 use plan_runner::CallLog;
+use reload_planner::PlanRefusal;
 use std::marker::Model;
 use vocabulary::Report;
 use worker_table::TableRefusal;
@@ -63,6 +64,13 @@ impl CodeText {
         ensures { result ≡ stopped_code }
     {
         CodeText::of("V1", "")
+    }
+
+    /// `E3`: there is no plan, with the planner's own refusal.
+    pub fn unplanned(refusal: PlanRefusal) -> CodeText
+        ensures { result ≡ unplanned_code refusal }
+    {
+        CodeText::of("E3 ", refusal.code())
     }
 
     /// The text of the code.

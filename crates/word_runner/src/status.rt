@@ -1,9 +1,9 @@
 //! The exit status of words that were carried out.
 ghost use Rattle.std.specs.Prelude.{◌≡◌};
-ghost use Rattle.prefork.specs.Status.{body_status, graver, status_of, gravest};
+ghost use Rattle.word_runner.specs.Status.{body_status, graver, status_of, gravest};
 
+use crate::{Block, Body};
 use vocabulary::Outcome;
-use word_runner::{Block, Body};
 
 /// The status that one word asks for.
 pub fn body_status(body: &Body) -> u8
@@ -22,7 +22,7 @@ pub fn body_status(body: &Body) -> u8
 }
 
 /// The status that one block asks for.
-fn status_of(block: &Block) -> u8
+pub fn status_of(block: &Block) -> u8
     ensures { result ≡ status_of block.now }
 {
     match block {
@@ -32,7 +32,7 @@ fn status_of(block: &Block) -> u8
 }
 
 /// A refused or lost word outweighs a degraded one, and that outweighs one that was rolled back.
-fn graver(one: u8, other: u8) -> u8
+pub fn graver(one: u8, other: u8) -> u8
     ensures { result ≡ graver one other }
 {
     if one == 1 || other == 1 {

@@ -1,0 +1,5 @@
+pub mod WorkerLines
+pub mod Response
+pub mod Worker
+pub mod Requests
+pub mod Master

@@ -1,0 +1,35 @@
+-- What the lines of a new master are.
+use Rattle.std.specs.Prelude.{ℕ, List, [], ◌∷◌, ◌++◌, Option, Some, option_map, is_some, bytes_eq, codes, if◌then◌else◌}
+use Rattle.definitions.specs.Calls.{Call, Adopt, Answer}
+use Rattle.vocabulary.specs.declared.calls.Answer.TheVariants.{Refused, MasterGone}
+use Rattle.call_text.specs.CallReading.{line_of}
+pub use Rattle.child_programs.specs.declared.requests.Request.{Request}
+pub use Rattle.child_programs.specs.declared.requests.Request.TheVariants.{IsAlive, Make}
+pub use Rattle.child_programs.specs.declared.handover_lines.Part.{Part}
+pub use Rattle.child_programs.specs.declared.handover_lines.Part.TheVariants.{More, Whole, Other}
+
+-- a line that asks for an answer: whether the master is alive, or a call
+abbrev pub made_by : ℕ × Call → Request
+made_by c = Make (record { by = c.0; call = c.1 })
+
+abbrev pub request_of : List ℕ → Option Request
+request_of line = if bytes_eq line (codes "alive") then Some IsAlive else option_map made_by (line_of line)
+
+-- what a line is to a handover that is read: its last one, none of it where it asks for an answer, or one more
+abbrev pub part_of : List ℕ → Part
+part_of line = if bytes_eq line (codes "end") then Whole else if is_some (request_of line) then Other else More
+
+-- a text with a line behind it
+abbrev pub with_line : List ℕ → List ℕ → List ℕ
+with_line text line = text ++ line ++ 10 ∷ []
+
+-- the text of a handover after a line
+abbrev pub text_after : Part → List ℕ → List ℕ → List ℕ
+text_after More text line = with_line text line
+text_after Whole text line = with_line text line
+text_after Other text line = text
+
+-- the answers of a master whose handover was faulty: it took nothing over
+abbrev pub refused : Call → Answer
+refused Adopt = Refused
+refused _ = MasterGone

@@ -1,0 +1,175 @@
+//! The programs of the children of an edge, from their first line to their end.
+ghost use Rattle.std.specs.Io.KnownBytes.{Appends};
+ghost use Rattle.child_programs.specs.Response.{Response, IsActed};
+
+use crate::answering::{Answers, Refusing};
+use crate::handover_lines::{HandoverLines, Part};
+use crate::hearing::Hears;
+use crate::master::NewMaster;
+use crate::saying::act;
+use crate::worker::Worker;
+use child_edge::Edge;
+use child_family::{Family, Heard};
+use child_processes::LineReader;
+use handover_text::Handover;
+use plain_text::Line;
+use std::alloc::{AllocError, Global};
+use std::io::{Read, Write};
+
+/// For how many workers at once a new master takes memory before it takes over: for a reload and its draining workers at
+/// the limit of 1,024. Only where there were more could a start want for memory.
+const ROOM: u32 = 4096;
+
+/// Hears a line, and does what is to be done. The exit status where the program ends then.
+fn obey<H: Hears, O: Write>(program: &mut H, line: &[u8], output: &mut O) -> Option<u8>
+    ensures { (r : Response) × H.hears program.old line.now program.new r × IsActed r result (λ text. Appends (O.contents output.old) (O.contents output.new) text) }
+{
+    let mut answer = Line::new();
+    let step = program.hear(line, &mut answer);
+    act(step, &mut answer, output)
+}
+
+/// Hears lines up to the end of input, or to one at which the program ends. A line that is too long is heard as an empty
+/// one, which no program can be told.
+fn serve<H: Hears, I: Read + Drop, O: Write>(
+    program: &mut H,
+    lines: &mut LineReader<I>,
+    output: &mut O,
+) -> u8 {
+    let mut line = Line::new();
+    for _ in 0..u64::MAX {
+        match lines.hear(&mut line) {
+            Heard::Ended => return 0,
+            Heard::TooLong => line.clear(),
+            Heard::Line => {}
+        }
+        if let Some(status) = obey(program, line.bytes(), output) {
+            return status;
+        }
+    }
+    1
+}
+
+/// A worker on pipes. Gives the exit status: 0 after `quit` and at the end of input, and 1 at a line that it can't be told
+/// ([`Worker::hear`]), one of more than 4,096 bytes too, and where an answer can't be written.
+pub fn serve_worker<I: Read + Drop, O: Write>(input: I, output: &mut O) -> u8 {
+    serve(&mut Worker::new(), &mut LineReader::new(input), output)
+}
+
+/// How a new master ended.
+#[derive(Drop)]
+pub struct Served<F: Family + Drop> {
+    /// The exit status.
+    pub status: u8,
+    /// Its children. None where there was no memory to begin; it had no child then.
+    pub family: Option<F>,
+}
+
+/// What came of the lines of a handover.
+#[derive(Drop)]
+enum Received {
+    /// All of them.
+    Whole(HandoverLines),
+    /// A line that asks for an answer came before the last one.
+    Broken(HandoverLines),
+    /// The input ended before the last one.
+    Ended,
+}
+
+/// Hears the lines of a handover. One that is too long is taken as an empty one, which no handover has. The last line
+/// that was heard is in `line` then.
+fn receive<I: Read + Drop>(
+    alloc: Global,
+    lines: &mut LineReader<I>,
+    line: &mut Line,
+) -> Result<Received, AllocError> {
+    let mut handover = HandoverLines::new(alloc)?;
+    for _ in 0..u64::MAX {
+        match lines.hear(line) {
+            Heard::Ended => return Ok(Received::Ended),
+            Heard::TooLong => line.clear(),
+            Heard::Line => {}
+        }
+        match handover.take(line.bytes())? {
+            Part::More => {}
+            Part::Whole => return Ok(Received::Whole(handover)),
+            Part::Other => return Ok(Received::Broken(handover)),
+        }
+    }
+    Ok(Received::Ended)
+}
+
+/// Serves as a master that takes over.
+fn serve_adopted<F: Family + Drop, I: Read + Drop, O: Write>(
+    alloc: Global,
+    family: F,
+    pid: u32,
+    told: &Handover,
+    handover: HandoverLines,
+    lines: &mut LineReader<I>,
+    output: &mut O,
+) -> Served<F> {
+    let Ok(edge) = Edge::adopt(alloc, family, told, pid, ROOM) else {
+        return Served {
+            status: 1,
+            family: None,
+        };
+    };
+    let mut master = NewMaster::new(edge, handover);
+    let status = serve(&mut master, lines, output);
+    Served {
+        status,
+        family: Some(master.into_answers().into_family()),
+    }
+}
+
+/// Serves as a master whose handover was faulty, from a line on that was heard already, if there is one.
+fn serve_refusing<I: Read + Drop, O: Write>(
+    handover: HandoverLines,
+    heard: Option<&[u8]>,
+    lines: &mut LineReader<I>,
+    output: &mut O,
+) -> u8 {
+    let mut master = NewMaster::new(Refusing, handover);
+    if let Some(line) = heard {
+        if let Some(status) = obey(&mut master, line, output) {
+            return status;
+        }
+    }
+    serve(&mut master, lines, output)
+}
+
+/// A new master on pipes. It reads the handover up to its line `end`, and then makes the calls that it is told
+/// ([`NewMaster::hear`]). Where the handover is faulty it took nothing over: `adopt` is refused, and for each other call
+/// the master is gone. A line that asks for an answer ends a handover that has no line `end`, which is faulty then, and is
+/// answered.
+///
+/// The exit status is 0 at the end of input, and 1 at a line that it can't be told, where an answer can't be written, and
+/// for want of memory. Its children are still there: they end with their input.
+pub fn serve_master<F: Family + Drop, I: Read + Drop, O: Write>(
+    alloc: Global,
+    family: F,
+    pid: u32,
+    input: I,
+    output: &mut O,
+) -> Served<F> {
+    let mut lines = LineReader::new(input);
+    let mut line = Line::new();
+    let status = match receive(alloc, &mut lines, &mut line) {
+        Ok(Received::Whole(handover)) => match handover_text::read(handover.text()) {
+            Ok(told) => {
+                return serve_adopted(alloc, family, pid, &told, handover, &mut lines, output);
+            }
+            Err(_) => serve_refusing(handover, None, &mut lines, output),
+        },
+        Ok(Received::Broken(handover)) => {
+            serve_refusing(handover, Some(line.bytes()), &mut lines, output)
+        }
+        Ok(Received::Ended) => 0,
+        Err(_) => 1,
+    };
+    Served {
+        status,
+        family: Some(family),
+    }
+}

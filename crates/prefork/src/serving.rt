@@ -1,0 +1,135 @@
+//! `supervise`, `adopt` and `child`: masters and workers that run.
+ghost use Rattle.std.specs.Prelude.{◌≤◌, IfOk, option_map};
+ghost use Rattle.vocabulary.specs.Settings.{plain_settings};
+ghost use Rattle.prefork.specs.Starts.{AreNamed};
+
+use crate::fault::Fault;
+use crate::start::settings_in;
+use child_processes::OsFamily;
+use child_programs::{Served, serve_master, serve_worker};
+use command_line::{AdoptOptions, SuperviseOptions};
+use log::sink::Writer;
+use log::{LevelFilter, Logged};
+use master_config::{Config, ConfigRefusal};
+use std::alloc::Global;
+use std::io::{Read, Write};
+use std::process::Processes;
+use std::rt::Files;
+use std::{env, fs};
+use supervisor::{NextRefusal, NextSettings, Start, supervise_on};
+use vocabulary::Settings;
+use word_runner::CodeText;
+
+/// What knows the number of its own process.
+pub trait OwnNumber {
+    /// The number, at least 1.
+    fn own_number(&self) -> u32
+        ensures { 1 ≤ result };
+}
+
+/// The configuration that a reload goes over to: a file, read anew each time.
+#[derive(Drop)]
+struct NextFile<'a, R: AllocGlobal + Files> {
+    rt: &'a R,
+    /// Without a file the defaults hold.
+    path: Option<&'a str>,
+}
+
+impl<R: AllocGlobal + Files> NextSettings for NextFile<'_, R> {
+    fn read(&mut self) -> Result<Settings, NextRefusal> {
+        next_in(self.rt, self.path)
+    }
+}
+
+/// The settings of a file, read now; the defaults where none is named.
+fn next_in<R: AllocGlobal + Files>(rt: &R, path: Option<&str>) -> Result<Settings, NextRefusal>
+    ensures { IfOk result (AreNamed (option_map (λ text. text.now) path.entry) plain_settings) }
+{
+    match settings_in(rt, path, Settings::plain()) {
+        Ok(settings) => Ok(settings),
+        Err(Fault::Config(refusal)) => Err(declined(rt.alloc(), &refusal)),
+        Err(Fault::Memory) => Err(NextRefusal::Memory),
+        Err(_) => Err(NextRefusal::Unreadable),
+    }
+}
+
+/// Why a configuration is not taken up: want of memory, or its code with what it is about.
+fn declined(alloc: Global, refusal: &ConfigRefusal) -> NextRefusal {
+    if matches!(refusal, ConfigRefusal::Memory) {
+        return NextRefusal::Memory;
+    }
+    match format!(in alloc; "{refusal}") {
+        Ok(code) => NextRefusal::Refused(CodeText::long(code)),
+        Err(_) => NextRefusal::Memory,
+    }
+}
+
+/// `supervise`: a master whose workers and new masters are processes. What is left of its children when it ends is ended
+/// with it.
+pub fn supervise<R: AllocGlobal + Files + Processes + OwnNumber, I: Read, O: Write, E: Write>(
+    rt: &R,
+    options: &SuperviseOptions<'_>,
+    input: &mut I,
+    output: &mut O,
+    errors: &mut E,
+) -> Result<u8, Fault> {
+    let alloc = rt.alloc();
+    let config = config_in(rt, options.from)?;
+    let family = OsFamily::new(alloc, rt, options.program, &config.command)?;
+    let level = if options.verbose {
+        LevelFilter::Info
+    } else {
+        LevelFilter::Off
+    };
+    let log = Logged::new((), level, Writer::new(&mut *errors));
+    let mut next = NextFile {
+        rt,
+        path: options.to.or(options.from),
+    };
+    let start = Start {
+        settings: config.settings,
+        pid: rt.own_number(),
+    };
+    let mut supervised = supervise_on(alloc, family, &start, &mut next, input, output, &log);
+    supervised.family.finish();
+    Ok(supervised.status?)
+}
+
+/// The configuration of the start; the defaults where no file is named.
+fn config_in<R: AllocGlobal + Files>(rt: &R, path: Option<&str>) -> Result<Config, Fault> {
+    let text = match path {
+        Some(path) => fs::read(rt, path)?,
+        None => Vec::new(rt.alloc()),
+    };
+    Ok(master_config::read(rt.alloc(), text.as_slice())?)
+}
+
+/// `adopt`: the new master of an upgrade. Its workers are the program that is named, or its own executable.
+pub fn adopt<R: AllocGlobal + Files + Processes + OwnNumber, I: Read, O: Write>(
+    rt: &R,
+    options: &AdoptOptions<'_>,
+    input: &mut I,
+    output: &mut O,
+) -> Result<u8, Fault> {
+    let alloc = rt.alloc();
+    let family = match options.program {
+        Some(program) => OsFamily::new(alloc, rt, program, &[])?,
+        None => OsFamily::new(alloc, rt, env::current_exe(rt)?.as_str(), &[])?,
+    };
+    let served = serve_master(alloc, family, rt.own_number(), &mut *input, output);
+    Ok(finished(served))
+}
+
+/// Ends what is left of a new master's children, and gives its status.
+fn finished<F: Processes + Files + Drop>(served: Served<OsFamily<F>>) -> u8 {
+    let Served { status, family } = served;
+    if let Some(mut family) = family {
+        family.finish();
+    }
+    status
+}
+
+/// `child`: a worker that serves nothing.
+pub fn child<I: Read, O: Write>(input: &mut I, output: &mut O) -> u8 {
+    serve_worker(input, output)
+}

@@ -1,0 +1,89 @@
+//! A block in one line.
+use control_words::Word;
+use std::fmt;
+use vocabulary::{Outcome, Side};
+use word_runner::{Block, Body};
+
+/// A block in one line, as it is logged: the word and what it came to, of a run its outcome alone; or why the line is no
+/// word.
+#[derive(Clone, Copy)]
+pub struct Summary<'a>(pub &'a Block);
+
+impl fmt::Display for Summary<'_> {
+    ghost use Rattle.std.specs.Prelude.{Some};
+    ghost use Rattle.supervisor.specs.Summaries.{block_summary};
+
+    ghost output = { λ summary. Some (block_summary summary.0.now) };
+
+    fn fmt<W: fmt::Write>(&self, f: &mut fmt::Formatter<W>) -> fmt::Result {
+        match self.0 {
+            Block::Heard(word, body) => write!(f, "{}: {}", WordText(*word), BodyText(body)),
+            Block::Unread(refusal) => write!(f, "unread {}", refusal.code()),
+        }
+    }
+}
+
+/// A word as it is written in a line.
+#[derive(Clone, Copy)]
+struct WordText(Word);
+
+impl fmt::Display for WordText {
+    ghost use Rattle.std.specs.Prelude.{Some};
+    ghost use Rattle.control_words.specs.Words.{word_text};
+
+    ghost output = { λ word. Some (word_text word.0) };
+
+    fn fmt<W: fmt::Write>(&self, f: &mut fmt::Formatter<W>) -> fmt::Result {
+        match self.0 {
+            Word::Beat { nr, now } => write!(f, "beat {nr} {now}"),
+            Word::Tick { now } => write!(f, "tick {now}"),
+            word => f.write_str(word.name()),
+        }
+    }
+}
+
+/// What a word came to.
+#[derive(Clone, Copy)]
+struct BodyText<'a>(&'a Body);
+
+impl fmt::Display for BodyText<'_> {
+    ghost use Rattle.std.specs.Prelude.{Some};
+    ghost use Rattle.supervisor.specs.Summaries.{body_summary};
+
+    ghost output = { λ body. Some (body_summary body.0.now) };
+
+    fn fmt<W: fmt::Write>(&self, f: &mut fmt::Formatter<W>) -> fmt::Result {
+        match self.0 {
+            Body::Nothing => f.write_str("nothing"),
+            Body::Refused(code) => write!(f, "refused {}", code.as_str()),
+            Body::Ran(_, report) => write!(f, "{}", OutcomeText(report.outcome)),
+        }
+    }
+}
+
+/// An outcome, as a report says it.
+#[derive(Clone, Copy)]
+struct OutcomeText(Outcome);
+
+impl fmt::Display for OutcomeText {
+    ghost use Rattle.std.specs.Prelude.{Some};
+    ghost use Rattle.call_text.specs.ReportText.{outcome_text};
+
+    ghost output = { λ outcome. Some (outcome_text outcome.0) };
+
+    fn fmt<W: fmt::Write>(&self, f: &mut fmt::Formatter<W>) -> fmt::Result {
+        match self.0 {
+            Outcome::Done => f.write_str("done"),
+            Outcome::RolledBack => f.write_str("rolled-back"),
+            Outcome::Degraded {
+                side: Side::Old,
+                short,
+            } => write!(f, "degraded old {short}"),
+            Outcome::Degraded {
+                side: Side::Target,
+                short,
+            } => write!(f, "degraded target {short}"),
+            Outcome::Lost => f.write_str("lost"),
+        }
+    }
+}

@@ -1,0 +1,70 @@
+//! Workers that are shells on a script, and what an edge hears of one in its life.
+use crate::setup::{FIRST, ask, below, start};
+use child_edge::Edge;
+use child_family::Family;
+use listener_set::Numbers;
+use std::alloc::{AllocError, Global};
+use vocabulary::{Answer, Call};
+
+/// The words that start a shell on a script.
+pub(crate) fn shell(alloc: Global, script: &str) -> Result<Vec<String>, AllocError> {
+    let mut command = Vec::new(alloc);
+    for word in ["sh", "-c", script] {
+        command.push(String::from_str(alloc, word)?)?;
+    }
+    Ok(command)
+}
+
+/// A worker that obeys, but for one word, at which it does something else.
+pub(crate) fn worker(alloc: Global, word: &str, instead: &str) -> Result<Vec<String>, AllocError> {
+    let script = format!(in alloc;
+        "while read line; do set -- $line; \
+        if [ $1 = {word} ]; then {instead}; continue; fi; \
+        case $1 in worker) start=$4;; go) echo ready;; ping) echo pong;; \
+        tick) echo beat $2 $start;; quit) echo gone; exit 0;; esac; done"
+    )?;
+    shell(alloc, script.as_str())
+}
+
+/// What an edge hears of one worker in its life.
+#[derive(Clone, Copy)]
+pub(crate) struct Life {
+    pub(crate) ready: Option<Answer>,
+    pub(crate) beats: Numbers,
+    pub(crate) counted: Option<Answer>,
+    pub(crate) gone: Option<Answer>,
+}
+
+pub(crate) fn live<F: Family + Drop>(edge: &mut Edge<F>) -> Life {
+    let ready = start(edge, 0);
+    let beats = edge.tick(7);
+    let counted = ask(edge, 1, Call::Census(FIRST));
+    let _ = ask(edge, 1, Call::Quit(FIRST, 0));
+    let gone = ask(edge, 1, Call::AwaitGone(FIRST, 0));
+    let _ = ask(edge, 1, Call::Leave);
+    Life {
+        ready,
+        beats,
+        counted,
+        gone,
+    }
+}
+
+/// A worker that does something at a word, and what an edge hears of it: whether it is ready, how many beat and are
+/// counted, and whether it is gone.
+#[derive(Clone, Copy)]
+pub(crate) struct Case {
+    pub(crate) word: &'static str,
+    pub(crate) instead: &'static str,
+    pub(crate) beats: u32,
+    pub(crate) counted: u32,
+    pub(crate) gone: Answer,
+}
+
+/// Whether a worker was ready, and then heard as a case says.
+pub(crate) fn is_heard_as(life: &Life, case: &Case) -> bool {
+    life.ready == Some(Answer::IsReady)
+        && life.beats == below(case.beats)
+        && life.counted == Some(Answer::Counted(below(case.counted)))
+        && life.gone == Some(case.gone)
+}

@@ -1,0 +1,426 @@
+//! New masters on pipes, over children in memory.
+use crate::piped::{Output, joined, lines_in, long_line, master_says, serve_new_master};
+use call_text::{read_answer, read_call};
+use child_family::{Heard, Role};
+use listener_set::Generation;
+use std::alloc::{AllocError, Global};
+use std::test::Fail;
+use tests_of_children::{Asked, Recorded};
+
+/// What an old master hands over, line by line.
+const HANDOVER: [&[u8]; 8] = [
+    b"handover 1\n",
+    b"old-pid 100\n",
+    b"generation 2 2\n",
+    b"listener 3 0.0.0.0:8080\n",
+    b"want 0.0.0.0:8080\n",
+    b"workers 2\n",
+    b"pid-file /run/a.pid\n",
+    b"end\n",
+];
+
+/// The calls of an upgrade, and some others of the new master.
+const CALLS: &[u8] =
+    b"m2 adopt\nm2 fork 2.2 0\nm2 fork 2.2 1\nm2 await-ready 2.2 0\nm2 await-ready 2.2 1\n\
+    m2 write-pid /run/a.pid\nm2 census 2.2\nalive\nm2 open 0.0.0.0:9090\nm2 open 0.0.0.0:8080\n\
+    m2 close 0.0.0.0:9090\nm2 usr1 2.2 0\nm2 quit 2.2 1\nm2 await-gone 2.2 1\nm2 kill 2.2 0\nm2 remove-pid /run/a.pid\n\
+    m2 alive 3\nm3 adopt\nm2 leave\nm2 census 2.2\n";
+
+const SAID: &[u8] =
+    b"adopted\nforked\nforked\nready\nready\nok\ncounted 0-1\nalive\nopened 4\nin-use\nok\nok\nok\n\
+    gone\nok\nok\ngone\nmaster-gone\nok\nmaster-gone\n";
+
+/// What is asked where a handover was faulty, and what is answered then.
+const ASKED: &[u8] = b"m2 adopt\nm2 fork 2.2 0\nalive\nm2 leave\nm3 adopt\nm3 alive 4\n";
+
+const REFUSED: &[u8] = b"refused\nmaster-gone\nalive\nmaster-gone\nrefused\nmaster-gone\n";
+
+fn handover(alloc: Global) -> Result<Vec<u8>, AllocError> {
+    joined(alloc, &HANDOVER)
+}
+
+/// A handover, and what is told then.
+fn handed(alloc: Global, told: &[&[u8]]) -> Result<Vec<u8>, AllocError> {
+    let mut text = handover(alloc)?;
+    for part in told {
+        text.extend_from_slice(part)?;
+    }
+    Ok(text)
+}
+
+/// Whether a new master that is told this refuses the handover, and asks nothing of its children.
+fn refuses(alloc: Global, text: &[u8]) -> Result<bool, AllocError> {
+    let told = joined(alloc, &[text, ASKED])?;
+    Ok(master_says(alloc, told.as_slice(), REFUSED, 0) == Some(0))
+}
+
+#[test]
+fn a_new_master_makes_the_calls_that_it_is_told(rt: HostRuntime) -> Result<(), Fail> {
+    let alloc = rt.alloc();
+    let told = handed(alloc, &[CALLS])?;
+    assert!(rt; master_says(alloc, told.as_slice(), SAID, 0).is_some());
+    Ok(())
+}
+
+#[test]
+fn a_new_master_starts_workers_and_writes_its_number(rt: HostRuntime) -> Result<(), Fail> {
+    let alloc = rt.alloc();
+    let told = handed(alloc, &[b"m2 fork 2.2 5\nm2 write-pid /run/a.pid\n"])?;
+    let mut output = Output::new(alloc, None);
+    let served = serve_new_master(alloc, told.as_slice(), None, &mut output);
+    let Some(family) = served.family else {
+        panic!(rt; "no family");
+    };
+    let role = Role::Worker {
+        generation: Generation {
+            image: 2,
+            config: 2,
+        },
+        nr: 5,
+        start: 1,
+    };
+    let calls = family.calls();
+    assert_eq!(rt; calls.len(), 5);
+    assert!(rt; matches!(&calls[0], Asked::Started(started, Ok(10)) if *started == role));
+    assert!(rt; has_said(&calls[1], b"worker 2.2 5 1"));
+    assert!(rt; has_said(&calls[2], b"listener 0.0.0.0:8080"));
+    assert!(rt; has_said(&calls[3], b"go"));
+    assert!(rt;
+        matches!(&calls[4], Asked::Wrote(_, text, true) if text.as_slice() == b"200\n".as_slice())
+    );
+    Ok(())
+}
+
+/// Whether a call said just this line to the first child.
+fn has_said(call: &Asked, line: &[u8]) -> bool {
+    matches!(call, Asked::Said(10, said, true) if said.as_slice() == line)
+}
+
+#[test]
+fn a_handover_that_is_cut_is_refused(rt: HostRuntime) -> Result<(), Fail> {
+    let alloc = rt.alloc();
+    let text = handover(alloc)?;
+    for bytes in 0..text.len().saturating_sub(1) {
+        let Some(cut) = text.as_slice().get(..bytes) else {
+            panic!(rt; "no cut");
+        };
+        let line = joined(alloc, &[cut, b"\n"])?;
+        assert!(rt; refuses(alloc, line.as_slice())?);
+
+        // without the rest of its line it waits for it, and ends with the input
+        assert!(rt; master_says(alloc, cut, b"", 0) == Some(0));
+    }
+    assert!(rt; !refuses(alloc, text.as_slice())?);
+    Ok(())
+}
+
+/// The lines of the handover, with another text in place of one.
+fn with_line(alloc: Global, place: usize, line: &[u8]) -> Result<Vec<u8>, AllocError> {
+    let mut text = Vec::new(alloc);
+    for (at, one) in HANDOVER.iter().enumerate() {
+        text.extend_from_slice(if at == place { line } else { one })?;
+    }
+    Ok(text)
+}
+
+/// The place of the line `pid-file`, which a handover can lack.
+const PID_FILE: usize = 6;
+
+#[test]
+fn a_handover_that_lacks_a_line_is_refused(rt: HostRuntime) -> Result<(), Fail> {
+    let alloc = rt.alloc();
+    for place in 0..HANDOVER.len() {
+        let text = with_line(alloc, place, b"")?;
+        assert!(rt; refuses(alloc, text.as_slice())? == (place != PID_FILE));
+    }
+    Ok(())
+}
+
+#[test]
+fn a_handover_with_a_faulty_line_is_refused(rt: HostRuntime) -> Result<(), Fail> {
+    let alloc = rt.alloc();
+    let long = long_line(alloc, 5000)?;
+    for place in 0..7 {
+        for faulty in [b"\n".as_slice(), b"what\n", b"end \n", long.as_slice()] {
+            let text = with_line(alloc, place, faulty)?;
+            assert!(rt; refuses(alloc, text.as_slice())?);
+        }
+    }
+    Ok(())
+}
+
+#[test]
+fn a_handover_ends_with_its_line_end(rt: HostRuntime) -> Result<(), Fail> {
+    let alloc = rt.alloc();
+
+    // also a faulty one: what follows is none of it
+    for text in [
+        b"end\n".as_slice(),
+        b"handover 2\nend\n",
+        b"handover 1\nend\n",
+    ] {
+        assert!(rt; refuses(alloc, text)?);
+        let told = joined(alloc, &[text, b"m2 adopt\nend\nalive\n"])?;
+        assert!(rt; master_says(alloc, told.as_slice(), b"refused\n", 1) == Some(0));
+    }
+    let told = handed(alloc, &[b"end\nalive\n"])?;
+    assert!(rt; master_says(alloc, told.as_slice(), b"", 1) == Some(0));
+    Ok(())
+}
+
+/// A new master's own upgrade.
+const NEXT: [&[u8]; 14] = [
+    b"m2 spawn-master 3\n",
+    b"handover 1\n",
+    b"old-pid 200\n",
+    b"generation 3 3\n",
+    b"listener 3 0.0.0.0:8080\n",
+    b"want 0.0.0.0:8080\n",
+    b"workers 1\n",
+    b"end\n",
+    b"m3 adopt\n",
+    b"m3 fork 3.3 0\n",
+    b"m2 alive 3\n",
+    b"m2 leave\n",
+    b"m3 census 3.3\n",
+    b"m3 leave\n",
+];
+
+#[test]
+fn calls_are_passed_to_the_next_master(rt: HostRuntime) -> Result<(), Fail> {
+    let alloc = rt.alloc();
+    let told = handed(alloc, &NEXT)?;
+    let mut output = Output::new(alloc, None);
+    let served = serve_new_master(alloc, told.as_slice(), None, &mut output);
+    assert_eq!(rt; served.status, 0);
+    assert!(rt;
+        output.text() == b"spawned\nadopted\nforked\nalive\nok\ncounted 0\nok\n".as_slice()
+    );
+    let Some(family) = served.family else {
+        panic!(rt; "no family");
+    };
+    assert!(rt; hands_over(family.calls()));
+    Ok(())
+}
+
+/// Whether the next master was started, told each line of its handover, and then each of its calls, whose answer is
+/// heard.
+fn hands_over(calls: &[Asked]) -> bool {
+    let Some((first, rest)) = calls.split_first() else {
+        return false;
+    };
+    let Some((texts, asked)) = rest.split_at_checked(7) else {
+        return false;
+    };
+    let is_started = matches!(first, Asked::Started(Role::Master { image: 3 }, Ok(10)));
+    is_started && says_all(texts, &NEXT[1..8]) && asked.len() == 10
+}
+
+/// Whether calls say these lines.
+fn says_all(calls: &[Asked], lines: &[&[u8]]) -> bool {
+    calls.len() == lines.len()
+        && calls.iter().zip(lines.iter()).all(|(call, line)| line
+            .strip_suffix(b"\n")
+            .is_some_and(|said| has_said(call, said)))
+}
+
+#[test]
+fn a_handover_is_passed_on(rt: HostRuntime) -> Result<(), Fail> {
+    let alloc = rt.alloc();
+    let next = joined(alloc, &NEXT[..8])?;
+    let after = b"m3 spawn-master 4\nhandover 1\nend\nm3 adopt\n";
+    let told = handed(alloc, &[next.as_slice(), after])?;
+
+    // the next master gives an answer that the call does not list, and is stopped
+    let mut output = Output::new(alloc, None);
+    let served = serve_new_master(alloc, told.as_slice(), None, &mut output);
+    assert!(rt; output.text() == b"spawned\nmaster-gone\nmaster-gone\n".as_slice());
+    let Some(family) = served.family else {
+        panic!(rt; "no family");
+    };
+    let calls = family.calls();
+    assert_eq!(rt; calls.len(), 13);
+    let lines: [&[u8]; 3] = [b"m3 spawn-master 4\n", b"handover 1\n", b"end\n"];
+    assert!(rt; says_all(&calls[8..11], &lines));
+    assert!(rt; matches!(&calls[11], Asked::HeardLine(10, Heard::Line, _)));
+    assert!(rt; matches!(&calls[12], Asked::Stopped(10)));
+    Ok(())
+}
+
+/// So many lines of the new master's own upgrade.
+fn first_lines(alloc: Global, count: usize) -> Result<Vec<u8>, AllocError> {
+    let mut text = Vec::new(alloc);
+    for line in NEXT.iter().take(count) {
+        text.extend_from_slice(line)?;
+    }
+    Ok(text)
+}
+
+#[test]
+fn nothing_comes_between_a_start_and_its_handover(rt: HostRuntime) -> Result<(), Fail> {
+    let alloc = rt.alloc();
+    for line in [b"alive\n".as_slice(), b"m2 adopt\n", b"m2 spawn-master 3\n"] {
+        for count in 1..8 {
+            let begun = first_lines(alloc, count)?;
+            let told = handed(alloc, &[begun.as_slice(), line, b"end\nalive\n"])?;
+            assert!(rt; master_says(alloc, told.as_slice(), b"", 1) == Some(0));
+        }
+    }
+    Ok(())
+}
+
+#[test]
+fn a_new_master_ends_with_its_input(rt: HostRuntime) -> Result<(), Fail> {
+    let alloc = rt.alloc();
+    let next = joined(alloc, &NEXT)?;
+    let whole = handed(alloc, &[CALLS, next.as_slice()])?;
+    let mut output = Output::new(alloc, None);
+    let _ = serve_new_master(alloc, whole.as_slice(), None, &mut output);
+    for bytes in 0..whole.len() {
+        let mut some = Output::new(alloc, None);
+        let Some(told) = whole.as_slice().get(..bytes) else {
+            panic!(rt; "no part");
+        };
+        let served = serve_new_master(alloc, told, None, &mut some);
+        assert_eq!(rt; served.status, 0);
+        assert!(rt; served.family.is_some());
+        assert!(rt; output.text().starts_with(some.text()));
+        assert!(rt; some.has_said(lines_in(some.text())));
+    }
+    Ok(())
+}
+
+/// Lines that a new master can't be told behind its handover.
+const OTHERS: [&[u8]; 27] = [
+    b"",
+    b" ",
+    b"alive ",
+    b" alive",
+    b"alive 1",
+    b"Alive",
+    b"m2",
+    b"m2 ",
+    b"m adopt",
+    b"2 adopt",
+    b"M2 adopt",
+    b"m02 adopt",
+    b"m2 adopt ",
+    b"m2  adopt",
+    b"m4294967296 adopt",
+    b"m2 fork 2.2",
+    b"m2 fork 2.2 1024",
+    b"m2 census",
+    b"m2 spawn-master",
+    b"m2 spawn-master 4294967296",
+    b"m2 open 0.0.0.0",
+    b"go",
+    b"ping",
+    b"quit",
+    b"end",
+    b"handover 1",
+    b"adopted",
+];
+
+#[test]
+fn a_new_master_fails_at_any_other_line(rt: HostRuntime) -> Result<(), Fail> {
+    let alloc = rt.alloc();
+    for line in &OTHERS {
+        let told = handed(alloc, &[b"m2 adopt\n", line, b"\nalive\n"])?;
+        assert!(rt; master_says(alloc, told.as_slice(), b"adopted\n", 1) == Some(0));
+    }
+    let long = long_line(alloc, 5000)?;
+    let told = handed(alloc, &[b"alive\n", long.as_slice(), b"alive\n"])?;
+    assert!(rt; master_says(alloc, told.as_slice(), b"alive\n", 1) == Some(0));
+    Ok(())
+}
+
+#[test]
+fn a_new_master_fails_where_it_cannot_answer(rt: HostRuntime) -> Result<(), Fail> {
+    let alloc = rt.alloc();
+    let told = handed(alloc, &[CALLS])?;
+    for fails in 0..20 {
+        let mut output = Output::new(alloc, Some(fails));
+        let served = serve_new_master(alloc, told.as_slice(), None, &mut output);
+        assert_eq!(rt; served.status, 1);
+        assert!(rt; served.family.is_some());
+        assert!(rt; SAID.starts_with(output.text()));
+        assert!(rt; output.has_said(fails));
+    }
+    Ok(())
+}
+
+/// Whether each call has an answer that it lists, and `alive` its own.
+fn are_answers(calls: &[u8], answers: &[u8]) -> bool {
+    let mut said = answers.split(|byte| *byte == b'\n');
+    for line in calls.split(|byte| *byte == b'\n') {
+        let Some(answer) = said.next() else {
+            return false;
+        };
+        let is_answer = match read_call(line) {
+            Some((_, call)) => read_answer(&call, answer).is_some(),
+            None => line == answer,
+        };
+        if !is_answer {
+            return false;
+        }
+    }
+    said.next().is_none()
+}
+
+#[test]
+fn a_new_master_answers_whichever_call_of_its_family_fails(rt: HostRuntime) -> Result<(), Fail> {
+    let alloc = rt.alloc();
+    let told = handed(alloc, &[CALLS])?;
+    for fails in 0..40 {
+        let mut output = Output::new(alloc, None);
+        let served = serve_new_master(alloc, told.as_slice(), Some(fails), &mut output);
+        assert_eq!(rt; served.status, 0);
+        assert!(rt; are_answers(CALLS, output.text()));
+    }
+    Ok(())
+}
+
+/// What was said to a child, line by line, and what was heard of it.
+fn talk_with(
+    alloc: Global,
+    family: &Recorded,
+    child: u32,
+) -> Result<(Vec<u8>, Vec<u8>), AllocError> {
+    let mut said = Vec::new(alloc);
+    let mut heard = Vec::new(alloc);
+    for call in family.calls() {
+        match call {
+            Asked::Said(id, line, _) if *id == child => {
+                said.extend_from_slice(line.as_slice())?;
+                said.extend_from_slice(b"\n")?;
+            }
+            Asked::HeardLine(id, _, line) if *id == child => {
+                heard.extend_from_slice(line.as_slice())?;
+                heard.extend_from_slice(b"\n")?;
+            }
+            _ => {}
+        }
+    }
+    Ok((said, heard))
+}
+
+#[test]
+fn a_worker_on_pipes_obeys_a_new_master(rt: HostRuntime) -> Result<(), Fail> {
+    let alloc = rt.alloc();
+    let told = handed(alloc, &[CALLS])?;
+    let mut output = Output::new(alloc, None);
+    let served = serve_new_master(alloc, told.as_slice(), None, &mut output);
+    let Some(family) = served.family else {
+        panic!(rt; "no family");
+    };
+    for child in 10..12 {
+        let (said, heard) = talk_with(alloc, &family, child)?;
+        let mut answers = Output::new(alloc, None);
+        assert_eq!(rt;
+            child_programs::serve_worker(said.as_slice(), &mut answers),
+            0
+        );
+        assert!(rt; answers.text() == heard.as_slice());
+    }
+    Ok(())
+}

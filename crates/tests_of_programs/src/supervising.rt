@@ -1,0 +1,435 @@
+//! Control words of an input, carried out on children in memory.
+use listener_set::FilePath;
+use log::sink::{Discard, Memory};
+use log::{LevelFilter, Logged};
+use std::alloc::{AllocError, Global};
+use std::io::{Error as IoError, ErrorKind, Read, Result as IoResult, Write};
+use std::test::Fail;
+use supervisor::{NextRefusal, NextSettings, Start, Supervised, SupervisorFault, supervise_on};
+use tests_of_children::{Asked, Recorded};
+use transcript::read_transcripts;
+use vocabulary::Settings;
+use word_runner::CodeText;
+
+/// What a reading of the next settings comes to.
+#[derive(Clone, Copy)]
+enum Gives {
+    Plain,
+    Refused,
+    Unreadable,
+    NoMemory,
+}
+
+/// Next settings, and how often they were read.
+#[derive(Drop)]
+struct Next {
+    gives: Gives,
+    reads: u32,
+}
+
+impl NextSettings for Next {
+    fn read(&mut self) -> Result<Settings, NextRefusal> {
+        self.reads = self.reads.saturating_add(1);
+        match self.gives {
+            Gives::Plain => Ok(Settings::plain()),
+            Gives::Refused => Err(NextRefusal::Refused(CodeText::of("C4 ", "workers"))),
+            Gives::Unreadable => Err(NextRefusal::Unreadable),
+            Gives::NoMemory => Err(NextRefusal::Memory),
+        }
+    }
+}
+
+/// The text of a run over children of which no call fails, and what came of it.
+fn run<I: Read + Drop, O: Write>(
+    alloc: Global,
+    family: Recorded,
+    gives: Gives,
+    input: I,
+    output: &mut O,
+) -> Supervised<Recorded> {
+    let start = Start {
+        settings: Settings::plain(),
+        pid: 7,
+    };
+    let mut next = Next { gives, reads: 0 };
+    supervise_on(alloc, family, &start, &mut next, input, output, &Discard)
+}
+
+/// Whether a run over children that obey writes this, and ends so.
+fn writes(
+    alloc: Global,
+    gives: Gives,
+    input: &[u8],
+    text: &[u8],
+    status: Result<u8, SupervisorFault>,
+) -> bool {
+    let mut output = Vec::new(alloc);
+    let ended = run(alloc, Recorded::new(alloc, None), gives, input, &mut output);
+    output.as_slice() == text && ended.status == status
+}
+
+/// The calls of a family, a line each.
+fn calls_text(alloc: Global, calls: &[Asked]) -> Result<Vec<u8>, AllocError> {
+    let mut text = Vec::new(alloc);
+    for call in calls {
+        match call {
+            Asked::Started(..) => text.extend_from_slice(b"start")?,
+            Asked::Said(_, line, _) => {
+                text.extend_from_slice(b"say ")?;
+                text.extend_from_slice(line)?;
+            }
+            Asked::HeardLine(..) => text.extend_from_slice(b"hear")?,
+            Asked::Stopped(_) => text.extend_from_slice(b"stop")?,
+            Asked::Awaited(..) => text.extend_from_slice(b"gone")?,
+            Asked::Wrote(_, contents, _) => {
+                text.extend_from_slice(b"write ")?;
+                text.extend_from_slice(contents)?;
+            }
+            Asked::Renamed(..) => text.extend_from_slice(b"rename")?,
+            Asked::Removed(..) => text.extend_from_slice(b"remove")?,
+        }
+        text.extend_from_slice(b"\n")?;
+    }
+    Ok(text)
+}
+
+/// The first tick, where one worker is wanted.
+const FIRST_TICK: &[u8] = b"word tick 0\n\
+    1 m1 fork 1.1 0 : forked\n\
+    2 m1 await-ready 1.1 0 : ready\n\
+    3 m1 census 1.1 : counted 0\n\
+    done cause none pid no-file\n";
+
+/// A run of a tick and an end.
+const A_TICK_AND_AN_END: &[u8] = b"word tick 0\n\
+    1 m1 fork 1.1 0 : forked\n\
+    2 m1 await-ready 1.1 0 : ready\n\
+    3 m1 census 1.1 : counted 0\n\
+    done cause none pid no-file\n\
+    word beat 0 1\n\
+    nothing\n\
+    word tick 1\n\
+    1 m1 census 1.1 : counted 0\n\
+    done cause none pid no-file\n\
+    word QUIT\n\
+    1 m1 quit 1.1 0 : ok\n\
+    2 m1 await-gone 1.1 0 : gone\n\
+    3 m1 leave : ok\n\
+    done cause none pid no-file\n";
+
+/// What the family is told then.
+const ITS_CALLS: &[u8] = b"start\n\
+    say worker 1.1 0 1\n\
+    say listener 0.0.0.0:8080\n\
+    say go\n\
+    hear\n\
+    say ping\n\
+    hear\n\
+    say tick 1\n\
+    hear\n\
+    say ping\n\
+    hear\n\
+    say quit\n\
+    hear\n\
+    gone\n";
+
+#[test]
+fn tells_a_family_just_this(rt: HostRuntime) -> Result<(), Fail> {
+    let alloc = rt.alloc();
+    let mut output = Vec::new(alloc);
+    let family = Recorded::new(alloc, None);
+    let input = b"tick 1\nQUIT\n".as_slice();
+    let ended = run(alloc, family, Gives::Plain, input, &mut output);
+    assert!(rt; ended.status == Ok(0));
+    assert!(rt; output.as_slice() == A_TICK_AND_AN_END);
+    let calls = calls_text(alloc, ended.family.calls())?;
+    assert!(rt; calls.as_slice() == ITS_CALLS);
+    Ok(())
+}
+
+#[test]
+fn quits_at_the_end_of_its_input(rt: HostRuntime) -> Result<(), Fail> {
+    let alloc = rt.alloc();
+    // the same without the word, and with a last line that has no newline
+    for input in [
+        b"tick 1\n".as_slice(),
+        b"tick 1\nQUIT".as_slice(),
+        b"tick 1".as_slice(),
+    ] {
+        assert!(rt; writes(alloc, Gives::Plain, input, A_TICK_AND_AN_END, Ok(0)));
+    }
+    let mut at_once = FIRST_TICK.to_vec(alloc)?;
+    let quit =
+        b"word QUIT\n1 m1 quit 1.1 0 : ok\n2 m1 await-gone 1.1 0 : gone\n3 m1 leave : ok\ndone cause none pid no-file\n";
+    at_once.extend_from_slice(quit)?;
+    assert!(rt; writes(alloc, Gives::Plain, b"", &at_once, Ok(0)));
+    Ok(())
+}
+
+#[test]
+fn goes_on_after_lines_that_are_refused(rt: HostRuntime) -> Result<(), Fail> {
+    let alloc = rt.alloc();
+    let mut input = b"hello\ntick 01\n".to_vec(alloc)?;
+    for _ in 0..5_000 {
+        input.push(b'a')?;
+    }
+    input.extend_from_slice(b"\nbeat 0 5\nbeat 7 5\nQUIT\nTTIN\ntick 9\n\n")?;
+    let mut text = FIRST_TICK.to_vec(alloc)?;
+    text.extend_from_slice(
+        b"unread W1\nunread W2\nunread W1\nword beat 0 5\nnothing\nword beat 7 5\nrefused T3\n",
+    )?;
+    text.extend_from_slice(
+        b"word QUIT\n1 m1 quit 1.1 0 : ok\n2 m1 await-gone 1.1 0 : gone\n3 m1 leave : ok\ndone cause none pid no-file\n",
+    )?;
+    text.extend_from_slice(b"word TTIN\nrefused V1\nword tick 9\nrefused V1\nunread W1\n")?;
+    assert!(rt; writes(alloc, Gives::Plain, &input, &text, Ok(1)));
+    Ok(())
+}
+
+#[test]
+fn takes_up_what_the_next_settings_come_to(rt: HostRuntime) -> Result<(), Fail> {
+    let alloc = rt.alloc();
+    let quit =
+        b"word QUIT\n1 m1 quit 1.1 0 : ok\n2 m1 await-gone 1.1 0 : gone\n3 m1 leave : ok\ndone cause none pid no-file\n";
+    for (gives, block) in [
+        (Gives::Refused, b"word HUP\nrefused C4 workers\n".as_slice()),
+        (Gives::Unreadable, b"word HUP\nrefused W4\n".as_slice()),
+    ] {
+        let mut text = FIRST_TICK.to_vec(alloc)?;
+        text.extend_from_slice(block)?;
+        text.extend_from_slice(quit)?;
+        assert!(rt; writes(alloc, gives, b"HUP\nQUIT\n", &text, Ok(1)));
+    }
+    let short = Err(SupervisorFault::Memory);
+    assert!(rt; writes(alloc, Gives::NoMemory, b"HUP\nQUIT\n", FIRST_TICK, short));
+    let mut text = FIRST_TICK.to_vec(alloc)?;
+    text.extend_from_slice(quit)?;
+    text.extend_from_slice(b"word HUP\nrefused V1\nword USR2\nrefused V1\n")?;
+    // without a master they are not read
+    assert!(rt; writes(alloc, Gives::NoMemory, b"QUIT\nHUP\nUSR2\n", &text, Ok(1)));
+    Ok(())
+}
+
+/// A reader of a byte at each read, that fails at one, counted from 1.
+#[derive(Drop)]
+struct FailingReader<'a> {
+    text: &'a [u8],
+    at: u32,
+}
+
+impl Read for FailingReader<'_> {
+    fn read(&mut self, buf: &mut [u8]) -> IoResult<usize> {
+        if self.at == 1 {
+            return Err(IoError::from(ErrorKind::ConnectionReset));
+        }
+        self.at = self.at.saturating_sub(1);
+        match (self.text.split_first(), buf.first_mut()) {
+            (Some((first, rest)), Some(place)) => {
+                *place = *first;
+                self.text = rest;
+                Ok(1)
+            }
+            _ => Ok(0),
+        }
+    }
+}
+
+/// A writer that fails at a write or a flush, counted from 1 over both.
+#[derive(Drop)]
+struct FailingWriter {
+    written: Vec<u8>,
+    at: u32,
+}
+
+impl FailingWriter {
+    fn fails(&mut self) -> bool {
+        let fails = self.at == 1;
+        self.at = self.at.saturating_sub(1);
+        fails
+    }
+}
+
+impl Write for FailingWriter {
+    fn write(&mut self, buf: &[u8]) -> IoResult<usize> {
+        if self.fails() {
+            return Err(IoError::from(ErrorKind::BrokenPipe));
+        }
+        self.written.extend_from_slice(buf)?;
+        Ok(buf.len())
+    }
+
+    fn flush(&mut self) -> IoResult<()> {
+        if self.fails() {
+            return Err(IoError::from(ErrorKind::BrokenPipe));
+        }
+        Ok(())
+    }
+}
+
+#[test]
+fn ends_where_a_read_fails(rt: HostRuntime) -> Result<(), Fail> {
+    let alloc = rt.alloc();
+    let text = b"tick 1\nQUIT\n".as_slice();
+    for at in 1..16 {
+        let input = FailingReader { text, at };
+        let mut output = Vec::new(alloc);
+        let ended = run(
+            alloc,
+            Recorded::new(alloc, None),
+            Gives::Plain,
+            input,
+            &mut output,
+        );
+        let wanted = if at <= 13 {
+            Err(SupervisorFault::File)
+        } else {
+            Ok(0)
+        };
+        assert!(rt; ended.status == wanted);
+        assert!(rt; A_TICK_AND_AN_END.starts_with(output.as_slice()));
+    }
+    Ok(())
+}
+
+#[test]
+fn ends_where_a_write_fails(rt: HostRuntime) -> Result<(), Fail> {
+    let alloc = rt.alloc();
+    for at in 1..12 {
+        let mut output = FailingWriter {
+            written: Vec::new(alloc),
+            at,
+        };
+        let input = b"tick 1\nQUIT\n".as_slice();
+        let ended = run(
+            alloc,
+            Recorded::new(alloc, None),
+            Gives::Plain,
+            input,
+            &mut output,
+        );
+        let wanted = if at <= 8 {
+            Err(SupervisorFault::File)
+        } else {
+            Ok(0)
+        };
+        assert!(rt; ended.status == wanted);
+        assert!(rt; A_TICK_AND_AN_END.starts_with(output.written.as_slice()));
+    }
+    Ok(())
+}
+
+#[test]
+fn ends_whichever_call_of_its_children_fails(rt: HostRuntime) -> Result<(), Fail> {
+    let alloc = rt.alloc();
+    for fails in 0..40 {
+        for input in [b"tick 1\nQUIT\n".as_slice(), b"USR2\nQUIT\n".as_slice()] {
+            let mut output = Vec::new(alloc);
+            let family = Recorded::new(alloc, Some(fails));
+            let ended = run(alloc, family, Gives::Plain, input, &mut output);
+            assert!(rt; matches!(ended.status, Ok(0 | 1 | 3 | 4)));
+            assert!(rt; read_transcripts(alloc, &output).is_ok());
+        }
+    }
+    Ok(())
+}
+
+#[test]
+fn goes_over_to_a_new_master(rt: HostRuntime) -> Result<(), Fail> {
+    let alloc = rt.alloc();
+    let mut text = FIRST_TICK.to_vec(alloc)?;
+    text.extend_from_slice(
+        b"word USR2\n1 m1 spawn-master 2 : spawned\n2 m2 adopt : adopted\n3 m2 fork 2.2 0 : forked\n4 m2 await-ready 2.2 0 : ready\n5 m2 census 2.2 : counted 0\n6 m1 quit 1.1 0 : ok\n7 m1 await-gone 1.1 0 : gone\n8 m1 alive 2 : alive\n9 m1 leave : ok\n10 m2 census 2.2 : counted 0\ndone cause none pid no-file\n",
+    )?;
+    let mut output = Vec::new(alloc);
+    let family = Recorded::new(alloc, None);
+    let ended = run(
+        alloc,
+        family,
+        Gives::Plain,
+        b"USR2\n".as_slice(),
+        &mut output,
+    );
+    assert!(rt; output.starts_with(text.as_slice()));
+    assert!(rt; matches!(ended.status, Ok(_)));
+    Ok(())
+}
+
+#[test]
+fn writes_the_pid_file_first(rt: HostRuntime) -> Result<(), Fail> {
+    let alloc = rt.alloc();
+    let Ok(path) = FilePath::read(b"/run/a.pid") else {
+        panic!(rt; "no path");
+    };
+    let start = Start {
+        settings: Settings {
+            workers: 0,
+            pid: Some(path),
+            ..Settings::plain()
+        },
+        pid: 41,
+    };
+    for fails in [None, Some(0)] {
+        let mut next = Next {
+            gives: Gives::Plain,
+            reads: 0,
+        };
+        let mut output = Vec::new(alloc);
+        let family = Recorded::new(alloc, fails);
+        let input = b"".as_slice();
+        let ended = supervise_on(
+            alloc,
+            family,
+            &start,
+            &mut next,
+            input,
+            &mut output,
+            &Discard,
+        );
+        let calls = calls_text(alloc, ended.family.calls())?;
+        if fails.is_none() {
+            assert!(rt; ended.status == Ok(0));
+            assert!(rt; calls.as_slice() == b"write 41\n\nremove\n".as_slice());
+        } else {
+            assert!(rt; ended.status == Err(SupervisorFault::File));
+            assert!(rt; calls.as_slice() == b"write 41\n\n".as_slice());
+            assert!(rt; output.is_empty());
+        }
+        assert_eq!(rt; next.reads, 0);
+    }
+    Ok(())
+}
+
+#[test]
+fn logs_a_line_for_each_block(rt: HostRuntime) -> Result<(), Fail> {
+    let alloc = rt.alloc();
+    let start = Start {
+        settings: Settings::plain(),
+        pid: 7,
+    };
+    let mut next = Next {
+        gives: Gives::Refused,
+        reads: 0,
+    };
+    let log = Logged::new((), LevelFilter::Info, Memory::new(alloc));
+    let mut output = Vec::new(alloc);
+    let family = Recorded::new(alloc, None);
+    let input = b"tick 1\nHUP\nwhat\nQUIT\n".as_slice();
+    let ended = supervise_on(alloc, family, &start, &mut next, input, &mut output, &log);
+    assert!(rt; ended.status == Ok(1));
+    assert_eq!(rt; next.reads, 1);
+    let (_, sink) = log.into_parts();
+    let lines = sink.into_lines();
+    let wanted = [
+        "[INFO  prefork] tick 0: done",
+        "[INFO  prefork] beat 0 1: nothing",
+        "[INFO  prefork] tick 1: done",
+        "[INFO  prefork] HUP: refused C4 workers",
+        "[INFO  prefork] unread W1",
+        "[INFO  prefork] QUIT: done",
+    ];
+    assert_eq!(rt; lines.len(), wanted.len());
+    for (line, text) in lines.as_slice().iter().zip(wanted) {
+        assert!(rt; line.as_str() == text);
+    }
+    Ok(())
+}
