@@ -8,7 +8,7 @@ use Rattle.kernel_model.specs.Pattern.{moment_at}
 use Rattle.certifier.specs.declared.replay.Replay.{Replay}
 use Rattle.certifier.specs.declared.mismatch.Mismatch.{Mismatch}
 use Rattle.certifier.specs.declared.mismatch.Mismatch.TheVariants as mismatch
-use Rattle.certifier.specs.Places.{Place, HasTaken, StopsAt, Shows, Holds, FailsBy}
+use Rattle.certifier.specs.Places.{Place, HasTaken, StopsBy, Shows, Holds, FailsBy}
 
 module _ (text heirs : List ℕ) (from : Place) (entries : List Entry) (report : Report) (x : Replay) (taken : HasTaken text heirs from entries x) where
   pub shows-all : Shows text heirs from entries x.pattern
@@ -37,6 +37,9 @@ module _ (text heirs : List ℕ) (from : Place) (entries : List Entry) (report :
       })
 
 -- a replay that stops
-pub stops-so : (text heirs : List ℕ) (from : Place) (entries : List Entry) (report : Report) (why : Mismatch) → (why ≡ mismatch.Memory) ⊎ ((n : ℕ) × (why ≡ mismatch.Step n) × StopsAt text heirs from entries n) → FailsBy text heirs from entries report why
-stops-so text heirs from entries report why (inl memory) = subst (FailsBy text heirs from entries report) (sym memory) tt
-stops-so text heirs from entries report why (inr stops) = subst (FailsBy text heirs from entries report) (sym stops.1) stops.2
+pub stops-so : (text heirs : List ℕ) (from : Place) (entries : List Entry) (report : Report) (why : Mismatch) → StopsBy text heirs from entries why → FailsBy text heirs from entries report why
+stops-so text heirs from entries report mismatch.Refused h = h
+stops-so text heirs from entries report (mismatch.Step n) h = h
+stops-so text heirs from entries report mismatch.Short h = absurd h
+stops-so text heirs from entries report mismatch.Report h = absurd h
+stops-so text heirs from entries report mismatch.Memory h = h

@@ -29,16 +29,34 @@ use Rattle.plan_executor.proofs.Reporting.{whole-run}
 use Rattle.certifier.specs.declared.mismatch.Mismatch.{Mismatch}
 use Rattle.certifier.specs.declared.mismatch.Mismatch.TheVariants as mismatch
 use Rattle.certifier.specs.Shown.{moments_shown}
-use Rattle.certifier.specs.Places.{AreNext, place_after_all, Shows, Holds, FailsBy}
-use Rattle.certifier.specs.Explained.{trail_by, IsExplained, IsReady, IsUnready, IsStrange, IsMismatch, mismatch_of}
+use Rattle.certifier.specs.Places.{AreNext, place_after_all, Shows, StopsBy, Holds, FailsBy}
+use Rattle.certifier.specs.Explained.{trail_by, IsExplained, IsReady, IsUnready, IsStrange, IsNoBeginning, IsMismatch, mismatch_of}
 use Rattle.certifier.specs.Certified.{IsBeginning, IsCertified, EnactsSo}
 use Rattle.certifier.proofs.Asking.{not-lost}
 use Rattle.certifier.proofs.Steps.{next-front}
 use Rattle.certifier.proofs.Explaining.{begins, goes-through, next-follows, next-edges, next-trail, next-replays, next-spares, is-explained, is-next}
 
--- entries that begin a run
-pub begun : (t : Table) (r : Record) (target : Target) (entries : List Entry) (pattern : List (ℕ × Moment)) → Shows (text_handed r target) (heirs_of r target) (begins t r target) entries pattern → IsBeginning t r target entries pattern
-begun t r target entries pattern h = record { explained = is-explained t r target entries h.next; shown = h.shown }
+---- Entries that are to begin a run
+
+module _ (t : Table) (r : Record) (target : Target) (entries : List Entry) (ready : IsReady t r target) where
+  pub begun : (pattern : List (ℕ × Moment)) → Shows (text_handed r target) (heirs_of r target) (begins t r target) entries pattern → IsBeginning t r target entries pattern
+  begun pattern h = record { ready = ready; explained = is-explained t r target entries h.next; shown = h.shown }
+
+  pub unbegun : (why : Mismatch) → StopsBy (text_handed r target) (heirs_of r target) (begins t r target) entries why → (why ≡ mismatch.Memory) ⊎ IsNoBeginning t r target entries why
+  unbegun mismatch.Refused h = absurd h
+  unbegun (mismatch.Step n) h = inr (record {
+    ready = ready;
+    before = h.before;
+    number = h.number;
+    within = h.within;
+    explained = is-explained t r target (take h.before entries) h.next;
+    strange = λ all. h.stops (is-next t r target (take n entries) all);
+  })
+  unbegun mismatch.Short h = absurd h
+  unbegun mismatch.Report h = absurd h
+  unbegun mismatch.Memory h = inl refl
+
+---- Transcripts
 
 module _ (t : Table) (r : Record) (target : Target) (entries : List Entry) (report : Report) (ready : IsReady t r target) where
   -- the trail at the end
@@ -73,15 +91,8 @@ module _ (t : Table) (r : Record) (target : Target) (entries : List Entry) (repo
   ---- One that does not
 
   pub mismatched : (why : Mismatch) → FailsBy (text_handed r target) (heirs_of r target) (begins t r target) entries report why → (why ≡ mismatch.Memory) ⊎ IsMismatch t r target entries report why
-  mismatched mismatch.Refused h = absurd h
-  mismatched (mismatch.Step n) h = inr (record {
-    ready = ready;
-    before = h.before;
-    number = h.number;
-    within = h.within;
-    explained = is-explained t r target (take h.before entries) h.next;
-    strange = λ all. h.stops (is-next t r target (take n entries) all);
-  })
+  mismatched mismatch.Refused h = unbegun t r target entries ready mismatch.Refused h
+  mismatched (mismatch.Step n) h = unbegun t r target entries ready (mismatch.Step n) h
   mismatched mismatch.Short h = inr (record {
     ready = ready;
     explained = is-explained t r target entries h.next;
@@ -93,7 +104,7 @@ module _ (t : Table) (r : Record) (target : Target) (entries : List Entry) (repo
     over = subst (λ (x : Trail). IsOver x.rest) ended h.over;
     other = λ reports. h.other (subst (λ (x : Trail). Reports x report) (sym ended) reports);
   })
-  mismatched mismatch.Memory h = inl refl
+  mismatched mismatch.Memory h = unbegun t r target entries ready mismatch.Memory h
 
 ---- At most one mismatch fits
 
@@ -131,14 +142,26 @@ same-step t r target es n m h k = elim (cases_order n m) [
   | inr (inr lt) ↦ absurd (not-earlier t r target es m n k h lt)
 ]
 
+one-beginning : (t : Table) (r : Record) (target : Target) (es : List Entry) (why other : Mismatch) → IsNoBeginning t r target es why → IsNoBeginning t r target es other → why ≡ other
+one-beginning t r target es mismatch.Refused mismatch.Refused h k = refl
+one-beginning t r target es mismatch.Refused (mismatch.Step m) h k = absurd (not-both t r target h k.ready)
+one-beginning t r target es (mismatch.Step n) mismatch.Refused h k = absurd (not-both t r target k h.ready)
+one-beginning t r target es (mismatch.Step n) (mismatch.Step m) h k = ap mismatch.Step (same-step t r target es n m h k)
+one-beginning t r target es mismatch.Short other h k = absurd h
+one-beginning t r target es mismatch.Report other h k = absurd h
+one-beginning t r target es mismatch.Memory other h k = absurd h
+one-beginning t r target es why mismatch.Short h k = absurd k
+one-beginning t r target es why mismatch.Report h k = absurd k
+one-beginning t r target es why mismatch.Memory h k = absurd k
+
 one : (t : Table) (r : Record) (target : Target) (es : List Entry) (report : Report) (why other : Mismatch) → IsMismatch t r target es report why → IsMismatch t r target es report other → why ≡ other
 one t r target es report mismatch.Refused mismatch.Refused h k = refl
-one t r target es report mismatch.Refused (mismatch.Step m) h k = absurd (not-both t r target h k.ready)
+one t r target es report mismatch.Refused (mismatch.Step m) h k = one-beginning t r target es mismatch.Refused (mismatch.Step m) h k
 one t r target es report mismatch.Refused mismatch.Short h k = absurd (not-both t r target h k.ready)
 one t r target es report mismatch.Refused mismatch.Report h k = absurd (not-both t r target h k.ready)
 one t r target es report mismatch.Refused mismatch.Memory h k = absurd k
-one t r target es report (mismatch.Step n) mismatch.Refused h k = absurd (not-both t r target k h.ready)
-one t r target es report (mismatch.Step n) (mismatch.Step m) h k = ap mismatch.Step (same-step t r target es n m h k)
+one t r target es report (mismatch.Step n) mismatch.Refused h k = one-beginning t r target es (mismatch.Step n) mismatch.Refused h k
+one t r target es report (mismatch.Step n) (mismatch.Step m) h k = one-beginning t r target es (mismatch.Step n) (mismatch.Step m) h k
 one t r target es report (mismatch.Step n) mismatch.Short h k = absurd (h.strange (all-explained t r target es n k.explained))
 one t r target es report (mismatch.Step n) mismatch.Report h k = absurd (h.strange (all-explained t r target es n k.explained))
 one t r target es report (mismatch.Step n) mismatch.Memory h k = absurd k
@@ -154,10 +177,18 @@ one t r target es report mismatch.Report mismatch.Report h k = refl
 one t r target es report mismatch.Report mismatch.Memory h k = absurd k
 one t r target es report mismatch.Memory other h k = absurd h
 
+-- none where the entries begin a run
+none-unbegun : (t : Table) (r : Record) (target : Target) (es : List Entry) → IsReady t r target → IsExplained t r target es → (why : Mismatch) → IsNoBeginning t r target es why → ⊥
+none-unbegun t r target es ready all mismatch.Refused h = not-both t r target h ready
+none-unbegun t r target es ready all (mismatch.Step n) h = h.strange (all-explained t r target es n all)
+none-unbegun t r target es ready all mismatch.Short h = h
+none-unbegun t r target es ready all mismatch.Report h = h
+none-unbegun t r target es ready all mismatch.Memory h = h
+
 -- none where the transcript holds
 none-fits : (t : Table) (r : Record) (target : Target) (es : List Entry) (report : Report) → IsReady t r target → (pattern : List (ℕ × Moment)) → Holds (text_handed r target) (heirs_of r target) (begins t r target) es report pattern → (why : Mismatch) → IsMismatch t r target es report why → ⊥
-none-fits t r target es report ready pattern holds mismatch.Refused h = not-both t r target h ready
-none-fits t r target es report ready pattern holds (mismatch.Step n) h = h.strange (all-explained t r target es n (is-explained t r target es holds.next))
+none-fits t r target es report ready pattern holds mismatch.Refused h = none-unbegun t r target es ready (is-explained t r target es holds.next) mismatch.Refused h
+none-fits t r target es report ready pattern holds (mismatch.Step n) h = none-unbegun t r target es ready (is-explained t r target es holds.next) (mismatch.Step n) h
 none-fits t r target es report ready pattern holds mismatch.Short h = h.unfinished (subst (λ (x : Trail). IsOver x.rest) (ended t r target es report ready) holds.over)
 none-fits t r target es report ready pattern holds mismatch.Report h = h.other (subst (λ (x : Trail). Reports x report) (ended t r target es report ready) holds.reports)
 none-fits t r target es report ready pattern holds mismatch.Memory h = h
@@ -181,50 +212,81 @@ enacts-so first r target es report pattern is = record {
 ---- What a certification answers
 
 -- the result is a mismatch exactly where that fits, want of memory aside
+abbrev pub IsExactly : {T : Type 0} → (Mismatch → Type 0) → Result T Mismatch → Type 0
+IsExactly fits result = (why : Mismatch) → IsErrOf result mismatch.Memory ⊎ (IsErrOf result why ↔ fits why)
+
 abbrev pub IsExact : {T : Type 0} → Table → Record → Target → List Entry → Report → Result T Mismatch → Type 0
-IsExact t r target es report result = (why : Mismatch) → IsErrOf result mismatch.Memory ⊎ (IsErrOf result why ↔ IsMismatch t r target es report why)
+IsExact t r target es report result = IsExactly (IsMismatch t r target es report) result
 
-pub exact-memory : {T : Type 0} (t : Table) (r : Record) (target : Target) (es : List Entry) (report : Report) (result : Result T Mismatch) → result ≡ Err mismatch.Memory → IsExact t r target es report result
-exact-memory t r target es report result is why = inl is
+-- At most one mismatch fits, and a target that can't be carried out is refused.
+pub record IsPlain (t : Table) (r : Record) (target : Target) (fits : Mismatch → Type 0) : Type 0 where
+  pub one : (why other : Mismatch) → fits why → fits other → why ≡ other
+  pub refused : IsUnready t r target → fits mismatch.Refused
 
-pub exact-mismatch : {T : Type 0} (t : Table) (r : Record) (target : Target) (es : List Entry) (report : Report) (result : Result T Mismatch) (because : Mismatch) → result ≡ Err because → IsMismatch t r target es report because → IsExact t r target es report result
-exact-mismatch t r target es report result because is fits why =
-    inr (λ h. let same : because ≡ why = cc in subst (IsMismatch t r target es report) same fits, λ h. let same : because ≡ why = one t r target es report because why fits h in cc)
+pub plain-beginnings : (t : Table) (r : Record) (target : Target) (es : List Entry) → IsPlain t r target (IsNoBeginning t r target es)
+plain-beginnings t r target es = record { one = one-beginning t r target es; refused = λ unready. unready }
 
-exact-held : {T : Type 0} (t : Table) (r : Record) (target : Target) (es : List Entry) (report : Report) (x : T) → ((why : Mismatch) → IsMismatch t r target es report why → ⊥) → IsExact {T = T} t r target es report (Ok x)
-exact-held t r target es report x none why = inr (λ h. cc, λ h. absurd (none why h))
+pub plain-mismatches : (t : Table) (r : Record) (target : Target) (es : List Entry) (report : Report) → IsPlain t r target (IsMismatch t r target es report)
+plain-mismatches t r target es report = record { one = one t r target es report; refused = λ unready. unready }
 
--- what a transcript comes to that is held against a target that could be carried out
-pub answered : (t : Table) (r : Record) (target : Target) (es : List Entry) (report : Report) → IsReady t r target → (result : Result (List (ℕ × Moment)) Mismatch) →
-    IfOk result (Holds (text_handed r target) (heirs_of r target) (begins t r target) es report) →
-    IfErr result (FailsBy (text_handed r target) (heirs_of r target) (begins t r target) es report) →
-    IfOk result (IsCertified t r target es report) × IsExact t r target es report result
-answered t r target es report ready (Ok pattern) holds fails =
-    (certified t r target es report ready pattern holds, exact-held t r target es report pattern (none-fits t r target es report ready pattern holds))
-answered t r target es report ready (Err why) holds fails = (
-  tt,
-  elim (mismatched t r target es report ready why fails) [
-    | inl memory ↦ exact-memory t r target es report (Err why) (ap Err memory)
-    | inr is ↦ exact-mismatch t r target es report (Err why) why refl is
-  ],
-)
-
----- Targets that can't be carried out
-
+-- a target that a planner refuses has no generation left
 planless : (r : Record) (target : Target) (refusal : PlanRefusal) → HasNoPlan r target refusal → lacks_generation r target ≡ true
 planless r target planner.Unplanned none = absurd none
 planless r target planner.TooLarge none = absurd none
 planless r target planner.NoGeneration none = none
 planless r target planner.Memory none = absurd none
 
-pub exact-planless : {T : Type 0} (t : Table) (r : Record) (target : Target) (es : List Entry) (report : Report) (result : Result T Mismatch) (why : EnactRefusal) → result ≡ Err (mismatch_of why) →
-    (why ≡ refusal.Memory) ⊎ ((p : PlanRefusal) × (why ≡ refusal.Plan p) × HasNoPlan r target p) → IsExact t r target es report result
-exact-planless t r target es report result why is (inl memory) = exact-memory t r target es report result (is ∙ ap (λ w. Err (mismatch_of w)) memory)
-exact-planless t r target es report result why is (inr none) =
-    exact-mismatch t r target es report result mismatch.Refused (is ∙ ap (λ w. Err (mismatch_of w)) none.1) (inr (inl (planless r target none.0 none.2)))
+exact-held : {T : Type 0} (fits : Mismatch → Type 0) (x : T) → ((why : Mismatch) → fits why → ⊥) → IsExactly {T = T} fits (Ok x)
+exact-held fits x none why = inr (λ h. cc, λ h. absurd (none why h))
 
-pub exact-short : {T : Type 0} (t : Table) (r : Record) (target : Target) (es : List Entry) (report : Report) (result : Result T Mismatch) (why : EnactRefusal) → result ≡ Err (mismatch_of why) →
-    (why ≡ refusal.Memory) ⊎ ((why ≡ refusal.NoNumbers) × LacksNumbers t (height (plan_tree r target))) → IsExact t r target es report result
-exact-short t r target es report result why is (inl memory) = exact-memory t r target es report result (is ∙ ap (λ w. Err (mismatch_of w)) memory)
-exact-short t r target es report result why is (inr none) =
-    exact-mismatch t r target es report result mismatch.Refused (is ∙ ap (λ w. Err (mismatch_of w)) none.0) (inr (inr none.1))
+module _ (t : Table) (r : Record) (target : Target) (fits : Mismatch → Type 0) (plain : IsPlain t r target fits) where
+  exact-mismatch : {T : Type 0} (result : Result T Mismatch) (because : Mismatch) → result ≡ Err because → fits because → IsExactly fits result
+  exact-mismatch result because is holds why =
+      inr (λ h. let same : because ≡ why = cc in subst fits same holds, λ h. let same : because ≡ why = plain.one because why holds h in cc)
+
+  exact-stopped : {T : Type 0} (why : Mismatch) → (why ≡ mismatch.Memory) ⊎ fits why → IsExactly {T = T} fits (Err why)
+  exact-stopped why (inl memory) = λ _. inl (ap Err memory)
+  exact-stopped {T = T} why (inr is) = exact-mismatch {T = T} (Err why) why refl is
+
+  ---- Targets that can't be carried out
+
+  pub exact-unready : {T : Type 0} (result : Result T Mismatch) → result ≡ Err mismatch.Refused → IsUnready t r target → IsExactly fits result
+  exact-unready result is unready = exact-mismatch result mismatch.Refused is (plain.refused unready)
+
+  pub exact-planless : {T : Type 0} (result : Result T Mismatch) (why : EnactRefusal) → result ≡ Err (mismatch_of why) → (why ≡ refusal.Memory) ⊎ ((p : PlanRefusal) × (why ≡ refusal.Plan p) × HasNoPlan r target p) → IsExactly fits result
+  exact-planless result why is (inl memory) = λ _. inl (is ∙ ap (λ w. Err (mismatch_of w)) memory)
+  exact-planless result why is (inr none) = exact-unready result (is ∙ ap (λ w. Err (mismatch_of w)) none.1) (inr (inl (planless r target none.0 none.2)))
+
+  pub exact-short : {T : Type 0} (result : Result T Mismatch) (why : EnactRefusal) → result ≡ Err (mismatch_of why) → (why ≡ refusal.Memory) ⊎ ((why ≡ refusal.NoNumbers) × LacksNumbers t (height (plan_tree r target))) → IsExactly fits result
+  exact-short result why is (inl memory) = λ _. inl (is ∙ ap (λ w. Err (mismatch_of w)) memory)
+  exact-short result why is (inr none) = exact-unready result (is ∙ ap (λ w. Err (mismatch_of w)) none.0) (inr (inr none.1))
+
+---- Targets that could be carried out
+
+-- what entries come to that are to begin a run
+pub answered-beginning : (t : Table) (r : Record) (target : Target) (es : List Entry) → IsReady t r target → (result : Result (List (ℕ × Moment)) Mismatch) →
+    IfOk result (Shows (text_handed r target) (heirs_of r target) (begins t r target) es) →
+    IfErr result (StopsBy (text_handed r target) (heirs_of r target) (begins t r target) es) →
+    IfOk result (IsBeginning t r target es) × IsExactly (IsNoBeginning t r target es) result
+answered-beginning t r target es ready (Ok pattern) shows stops =
+    let is = begun t r target es ready pattern shows in (is, exact-held (IsNoBeginning t r target es) pattern (none-unbegun t r target es ready is.explained))
+answered-beginning t r target es ready (Err why) shows stops =
+    (tt, exact-stopped t r target (IsNoBeginning t r target es) (plain-beginnings t r target es) why (unbegun t r target es ready why stops))
+
+-- entries that begin a run are refused, if at all, for want of memory
+pub complete-beginning : {T : Type 0} (t : Table) (r : Record) (target : Target) (es : List Entry) (pattern : List (ℕ × Moment)) (result : Result T Mismatch) → IsExactly (IsNoBeginning t r target es) result → IsBeginning t r target es pattern → IfErr result (λ why. why ≡ mismatch.Memory)
+complete-beginning t r target es pattern (Ok x) exact is = tt
+complete-beginning t r target es pattern (Err why) exact is = elim (exact why) [
+  | inl memory ↦ (let e : why ≡ mismatch.Memory = cc in e)
+  | inr iff ↦ absurd (none-unbegun t r target es is.ready is.explained why (iff.0 refl))
+]
+
+-- what a transcript comes to
+pub answered : (t : Table) (r : Record) (target : Target) (es : List Entry) (report : Report) → IsReady t r target → (result : Result (List (ℕ × Moment)) Mismatch) →
+    IfOk result (Holds (text_handed r target) (heirs_of r target) (begins t r target) es report) →
+    IfErr result (FailsBy (text_handed r target) (heirs_of r target) (begins t r target) es report) →
+    IfOk result (IsCertified t r target es report) × IsExact t r target es report result
+answered t r target es report ready (Ok pattern) holds fails =
+    (certified t r target es report ready pattern holds, exact-held (IsMismatch t r target es report) pattern (none-fits t r target es report ready pattern holds))
+answered t r target es report ready (Err why) holds fails =
+    (tt, exact-stopped t r target (IsMismatch t r target es report) (plain-mismatches t r target es report) why (mismatched t r target es report ready why fails))

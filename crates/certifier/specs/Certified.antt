@@ -25,8 +25,9 @@ pub record IsCertified (t : Table) (r : Record) (target : Target) (entries : Lis
   pub is_run : IsWholeRun r target (moment_at pattern) t entries last report
   pub spared : refusal_of r target (moment_at pattern) t ≡ None
 
--- The entries begin a run of the target, and the pattern is the one that they show.
+-- The target could be carried out. The entries begin a run of it, and the pattern is the one that they show.
 pub record IsBeginning (t : Table) (r : Record) (target : Target) (entries : List Entry) (pattern : List (ℕ × Moment)) : Type 0 where
+  pub ready : IsReady t r target
   pub explained : IsExplained t r target entries
   pub shown : (n : ℕ) → moment_at pattern n ≡ pattern_shown t r target entries n
 

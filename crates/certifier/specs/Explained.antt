@@ -74,10 +74,17 @@ pub record IsMisreported (t : Table) (r : Record) (target : Target) (entries : L
   pub over : IsOver (trail_by r target entries).rest
   pub other : Reports (trail_by r target entries) report → ⊥
 
--- When a transcript does not match so, want of memory aside. No two of these hold at once.
+-- When entries begin no run of the target so, want of memory aside. No two of these hold at once.
+abbrev pub IsNoBeginning : Table → Record → Target → List Entry → Mismatch → Type 0
+IsNoBeginning t r target entries mismatch.Refused = IsUnready t r target
+IsNoBeginning t r target entries (mismatch.Step n) = IsStrange t r target entries n
+IsNoBeginning t r target entries mismatch.Short = ⊥
+IsNoBeginning t r target entries mismatch.Report = ⊥
+IsNoBeginning t r target entries mismatch.Memory = ⊥
+
+-- When a transcript does not match so, want of memory aside: its entries begin no run, a step is left, or the report is another.
+-- No two of these hold at once.
 abbrev pub IsMismatch : Table → Record → Target → List Entry → Report → Mismatch → Type 0
-IsMismatch t r target entries report mismatch.Refused = IsUnready t r target
-IsMismatch t r target entries report (mismatch.Step n) = IsStrange t r target entries n
 IsMismatch t r target entries report mismatch.Short = IsShort t r target entries
 IsMismatch t r target entries report mismatch.Report = IsMisreported t r target entries report
-IsMismatch t r target entries report mismatch.Memory = ⊥
+IsMismatch t r target entries report why = IsNoBeginning t r target entries why

@@ -105,10 +105,16 @@ pub record ReportsOther (text heirs : List ℕ) (from : Place) (entries : List E
   pub over : IsOver (place_after_all text heirs from entries).trail.rest
   pub other : Reports (place_after_all text heirs from entries).trail report → ⊥
 
--- Why entries and a report do not hold from a place on. Want of memory may come at any time.
+-- Why entries are not next one after another from a place on. Want of memory may come at any time.
+abbrev pub StopsBy : List ℕ → List ℕ → Place → List Entry → Mismatch → Type 0
+StopsBy text heirs from entries mismatch.Refused = ⊥
+StopsBy text heirs from entries (mismatch.Step n) = StopsAt text heirs from entries n
+StopsBy text heirs from entries mismatch.Short = ⊥
+StopsBy text heirs from entries mismatch.Report = ⊥
+StopsBy text heirs from entries mismatch.Memory = ⊤
+
+-- Why entries and a report do not hold from a place on: the entries stop, a step is left, or the report is another.
 abbrev pub FailsBy : List ℕ → List ℕ → Place → List Entry → Report → Mismatch → Type 0
-FailsBy text heirs from entries report mismatch.Refused = ⊥
-FailsBy text heirs from entries report (mismatch.Step n) = StopsAt text heirs from entries n
 FailsBy text heirs from entries report mismatch.Short = StopsShort text heirs from entries
 FailsBy text heirs from entries report mismatch.Report = ReportsOther text heirs from entries report
-FailsBy text heirs from entries report mismatch.Memory = ⊤
+FailsBy text heirs from entries report why = StopsBy text heirs from entries why

@@ -1,12 +1,16 @@
 //! The beginning of a run, held against the modelled kernel.
-ghost use Rattle.std.specs.Prelude.{◌≡◌, [], ◌∷◌, IfOk};
+ghost use Rattle.std.specs.Prelude.{◌≡◌, ◌⊎◌, ◌↔◌, ℕ, List, [], ◌∷◌, IfOk, IfErr, IsErrOf};
 ghost use Rattle.definitions.specs.Path.{begin};
+ghost use Rattle.definitions.specs.Run.{Moment};
 ghost use Rattle.definitions.specs.Target.{IsTarget};
 ghost use Rattle.definitions.specs.Tree.{height};
 ghost use Rattle.rollback_plan.specs.Plans.{tree_of, note_of, text_of};
 ghost use Rattle.plan_executor.specs.Naming.{listed};
-ghost use Rattle.certifier.specs.Places.{Shows};
+ghost use Rattle.plan_executor.specs.Refusals.{IsPlannable};
+ghost use Rattle.certifier.specs.Places.{Shows, StopsBy};
+ghost use Rattle.certifier.specs.Explained.{IsNoBeginning};
 ghost use Rattle.certifier.specs.Certified.{IsBeginning};
+ghost use Rattle.certifier.specs.declared.mismatch.Mismatch.{Mismatch as Why};
 
 use crate::certification::replay_all;
 use crate::mismatch::Mismatch;
@@ -29,7 +33,8 @@ fn show_all(
     log: &CallLog,
 ) -> Result<Pattern, Mismatch>
     requires { kernel.room ≡ height (tree_of plan.now) }
-    ensures { IfOk result (Shows (text_of plan.now) (listed heir) (record { trail = begin (tree_of plan.now) (note_of plan.now); table = kernel.table; executing = image ∷ [] }) log.now.entries) }
+    ensures ok { IfOk result (Shows (text_of plan.now) (listed heir) (record { trail = begin (tree_of plan.now) (note_of plan.now); table = kernel.table; executing = image ∷ [] }) log.now.entries) }
+    ensures err { IfErr result (StopsBy (text_of plan.now) (listed heir) (record { trail = begin (tree_of plan.now) (note_of plan.now); table = kernel.table; executing = image ∷ [] }) log.now.entries) }
 {
     let mut replay = Replay::new(alloc, plan, kernel, image, heir);
     replay_all(&mut replay, log)?;
@@ -39,7 +44,8 @@ fn show_all(
 /// Holds the beginning of a run of a target, its first calls with their answers, against the modelled kernel.
 ///
 /// A yes is the pattern that the calls show: under it the run of the target's plan on this kernel begins with them.
-/// Mismatches: Y4 the target can't be carried out; Y1 the first entry that can't stand there.
+/// Mismatches in their order, as those of `certify`: Y4 the target can't be carried out; Y1 the first entry that can't
+/// stand there.
 pub fn certify_beginning(
     alloc: Global,
     kernel: &Kernel,
@@ -48,7 +54,12 @@ pub fn certify_beginning(
     log: &CallLog,
 ) -> Result<Pattern, Mismatch>
     requires { IsTarget target.now }
-    ensures { IfOk result (IsBeginning kernel.now.table state.now target.now log.now.entries) }
+    ensures ok { IfOk result (IsBeginning kernel.now.table state.now target.now log.now.entries) }
+    ensures exact { (why : Why)
+        → IsErrOf result Mismatch.Memory ⊎ (IsErrOf result why ↔ IsNoBeginning kernel.now.table state.now target.now log.now.entries why) }
+    ensures complete { (pattern : List (ℕ × Moment)) → IsBeginning kernel.now.table state.now target.now log.now.entries pattern
+        → IfErr result (λ why. why ≡ Mismatch.Memory) }
+    ensures memory { IsErrOf result Mismatch.Memory → IsPlannable kernel.now.table state.now target.now }
 {
     if !agrees(state, kernel) {
         return Err(Mismatch::Refused);

@@ -1,12 +1,12 @@
 //! A transcript, held against the modelled kernel.
-ghost use Rattle.std.specs.Prelude.{◌≡◌, ◌⊎◌, ◌↔◌, ℕ, [], ◌∷◌, OnOk, IfOk, IfErr, IsErrOf};
+ghost use Rattle.std.specs.Prelude.{◌≡◌, ◌⊎◌, ◌↔◌, [], ◌∷◌, OnOk, IfOk, IfErr, IsErrOf};
 ghost use Rattle.definitions.specs.Path.{begin};
 ghost use Rattle.definitions.specs.Target.{IsTarget};
 ghost use Rattle.definitions.specs.Tree.{height};
 ghost use Rattle.rollback_plan.specs.Plans.{tree_of, note_of, text_of};
 ghost use Rattle.plan_executor.specs.Naming.{listed};
 ghost use Rattle.plan_executor.specs.Refusals.{IsPlannable};
-ghost use Rattle.certifier.specs.Places.{place_of, HasTaken, StopsAt, Holds, FailsBy};
+ghost use Rattle.certifier.specs.Places.{place_of, HasTaken, StopsBy, Holds, FailsBy};
 ghost use Rattle.certifier.specs.Explained.{IsMismatch};
 ghost use Rattle.certifier.specs.Certified.{IsCertified, EnactsSo, IsFaultyRun};
 ghost use Rattle.certifier.specs.declared.mismatch.Mismatch.{Mismatch as Why};
@@ -25,8 +25,7 @@ use vocabulary::{Report, Target};
 pub(crate) fn replay_all(replay: &mut Replay<'_>, log: &CallLog) -> Result<(), Mismatch>
     requires { HasTaken replay.old.text.now (listed replay.old.heir) (place_of replay.old) [] replay.old }
     ensures ok { OnOk result (HasTaken replay.old.text.now (listed replay.old.heir) (place_of replay.old) log.now.entries replay.new) }
-    ensures err { IfErr result (λ why.
-        (why ≡ Mismatch.Memory) ⊎ ((n : ℕ) × (why ≡ Mismatch.Step n) × StopsAt replay.old.text.now (listed replay.old.heir) (place_of replay.old) log.now.entries n)) }
+    ensures err { IfErr result (StopsBy replay.old.text.now (listed replay.old.heir) (place_of replay.old) log.now.entries) }
 {
     for place in 0..log.len() {
         if !replay.take(&log.entry(place))? {

@@ -1,15 +1,68 @@
-use Rattle.std.proofs.Common.{◌≡◌, [], ◌∷◌, ap, subst, IfOk}
-use Rattle.std.proofs.lemmas.Result.{IfOk-weaker}
-use Rattle.definitions.specs.Record.{Record}
-use Rattle.definitions.specs.Target.{text_handed}
+use Rattle.std.proofs.Common.{rules, ◌≡◌, ◌⊎◌, inl, [], ◌∷◌, Err, refl, sym, ◌∙◌, ap, subst, IfOk, IfErr}
+use Rattle.std.proofs.lemmas.Result.{err_from_is_err_and}
+use mathlib.Core.Bool.{true≢false}
+use Rattle.definitions.specs.Record.{Record, Agrees}
+use Rattle.definitions.specs.Tree.{height}
+use Rattle.definitions.specs.Plans.{plan_tree}
 use Rattle.definitions.specs.Path.{begin}
 use Rattle.definitions.specs.Claims.{heirs_of}
+use Rattle.kernel_model.specs.Room.{LacksNumbers}
 use Rattle.plan_executor.specs.Naming.{listed}
-use Rattle.certifier.specs.Places.{Shows}
-use Rattle.certifier.specs.Certified.{IsBeginning}
+use Rattle.plan_executor.specs.declared.enactment.EnactRefusal.TheVariants.{Memory, NoNumbers}
+use Rattle.plan_executor.proofs.Exact.{no_plan}
+use Rattle.certifier.specs.Places.{Shows, StopsBy}
+use Rattle.certifier.specs.Explained.{IsReady, IsNoBeginning, mismatch_of}
 use Rattle.certifier.proofs.Explaining.{begins}
-use Rattle.certifier.proofs.Matching.{begun}
+use Rattle.certifier.proofs.Matching.{plain-beginnings, exact-unready, exact-planless, exact-short, answered-beginning, complete-beginning}
 use Rattle.certifier.proofs.beginning.certify_beginning.Goals as goal
+
+pub returns-then-not-agrees-clause-exact : goal.returns-then-not-agrees-clause-exact
+returns-then-not-agrees-clause-exact c =
+    let t = c.args.kernel.now.table in
+    let r = c.args.state.now in
+    let target = c.args.target.now in
+    let es = c.args.log.now.entries in
+    exact-unready t r target (IsNoBeginning t r target es) (plain-beginnings t r target es) _ refl
+    (inl (λ h. let yes = c.agrees.ensures.agrees.1 h in absurd (true≢false (sym yes ∙ c.if-not-agrees.true))))
+
+pub returns-in_err-plan-clause-exact : goal.returns-in_err-plan-clause-exact
+returns-in_err-plan-clause-exact c =
+    let t = c.args.kernel.now.table in
+    let r = c.args.state.now in
+    let target = c.args.target.now in
+    let es = c.args.log.now.entries in
+    let p = err_from_is_err_and c.from_residual.result c.from_residual.ensures.1 in
+    let why = c.in_err-plan.field-0.0 in
+    let same : p.0 ≡ mismatch_of why = cc in
+    exact-planless t r target (IsNoBeginning t r target es) (plain-beginnings t r target es) c.from_residual.result why (p.1 ∙ ap Err same) c.in_err-plan.ensures.refused
+
+pub returns-in_err-copy-clause-exact : goal.returns-in_err-copy-clause-exact
+returns-in_err-copy-clause-exact c =
+    let t = c.args.kernel.now.table in
+    let r = c.args.state.now in
+    let target = c.args.target.now in
+    let es = c.args.log.now.entries in
+    let p = err_from_is_err_and c.from_residual-in_err-copy.result c.from_residual-in_err-copy.ensures.1 in
+    let why = c.in_err-copy.field-0.0 in
+    let same : p.0 ≡ mismatch_of why = cc in
+    exact-short t r target (IsNoBeginning t r target es) (plain-beginnings t r target es) c.from_residual-in_err-copy.result why (p.1 ∙ ap Err same)
+    (subst (λ n. (why ≡ Memory) ⊎ ((why ≡ NoNumbers) × LacksNumbers t n)) (c.longest.ensures ∙ ap height c.in_ok-plan.ensures.tree) c.in_err-copy.ensures.refused)
+
+---- What begins a run
+
+pub returns-then-not-agrees-clause-complete : goal.returns-then-not-agrees-clause-complete
+returns-then-not-agrees-clause-complete c pattern is =
+    complete-beginning c.args.kernel.now.table c.args.state.now c.args.target.now c.args.log.now.entries pattern _ (returns-then-not-agrees-clause-exact c) is
+
+pub returns-in_err-plan-clause-complete : goal.returns-in_err-plan-clause-complete
+returns-in_err-plan-clause-complete c pattern is =
+    complete-beginning c.args.kernel.now.table c.args.state.now c.args.target.now c.args.log.now.entries pattern c.from_residual.result (returns-in_err-plan-clause-exact c) is
+
+pub returns-in_err-copy-clause-complete : goal.returns-in_err-copy-clause-complete
+returns-in_err-copy-clause-complete c pattern is =
+    complete-beginning c.args.kernel.now.table c.args.state.now c.args.target.now c.args.log.now.entries pattern c.from_residual-in_err-copy.result (returns-in_err-copy-clause-exact c) is
+
+---- A target that could be carried out
 
 pub returns : goal.returns
 returns c =
@@ -17,9 +70,15 @@ returns c =
     let r = c.args.state.now in
     let target = c.args.target.now in
     let es = c.args.log.now.entries in
+    let agrees : Agrees t r = c.agrees.ensures.agrees.0 (search rules) in
+    let plan = c.in_ok-plan.ensures.planned in
+    let longest : c.longest.result ≡ height (plan_tree r target) = c.longest.ensures ∙ ap height c.in_ok-plan.ensures.tree in
+    let ready : IsReady t r target = record { agrees = agrees; has_plan = plan; numbers = subst (λ n. LacksNumbers t n → ⊥) longest c.in_ok-copy.ensures.numbers } in
     let image : c.state.inside.generation.image ≡ r.generation.image = ap (λ (x : Record). x.generation.image) c.state.view_is in
     let same : listed c.heir_of-heir.result ≡ heirs_of r target = c.heir_of-heir.ensures in
     let place : record { trail = begin _ _; table = c.in_ok-copy.copy.table; executing = c.state.inside.generation.image ∷ [] } ≡ begins t r target =
     λ i. record { trail = begin (c.in_ok-plan.ensures.tree i) (c.in_ok-plan.ensures.note i); table = (c.in_ok-copy.ensures.same i).table; executing = image i ∷ [] } in
-    IfOk-weaker c.show_all.result (Shows (text_handed r target) (heirs_of r target) (begins t r target) es) (IsBeginning t r target es) (begun t r target es)
-    (subst (λ (X : Type 0). X) (λ i. IfOk c.show_all.result (Shows (c.in_ok-plan.ensures.text i) (same i) (place i) es)) c.show_all.ensures)
+    let all = answered-beginning t r target es ready c.show_all.result
+    (subst (λ (X : Type 0). X) (λ i. IfOk c.show_all.result (Shows (c.in_ok-plan.ensures.text i) (same i) (place i) es)) c.show_all.ensures.ok)
+    (subst (λ (X : Type 0). X) (λ i. IfErr c.show_all.result (StopsBy (c.in_ok-plan.ensures.text i) (same i) (place i) es)) c.show_all.ensures.err) in
+    record { ok = all.0; exact = all.1; complete = λ pattern is. complete-beginning t r target es pattern c.show_all.result all.1 is; memory = λ _. record { agrees = agrees; spared = λ p none. no_plan r target p none plan } }

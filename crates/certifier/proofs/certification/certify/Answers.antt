@@ -10,11 +10,10 @@ use Rattle.kernel_model.specs.Room.{LacksNumbers}
 use Rattle.plan_executor.specs.Naming.{listed}
 use Rattle.plan_executor.specs.declared.enactment.EnactRefusal.TheVariants.{Memory, NoNumbers}
 use Rattle.plan_executor.proofs.Exact.{no_plan}
-use Rattle.certifier.specs.declared.mismatch.Mismatch.TheVariants as mismatch
 use Rattle.certifier.specs.Places.{Holds, FailsBy}
-use Rattle.certifier.specs.Explained.{IsReady, mismatch_of}
+use Rattle.certifier.specs.Explained.{IsReady, IsMismatch, mismatch_of}
 use Rattle.certifier.proofs.Explaining.{begins}
-use Rattle.certifier.proofs.Matching.{exact-mismatch, exact-planless, exact-short, answered, enacts-so}
+use Rattle.certifier.proofs.Matching.{plain-mismatches, exact-unready, exact-planless, exact-short, answered, enacts-so}
 use Rattle.certifier.proofs.Complete.{IsDue, complete-by, unready-refused}
 use Rattle.certifier.specs.Certified.{IsCertified, EnactsSo}
 use Rattle.std.proofs.lemmas.Result.{IfOk-weaker}
@@ -22,7 +21,12 @@ use Rattle.certifier.proofs.certification.certify.Goals as goal
 
 pub returns-then-not-agrees-clause-exact : goal.returns-then-not-agrees-clause-exact
 returns-then-not-agrees-clause-exact c =
-    exact-mismatch c.args.kernel.now.table c.args.state.now c.args.target.now c.args.log.now.entries c.args.report.now _ mismatch.Refused refl
+    let t = c.args.kernel.now.table in
+    let r = c.args.state.now in
+    let target = c.args.target.now in
+    let es = c.args.log.now.entries in
+    let report = c.args.report.now in
+    exact-unready t r target (IsMismatch t r target es report) (plain-mismatches t r target es report) _ refl
     (inl (λ h. let yes = c.agrees.ensures.agrees.1 h in absurd (true≢false (sym yes ∙ c.if-not-agrees.true))))
 
 pub returns-in_err-plan-clause-exact : goal.returns-in_err-plan-clause-exact
@@ -30,14 +34,24 @@ returns-in_err-plan-clause-exact c =
     let p = err_from_is_err_and c.from_residual.result c.from_residual.ensures.1 in
     let why = c.in_err-plan.field-0.0 in
     let same : p.0 ≡ mismatch_of why = cc in
-    exact-planless c.args.kernel.now.table c.args.state.now c.args.target.now c.args.log.now.entries c.args.report.now c.from_residual.result why (p.1 ∙ ap Err same) c.in_err-plan.ensures.refused
+    let t = c.args.kernel.now.table in
+    let r = c.args.state.now in
+    let target = c.args.target.now in
+    let es = c.args.log.now.entries in
+    let report = c.args.report.now in
+    exact-planless t r target (IsMismatch t r target es report) (plain-mismatches t r target es report) c.from_residual.result why (p.1 ∙ ap Err same) c.in_err-plan.ensures.refused
 
 pub returns-in_err-copy-clause-exact : goal.returns-in_err-copy-clause-exact
 returns-in_err-copy-clause-exact c =
     let p = err_from_is_err_and c.from_residual-in_err-copy.result c.from_residual-in_err-copy.ensures.1 in
     let why = c.in_err-copy.field-0.0 in
     let same : p.0 ≡ mismatch_of why = cc in
-    exact-short c.args.kernel.now.table c.args.state.now c.args.target.now c.args.log.now.entries c.args.report.now c.from_residual-in_err-copy.result why (p.1 ∙ ap Err same)
+    let t = c.args.kernel.now.table in
+    let r = c.args.state.now in
+    let target = c.args.target.now in
+    let es = c.args.log.now.entries in
+    let report = c.args.report.now in
+    exact-short t r target (IsMismatch t r target es report) (plain-mismatches t r target es report) c.from_residual-in_err-copy.result why (p.1 ∙ ap Err same)
     (subst (λ n. (why ≡ Memory) ⊎ ((why ≡ NoNumbers) × LacksNumbers c.args.kernel.now.table n)) (c.longest.ensures ∙ ap height c.in_ok-plan.ensures.tree) c.in_err-copy.ensures.refused)
 
 ---- What comes of a run under faults alone

@@ -1,4 +1,4 @@
-use Rattle.std.proofs.Common.{◌≡◌, ◌+◌, ◌<◌, length, List, ◌∷◌, [], ◌++◌, take, inr, refl, sym, ◌∙◌, ap, subst, arith}
+use Rattle.std.proofs.Common.{◌≡◌, ◌+◌, ◌<◌, length, List, ◌∷◌, [], ◌++◌, take, refl, sym, ◌∙◌, ap, subst, arith}
 use Rattle.std.proofs.lemmas.Bool.{false≢true}
 use Rattle.std.proofs.lemmas.List.{take_more}
 use Rattle.std.proofs.lemmas.Option.{get_or_from_slice_get}
@@ -28,17 +28,13 @@ returns-then-not-branch-clause-err c =
     let e = c.entry.result in
     let within : place < length entries = omega (arith, c.loop-place-test.true, c.len-place-end.ensures.count) in
     let longer : take (place + 1) entries ≡ take place entries ++ e ∷ [] = take_more entries place e within ∙ ap (λ x. take place entries ++ x ∷ []) (((get_or_from_slice_get entries place e e c.entry.ensures))) in
-    inr (
-      place + 1,
-      refl,
-      record {
-        before = place;
-        number = refl;
-        within = omega (arith, within);
-        next = c.loop-place.invariant.next;
-        stops =
-            λ all. taken-stops old.text.now (listed old.heir) (place_of old) (take place entries) e c.loop-place.replay c.loop-place.invariant
-            (λ next. false≢true (sym c.if-not-branch.true ∙ c.in_ok-take.ensures.next.1 next))
-            (subst (λ (es : List Entry). AreNext old.text.now (listed old.heir) (place_of old) es) longer all);
-      },
-    )
+    record {
+      before = place;
+      number = refl;
+      within = omega (arith, within);
+      next = c.loop-place.invariant.next;
+      stops =
+          λ all. taken-stops old.text.now (listed old.heir) (place_of old) (take place entries) e c.loop-place.replay c.loop-place.invariant
+          (λ next. false≢true (sym c.if-not-branch.true ∙ c.in_ok-take.ensures.next.1 next))
+          (subst (λ (es : List Entry). AreNext old.text.now (listed old.heir) (place_of old) es) longer all);
+    }
