@@ -38,7 +38,7 @@ fn ask(kernel: &mut Kernel, call: &Call) -> anyhow::Result<Answer> {
 fn calls_of_reload(rt: &HostRuntime, workers: u32) -> anyhow::Result<Vec<Call>> {
     let mut calls = Vec::new(rt.alloc());
     for nr in 0..workers {
-        calls.push(Call::Fork(NEW, nr))?;
+        calls.push(Call::Fork(NEW, nr, None))?;
     }
     for nr in 0..workers {
         calls.push(Call::AwaitReady(NEW, nr))?;

@@ -13,11 +13,12 @@ use Rattle.call_text.specs.Reads.{Reads}
 use Rattle.plain_text.specs.Cuts.{cut}
 use Rattle.call_text.specs.Reading.{worker_of}
 use Rattle.listener_set.specs.GenerationText.{generation_text}
-use Rattle.call_text.specs.CallText.{master_text, call_text, call_line, worker_text}
+use Rattle.call_text.specs.CallText.{master_text, call_text, call_line, worker_text, forked_text}
 use Rattle.call_text.specs.Ranges.{IsNumber, IsCall, IsCallLine, IsWorker}
-use Rattle.call_text.specs.CallReading.{verb_text, all_verbs, verb_of, about, bare_of, call_from, call_of, master_of, line_of}
+use Rattle.call_text.specs.CallReading.{fork_from, fork_of, verb_text, all_verbs, verb_of, about, bare_of, call_from, call_of, master_of, line_of}
 use Rattle.plain_text.proofs.CutTexts.{lacks, cut_found, cut_at}
 use Rattle.call_text.proofs.Readers.{IsReader, reads, mapped, then, joined_reads, find_found, number_reads, same_bytes}
+use Rattle.call_text.proofs.ForkTexts.{forked_reads, forked_text_is}
 use Rattle.call_text.proofs.PartTexts.{number_lacks, generation_reads, worker_reads, address_reads, path_reads, paths_reads}
 
 -- ---- verbs
@@ -73,7 +74,9 @@ named make head made rest c e =
 about_found : (v : Verb) (rest : List ℕ) (c : Call) → about v rest ≡ Some c → IsCall c × (verb_text v ++ 32 ∷ rest ≡ call_text c)
 about_found verb.Open rest c e = arm _ _ _ address_reads (λ a. call.OpenAt a) (codes "open ") (λ a h. (h, refl)) rest c e
 about_found verb.Close rest c e = arm _ _ _ address_reads (λ a. call.CloseAt a) (codes "close ") (λ a h. (h, refl)) rest c e
-about_found verb.Fork rest c e = named (λ g k. call.Fork g k) (codes "fork ") (λ g k h. (h, refl)) rest c e
+about_found verb.Fork rest c e =
+    arm _ _ _ forked_reads fork_from (codes "fork ")
+    (λ p h. (((h.0, h.1.0), h.1.1), ap (λ t. codes "fork " ++ t) (forked_text_is p.0 p.1.0 p.1.1))) rest c e
 about_found verb.AwaitReady rest c e = named (λ g k. call.AwaitReady g k) (codes "await-ready ") (λ g k h. (h, refl)) rest c e
 about_found verb.Quit rest c e = named (λ g k. call.Quit g k) (codes "quit ") (λ g k h. (h, refl)) rest c e
 about_found verb.Kill rest c e = named (λ g k. call.Kill g k) (codes "kill ") (λ g k h. (h, refl)) rest c e
@@ -131,7 +134,9 @@ worker_only make g nr h = ap (option_map (λ (w : Generation × ℕ). make w.0 w
 call_only : (c : Call) → IsCall c → call_of (call_text c) ≡ Some c
 call_only (call.OpenAt a) h = behind_verb verb.Open a _ (ap (option_map (λ a. call.OpenAt a)) (address_reads.only a h))
 call_only (call.CloseAt a) h = behind_verb verb.Close a _ (ap (option_map (λ a. call.CloseAt a)) (address_reads.only a h))
-call_only (call.Fork g k) h = behind_verb verb.Fork (worker_text g k) _ (worker_only (λ g k. call.Fork g k) g k h)
+call_only (call.Fork g k fds) h =
+    behind_verb verb.Fork (forked_text g k fds) _
+    (ap fork_of (sym (forked_text_is g k fds)) ∙ ap (option_map fork_from) (forked_reads.only (g, (k, fds)) (h.0.0, (h.0.1, h.1))))
 call_only (call.AwaitReady g k) h = behind_verb verb.AwaitReady (worker_text g k) _ (worker_only (λ g k. call.AwaitReady g k) g k h)
 call_only (call.Quit g k) h = behind_verb verb.Quit (worker_text g k) _ (worker_only (λ g k. call.Quit g k) g k h)
 call_only (call.Kill g k) h = behind_verb verb.Kill (worker_text g k) _ (worker_only (λ g k. call.Kill g k) g k h)

@@ -1,5 +1,6 @@
 pub mod Readers
 pub mod PartTexts
+pub mod ForkTexts
 pub mod CallTexts
 pub mod Runs
 pub mod SetTexts

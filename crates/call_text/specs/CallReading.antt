@@ -1,12 +1,15 @@
 -- What reading a call gives, part by part.
-use Rattle.std.specs.Prelude.{ℕ, ◌==◌, Bool, List, [], ◌∷◌, Option, Some, None, option_map, find, bytes_eq, codes, if◌then◌else◌}
+use Rattle.std.specs.Prelude.{ℕ, ◌==◌, nat_le, nat_lt, Bool, ◌&&◌, List, [], ◌∷◌, Option, Some, None, option_map, find, bytes_eq, codes, if◌then◌else◌}
+use Rattle.std.specs.List.{list_all}
 use Rattle.plain_text.specs.NumberText.{number_of}
+use Rattle.listener_set.specs.declared.generation.Generation.{Generation}
 use Rattle.vocabulary.specs.declared.calls.Call.{Call}
 use Rattle.vocabulary.specs.declared.calls.Call.TheVariants as call
 use Rattle.call_text.specs.declared.verbs.Verb.{Verb}
 use Rattle.call_text.specs.declared.verbs.Verb.TheVariants as verb
 use Rattle.plain_text.specs.Cuts.{cut}
-use Rattle.call_text.specs.Reading.{◌>>=◌, joined, generation_of, worker_of, address_of, path_of, paths_of}
+use Rattle.call_text.specs.Reading.{◌>>=◌, some_if, joined, behind, worker_number, generation_of, worker_of, address_of, path_of, paths_of}
+use Rattle.call_text.specs.SetReading.{set_of}
 
 abbrev pub verb_text : Verb → List ℕ
 verb_text verb.Open = codes "open"
@@ -36,11 +39,44 @@ all_verbs =
 abbrev pub verb_of : List ℕ → Option Verb
 verb_of text = find (is_verb text) all_verbs
 
+---- Forks
+
+abbrev pub is_descriptor : ℕ → Bool
+is_descriptor n = nat_le 3 n && nat_lt n 67
+
+-- descriptors, of which there is one at least
+abbrev pub some_descriptors : List ℕ → Option (List ℕ)
+some_descriptors [] = None
+some_descriptors (n ∷ ns) = some_if (list_all is_descriptor (n ∷ ns)) (n ∷ ns)
+
+abbrev pub descriptors_of : List ℕ → Option (List ℕ)
+descriptors_of text = set_of text >>= some_descriptors
+
+-- the number of a new worker, and the descriptors that it gets, where they are named behind it
+abbrev pub named_from : List ℕ → Option (List ℕ × List ℕ) → Option (ℕ × Option (List ℕ))
+named_from text None = option_map (λ nr. (nr, None)) (worker_number text)
+named_from text (Some parts) = do
+  nr ← worker_number parts.0
+  rest ← behind (codes "fds") parts.1
+  fds ← descriptors_of rest
+  Some (nr, Some fds)
+
+abbrev pub named_of : List ℕ → Option (ℕ × Option (List ℕ))
+named_of text = named_from text (cut 32 text)
+
+abbrev pub fork_from : Generation × (ℕ × Option (List ℕ)) → Call
+fork_from p = call.Fork p.0 p.1.0 p.1.1
+
+abbrev pub fork_of : List ℕ → Option Call
+fork_of text = option_map fork_from (joined 32 generation_of named_of text)
+
+---- Calls
+
 -- a call by its verb and what follows it
 abbrev pub about : Verb → List ℕ → Option Call
 about verb.Open rest = option_map (λ a. call.OpenAt a) (address_of rest)
 about verb.Close rest = option_map (λ a. call.CloseAt a) (address_of rest)
-about verb.Fork rest = option_map (λ w. call.Fork w.0 w.1) (worker_of rest)
+about verb.Fork rest = fork_of rest
 about verb.AwaitReady rest = option_map (λ w. call.AwaitReady w.0 w.1) (worker_of rest)
 about verb.Quit rest = option_map (λ w. call.Quit w.0 w.1) (worker_of rest)
 about verb.Kill rest = option_map (λ w. call.Kill w.0 w.1) (worker_of rest)

@@ -1,5 +1,5 @@
 -- Texts of calls and of their answers.
-use Rattle.std.specs.Prelude.{ℕ, List, [], ◌∷◌, ◌++◌, codes}
+use Rattle.std.specs.Prelude.{ℕ, List, [], ◌∷◌, ◌++◌, Option, Some, None, codes}
 use Rattle.std.specs.Fmt.{decimal}
 use Rattle.listener_set.specs.declared.generation.Generation.{Generation}
 use Rattle.vocabulary.specs.declared.calls.Call.{Call}
@@ -16,10 +16,15 @@ use Rattle.call_text.specs.SetText.{set_text}
 abbrev pub worker_text : Generation → ℕ → List ℕ
 worker_text g nr = generation_text g ++ 32 ∷ decimal nr
 
+-- a new worker, and the descriptors that it gets where it doesn't get all of its master's
+abbrev pub forked_text : Generation → ℕ → Option (List ℕ) → List ℕ
+forked_text g nr None = worker_text g nr
+forked_text g nr (Some fds) = worker_text g nr ++ (codes " fds " ++ set_text fds)
+
 abbrev pub call_text : Call → List ℕ
 call_text (OpenAt a) = codes "open " ++ a
 call_text (CloseAt a) = codes "close " ++ a
-call_text (Fork g nr) = codes "fork " ++ worker_text g nr
+call_text (Fork g nr fds) = codes "fork " ++ forked_text g nr fds
 call_text (AwaitReady g nr) = codes "await-ready " ++ worker_text g nr
 call_text (Quit g nr) = codes "quit " ++ worker_text g nr
 call_text (Kill g nr) = codes "kill " ++ worker_text g nr

@@ -1,9 +1,10 @@
 -- The values that have a text which is read.
-use Rattle.std.specs.Prelude.{⊤, ℕ, ◌≡◌, ◌≤◌, ◌<◌, ◌^◌, true, ◌⊎◌, List, ◌++◌, Option, Some, None, codes}
+use Rattle.std.specs.Prelude.{⊤, ℕ, ◌≡◌, ◌≢◌, ◌≤◌, ◌<◌, ◌^◌, true, ◌⊎◌, List, [], ◌++◌, Option, Some, None, codes}
 use Rattle.listener_set.specs.declared.generation.Generation.{Generation}
 use Rattle.listener_set.specs.AddressText.{IsAddress}
 use Rattle.listener_set.specs.PathText.{is_path}
 use Rattle.listener_set.specs.Numbers.{AreNumbers}
+use Rattle.listener_set.specs.DescriptorSets.{AreDescriptorNumbers}
 use Rattle.vocabulary.specs.declared.names.Name.{Name}
 use Rattle.vocabulary.specs.declared.names.Name.TheVariants as name
 use Rattle.vocabulary.specs.declared.calls.Call.{Call}
@@ -37,10 +38,15 @@ IsName (name.Master i) = IsNumber i
 abbrev pub IsPath : List ℕ → Type 0
 IsPath path = (is_path path ≡ true) ⊎ ((stem : List ℕ) × (is_path stem ≡ true) × (path ≡ stem ++ codes ".oldbin"))
 
+-- the descriptors that a new worker gets: all of its master's, or ascending ones from 3 to 66, of which there is one at least
+abbrev pub IsShare : Option (List ℕ) → Type 0
+IsShare None = ⊤
+IsShare (Some fds) = AreDescriptorNumbers fds × (fds ≢ [])
+
 abbrev pub IsCall : Call → Type 0
 IsCall (OpenAt a) = IsAddress a
 IsCall (CloseAt a) = IsAddress a
-IsCall (Fork g nr) = IsWorker g nr
+IsCall (Fork g nr fds) = IsWorker g nr × IsShare fds
 IsCall (AwaitReady g nr) = IsWorker g nr
 IsCall (Quit g nr) = IsWorker g nr
 IsCall (Kill g nr) = IsWorker g nr

@@ -1,11 +1,12 @@
 //! Texts of calls.
-ghost use Rattle.std.specs.Prelude.{◌≡◌, ◌<◌, ◌≤◌, ◌++◌, ◌∷◌, length, IfOk};
+ghost use Rattle.std.specs.Prelude.{◌≡◌, ◌<◌, ◌≤◌, ◌++◌, ◌∷◌, length, codes, IfOk};
 ghost use Rattle.std.specs.Fmt.{decimal};
 ghost use Rattle.plain_text.specs.Kept.{kept};
-ghost use Rattle.call_text.specs.CallText.{worker_text, missing_text, master_text, call_text, call_line, order_text, order_line};
+ghost use Rattle.call_text.specs.CallText.{worker_text, forked_text, missing_text, master_text, call_text, call_line, order_text, order_line};
 ghost use Rattle.listener_set.specs.GenerationText.{generation_text};
 
-use listener_set::{FilePath, Generation};
+use crate::sets::write_set;
+use listener_set::{DescriptorSet, FilePath, Generation};
 use plain_text::{LINE_BYTES, Line, Sink, write_number};
 use vocabulary::{Actor, Call, Order};
 
@@ -64,6 +65,27 @@ fn write_named<S: Sink>(
     write_number(out, u64::from(nr))
 }
 
+/// A fork: the new worker, and the descriptors that it gets where there is a set of them.
+#[tactic(auto, using(plain_text::proofs::KeptTexts::kept_on))]
+fn write_fork<S: Sink>(
+    out: &mut S,
+    generation: Generation,
+    nr: u32,
+    set: Option<DescriptorSet>,
+) -> Result<(), S::Refusal>
+    ensures text { IfOk result (λ _. S.text out.new ≡ kept S.most (S.text out.old ++ (codes "fork " ++ forked_text generation nr set))) }
+    ensures short { IfOk result (λ _. length (forked_text generation nr set) ≤ 3655) }
+{
+    write_named(out, "fork ", generation, nr)?;
+    match set {
+        None => Ok(()),
+        Some(set) => {
+            out.put(b" fds ")?;
+            write_set(out, &set.numbers())
+        }
+    }
+}
+
 /// A verb and the worker of a settle, which has no number before the plan runs.
 #[tactic(auto, using(plain_text::proofs::KeptTexts::kept_on))]
 fn write_missing<S: Sink>(out: &mut S, verb: &str, generation: Generation) -> Result<(), S::Refusal>
@@ -87,12 +109,12 @@ fn write_image<S: Sink>(out: &mut S, verb: &str, image: u32) -> Result<(), S::Re
 /// A call without its master.
 fn write_verb<S: Sink>(out: &mut S, call: &Call) -> Result<(), S::Refusal>
     ensures text { IfOk result (λ _. S.text out.new ≡ kept S.most (S.text out.old ++ call_text call.now)) }
-    ensures short { IfOk result (λ _. length (call_text call.now) ≤ 250) }
+    ensures short { IfOk result (λ _. length (call_text call.now) ≤ 3660) }
 {
     match call {
         Call::OpenAt(address) => write_about(out, "open ", address.bytes()),
         Call::CloseAt(address) => write_about(out, "close ", address.bytes()),
-        Call::Fork(generation, nr) => write_named(out, "fork ", *generation, *nr),
+        Call::Fork(generation, nr, set) => write_fork(out, *generation, *nr, *set),
         Call::AwaitReady(generation, nr) => write_named(out, "await-ready ", *generation, *nr),
         Call::Quit(generation, nr) => write_named(out, "quit ", *generation, *nr),
         Call::Kill(generation, nr) => write_named(out, "kill ", *generation, *nr),
@@ -124,7 +146,7 @@ fn write_master<S: Sink>(out: &mut S, by: Actor) -> Result<(), S::Refusal>
 /// asks for.
 pub(crate) fn put_call<S: Sink>(out: &mut S, by: Actor, call: &Call) -> Result<(), S::Refusal>
     ensures text { IfOk result (λ _. S.text out.new ≡ kept S.most (S.text out.old ++ call_line by call.now)) }
-    ensures short { IfOk result (λ _. length (call_line by call.now) ≤ 300) }
+    ensures short { IfOk result (λ _. length (call_line by call.now) ≤ 3700) }
 {
     write_master(out, by)?;
     out.put(b" ")?;

@@ -7,6 +7,7 @@
 mod answers;
 mod calls;
 mod ends;
+mod forks;
 mod lines;
 mod names;
 mod parts;

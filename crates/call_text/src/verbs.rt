@@ -5,6 +5,7 @@ ghost use Rattle.call_text.specs.Ranges.{IsNumber, IsCall, IsCallLine};
 ghost use Rattle.call_text.specs.CallText.{call_line};
 ghost use Rattle.call_text.specs.CallReading.{verb_text, is_verb, verb_of, about, bare_of, call_of, master_of, line_of};
 
+use crate::forks::read_fork;
 use crate::parts::{read_address, read_generation, read_path, read_paths, read_worker};
 use plain_text::{cut, read_number};
 use vocabulary::{Actor, Call};
@@ -89,7 +90,7 @@ fn read_about(verb: Verb, rest: &[u8]) -> Option<Call>
     match verb {
         Verb::Open => read_address(rest).map(|address| Call::OpenAt(address)),
         Verb::Close => read_address(rest).map(|address| Call::CloseAt(address)),
-        Verb::Fork => read_worker(rest).map(|worker| Call::Fork(worker.0, worker.1)),
+        Verb::Fork => read_fork(rest),
         Verb::AwaitReady => read_worker(rest).map(|worker| Call::AwaitReady(worker.0, worker.1)),
         Verb::Quit => read_worker(rest).map(|worker| Call::Quit(worker.0, worker.1)),
         Verb::Kill => read_worker(rest).map(|worker| Call::Kill(worker.0, worker.1)),
@@ -150,9 +151,10 @@ fn read_line(text: &[u8]) -> Option<(Actor, Call)>
 }
 
 /// Reads a call as `write_call` writes it, without a newline, and no other text. Images and
-/// configurations are at most 4,294,967,295, a worker's number is below 1024, addresses and paths
-/// are as `Address::read` and `FilePath::read` accept them, or such a path with `.oldbin` behind it.
-/// Any bytes may come.
+/// configurations are at most 4,294,967,295, a worker's number is below 1024, the descriptors of a
+/// fork, where it names them, are from 3 to 66 and not none, addresses and paths are as
+/// `Address::read` and `FilePath::read` accept them, or such a path with `.oldbin` behind it. Any
+/// bytes may come.
 pub fn read_call(text: &[u8]) -> Option<(Actor, Call)>
     ensures exact { result ≡ line_of text.now }
     ensures reads { Reads IsCallLine (λ line. call_line line.0 line.1) text.now result }

@@ -17,7 +17,7 @@ use Rattle.vocabulary.specs.declared.calls.Fate.{Fate}
 use Rattle.vocabulary.specs.declared.calls.Fate.TheVariants as fate
 use Rattle.vocabulary.specs.declared.calls.Reply.{Reply}
 use Rattle.definitions.specs.Table.{Table, Address, Generation, Starting, Master, Worker, Caller, FilePath, live_master, is_worker, is_active, is_starting, is_draining, is_held, owner_at}
-use Rattle.definitions.specs.Calls.{Stepped, gives, opened, forked, spawned, awaited, awaited_gone, lowest_free, with_new_socket, with_new_row, step_with, step_by, own_step, fault_of, fault_if, fault_or_own, has_process_room, is_image, moved_if, suits}
+use Rattle.definitions.specs.Calls.{Stepped, gives, opened, forked, spawned, awaited, awaited_gone, lowest_free, with_new_socket, with_new_row, shared, step_with, step_by, own_step, fault_of, fault_if, fault_or_own, has_process_room, is_image, moved_if, suits}
 use Rattle.definitions.specs.Handover.{reading}
 use Rattle.definitions.specs.Tree.{reply_of, same_reply}
 use Rattle.definitions.specs.Run.{Moment}
@@ -85,14 +85,14 @@ module _ (text : List ℕ) (image : ℕ) (c : Caller) (t : Table) where
       held
       (either (nat_lt (length c.holds) t.limits.descriptors) t a (gives (answer.Opened (lowest_free c.holds)) (with_new_socket t c.number (record { fd = lowest_free c.holds; socket = t.next_socket; address = ad }))) (gives answer.TooMany t) new many)
 
-  fork-is : (g : Generation) (k : ℕ) (a : Answer) → IsFaultOf t a (gives answer.Again t) →
-      IsFaultOf t a (gives answer.Forked (with_new_row t (λ n. Worker n c.number g k Starting c.holds))) →
-      IsFaultOf t a (gives answer.Again t) → IsFaultOf t a (forked c g k t)
-  fork-is g k a borne new full =
+  fork-is : (g : Generation) (k : ℕ) (fds : Option (List ℕ)) (a : Answer) → IsFaultOf t a (gives answer.Again t) →
+      IsFaultOf t a (gives answer.Forked (with_new_row t (λ n. Worker n c.number g k Starting (shared fds c.holds)))) →
+      IsFaultOf t a (gives answer.Again t) → IsFaultOf t a (forked c g k fds t)
+  fork-is g k fds a borne new full =
       either (list_any (is_worker is_active c.number g k) t.rows) t a (gives answer.Again t)
-      (cond (has_process_room t) (gives answer.Forked (with_new_row t (λ n. Worker n c.number g k Starting c.holds))) (gives answer.Again t))
+      (cond (has_process_room t) (gives answer.Forked (with_new_row t (λ n. Worker n c.number g k Starting (shared fds c.holds)))) (gives answer.Again t))
       borne
-      (either (has_process_room t) t a (gives answer.Forked (with_new_row t (λ n. Worker n c.number g k Starting c.holds))) (gives answer.Again t) new full)
+      (either (has_process_room t) t a (gives answer.Forked (with_new_row t (λ n. Worker n c.number g k Starting (shared fds c.holds)))) (gives answer.Again t) new full)
 
   spawn-is : (i : ℕ) (a : Answer) → IsFaultOf t a (gives answer.Again t) →
       IsFaultOf t a (gives answer.Spawned (with_new_row t (λ n. Master n c.number i true c.holds))) →
@@ -134,8 +134,8 @@ module _ (text : List ℕ) (image : ℕ) (c : Caller) (t : Table) where
   is-fault (OpenAt ad) fate.TooMany a h = is-it (OpenAt ad) fate.TooMany answer.TooMany a h (record { named = refl; nobody = λ by. refl; no_count = refl; itself = open-is ad answer.TooMany (other answer.TooMany answer.InUse t refl) (other answer.TooMany (answer.Opened (lowest_free c.holds)) _ refl) (itself answer.TooMany) })
   is-fault (OpenAt ad) fate.Denied a h = is-it (OpenAt ad) fate.Denied answer.Denied a h (record { named = refl; nobody = λ by. refl; no_count = refl; itself = open-is ad answer.Denied (other answer.Denied answer.InUse t refl) (other answer.Denied (answer.Opened (lowest_free c.holds)) _ refl) (other answer.Denied answer.TooMany t refl) })
   is-fault (OpenAt ad) fate.NoMemory a h = is-it (OpenAt ad) fate.NoMemory answer.NoMemory a h (record { named = refl; nobody = λ by. refl; no_count = refl; itself = open-is ad answer.NoMemory (other answer.NoMemory answer.InUse t refl) (other answer.NoMemory (answer.Opened (lowest_free c.holds)) _ refl) (other answer.NoMemory answer.TooMany t refl) })
-  is-fault (Fork g k) fate.Again a h = is-it (Fork g k) fate.Again answer.Again a h (record { named = refl; nobody = λ by. refl; no_count = refl; itself = fork-is g k answer.Again (itself answer.Again) (other answer.Again answer.Forked _ refl) (itself answer.Again) })
-  is-fault (Fork g k) fate.NoMemory a h = is-it (Fork g k) fate.NoMemory answer.NoMemory a h (record { named = refl; nobody = λ by. refl; no_count = refl; itself = fork-is g k answer.NoMemory (other answer.NoMemory answer.Again t refl) (other answer.NoMemory answer.Forked _ refl) (other answer.NoMemory answer.Again t refl) })
+  is-fault (Fork g k fds) fate.Again a h = is-it (Fork g k fds) fate.Again answer.Again a h (record { named = refl; nobody = λ by. refl; no_count = refl; itself = fork-is g k fds answer.Again (itself answer.Again) (other answer.Again answer.Forked _ refl) (itself answer.Again) })
+  is-fault (Fork g k fds) fate.NoMemory a h = is-it (Fork g k fds) fate.NoMemory answer.NoMemory a h (record { named = refl; nobody = λ by. refl; no_count = refl; itself = fork-is g k fds answer.NoMemory (other answer.NoMemory answer.Again t refl) (other answer.NoMemory answer.Forked _ refl) (other answer.NoMemory answer.Again t refl) })
   is-fault (AwaitReady g k) fate.Late a h = is-it (AwaitReady g k) fate.Late answer.Late a (late (list_any (is_worker is_starting c.number g k) t.rows) a h) (record { named = refl; nobody = λ by. refl; no_count = refl; itself = ready-is g k })
   is-fault (AwaitGone g k) fate.Late a h = is-it (AwaitGone g k) fate.Late answer.Late a (late (list_any (is_worker is_draining c.number g k) t.rows) a h) (record { named = refl; nobody = λ by. refl; no_count = refl; itself = gone-is g k })
   is-fault (SpawnMaster i) fate.Again a h = is-it (SpawnMaster i) fate.Again answer.Again a h (record { named = refl; nobody = λ by. refl; no_count = refl; itself = spawn-is i answer.Again (itself answer.Again) (other answer.Again answer.Spawned _ refl) (itself answer.Again) })

@@ -1,6 +1,7 @@
 -- What an edge does at a call: the conversation that it holds, and the answer.
 use Rattle.std.specs.Prelude.{ℕ, ◌+◌, ◌==◌, nat_lt, Bool, true, not, List, [], ◌∷◌, Option, Some, None, Result, Ok, Err, filter, find, map, length, bytes_eq, codes, if◌then◌else◌}
 use Rattle.std.specs.List.{list_any}
+use Rattle.handover_text.specs.Listeners.{only_under}
 use Rattle.definitions.specs.Table.{Address, Generation}
 use Rattle.definitions.specs.After.{listens_on, opened_from}
 use Rattle.definitions.specs.Calls.{Call, OpenAt, CloseAt, Fork, AwaitReady, Quit, Kill, Census, AwaitGone, SpawnMaster, Adopt, WritePid, MovePid, RemovePid, Alive, Leave, Usr1, TermMaster, Answer}
@@ -57,6 +58,11 @@ closing s a = says_each Serving (close_line a) s.workers (answers (record s { li
 abbrev pub new_worker : ℕ → Generation → ℕ → ℕ → Worker
 new_worker id g nr start = record { id = id; generation = g; nr = nr; start = start; stage = Starting; beat = None }
 
+-- the listeners that a worker is told: those under the descriptors that it is forked with, or all
+abbrev pub given : Option (List ℕ) → List Listener → List Listener
+given None ls = ls
+given (Some fds) ls = only_under fds ls
+
 -- what a worker is told once it is started: what it is, where it listens, and to go
 abbrev pub greeted : Worker → List Listener → Turn → Turn
 greeted w listeners rest =
@@ -65,19 +71,19 @@ greeted w listeners rest =
     says w.id (codes "go") (λ goes. rest)))
 
 -- A number that an old worker had is the new one's alone: the old one was waited for.
-abbrev pub forked : State → Generation → ℕ → Result ℕ StartFault → Turn
-forked s g nr (Ok id) =
-    greeted (new_worker id g nr s.starts) s.listeners (
+abbrev pub forked : State → Generation → ℕ → Option (List ℕ) → Result ℕ StartFault → Turn
+forked s g nr fds (Ok id) =
+    greeted (new_worker id g nr s.starts) (given fds s.listeners) (
     answers (with_workers s (in_place (new_worker id g nr s.starts) (without_id id s.workers))) answer.Forked)
-forked s g nr (Err fault.NoMemory) = answers s answer.NoMemory
-forked s g nr (Err fault.Again) = answers s answer.Again
-forked s g nr (Err fault.NoImage) = answers s answer.Again
+forked s g nr fds (Err fault.NoMemory) = answers s answer.NoMemory
+forked s g nr fds (Err fault.Again) = answers s answer.Again
+forked s g nr fds (Err fault.NoImage) = answers s answer.Again
 
 -- starts are counted, failed ones too; there are 4,294,967,295 of them
-abbrev pub forking : State → Generation → ℕ → Turn
-forking s g nr =
+abbrev pub forking : State → Generation → ℕ → Option (List ℕ) → Turn
+forking s g nr fds =
     if nat_lt s.starts 4294967295
-    then starts (role.Worker g nr (s.starts + 1)) (forked (record s { starts = s.starts + 1 }) g nr)
+    then starts (role.Worker g nr (s.starts + 1)) (forked (record s { starts = s.starts + 1 }) g nr fds)
     else answers s answer.Again
 
 -- what was heard of a worker that starts
@@ -164,7 +170,7 @@ adopted_or_refused adopted = if adopted then answer.Adopted else answer.Refused
 abbrev pub own_turn : State → Call → Turn
 own_turn s (OpenAt a) = opening s a
 own_turn s (CloseAt a) = closing s a
-own_turn s (Fork g nr) = forking s g nr
+own_turn s (Fork g nr fds) = forking s g nr fds
 own_turn s (AwaitReady g nr) = readying s g nr (find (means (StartingNamed g nr)) s.workers)
 own_turn s (Quit g nr) = quitting s g nr
 own_turn s (Kill g nr) = killing s g nr

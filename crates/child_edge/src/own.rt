@@ -30,7 +30,9 @@ pub(crate) fn make<F: Family>(family: &mut F, state: &mut EdgeState, call: &Call
     match call {
         Call::OpenAt(address) => listening::open(state, address),
         Call::CloseAt(address) => listening::close(family, state, address),
-        Call::Fork(generation, nr) => starting::fork(family, state, *generation, *nr),
+        Call::Fork(generation, nr, descriptors) => {
+            starting::fork(family, state, *generation, *nr, *descriptors)
+        }
         Call::AwaitReady(generation, nr) => starting::await_ready(family, state, *generation, *nr),
         Call::Quit(generation, nr) => workers::quit(family, state, *generation, *nr),
         Call::Kill(generation, nr) => workers::kill(family, state, *generation, *nr),

@@ -3,7 +3,7 @@ ghost use Rattle.std.specs.Prelude.{◌≡◌, ◌≤◌, ◌<◌, ◌-◌, ◌+
 ghost use Rattle.definitions.specs.Tree.{is_listed};
 ghost use Rattle.vocabulary.specs.declared.calls.Call.TheVariants.{Fork, AwaitReady};
 ghost use Rattle.child_edge.specs.State.{state_of};
-ghost use Rattle.child_edge.specs.Table.{answers, forking, forked, greeted, new_worker, readying, readied, ready_or_gone};
+ghost use Rattle.child_edge.specs.Table.{answers, forking, forked, greeted, given, new_worker, readying, readied, ready_or_gone};
 ghost use Rattle.child_edge.specs.Workers.{means, in_place, without_id};
 ghost use Rattle.child_edge.specs.Turns.{Begins, GoesOn};
 
@@ -15,9 +15,19 @@ use crate::who::Who;
 use crate::worker::{Stage, Worker};
 use child_family::{Family, Heard, Role, StartFault};
 use handover_text::Listeners;
-use listener_set::Generation;
+use listener_set::{DescriptorSet, Generation};
 use plain_text::Line;
 use vocabulary::Answer;
+
+/// The listeners that a worker is told: those under the descriptors that it is forked with, or all.
+fn given(descriptors: &Option<DescriptorSet>, listeners: &Listeners) -> Listeners
+    ensures { result ≡ given descriptors.now listeners.now }
+{
+    match descriptors {
+        Some(set) => listeners.only(set),
+        None => *listeners,
+    }
+}
 
 /// Tells a worker that was started what it is and where it listens, and to go.
 fn greet<F: Family>(family: &mut F, worker: &Worker, listeners: &Listeners)
@@ -45,10 +55,11 @@ pub(crate) fn fork<F: Family>(
     state: &mut EdgeState,
     generation: Generation,
     nr: u32,
+    descriptors: Option<DescriptorSet>,
 ) -> Answer
     requires { vec_len state.old.workers < vec_capacity state.old.workers }
-    ensures turn { GoesOn (F.told family.old) (F.told family.new) (forking (state_of state.old) generation nr) (answers (state_of state.new) result) }
-    ensures listed { IsTrue (is_listed (Fork generation nr) result) }
+    ensures turn { GoesOn (F.told family.old) (F.told family.new) (forking (state_of state.old) generation nr descriptors) (answers (state_of state.new) result) }
+    ensures listed { IsTrue (is_listed (Fork generation nr descriptors) result) }
     ensures spare { vec_capacity state.old.workers - vec_len state.old.workers ≤ (vec_capacity state.new.workers - vec_len state.new.workers) + 1 }
 {
     if state.starts == u32::MAX {
@@ -73,7 +84,8 @@ pub(crate) fn fork<F: Family>(
         stage: Stage::Starting,
         beat: None,
     };
-    greet(family, &worker, &state.listeners);
+    let listeners = given(&descriptors, &state.listeners);
+    greet(family, &worker, &listeners);
     take_up(&mut state.workers, worker);
     Answer::Forked
 }

@@ -1,7 +1,7 @@
 -- Calls: what each is answered, and what it changes in the table.
 use Rattle.std.specs.Prelude.{ℕ, ◌+◌, Bool, true, false, ◌&&◌, ◌==◌, nat_lt, not, List, [], ◌∷◌, ◌++◌, Option, Some, None, filter, count_by, length, if◌then◌else◌, zero, suc, bytes_eq, Result, Ok, Err}
 use Rattle.std.specs.List.{list_any, filter_map}
-use Rattle.listener_set.specs.Numbers.{numbers_below}
+use Rattle.listener_set.specs.Numbers.{numbers_below, is_in}
 use Rattle.vocabulary.specs.declared.table.Listener.{Listener}
 use Rattle.definitions.specs.Handover.{Handover, HandoverRefusal, reading}
 use Rattle.definitions.specs.Table.{FilePath, File, owner_at, is_draining, Address, Generation, Hold, Starting, Ready, Draining, Process, Master, Worker, Foreign, Table, with_rows, is_starting, is_ready, is_active, is_exited, is_any, is_worker, is_own, is_at, is_held, Caller, live_master}
@@ -89,11 +89,17 @@ has_process_room t = nat_lt (count_by is_own t.rows) t.limits.processes
 abbrev pub with_new_row : Table → (ℕ → Process) → Table
 with_new_row t row = record t { rows = t.rows ++ row t.next_process ∷ []; next_process = t.next_process + 1 }
 
--- A new Starting worker with the caller's holds, unless an active worker of the caller bears the name or the process limit is reached.
-abbrev pub forked : Caller → Generation → ℕ → Table → Stepped
-forked c g k t =
+-- the holds that a worker is given: those of these descriptors, or all
+abbrev pub shared : Option (List ℕ) → List Hold → List Hold
+shared None hs = hs
+shared (Some fds) hs = filter (λ h. is_in fds h.fd) hs
+
+-- A new Starting worker with the caller's holds under these descriptors, or all of them, unless an active worker of the caller bears
+-- the name or the process limit is reached.
+abbrev pub forked : Caller → Generation → ℕ → Option (List ℕ) → Table → Stepped
+forked c g k fds t =
     if list_any (is_worker is_active c.number g k) t.rows then gives answer.Again t
-    else if has_process_room t then gives answer.Forked (with_new_row t (λ n. Worker n c.number g k Starting c.holds))
+    else if has_process_room t then gives answer.Forked (with_new_row t (λ n. Worker n c.number g k Starting (shared fds c.holds)))
     else gives answer.Again t
 
 ---- AwaitReady
@@ -252,7 +258,7 @@ departed c t = gives answer.Fine (each_row (without_master c.number) t)
 abbrev pub own_step : List ℕ → ℕ → Caller → Call → Table → Stepped
 own_step text image c (OpenAt a) t = opened c a t
 own_step text image c (CloseAt a) t = closed c a t
-own_step text image c (Fork g k) t = forked c g k t
+own_step text image c (Fork g k fds) t = forked c g k fds t
 own_step text image c (AwaitReady g k) t = awaited c g k t
 own_step text image c (Quit g k) t = quitted c g k t
 own_step text image c (Kill g k) t = killed c g k t
@@ -278,8 +284,8 @@ fault_of c (OpenAt a) fate.InUse t = Some answer.InUse
 fault_of c (OpenAt a) fate.TooMany t = Some answer.TooMany
 fault_of c (OpenAt a) fate.Denied t = Some answer.Denied
 fault_of c (OpenAt a) fate.NoMemory t = Some answer.NoMemory
-fault_of c (Fork g k) fate.Again t = Some answer.Again
-fault_of c (Fork g k) fate.NoMemory t = Some answer.NoMemory
+fault_of c (Fork g k fds) fate.Again t = Some answer.Again
+fault_of c (Fork g k fds) fate.NoMemory t = Some answer.NoMemory
 fault_of c (AwaitReady g k) fate.Late t = fault_if (list_any (is_worker is_starting c.number g k) t.rows) answer.Late
 fault_of c (AwaitGone g k) fate.Late t = fault_if (list_any (is_worker is_draining c.number g k) t.rows) answer.Late
 fault_of c (SpawnMaster i) fate.Again t = Some answer.Again

@@ -77,7 +77,7 @@ settle by g set side (suc rounds) = census by g set (census_edges (Ends (full_en
 -- Fork these numbers upwards. The first failed fork leads to `bad` of those that were forked, the last first.
 abbrev pub forks : ℕ → Generation → List ℕ → List ℕ → (List ℕ → Tree) → (List ℕ → Tree) → Tree
 forks by g [] done ok bad = ok done
-forks by g (k ∷ ks) done ok bad = does by (Fork g k) (fork_edges (forks by g ks (k ∷ done) ok bad) (bad done))
+forks by g (k ∷ ks) done ok bad = does by (Fork g k None) (fork_edges (forks by g ks (k ∷ done) ok bad) (bad done))
 
 -- Wait for these numbers upwards. The first that fails, killed where it is late, leads to `bad`.
 abbrev pub awaits : ℕ → Generation → List ℕ → Tree → Tree → Tree
@@ -96,7 +96,7 @@ quits by g (k ∷ ks) rest = does by (Quit g k) (then_edge (quits by g ks rest))
 -- Fork these numbers upwards, whatever is answered.
 abbrev pub forks_any : ℕ → Generation → List ℕ → Tree → Tree
 forks_any by g [] rest = rest
-forks_any by g (k ∷ ks) rest = does by (Fork g k) (fork_any_edges (forks_any by g ks rest))
+forks_any by g (k ∷ ks) rest = does by (Fork g k None) (fork_any_edges (forks_any by g ks rest))
 
 -- Wait for these numbers upwards, whatever is answered; one that is late is killed.
 abbrev pub awaits_any : ℕ → Generation → List ℕ → Tree → Tree
@@ -224,7 +224,7 @@ pid_calls (Some path) call = call path ∷ []
 -- workers and waits for them, and writes its pid.
 abbrev pub new_calls : Generation → Option FilePath → List Address → List Address → ℕ → List Call
 new_calls g path old wanted n =
-    Adopt ∷ map CloseAt (only_in old wanted) ++ map OpenAt (only_in wanted old) ++ map (Fork (upgrade_generation g)) (numbers_below n)
+    Adopt ∷ map CloseAt (only_in old wanted) ++ map OpenAt (only_in wanted old) ++ map (λ k. Fork (upgrade_generation g) k None) (numbers_below n)
     ++ map (AwaitReady (upgrade_generation g)) (numbers_below n) ++ pid_calls path WritePid
 
 -- The pid file goes aside, where it isn't yet.

@@ -66,7 +66,7 @@ reply_of set answer.MasterGone = reply.MasterGone
 abbrev pub replies_to : Call → List Reply
 replies_to (OpenAt a) = reply.Opened ∷ reply.InUse ∷ reply.TooMany ∷ reply.Denied ∷ reply.NoMemory ∷ []
 replies_to (CloseAt a) = reply.Fine ∷ []
-replies_to (Fork g k) = reply.Forked ∷ reply.Again ∷ reply.NoMemory ∷ []
+replies_to (Fork g k fds) = reply.Forked ∷ reply.Again ∷ reply.NoMemory ∷ []
 replies_to (AwaitReady g k) = reply.IsReady ∷ reply.Gone ∷ reply.Late ∷ []
 replies_to (Quit g k) = reply.Fine ∷ []
 replies_to (Kill g k) = reply.Fine ∷ []
@@ -86,7 +86,7 @@ replies_to (TermMaster i) = reply.Fine ∷ []
 abbrev pub plain_reply : Call → Reply
 plain_reply (OpenAt a) = reply.Opened
 plain_reply (CloseAt a) = reply.Fine
-plain_reply (Fork g k) = reply.Forked
+plain_reply (Fork g k fds) = reply.Forked
 plain_reply (AwaitReady g k) = reply.IsReady
 plain_reply (Quit g k) = reply.Fine
 plain_reply (Kill g k) = reply.Fine
@@ -136,7 +136,7 @@ lowest (k ∷ ks) = k
 -- the call that a step asks for, once its worker is named
 abbrev pub call_of : Order → List ℕ → Call
 call_of (Make call) lacking = call
-call_of (ForkLacking g) lacking = Fork g (lowest lacking)
+call_of (ForkLacking g) lacking = Fork g (lowest lacking) None
 call_of (AwaitLacking g) lacking = AwaitReady g (lowest lacking)
 call_of (KillLacking g) lacking = Kill g (lowest lacking)
 

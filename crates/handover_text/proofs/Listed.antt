@@ -11,6 +11,7 @@ use Rattle.std.proofs.lemmas.List.Folds.{list_any_at, Any-from_list_any}
 use Rattle.std.proofs.lemmas.List.Sums.{length-filter, count_by-le-length}
 use Rattle.listener_set.proofs.PaddedLists.{none-padded}
 use Rattle.listener_set.specs.AddressList.{blank, has, AreDistinct}
+use Rattle.listener_set.specs.Descriptors.{IsDescriptor}
 use Rattle.vocabulary.specs.declared.table.Listener.{Listener}
 use Rattle.definitions.specs.Record.{listeners_from}
 use Rattle.definitions.specs.After.{listens_on, listener_at, opened_from, added, with_added, all_opened}
@@ -59,6 +60,12 @@ module _ (p : Listener → Bool) where
 
   pub filter-room : (ls : List Listener) (i : ℕ) → i < length ls → length ls ≤ 64 → length (filter p (take i ls)) < 64
   filter-room ls i lt most = omega (arith, length-filter p (take i ls), count_by-le-length p (take i ls), length-take i ls)
+
+-- each listener has a descriptor that a process can have
+pub descriptor_within : (fd : ℕ) (ls : List Listener) (i : ℕ) (l : Listener) → 3 ≤ fd → AreListedFrom fd ls → i < length ls → l ≡ get_or ls i l → IsDescriptor l.descriptor
+descriptor_within fd [] i l low h lt e = absurd (let none : i < 0 = lt in omega arith)
+descriptor_within fd (m ∷ ms) zero l low h lt e = rw e (omega (arith, low, h.0), h.1)
+descriptor_within fd (m ∷ ms) (suc i) l low h lt e = descriptor_within (m.descriptor + 1) ms i l (omega (arith, low, h.0)) h.3 (omega (arith, lt)) e
 
 ---- One more listener
 

@@ -1,7 +1,8 @@
 -- The listeners of a running master.
-use Rattle.std.specs.Prelude.{◌≡◌, ℕ, ◌+◌, ◌<◌, ◌≤◌, false, List, [], ◌∷◌, take}
+use Rattle.std.specs.Prelude.{◌≡◌, ℕ, ◌+◌, ◌<◌, ◌≤◌, false, List, [], ◌∷◌, take, filter}
 use Rattle.listener_set.specs.Padded.{IsPadded}
 use Rattle.listener_set.specs.AddressList.{blank}
+use Rattle.listener_set.specs.Numbers.{is_in}
 use Rattle.vocabulary.specs.declared.table.Listener.{Listener}
 use Rattle.definitions.specs.After.{listens_on}
 
@@ -22,3 +23,7 @@ blank_listener = record { descriptor = 3; address = blank }
 pub record AreKept (items : List Listener) (len : ℕ) : Type 0 where
   pub padded : IsPadded 64 blank_listener items len
   pub listed : AreListed (take len items)
+
+-- the listeners whose descriptors are in a set
+abbrev pub only_under : List ℕ → List Listener → List Listener
+only_under fds ls = filter (λ (l : Listener). is_in fds l.descriptor) ls

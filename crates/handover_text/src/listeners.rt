@@ -4,9 +4,9 @@ ghost use Rattle.definitions.specs.Record.{listeners_from};
 ghost use Rattle.definitions.specs.Table.{Address as AddressText};
 ghost use Rattle.definitions.specs.After.{listener_at, listens_on, opened_from, still_wanted, with_added, reloaded, upgraded};
 ghost use Rattle.definitions.specs.Handover.{is_above};
-ghost use Rattle.handover_text.specs.Listeners.{AreListed};
+ghost use Rattle.handover_text.specs.Listeners.{AreListed, only_under};
 
-use listener_set::{Address, FIRST_DESCRIPTOR, ListenerSet, MOST_DESCRIPTORS};
+use listener_set::{Address, DescriptorSet, FIRST_DESCRIPTOR, ListenerSet, MOST_DESCRIPTORS};
 use std::marker::Model;
 use vocabulary::Listener;
 
@@ -132,6 +132,20 @@ impl Listeners {
         let all = self.as_slice();
         for listener in all {
             if addresses.holds(&listener.address) {
+                listeners.push(listener);
+            }
+        }
+        listeners
+    }
+
+    /// The listeners whose descriptors are in the set.
+    pub fn only(&self, set: &DescriptorSet) -> Self
+        ensures { result ≡ only_under set.now self.now }
+    {
+        let mut listeners = Self::new();
+        let all = self.as_slice();
+        for listener in all {
+            if set.has(listener.descriptor) {
                 listeners.push(listener);
             }
         }

@@ -1,18 +1,19 @@
 -- A new worker and a new socket keep what every table keeps.
-use Rattle.std.proofs.Common.{◌≡◌, ℕ, ◌+◌, ◌<◌, ◌≤◌, Bool, true, false, cond, ◌&&◌, ◌||◌, nat_eq, nat_lt, List, [], ◌∷◌, ◌++◌, Some, count_by, refl, ap, subst, ◌∙◌, arith}
+use Rattle.std.proofs.Common.{◌≡◌, ℕ, ◌+◌, ◌<◌, ◌≤◌, Bool, true, false, cond, ◌&&◌, ◌||◌, nat_eq, nat_lt, List, [], ◌∷◌, ◌++◌, Some, count_by, Option, None, refl, ap, subst, ◌∙◌, arith}
 use Rattle.std.specs.List.{AllByRecursion, filter_map, list_any}
 use Rattle.std.proofs.lemmas.Bool.{true≢false, false≢true}
 use Rattle.std.proofs.lemmas.Bool.Decides.{nat_tests}
 use Rattle.std.proofs.lemmas.List.Sums.{sum_by-cons}
 use Rattle.std.proofs.lemmas.List.Folds.{list_any-append}
+use Rattle.listener_set.specs.Numbers.{is_in}
 use Rattle.vocabulary.specs.declared.table.Stance.TheVariants.{Starting}
 use Rattle.definitions.specs.Table.{Generation, same_generation, Hold, Process, Master, Worker, Foreign, number_of, holds_of, is_active, is_worker, is_live_master, Caller, live_master, caller_if}
 use Rattle.definitions.specs.Exits.{change}
-use Rattle.definitions.specs.Calls.{is_image, with_holds, put_hold, is_row}
+use Rattle.definitions.specs.Calls.{is_image, with_holds, put_hold, is_row, shared}
 use Rattle.definitions.specs.Formed.{IsQuiet, HasParent, IsAscending}
 use Rattle.process_table.specs.Room.{HasSockets}
 use Rattle.process_table.proofs.Keeping.{AreKept, Follows, AreKept-becomes, Becomes-filter_map, says-change}
-use Rattle.kernel_model.proofs.Steps.{KeepsMasters, HasParent-up, live-change, same-holds}
+use Rattle.kernel_model.proofs.Steps.{filter-within, KeepsMasters, HasParent-up, live-change, same-holds}
 
 -- ---- the caller is a live master
 abbrev pub AreWithin : ℕ → List Hold → Type 0
@@ -54,6 +55,10 @@ caller-sockets image socket (Master n q i live hs ∷ rows) c e h = at (live && 
     at false e ih = ih e
 
 -- ---- a new worker
+pub within-shared : (fds : Option (List ℕ)) (socket : ℕ) (hs : List Hold) → AreWithin socket hs → AreWithin socket (shared fds hs)
+within-shared None socket hs w = w
+within-shared (Some fds) socket hs w = filter-within (λ h. is_in fds h.fd) socket hs w
+
 pub all-append : (P : Process → Type 0) (rows : List Process) (p : Process) → AllByRecursion P rows → P p → AllByRecursion P (rows ++ p ∷ [])
 all-append P [] p h one = (one, tt)
 all-append P (x ∷ rows) p h one = (h.0, all-append P rows p h.1 one)

@@ -9,12 +9,12 @@ use Rattle.vocabulary.specs.declared.calls.Fate.{Fate}
 use Rattle.vocabulary.specs.declared.names.Name.{Name}
 use Rattle.definitions.specs.Table.{Address, FilePath, File, owner_at, Generation, Hold, Process, Master, Worker, Table, with_rows, is_active, is_starting, is_exited, is_any, is_worker, is_held, Caller, live_master}
 use Rattle.definitions.specs.Exits.{after_exits}
-use Rattle.definitions.specs.Calls.{is_image, opened, forked, spawned, awaited, killed, moved_if, asked_alive, suits, with_files, Stepped, made_ready, made_draining, with_holds, lacks_address, lowest_free, is_of, is_exited_of, has_process_room, with_new_row, with_new_socket, own_step, fault_at, fault_or_own, step_by, step_with}
+use Rattle.definitions.specs.Calls.{is_image, opened, forked, spawned, awaited, killed, moved_if, asked_alive, suits, with_files, Stepped, made_ready, made_draining, with_holds, lacks_address, lowest_free, is_of, is_exited_of, has_process_room, with_new_row, shared, with_new_socket, own_step, fault_at, fault_or_own, step_by, step_with}
 use Rattle.definitions.specs.Handover.{reading}
 use Rattle.process_table.specs.Room.{IsKept}
 use Rattle.process_table.proofs.Keeping.{AreKept}
 use Rattle.kernel_model.proofs.Steps.{same-draining, same-ready, same-holds, worker-named, worker-of, kept-change, kept-dropped, drains_so, ready_so, closes_so, kept-all_exited}
-use Rattle.kernel_model.proofs.CallSteps.{live-caller, caller-sockets, kept-fork, kept-open}
+use Rattle.kernel_model.proofs.CallSteps.{live-caller, caller-sockets, within-shared, kept-fork, kept-open}
 use Rattle.kernel_model.proofs.MasterSteps.{kept-spawn, kept-reaped, kept-left, kept-terminated}
 
 -- ---- tables
@@ -57,12 +57,12 @@ module _ (text : List ℕ) (image : ℕ) (c : Caller) (t : Table) (h : IsKept t)
       kept-rows t (with_new_socket t c.number hold) h (kept-open t.rows t.next_process t.next_socket kept h.first c.number hold refl) (omega arith) refl)
       (λ f. h))
 
-  fork-kept : (g : Generation) (k : ℕ) → (let z : Stepped = forked c g k t in IsKept z.table)
-  fork-kept g k =
+  fork-kept : (g : Generation) (k : ℕ) (fds : Option (List ℕ)) → (let z : Stepped = forked c g k fds t in IsKept z.table)
+  fork-kept g k fds =
       one_of (list_any (is_worker is_active c.number g k) t.rows) _ _ (λ e. h)
       (λ free. one_of (has_process_room t) _ _
-      (λ e. kept-rows t (with_new_row t (λ n. Worker n c.number g k Starting c.holds)) h
-      (kept-fork t.rows t.next_process t.next_socket kept c.number g k c.holds free (live-caller image t.rows c found) (caller-sockets image t.next_socket t.rows c found h.sockets)) (omega arith) refl)
+      (λ e. kept-rows t (with_new_row t (λ n. Worker n c.number g k Starting (shared fds c.holds))) h
+      (kept-fork t.rows t.next_process t.next_socket kept c.number g k (shared fds c.holds) free (live-caller image t.rows c found) (within-shared fds t.next_socket c.holds (caller-sockets image t.next_socket t.rows c found h.sockets))) (omega arith) refl)
       (λ e. h))
 
   spawn-kept : (i : ℕ) → (let z : Stepped = spawned c i t in IsKept z.table)
@@ -94,7 +94,7 @@ module _ (text : List ℕ) (image : ℕ) (c : Caller) (t : Table) (h : IsKept t)
   own_step-kept (OpenAt a) = open-kept a
   own_step-kept (CloseAt a) =
       with-rows _ (kept-change t.next_process t.next_socket t.rows kept (is_of c.number) (with_holds (lacks_address a)) (same-holds (lacks_address a)) (λ rows' up p e. closes_so t.rows rows' t.next_socket up a p))
-  own_step-kept (Fork g k) = fork-kept g k
+  own_step-kept (Fork g k fds) = fork-kept g k fds
   own_step-kept (AwaitReady g k) = await-kept g k
   own_step-kept (Quit g k) =
       with-rows _ (kept-change t.next_process t.next_socket t.rows kept (is_worker is_active c.number g k) made_draining same-draining (λ rows' up p e. drains_so t.rows rows' t.next_socket up p))

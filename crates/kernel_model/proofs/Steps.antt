@@ -1,5 +1,5 @@
 -- Exits and calls keep what every table keeps.
-use Rattle.std.proofs.Common.{◌≡◌, ℕ, ◌<◌, ◌≤◌, Bool, true, false, cond, ◌&&◌, ◌||◌, not, nat_eq, List, [], ◌∷◌, Option, Some, None, refl, sym, ap, ◌∙◌, arith}
+use Rattle.std.proofs.Common.{◌≡◌, ℕ, ◌<◌, ◌≤◌, Bool, true, false, cond, ◌&&◌, ◌||◌, not, nat_eq, List, [], ◌∷◌, filter, Option, Some, None, refl, sym, ap, ◌∙◌, arith}
 use Rattle.std.specs.List.{AllByRecursion, filter_map, cons_option, list_any}
 use Rattle.std.specs.Prelude.{IfSome}
 use Rattle.std.proofs.lemmas.Bool.{false≢true}
@@ -45,22 +45,22 @@ module _ (rows rows' : List Process) (socket : ℕ) (up : KeepsMasters rows rows
   ready_so q g k (Master n q' i live hs) e = absurd (false≢true e)
   ready_so q g k (Foreign n hs) e = absurd (false≢true e)
 
-lacks_address-within : (a : Address) (socket : ℕ) (hs : List Hold) → AllByRecursion (λ (h : Hold). (1 ≤ h.socket) × (h.socket < socket)) hs → AllByRecursion (λ (h : Hold). (1 ≤ h.socket) × (h.socket < socket)) (lacks_address a hs)
-lacks_address-within a socket [] w = tt
-lacks_address-within a socket (h ∷ hs) w = at (not (is_at a h)) w.0 (lacks_address-within a socket hs w.1)
+pub filter-within : (f : Hold → Bool) (socket : ℕ) (hs : List Hold) → AllByRecursion (λ (h : Hold). (1 ≤ h.socket) × (h.socket < socket)) hs → AllByRecursion (λ (h : Hold). (1 ≤ h.socket) × (h.socket < socket)) (filter f hs)
+filter-within f socket [] w = tt
+filter-within f socket (h ∷ hs) w = at (f h) w.0 (filter-within f socket hs w.1)
   where
-    at : (b : Bool) → (1 ≤ h.socket) × (h.socket < socket) → AllByRecursion (λ (x : Hold). (1 ≤ x.socket) × (x.socket < socket)) (lacks_address a hs) → AllByRecursion (λ (x : Hold). (1 ≤ x.socket) × (x.socket < socket)) (cond b (h ∷ lacks_address a hs) (lacks_address a hs))
+    at : (b : Bool) → (1 ≤ h.socket) × (h.socket < socket) → AllByRecursion (λ (x : Hold). (1 ≤ x.socket) × (x.socket < socket)) (filter f hs) → AllByRecursion (λ (x : Hold). (1 ≤ x.socket) × (x.socket < socket)) (cond b (h ∷ filter f hs) (filter f hs))
     at true one rest = (one, rest)
     at false one rest = rest
 
 module _ (rows rows' : List Process) (socket : ℕ) (up : KeepsMasters rows rows') where
   pub closes_so : (a : Address) (p : Process) → Follows rows rows' socket socket p (with_holds (lacks_address a) p)
-  closes_so a (Worker n q g k Starting hs) = record { number = refl; quiet = λ h. tt; active = λ q' g' k' e. e; image = λ i e. e; parent = λ h. up q h; sockets = lacks_address-within a socket hs }
-  closes_so a (Worker n q g k Ready hs) = record { number = refl; quiet = λ h. tt; active = λ q' g' k' e. e; image = λ i e. e; parent = λ h. up q h; sockets = lacks_address-within a socket hs }
-  closes_so a (Worker n q g k Draining hs) = record { number = refl; quiet = λ h. ap (lacks_address a) h; active = λ q' g' k' e. e; image = λ i e. e; parent = λ h. up q h; sockets = lacks_address-within a socket hs }
-  closes_so a (Worker n q g k Exited hs) = record { number = refl; quiet = λ h. ap (lacks_address a) h; active = λ q' g' k' e. e; image = λ i e. e; parent = λ h. up q h; sockets = lacks_address-within a socket hs }
-  closes_so a (Master n q i live hs) = record { number = refl; quiet = λ h. tt; active = λ q' g' k' e. absurd (false≢true e); image = λ i e. e; parent = λ h. tt; sockets = lacks_address-within a socket hs }
-  closes_so a (Foreign n hs) = record { number = refl; quiet = λ h. tt; active = λ q' g' k' e. absurd (false≢true e); image = λ i e. e; parent = λ h. tt; sockets = lacks_address-within a socket hs }
+  closes_so a (Worker n q g k Starting hs) = record { number = refl; quiet = λ h. tt; active = λ q' g' k' e. e; image = λ i e. e; parent = λ h. up q h; sockets = filter-within (λ h. not (is_at a h)) socket hs }
+  closes_so a (Worker n q g k Ready hs) = record { number = refl; quiet = λ h. tt; active = λ q' g' k' e. e; image = λ i e. e; parent = λ h. up q h; sockets = filter-within (λ h. not (is_at a h)) socket hs }
+  closes_so a (Worker n q g k Draining hs) = record { number = refl; quiet = λ h. ap (lacks_address a) h; active = λ q' g' k' e. e; image = λ i e. e; parent = λ h. up q h; sockets = filter-within (λ h. not (is_at a h)) socket hs }
+  closes_so a (Worker n q g k Exited hs) = record { number = refl; quiet = λ h. ap (lacks_address a) h; active = λ q' g' k' e. e; image = λ i e. e; parent = λ h. up q h; sockets = filter-within (λ h. not (is_at a h)) socket hs }
+  closes_so a (Master n q i live hs) = record { number = refl; quiet = λ h. tt; active = λ q' g' k' e. absurd (false≢true e); image = λ i e. e; parent = λ h. tt; sockets = filter-within (λ h. not (is_at a h)) socket hs }
+  closes_so a (Foreign n hs) = record { number = refl; quiet = λ h. tt; active = λ q' g' k' e. absurd (false≢true e); image = λ i e. e; parent = λ h. tt; sockets = filter-within (λ h. not (is_at a h)) socket hs }
 
 -- ---- live masters stay
 same-exited : (q : ℕ) (p : Process) → is_live_master q (made_exited p) ≡ is_live_master q p

@@ -9,8 +9,8 @@ ghost use Rattle.process_table.specs.Rows.{IsOwn};
 ghost use Rattle.process_table.specs.Free.{KnowsFree};
 
 use crate::master_calls;
-use listener_set::{Address, FilePath, Generation};
-use process_table::{Caller, Edit, Stances, Store, files};
+use listener_set::{Address, DescriptorSet, FilePath, Generation};
+use process_table::{Caller, Edit, Stances, Store, files, holds};
 use vocabulary::{Answer, Call, Fate};
 
 /// A new socket at the caller's lowest free descriptor, unless somebody holds the address or the caller has as many
@@ -41,11 +41,18 @@ fn close(store: &mut Store, caller: &Caller, address: &Address) -> Answer
     Answer::Fine
 }
 
-/// A new Starting worker with the caller's holds, unless the name is borne or the process limit is reached.
-fn fork(store: &mut Store, caller: &Caller, generation: Generation, nr: u32) -> Answer
+/// A new Starting worker with the caller's holds, those of the set or all, unless the name is borne or the process limit
+/// is reached.
+fn fork(
+    store: &mut Store,
+    caller: &Caller,
+    generation: Generation,
+    nr: u32,
+    descriptors: Option<DescriptorSet>,
+) -> Answer
     requires room { HasRoomFor 1 store.old }
     requires free { KnowsFree store.old }
-    ensures outcome { record { answer = result; table = seen store.new } ≡ forked (seen_caller store.old.addresses.items caller.now) generation nr (seen store.old) }
+    ensures outcome { record { answer = result; table = seen store.new } ≡ forked (seen_caller store.old.addresses.items caller.now) generation nr descriptors (seen store.old) }
     ensures grows { GrowsByOne store.old store.new }
 {
     let name = caller.worker(generation, nr);
@@ -55,7 +62,7 @@ fn fork(store: &mut Store, caller: &Caller, generation: Generation, nr: u32) -> 
     if !store.has_process_room() {
         return Answer::Again;
     }
-    store.add_worker(name, caller.holds);
+    store.add_worker(name, holds::shared(&caller.holds, descriptors));
     Answer::Forked
 }
 
@@ -163,7 +170,13 @@ fn own_answer(store: &mut Store, image: u32, caller: &Caller, call: &Call, text:
     match call {
         Call::OpenAt(address) => open(store, caller, address),
         Call::CloseAt(address) => close(store, caller, address),
-        Call::Fork(generation, nr) => fork(store, caller, *generation, *nr),
+        Call::Fork(generation, nr, descriptors) => fork(
+            store,
+            caller,
+            *generation,
+            *nr,
+            *descriptors,
+        ),
         Call::AwaitReady(generation, nr) => await_ready(store, caller, *generation, *nr),
         Call::Quit(generation, nr) => quit(store, caller, *generation, *nr),
         Call::Kill(generation, nr) => kill(store, caller, *generation, *nr),
@@ -212,7 +225,7 @@ fn fault_of(store: &Store, caller: &Caller, call: &Call, fate: Fate) -> Option<A
 {
     match call {
         Call::OpenAt(_) => open_fault(fate),
-        Call::Fork(_, _) => match fate {
+        Call::Fork(_, _, _) => match fate {
             Fate::Again => Some(Answer::Again),
             Fate::NoMemory => Some(Answer::NoMemory),
             _ => None,

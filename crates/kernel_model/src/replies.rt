@@ -1,5 +1,5 @@
 //! What calls would be answered by themselves. Nothing is changed.
-ghost use Rattle.std.specs.Prelude.{◌≡◌, [], None, if◌then◌else◌};
+ghost use Rattle.std.specs.Prelude.{◌≡◌, ℕ, List, [], Option, None, if◌then◌else◌};
 ghost use Rattle.std.specs.List.{list_any};
 ghost use Rattle.std.specs.Option.{option_map};
 ghost use Rattle.definitions.specs.Table.{is_active, is_worker, live_master};
@@ -28,7 +28,7 @@ fn open_reply(store: &Store, caller: &Caller, address: &Address) -> Reply
 
 fn fork_reply(store: &Store, caller: &Caller, generation: Generation, nr: u32) -> Reply
     requires { KnowsFree store.now }
-    ensures { result ≡ reply_of [] (forked (seen_caller store.now.addresses.items caller.now) generation nr (seen store.now)).answer }
+    ensures { (fds : Option (List ℕ)) → result ≡ reply_of [] (forked (seen_caller store.now.addresses.items caller.now) generation nr fds (seen store.now)).answer }
 {
     if store.is_borne(caller.worker(generation, nr)) {
         return Reply::Again;
@@ -106,7 +106,7 @@ fn own_reply(store: &Store, image: u32, caller: &Caller, call: &Call, text: &[u8
 {
     match call {
         Call::OpenAt(address) => open_reply(store, caller, address),
-        Call::Fork(generation, nr) => fork_reply(store, caller, *generation, *nr),
+        Call::Fork(generation, nr, _) => fork_reply(store, caller, *generation, *nr),
         Call::AwaitReady(generation, nr) => worker_reply(
             store,
             caller,

@@ -1,9 +1,10 @@
 -- Pairs in ascending descriptors.
-use Rattle.std.proofs.Common.{◌≡◌, ◌≢◌, ℕ, ◌+◌, ◌<◌, ◌≤◌, Bool, true, false, cond, not, nat_eq, nat_le, List, [], ◌∷◌, Some, None, refl, sym, ap, ◌∙◌, arith, inl, inr}
+use Rattle.std.proofs.Common.{◌≡◌, ◌≢◌, ℕ, ◌+◌, ◌<◌, ◌≤◌, Bool, true, false, cond, not, nat_eq, nat_le, List, [], ◌∷◌, filter, ◌||◌, ◌&&◌, Some, None, refl, sym, ap, ◌∙◌, arith, inl, inr}
 use Rattle.std.proofs.lemmas.Bool.{cases_eq, cases_lt}
 use Rattle.std.proofs.lemmas.Bool.Decides.{nat_tests}
-use Rattle.listener_set.specs.Numbers.{RisesFrom, AreBelow}
-use Rattle.listener_set.specs.Descriptors.{descriptors_of, socket_of, without_descriptor, pair_from}
+use Rattle.listener_set.specs.Numbers.{is_in, RisesFrom, AreBelow}
+use Rattle.listener_set.specs.Descriptors.{descriptors_of, socket_of, without_descriptor, pair_from, only_of}
+use Rattle.listener_set.proofs.NumberSets.{filter-filter}
 
 -- a descriptor that has no socket is not among them
 pub without-absent : (pairs : List (ℕ × ℕ)) (d : ℕ) → socket_of pairs d ≡ None → pairs ≡ without_descriptor pairs d
@@ -75,3 +76,69 @@ no_pair (p ∷ ps) b h e =
     let first : nat_le b p.0 ≡ true = grind (arith, nat_tests) in
     let none : Some p ≡ None = rw first at e in
     cc
+
+-- ---- the pairs of a set
+
+-- the pairs that are left once the descriptors below a bound are seen to
+abbrev pub is_left : List ℕ → ℕ → ℕ × ℕ → Bool
+is_left fds bound p = is_in fds p.0 || nat_le bound p.0
+
+or_true : (b : Bool) → (b || true) ≡ true
+or_true true = refl
+or_true false = refl
+
+or_false : (b : Bool) → (b || false) ≡ b
+or_false true = refl
+or_false false = refl
+
+and_true : (b : Bool) → (b && true) ≡ b
+and_true true = refl
+and_true false = refl
+
+and_false : (b : Bool) → (b && false) ≡ false
+and_false true = refl
+and_false false = refl
+
+pub left-all : (fds : List ℕ) (pairs : List (ℕ × ℕ)) (b bound : ℕ) → bound ≤ b → RisesFrom b (descriptors_of pairs) → pairs ≡ filter (is_left fds bound) pairs
+left-all fds [] b bound le h = refl
+left-all fds (p ∷ ps) b bound le h =
+    let from : b ≤ p.0 = h.0 in
+    let high : nat_le bound p.0 ≡ true = grind (arith, nat_tests) in
+    let kept : is_left fds bound p ≡ true = ap (λ x. is_in fds p.0 || x) high ∙ or_true (is_in fds p.0) in
+    rw kept (ap (λ qs. p ∷ qs) (left-all fds ps (p.0 + 1) bound (omega arith) h.1))
+
+pub left-none : (fds : List ℕ) (pairs : List (ℕ × ℕ)) (bound : ℕ) → AreBelow bound (descriptors_of pairs) → filter (is_left fds bound) pairs ≡ only_of fds pairs
+left-none fds [] bound below = refl
+left-none fds (p ∷ ps) bound below =
+    let less : p.0 < bound = below.0 in
+    let low : nat_le bound p.0 ≡ false = grind (arith, nat_tests) in
+    let same : is_left fds bound p ≡ is_in fds p.0 = ap (λ x. is_in fds p.0 || x) low ∙ or_false (is_in fds p.0) in
+    rw same (ap (λ qs. cond (is_in fds p.0) (p ∷ qs) qs) (left-none fds ps bound below.1))
+
+next_bound : (d k : ℕ) → k ≢ d → nat_le d k ≡ nat_le (d + 1) k
+next_bound d k ne = grind (arith, nat_tests)
+
+pub left-kept : (fds : List ℕ) (pairs : List (ℕ × ℕ)) (d : ℕ) → is_in fds d ≡ true → filter (is_left fds d) pairs ≡ filter (is_left fds (d + 1)) pairs
+left-kept fds pairs d h = ap (λ test. filter test pairs) (λ i p. at p i)
+  where
+    at : (p : ℕ × ℕ) → is_left fds d p ≡ is_left fds (d + 1) p
+    at p = elim (cases_eq p.0 d) [
+      | inl e ↦ (let in_it : is_in fds p.0 ≡ true = ap (is_in fds) e ∙ h in rw in_it refl)
+      | inr ne ↦ ap (λ x. is_in fds p.0 || x) (next_bound d p.0 ne)
+    ]
+
+pub left-taken : (fds : List ℕ) (pairs : List (ℕ × ℕ)) (d : ℕ) → is_in fds d ≡ false → without_descriptor (filter (is_left fds d) pairs) d ≡ filter (is_left fds (d + 1)) pairs
+left-taken fds pairs d h =
+    filter-filter (λ p. not (nat_eq p.0 d)) (is_left fds d) pairs ∙ ap (λ test. filter test pairs) (λ i p. at p i)
+  where
+    at : (p : ℕ × ℕ) → (is_left fds d p && not (nat_eq p.0 d)) ≡ is_left fds (d + 1) p
+    at p = elim (cases_eq p.0 d) [
+      | inl e ↦
+          let same : nat_eq p.0 d ≡ true = grind (arith, nat_tests) in
+          let absent : is_in fds p.0 ≡ false = ap (is_in fds) e ∙ h in
+          let past : nat_le (d + 1) p.0 ≡ false = grind (arith, nat_tests) in
+          rw (same, absent, past) (and_false (nat_le d p.0))
+      | inr ne ↦
+          let other : nat_eq p.0 d ≡ false = grind (arith, nat_tests) in
+          rw other (and_true (is_left fds d p) ∙ ap (λ x. is_in fds p.0 || x) (next_bound d p.0 ne))
+    ]

@@ -4,6 +4,7 @@ pub mod NumberSets
 pub mod NumberSearch
 pub mod DescriptorSlots
 pub mod DescriptorPairs
+pub mod DescriptorWords
 pub mod AddressLaws
 pub mod AddressGrammar
 pub mod PaddedLists

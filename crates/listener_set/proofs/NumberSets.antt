@@ -11,7 +11,7 @@ use Rattle.listener_set.proofs.Rising.{RisesFrom-push, RisesFrom-with_number, is
 use Rattle.listener_set.proofs.NumberBits.{without_bit, has_bit-without_bit, AreCleared, has_bit-cleared}
 
 -- ---- filters of the numbers below n
-pub filter-filter : (p q : ℕ → Bool) (xs : List ℕ) → filter p (filter q xs) ≡ filter (λ x. q x && p x) xs
+pub filter-filter : {A : Type 0} (p q : A → Bool) (xs : List A) → filter p (filter q xs) ≡ filter (λ x. q x && p x) xs
 filter-filter p q [] = refl
 filter-filter p q (x ∷ xs) = at (q x) (p x) (filter-filter p q xs)
   where
@@ -27,7 +27,7 @@ filter_below-same p q (suc n) h =
     ∙ ap (λ b. filter q (numbers_below n) ++ cond b (n ∷ []) []) (h n (omega arith))
     ∙ sym (filter-append q (numbers_below n) (n ∷ []))
 
-RisesFrom-filter_below : (p : ℕ → Bool) (n : ℕ) → RisesFrom 0 (filter p (numbers_below n))
+pub RisesFrom-filter_below : (p : ℕ → Bool) (n : ℕ) → RisesFrom 0 (filter p (numbers_below n))
 RisesFrom-filter_below p zero = tt
 RisesFrom-filter_below p (suc n) =
     subst (RisesFrom 0) (sym (filter-append p (numbers_below n) (n ∷ []))) (at (p n) (RisesFrom-filter_below p n))
@@ -43,7 +43,7 @@ are_numbers words = record { rising = RisesFrom-filter_below (has_bit words) 102
 pub length-numbers : (ns : List ℕ) (limit : ℕ) → AreNumbers limit ns → length ns ≤ limit
 length-numbers ns limit h = let le : length ns + 0 ≤ limit = length-rising ns 0 limit (omega arith) h.rising h.below in omega arith
 
-none_kept : (n : ℕ) → filter (λ k. false) (numbers_below n) ≡ []
+pub none_kept : (n : ℕ) → filter (λ k. false) (numbers_below n) ≡ []
 none_kept zero = refl
 none_kept (suc n) = filter-append (λ k. false) (numbers_below n) (n ∷ []) ∙ ap (λ l. l ++ []) (none_kept n)
 
@@ -93,6 +93,16 @@ AreBelow-numbers_below limit (suc n) le = AreBelow-append limit (numbers_below n
 
 pub numbers_below-more : (n : ℕ) → with_number (numbers_below n) n ≡ numbers_below (n + 1)
 numbers_below-more n = with_number-above (numbers_below n) n (AreBelow-numbers_below n n (omega arith)) ∙ rw add-one refl
+
+-- the numbers below n that pass a test, as the next one is seen to
+pub filter_below-more : (p : ℕ → Bool) (n : ℕ) (b : Bool) → p n ≡ b → filter p (numbers_below (n + 1)) ≡ cond b (with_number (filter p (numbers_below n)) n) (filter p (numbers_below n))
+filter_below-more p n b e =
+    let next : n + 1 ≡ suc n = omega arith in
+    ap (λ k. filter p (numbers_below k)) next ∙ filter-append p (numbers_below n) (n ∷ []) ∙ ap (λ x. filter p (numbers_below n) ++ cond x (n ∷ []) []) e ∙ at b
+  where
+    at : (x : Bool) → filter p (numbers_below n) ++ cond x (n ∷ []) [] ≡ cond x (with_number (filter p (numbers_below n)) n) (filter p (numbers_below n))
+    at true = sym (with_number-above (filter p (numbers_below n)) n (AreBelow-filter_below p n n (omega arith)))
+    at false = append-nil (filter p (numbers_below n))
 
 -- ---- two sets are equal where their words are
 pub same_words : (a b : List ℕ) → AreWords a → AreWords b → bytes_eq a b ≡ bytes_eq (numbers_of a) (numbers_of b)

@@ -34,6 +34,10 @@ socket_of (p ∷ ps) fd = if nat_eq p.0 fd then Some p.1 else socket_of ps fd
 abbrev pub without_descriptor : List (ℕ × ℕ) → ℕ → List (ℕ × ℕ)
 without_descriptor pairs fd = filter (λ p. not (nat_eq p.0 fd)) pairs
 
+-- the pairs whose descriptors are in a set
+abbrev pub only_of : List ℕ → List (ℕ × ℕ) → List (ℕ × ℕ)
+only_of fds pairs = filter (λ p. is_in fds p.0) pairs
+
 -- the first pair whose descriptor is at least a bound
 abbrev pub pair_from : ℕ → List (ℕ × ℕ) → Option (ℕ × ℕ)
 pair_from bound pairs = find (λ p. nat_le bound p.0) pairs

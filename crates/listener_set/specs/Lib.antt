@@ -8,6 +8,8 @@ pub mod PathText
 pub mod AddressList
 pub mod Descriptors
 pub mod DescriptorLemmas
+pub mod DescriptorSets
+pub mod DescriptorSetLemmas
 pub mod Codes
 pub mod GenerationText
 pub mod Slots

@@ -1,8 +1,9 @@
 //! The descriptors of a process.
 ghost use Rattle.std.specs.Prelude.{◌≡◌, ◌≢◌, ◌<◌, ◌≤◌, ◌↔◌, ℕ, [], length, get_or, IsTrue, IsErr, IsNone, None, OnErr, IfOk, IfSome, OnSome};
 ghost use Rattle.listener_set.specs.Slots.{IsFirstFree};
-ghost use Rattle.listener_set.specs.Descriptors.{lowest_free, descriptors_of, put_pair, socket_of, without_descriptor, pair_from, IsDescriptor, AreDescriptors};
+ghost use Rattle.listener_set.specs.Descriptors.{lowest_free, descriptors_of, put_pair, socket_of, without_descriptor, pair_from, only_of, IsDescriptor, AreDescriptors};
 
+use crate::descriptor_set::DescriptorSet;
 use crate::slots::Slots;
 use std::error::Error;
 use std::fmt;
@@ -14,7 +15,7 @@ pub const FIRST_DESCRIPTOR: u32 = 3;
 /// The most listeners of a process: its descriptors are 3 to 66.
 pub const MOST_DESCRIPTORS: usize = 64;
 
-const PAST_DESCRIPTORS: u32 = FIRST_DESCRIPTOR + MOST_DESCRIPTORS as u32;
+pub(crate) const PAST_DESCRIPTORS: u32 = FIRST_DESCRIPTOR + MOST_DESCRIPTORS as u32;
 
 /// No descriptor is free: each of the 64 has a socket.
 #[derive(Clone, Copy, Debug, PartialEq, Eq)]
@@ -168,6 +169,20 @@ impl DescriptorTable {
             }
         }
         None
+    }
+
+    /// The descriptors of the set with their sockets.
+    pub fn only(&self, set: &DescriptorSet) -> Self
+        ensures { result ≡ only_of set.now self.now }
+    {
+        let _ = &self.slots;
+        let mut table = *self;
+        for descriptor in FIRST_DESCRIPTOR..PAST_DESCRIPTORS {
+            if !set.has(descriptor) {
+                table.take(descriptor);
+            }
+        }
+        table
     }
 
     /// The descriptors with their sockets, upwards.

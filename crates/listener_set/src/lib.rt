@@ -3,6 +3,7 @@
 #![tactic(auto)]
 
 mod address;
+mod descriptor_set;
 mod descriptors;
 mod file_path;
 mod generation;
@@ -12,6 +13,7 @@ mod short_text;
 mod slots;
 
 pub use address::{ADDRESS_BYTES, Address, AddressRefusal};
+pub use descriptor_set::DescriptorSet;
 pub use descriptors::{DescriptorTable, FIRST_DESCRIPTOR, Full, MOST_DESCRIPTORS, Pairs};
 pub use file_path::{BadFile, FILE_PATH_BYTES, FilePath};
 pub use generation::Generation;

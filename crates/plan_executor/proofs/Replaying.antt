@@ -40,7 +40,7 @@ step-listed-by : (text : List ℕ) (image : ℕ) (c : Option Caller) (call : Cal
 step-listed-by text image None call f t = refl
 step-listed-by text image (Some c) (OpenAt a) f t = open-cases text image c a f t (IsListed (OpenAt a)) refl refl refl refl (λ free room. refl)
 step-listed-by text image (Some c) (CloseAt a) f t = own-listed text image c (CloseAt a) f t tt refl
-step-listed-by text image (Some c) (Fork g k) f t = fork-cases text image c g k f t (IsListed (Fork g k)) refl refl (λ free. refl)
+step-listed-by text image (Some c) (Fork g k fds) f t = fork-cases text image c g k fds f t (IsListed (Fork g k fds)) refl refl (λ free. refl)
 step-listed-by text image (Some c) (AwaitReady g k) f t = await-cases text image c g k f t (IsListed (AwaitReady g k)) refl (λ there. refl) (λ gone. refl)
 step-listed-by text image (Some c) (Quit g k) f t = own-listed text image c (Quit g k) f t tt refl
 step-listed-by text image (Some c) (Kill g k) f t = own-listed text image c (Kill g k) f t tt refl

@@ -31,8 +31,8 @@ module _ {X : Type 0} (by : ℕ) (call : X → Call) (tree : List X → List X �
       }
 
 pub forks_attempted : (by : ℕ) (g : Generation) (ks : List ℕ) (rest : Tree) (ok bad : List ℕ → Tree) → ok (reverse ks) ≡ rest
-    → IsAttempted by (map (Fork g) ks) rest (λ i. bad (reverse (take i ks))) (λ i. forks by g (drop i ks) (reverse (take i ks)) ok bad)
-forks_attempted by g ks rest ok bad e = attempted by (Fork g) (λ more done. forks by g more done ok bad) bad (λ k more done. refl) ks rest e
+    → IsAttempted by (map (λ k. Fork g k None) ks) rest (λ i. bad (reverse (take i ks))) (λ i. forks by g (drop i ks) (reverse (take i ks)) ok bad)
+forks_attempted by g ks rest ok bad e = attempted by (λ k. Fork g k None) (λ more done. forks by g more done ok bad) bad (λ k more done. refl) ks rest e
 
 pub opens_attempted : (by : ℕ) (xs : List Address) (rest : Tree) (ok bad : List Address → Tree) → ok (reverse xs) ≡ rest
     → IsAttempted by (map OpenAt xs) rest (λ i. bad (reverse (take i xs))) (λ i. opens by (drop i xs) (reverse (take i xs)) ok bad)

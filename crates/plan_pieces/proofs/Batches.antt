@@ -1,5 +1,5 @@
 -- Calls of one kind.
-use Rattle.std.proofs.Common.{◌≡◌, ℕ, ◌+◌, ◌*◌, List, [], ◌∷◌, ◌++◌, ◌≤◌, length, map, take, drop, reverse, Some, slice_get, refl, ◌∙◌, ap, arith}
+use Rattle.std.proofs.Common.{◌≡◌, ℕ, ◌+◌, ◌*◌, List, [], ◌∷◌, ◌++◌, ◌≤◌, length, map, take, drop, reverse, Some, None, slice_get, refl, ◌∙◌, ap, arith}
 use Rattle.std.proofs.lemmas.List.{reverse-append, take-append-drop}
 use Rattle.definitions.specs.Calls.{Call, OpenAt, CloseAt, Fork, AwaitReady, Quit, Kill, AwaitGone, Usr1}
 use Rattle.definitions.specs.Tree.{Tree}
@@ -24,7 +24,7 @@ each_back_is : {X : Type 0} (by : ℕ) (call : X → Call) (all : List X → Tre
 each_back_is by call all none more xs rest = ap (λ calls. all_anyway by calls rest) (reverse-map call xs) ∙ each_is by call all none more (reverse xs) rest
 
 pub in_turn_is : (by : ℕ) (b : Batch) (rest : Tree) → all_anyway by (made_calls b) rest ≡ in_turn by b rest
-in_turn_is by (Workers asked.Fork g numbers) rest = each_is by (Fork g) (forks_any by g) (λ t. refl) (λ k more t. refl) numbers.now rest
+in_turn_is by (Workers asked.Fork g numbers) rest = each_is by (λ k. Fork g k None) (forks_any by g) (λ t. refl) (λ k more t. refl) numbers.now rest
 in_turn_is by (Workers asked.AwaitReady g numbers) rest = each_is by (AwaitReady g) (awaits_any by g) (λ t. refl) (λ k more t. refl) numbers.now rest
 in_turn_is by (Workers asked.Quit g numbers) rest = each_back_is by (Quit g) (quits by g) (λ t. refl) (λ k more t. refl) numbers.now rest
 in_turn_is by (Workers asked.Kill g numbers) rest = each_is by (Kill g) (kills by g) (λ t. refl) (λ k more t. refl) numbers.now rest
@@ -56,7 +56,7 @@ double call [] h = omega arith
 double call (x ∷ xs) h = omega (arith, h x, double call xs h)
 
 pub steps_are : (b : Batch) → all_steps (made_calls b) ≡ steps_in b
-steps_are (Workers asked.Fork g numbers) = single (Fork g) numbers.now (λ k. refl)
+steps_are (Workers asked.Fork g numbers) = single (λ k. Fork g k None) numbers.now (λ k. refl)
 steps_are (Workers asked.AwaitReady g numbers) = double (AwaitReady g) numbers.now (λ k. refl)
 steps_are (Workers asked.Quit g numbers) = steps-reverse (map (Quit g) numbers.now) ∙ single (Quit g) numbers.now (λ k. refl)
 steps_are (Workers asked.Kill g numbers) = single (Kill g) numbers.now (λ k. refl)

@@ -15,7 +15,7 @@ move_fit by from to fine fault rest h short = rw (h short) refl
 pub tries_fit : (by : ℕ) (call : Call) (set : List ℕ) (rest back : Tree) → IsFit rest → IsFit back → IsFit (tries by call set rest back)
 tries_fit by (OpenAt a) set rest back h e short = rw (h short, e short) refl
 tries_fit by (CloseAt a) set rest back h e short = rw (h short, e short) refl
-tries_fit by (Fork g k) set rest back h e short = rw (h short, e short) refl
+tries_fit by (Fork g k fds) set rest back h e short = rw (h short, e short) refl
 tries_fit by (AwaitReady g k) set rest back h e short = rw (h short, e short) refl
 tries_fit by (Quit g k) set rest back h e short = rw (h short, e short) refl
 tries_fit by (Kill g k) set rest back h e short = rw (h short, e short) refl

@@ -86,7 +86,7 @@ counted_listed : (call : Call) (ks : List ℕ) → among (replies_to call) Full 
 counted_listed (Census g) ks h = full_listed ks
 counted_listed (OpenAt x) ks h = absurd (true≢false (sym h))
 counted_listed (CloseAt x) ks h = absurd (true≢false (sym h))
-counted_listed (Fork g n) ks h = absurd (true≢false (sym h))
+counted_listed (Fork g n fds) ks h = absurd (true≢false (sym h))
 counted_listed (AwaitReady g n) ks h = absurd (true≢false (sym h))
 counted_listed (Quit g n) ks h = absurd (true≢false (sym h))
 counted_listed (Kill g n) ks h = absurd (true≢false (sym h))

@@ -2,8 +2,9 @@
 ghost use Rattle.std.specs.Prelude.{◌≡◌, ◌+◌, ◌≤◌, ◌<◌, ◌^◌, ◌++◌, ◌∷◌, [], IfOk, OnOk, OnErr, IsTrue, ◌↔◌, Some, length, slice_get};
 
 use crate::slot::{Slot, WorkerEntry};
+use listener_set::DescriptorSet;
 use std::alloc::{AllocError, Global};
-use std::marker::Model;
+use std::marker::{Model, PhantomData};
 use vocabulary::{Answer, Call, Entry};
 
 /// Entries, with room for more that was found beforehand.
@@ -15,6 +16,8 @@ pub struct CallLog {
     slots: Vec<Slot>,
     whole: Vec<Entry>,
     room: u32,
+    // Takes no room. The prover must be told of each type that an entry can have in it.
+    held: PhantomData<DescriptorSet>,
 }
 
 impl Model for CallLog {
@@ -44,6 +47,7 @@ impl CallLog {
             slots: Vec::with_capacity(alloc, room as usize)?,
             whole: Vec::with_capacity(alloc, room as usize)?,
             room,
+            held: PhantomData,
         })
     }
 

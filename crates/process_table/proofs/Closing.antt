@@ -1,8 +1,8 @@
--- Holds without those of an address.
+-- Holds without those of an address, and those of some descriptors alone.
 use Rattle.std.proofs.Common.{◌≡◌, ℕ, ◌+◌, ◌<◌, ◌≤◌, Bool, true, false, cond, nat_eq, List, [], ◌∷◌, ◌++◌, filter, refl, ap, arith}
 use Rattle.std.proofs.lemmas.Bool.Decides.{nat_tests}
-use Rattle.listener_set.specs.Numbers.{RisesFrom}
-use Rattle.listener_set.specs.Descriptors.{descriptors_of, without_descriptor}
+use Rattle.listener_set.specs.Numbers.{is_in, RisesFrom}
+use Rattle.listener_set.specs.Descriptors.{descriptors_of, only_of, without_descriptor}
 use Rattle.definitions.specs.Table.{Address, Hold}
 use Rattle.process_table.specs.Holds.{seen_hold, seen_holds}
 
@@ -42,3 +42,7 @@ module _ (addresses : List Address) (f : ℕ × ℕ → Bool) (g : Hold → Bool
       at true false e ih = cc
       at false true e ih = cc
       at false false e ih = ih
+
+-- the holds of some descriptors
+pub seen_only : (addresses : List Address) (fds : List ℕ) (pairs : List (ℕ × ℕ)) → seen_holds addresses (only_of fds pairs) ≡ filter (λ (h : Hold). is_in fds h.fd) (seen_holds addresses pairs)
+seen_only addresses fds pairs = seen-filter addresses (λ p. is_in fds p.0) (λ h. is_in fds h.fd) (λ p. refl) pairs

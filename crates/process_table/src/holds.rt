@@ -1,10 +1,10 @@
 //! Holds: sockets by their numbers, and the addresses behind them.
-ghost use Rattle.std.specs.Prelude.{◌≡◌, bytes_eq};
-ghost use Rattle.definitions.specs.Table.{has_address};
-ghost use Rattle.definitions.specs.Calls.{lacks_address};
+ghost use Rattle.std.specs.Prelude.{◌≡◌, List, bytes_eq};
+ghost use Rattle.definitions.specs.Table.{Address as Text, has_address};
+ghost use Rattle.definitions.specs.Calls.{lacks_address, shared};
 ghost use Rattle.process_table.specs.Holds.{address_of, seen_holds};
 
-use listener_set::{Address, DescriptorTable};
+use listener_set::{Address, DescriptorSet, DescriptorTable};
 
 /// The text of a socket's address. Each socket that is held has one.
 pub fn text_of(addresses: &[Address], socket: u32) -> &[u8]
@@ -47,4 +47,15 @@ pub fn without_address(
         }
     }
     rest
+}
+
+/// The holds that a worker is given: those of the descriptors, or all.
+#[tactic(auto, using(crate::proofs::Closing::seen_only))]
+pub fn shared(holds: &DescriptorTable, descriptors: Option<DescriptorSet>) -> DescriptorTable
+    ensures { (addresses : List Text) → seen_holds addresses result ≡ shared descriptors (seen_holds addresses holds.now) }
+{
+    match descriptors {
+        Some(set) => holds.only(&set),
+        None => *holds,
+    }
 }

@@ -1,5 +1,5 @@
 -- Calls of one kind.
-use Rattle.std.specs.Prelude.{ℕ, List, length, map}
+use Rattle.std.specs.Prelude.{ℕ, List, length, map, None}
 use Rattle.listener_set.specs.declared.generation.Generation.{Generation}
 use Rattle.definitions.specs.Calls.{Call}
 use Rattle.vocabulary.specs.declared.calls.Call.TheVariants as call
@@ -10,7 +10,7 @@ use Rattle.rollback_plan.specs.declared.batch.Batch.TheVariants as batch
 
 -- the call that asks it of a worker
 abbrev pub asked_call : Asked → Generation → ℕ → Call
-asked_call asked.Fork = call.Fork
+asked_call asked.Fork = λ g k. call.Fork g k None
 asked_call asked.AwaitReady = call.AwaitReady
 asked_call asked.Quit = call.Quit
 asked_call asked.Kill = call.Kill

@@ -8,9 +8,9 @@ use Rattle.rollback_plan.specs.declared.compact.Kept.TheVariants as kept
 use Rattle.definitions.specs.Calls.{Call}
 use Rattle.vocabulary.specs.declared.calls.Call.TheVariants as call
 
--- the call, where it names a worker
+-- the call, where it names a worker and no descriptors
 abbrev pub call_of_worker : Call → Option Call
-call_of_worker (call.Fork g k) = Some (call.Fork g k)
+call_of_worker (call.Fork g k None) = Some (call.Fork g k None)
 call_of_worker (call.AwaitReady g k) = Some (call.AwaitReady g k)
 call_of_worker (call.Quit g k) = Some (call.Quit g k)
 call_of_worker (call.Kill g k) = Some (call.Kill g k)

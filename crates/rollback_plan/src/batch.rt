@@ -5,7 +5,7 @@ ghost use Rattle.rollback_plan.specs.Batches.{asked_call, calls_of, size_of};
 use listener_set::{Address, Generation};
 use vocabulary::Call;
 
-/// What is asked of a worker.
+/// What is asked of a worker. One that is forked gets all descriptors of its master.
 #[derive(Clone, Copy, Debug)]
 pub enum Asked {
     Fork,
@@ -22,7 +22,7 @@ impl Asked {
         ensures { result ≡ asked_call self generation number }
     {
         match self {
-            Asked::Fork => Call::Fork(generation, number),
+            Asked::Fork => Call::Fork(generation, number, None),
             Asked::AwaitReady => Call::AwaitReady(generation, number),
             Asked::Quit => Call::Quit(generation, number),
             Asked::Kill => Call::Kill(generation, number),

@@ -47,7 +47,7 @@ impl Bound {
     {
         match step.order() {
             Order::Make(call) => call,
-            Order::ForkLacking(generation) => Call::Fork(generation, self.lowest()),
+            Order::ForkLacking(generation) => Call::Fork(generation, self.lowest(), None),
             Order::AwaitLacking(generation) => Call::AwaitReady(generation, self.lowest()),
             Order::KillLacking(generation) => Call::Kill(generation, self.lowest()),
         }

@@ -7,7 +7,7 @@ use listener_set::Generation;
 use std::marker::Model;
 use vocabulary::Call;
 
-/// A call that names a worker, without the room that a call with two paths needs. Contracts see the call.
+/// A call that names a worker, without the room that a call with two paths or a set needs. Contracts see the call.
 #[derive(Debug, Drop)]
 pub struct WorkerCall {
     asked: Asked,
@@ -25,12 +25,12 @@ impl Model for WorkerCall {
 }
 
 impl WorkerCall {
-    /// The call, if it names a worker.
+    /// The call, if it names a worker and no descriptors.
     pub fn of(call: &Call) -> Option<WorkerCall>
         ensures { result ≡ call_of_worker call.now }
     {
         let (asked, generation, number) = match call {
-            Call::Fork(generation, number) => (Asked::Fork, *generation, *number),
+            Call::Fork(generation, number, None) => (Asked::Fork, *generation, *number),
             Call::AwaitReady(generation, number) => (Asked::AwaitReady, *generation, *number),
             Call::Quit(generation, number) => (Asked::Quit, *generation, *number),
             Call::Kill(generation, number) => (Asked::Kill, *generation, *number),

@@ -129,7 +129,7 @@ fn a_kernel_agrees_with_its_own_listeners_and_settled_workers(rt: HostRuntime) -
         ready: Numbers::below(3),
         ..so
     };
-    kernel.call(Actor(1), &Call::Fork(FIRST, 2), &[], &quiet);
+    kernel.call(Actor(1), &Call::Fork(FIRST, 2, None), &[], &quiet);
     assert!(rt; !agrees(&kernel, &so));
     assert!(rt; !agrees(&kernel, &more));
     kernel.call(Actor(1), &Call::AwaitReady(FIRST, 2), &[], &quiet);

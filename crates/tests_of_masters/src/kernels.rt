@@ -1,6 +1,6 @@
 //! Calls on a modelled kernel that a program makes no plan for, and what its table has afterwards.
 use kernel_model::{BootRefusal, Kernel, Moment, ReserveRefusal, Row};
-use listener_set::{Address, FilePath, Generation, ListenerSet, Numbers};
+use listener_set::{Address, DescriptorSet, FilePath, Generation, ListenerSet, Numbers};
 use std::alloc::Global;
 use std::test::Fail;
 use vocabulary::{Actor, Answer, Call, Fate, Limits, Name, Stance};
@@ -141,10 +141,10 @@ fn no_more_processes_start_than_the_limit(rt: HostRuntime) -> Result<(), Fail> {
     let mut kernel = started(rt.alloc(), 2, 3)?;
     kernel.reserve(4)?;
     let calls = [
-        (Call::Fork(FIRST, 2), QUIET, Answer::Again),
+        (Call::Fork(FIRST, 2, None), QUIET, Answer::Again),
         (Call::Kill(FIRST, 1), QUIET, Answer::Fine),
-        (Call::Fork(FIRST, 0), QUIET, Answer::Again),
-        (Call::Fork(FIRST, 1), QUIET, Answer::Forked),
+        (Call::Fork(FIRST, 0, None), QUIET, Answer::Again),
+        (Call::Fork(FIRST, 1, None), QUIET, Answer::Forked),
     ];
     assert!(rt; are_answered(&mut kernel, &calls));
     assert_eq!(rt; kernel.room(), 0);
@@ -172,6 +172,51 @@ fn a_socket_gets_the_lowest_free_descriptor(rt: HostRuntime) -> Result<(), Fail>
     assert_eq!(rt; (first.descriptor, first.socket), (3, 3));
     assert_eq!(rt; (second.descriptor, second.socket), (4, 2));
     assert!(rt; kernel.hold(2).is_none(), "the worker's hold is closed");
+    Ok(())
+}
+
+/// Whether the hold at the place is of that process, descriptor and socket.
+fn is_hold(kernel: &Kernel, place: usize, process: u32, descriptor: u32, socket: u32) -> bool {
+    match kernel.hold(place) {
+        Some(hold) => (hold.process, hold.descriptor, hold.socket) == (process, descriptor, socket),
+        None => false,
+    }
+}
+
+#[test]
+fn a_worker_that_is_forked_with_a_set_holds_what_it_shares(rt: HostRuntime) -> Result<(), Fail> {
+    let mut kernel = started(rt.alloc(), 0, 65_535)?;
+    kernel.reserve(5)?;
+    let plain = Address::plain();
+    let other = Address::read(b"127.0.0.1:9090")?;
+    let mut shared = DescriptorSet::none();
+    shared.add(4);
+    shared.add(66);
+    let calls = [
+        (Call::OpenAt(other), QUIET, Answer::Opened(4)),
+        (Call::Fork(FIRST, 0, Some(shared)), QUIET, Answer::Forked),
+    ];
+    assert!(rt; are_answered(&mut kernel, &calls));
+    assert!(rt; is_hold(&kernel, 0, 100, 3, 1));
+    assert!(rt; is_hold(&kernel, 1, 100, 4, 2));
+    assert!(rt; is_hold(&kernel, 2, 101, 4, 2));
+    assert!(rt;
+        kernel.hold(3).is_none(),
+        "the other socket is the master's alone"
+    );
+    let closed = [(Call::CloseAt(plain), QUIET, Answer::Fine)];
+    assert!(rt; are_answered(&mut kernel, &closed));
+    assert!(rt; is_hold(&kernel, 0, 100, 4, 2));
+    assert!(rt; is_hold(&kernel, 1, 101, 4, 2));
+    let both = [
+        (Call::CloseAt(other), QUIET, Answer::Fine),
+        (Call::Fork(FIRST, 1, None), QUIET, Answer::Forked),
+    ];
+    assert!(rt; are_answered(&mut kernel, &both));
+    assert!(rt;
+        kernel.hold(0).is_none(),
+        "nothing is shared where nothing is open"
+    );
     Ok(())
 }
 
@@ -268,7 +313,7 @@ fn a_master_is_gone_once_it_is_ended_leaves_or_exits(rt: HostRuntime) -> Result<
         exits: &[Name::Master(1)],
         fate: Some(Fate::Again),
     };
-    let calls = [(Call::Fork(NEXT, 0), gone, Answer::MasterGone)];
+    let calls = [(Call::Fork(NEXT, 0, None), gone, Answer::MasterGone)];
     assert!(rt; are_answered(&mut kernel, &calls));
     assert_eq!(rt; kernel.row(0), None);
     Ok(())

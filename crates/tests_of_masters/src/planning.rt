@@ -104,7 +104,7 @@ fn steps_grow_with_the_workers_that_are_started_anew(rt: HostRuntime) -> Result<
     assert_eq!(rt; mend.len(), 13);
     for (number, call) in [
         (1, Call::Kill(GENERATION, 1)),
-        (2, Call::Fork(GENERATION, 1)),
+        (2, Call::Fork(GENERATION, 1, None)),
         (3, Call::AwaitReady(GENERATION, 1)),
         (4, Call::Kill(GENERATION, 1)),
         (5, Call::Census(GENERATION)),

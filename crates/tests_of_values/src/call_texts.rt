@@ -2,7 +2,7 @@
 use call_text::{
     read_answer, read_call, read_report, read_set, write_answer, write_call, write_report,
 };
-use listener_set::{Address, FilePath, Generation, Numbers};
+use listener_set::{Address, DescriptorSet, FilePath, Generation, Numbers};
 use plain_text::Line;
 use std::test::Fail;
 use vocabulary::{Actor, Answer, Call, Outcome, PidNote, Report, Side};
@@ -46,7 +46,7 @@ fn calls_are_read_as_they_are_written(rt: HostRuntime) -> Result<(), Fail> {
     let texts = [
         (Call::OpenAt(address), "m7 open 0.0.0.0:8080"),
         (Call::CloseAt(address), "m7 close 0.0.0.0:8080"),
-        (Call::Fork(FIRST, 2), "m7 fork 1.1 2"),
+        (Call::Fork(FIRST, 2, None), "m7 fork 1.1 2"),
         (
             Call::AwaitReady(far, 1023),
             "m7 await-ready 4294967295.0 1023",
@@ -87,8 +87,8 @@ fn answers_are_read_as_they_are_written(rt: HostRuntime) -> Result<(), Fail> {
         (open, Answer::Denied, "denied"),
         (open, Answer::NoMemory, "no-memory"),
         (Call::Leave, Answer::Fine, "ok"),
-        (Call::Fork(FIRST, 0), Answer::Forked, "forked"),
-        (Call::Fork(FIRST, 0), Answer::Again, "again"),
+        (Call::Fork(FIRST, 0, None), Answer::Forked, "forked"),
+        (Call::Fork(FIRST, 0, None), Answer::Again, "again"),
         (Call::AwaitReady(FIRST, 0), Answer::IsReady, "ready"),
         (Call::AwaitGone(FIRST, 0), Answer::Gone, "gone"),
         (Call::AwaitGone(FIRST, 0), Answer::Late, "late"),
@@ -116,6 +116,65 @@ fn answers_are_read_as_they_are_written(rt: HostRuntime) -> Result<(), Fail> {
         assert!(rt; is_answer(&mut line, call, answer, text), "{text}");
     }
     Ok(())
+}
+
+/// A fork whose worker gets these descriptors.
+fn fork_with(numbers: &[u32]) -> Call {
+    Call::Fork(FIRST, 2, DescriptorSet::of(&set(numbers)))
+}
+
+#[test]
+fn forks_with_descriptors_are_read_as_they_are_written(rt: HostRuntime) {
+    let texts = [
+        (fork_with(&[3]), "m7 fork 1.1 2 fds 3"),
+        (fork_with(&[66]), "m7 fork 1.1 2 fds 66"),
+        (fork_with(&[7, 3, 4, 5]), "m7 fork 1.1 2 fds 3-5,7"),
+    ];
+    let mut line = Line::new();
+    for (call, text) in texts {
+        assert!(rt; is_call(&mut line, call, text), "{text}");
+    }
+    assert!(rt; read_answer(&fork_with(&[3]), b"no-memory") == Some(Answer::NoMemory));
+}
+
+/// A set without descriptors has a text, but no fork has it.
+#[test]
+fn forks_without_descriptors_are_written_and_not_read(rt: HostRuntime) {
+    let mut line = Line::new();
+    write_call(
+        Actor(1),
+        &Call::Fork(FIRST, 2, Some(DescriptorSet::none())),
+        &mut line,
+    );
+    assert!(rt; line.bytes() == b"m1 fork 1.1 2 fds none".as_slice());
+    assert!(rt; read_call(line.bytes()).is_none());
+}
+
+const OTHER_FORKS: [&str; 17] = [
+    "m1 fork 1.1 2 ",
+    "m1 fork 1.1 2 fds",
+    "m1 fork 1.1 2 fds ",
+    "m1 fork 1.1 2 fds none",
+    "m1 fork 1.1 2 fds 2",
+    "m1 fork 1.1 2 fds 2-4",
+    "m1 fork 1.1 2 fds 67",
+    "m1 fork 1.1 2 fds 66-67",
+    "m1 fork 1.1 2 fds 5,4",
+    "m1 fork 1.1 2 fds 4,5",
+    "m1 fork 1.1 2 fds 3 ",
+    "m1 fork 1.1 2 fds 3 4",
+    "m1 fork 1.1 2 fds  3",
+    "m1 fork 1.1 2  fds 3",
+    "m1 fork 1.1  2 fds 3",
+    "m1 fork 1.1 2 set 3",
+    "m1 quit 1.1 2 fds 3",
+];
+
+#[test]
+fn other_forks_are_refused(rt: HostRuntime) {
+    for text in OTHER_FORKS {
+        assert!(rt; read_call(text.as_bytes()).is_none(), "{text}");
+    }
 }
 
 const OTHER_CALLS: [&str; 22] = [

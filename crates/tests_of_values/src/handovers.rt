@@ -1,6 +1,6 @@
 //! The texts of handovers.
 use handover_text::{Handover, Listeners, handovers_have_one_text, read, write};
-use listener_set::{Address, FilePath, Generation, ListenerSet};
+use listener_set::{Address, DescriptorSet, FilePath, Generation, ListenerSet};
 use std::process::Abort;
 use std::test::Fail;
 use vocabulary::HandoverRefusal;
@@ -48,6 +48,25 @@ fn a_handover_is_written_and_read_back(rt: HostRuntime) -> Result<(), Fail> {
     assert_eq!(rt; told.pid_file.is_some(), true);
     let again = write(rt.alloc(), &told)?;
     assert_eq!(rt; again.as_slice(), TEXT.as_slice());
+    Ok(())
+}
+
+#[test]
+fn listeners_are_chosen_by_their_descriptors(rt: HostRuntime) -> Result<(), Fail> {
+    let mut want = ListenerSet::new();
+    for text in ["/a", "/b", "/c"] {
+        want.add(&Address::read(text.as_bytes())?)?;
+    }
+    let mut set = DescriptorSet::none();
+    for descriptor in [3, 5, 6] {
+        set.add(descriptor);
+    }
+    let listeners = Listeners::from_set(&want);
+    let chosen = listeners.only(&set);
+    assert_eq!(rt; chosen.as_slice().len(), 2);
+    assert_eq!(rt; chosen.addresses().get(0), want.get(0));
+    assert_eq!(rt; chosen.addresses().get(1), want.get(2));
+    assert!(rt; listeners.only(&DescriptorSet::none()).as_slice().is_empty());
     Ok(())
 }
 

@@ -1,6 +1,6 @@
 //! Lines: the longest texts that are put into one, and where a line ends.
 use call_text::{read_answer, read_call, write_answer, write_call, write_set};
-use listener_set::{FILE_PATH_BYTES, FilePath, Generation, Numbers};
+use listener_set::{DescriptorSet, FILE_PATH_BYTES, FilePath, Generation, Numbers};
 use plain_text::{LINE_BYTES, Line, Sink, write_number};
 use std::test::Fail;
 use vocabulary::{Actor, Answer, Call};
@@ -23,6 +23,17 @@ fn longest_set() -> Numbers {
     set
 }
 
+/// The descriptors with the longest text.
+fn longest_descriptors() -> DescriptorSet {
+    let mut set = DescriptorSet::none();
+    for descriptor in 3..67 {
+        if descriptor % 3 != 1 {
+            set.add(descriptor);
+        }
+    }
+    set
+}
+
 #[test]
 fn the_longest_calls_fit_and_are_read(rt: HostRuntime) -> Result<(), Fail> {
     let mut text = [b'a'; FILE_PATH_BYTES];
@@ -30,6 +41,7 @@ fn the_longest_calls_fit_and_are_read(rt: HostRuntime) -> Result<(), Fail> {
     let path = FilePath::read(&text)?.oldbin();
     let calls = [
         (Call::MovePid(path, path), 236),
+        (Call::Fork(FARTHEST, 1023, Some(longest_descriptors())), 171),
         (Call::AwaitReady(FARTHEST, 1023), 50),
         (Call::SpawnMaster(MOST), 35),
     ];

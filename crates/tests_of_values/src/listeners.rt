@@ -1,7 +1,7 @@
 //! Lists of addresses, tables of descriptors, and what is printed of their refusals.
 use listener_set::{
-    Address, AddressRefusal, BadFile, DescriptorTable, Full, Generation, ListenerRefusal,
-    ListenerSet,
+    Address, AddressRefusal, BadFile, DescriptorSet, DescriptorTable, Full, Generation,
+    ListenerRefusal, ListenerSet,
 };
 use std::test::Fail;
 
@@ -64,6 +64,15 @@ fn a_table_gives_the_lowest_free_descriptor(rt: HostRuntime) -> Result<(), Fail>
         pairs.as_slice(),
         [(3, 100), (4, 7), (5, 8), (6, 103)].as_slice()
     );
+
+    let mut set = DescriptorSet::none();
+    for descriptor in [66, 40, 4] {
+        set.add(descriptor);
+    }
+    table.take(40);
+    let chosen: Vec<(u32, u32)> = table.only(&set).iter().collect(rt.alloc())?;
+    assert_eq!(rt; chosen.as_slice(), [(4, 7), (66, 163)].as_slice());
+    assert_eq!(rt; table.only(&DescriptorSet::none()).len(), 0);
     Ok(())
 }
 

@@ -1,5 +1,5 @@
-//! Sets of the numbers of workers.
-use listener_set::Numbers;
+//! Sets of the numbers of workers, and of descriptors.
+use listener_set::{DescriptorSet, Numbers};
 use std::test::Fail;
 
 #[test]
@@ -51,5 +51,39 @@ fn numbers_come_upwards_and_downwards(rt: HostRuntime) -> Result<(), Fail> {
     assert_eq!(rt; upwards.as_slice(), [0, 63, 64, 1023].as_slice());
     let downwards: Vec<u32> = set.iter().rev().collect(rt.alloc())?;
     assert_eq!(rt; downwards.as_slice(), [1023, 64, 63, 0].as_slice());
+    Ok(())
+}
+
+#[test]
+fn descriptors_are_added_and_compared(rt: HostRuntime) -> Result<(), Fail> {
+    let none = DescriptorSet::none();
+    assert_eq!(rt;
+        (none.is_empty(), none.has(3), none.has(66)),
+        (true, false, false)
+    );
+    let mut set = none;
+    for descriptor in [66, 3, 40, 3] {
+        set.add(descriptor);
+    }
+    assert_eq!(rt;
+        (
+            set.is_empty(),
+            set.has(3),
+            set.has(4),
+            set.has(40),
+            set.has(66)
+        ),
+        (false, true, false, true, true)
+    );
+    assert_ne!(rt; set, none);
+    let upwards: Vec<u32> = set.numbers().iter().collect(rt.alloc())?;
+    assert_eq!(rt; upwards.as_slice(), [3, 40, 66].as_slice());
+    assert_eq!(rt; DescriptorSet::of(&set.numbers()), Some(set));
+    assert_eq!(rt; DescriptorSet::of(&Numbers::none()), Some(none));
+    for other in [0, 2, 67, 1023] {
+        let mut numbers = set.numbers();
+        numbers.add(other);
+        assert_eq!(rt; DescriptorSet::of(&numbers), None, "{other}");
+    }
     Ok(())
 }

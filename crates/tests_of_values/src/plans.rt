@@ -35,7 +35,7 @@ fn one_worker_more(alloc: Global) -> Result<Plan, Fail> {
     )?;
     let forked = draft.add(
         by,
-        Order::Make(Call::Fork(FIRST, 2)),
+        Order::Make(Call::Fork(FIRST, 2, None)),
         &Numbers::none(),
         &[
             Edge::over(&[Reply::NoMemory], End::RolledBack),
@@ -80,7 +80,7 @@ fn two_ways(alloc: Global) -> Result<Plan, Fail> {
     let quit = draft.call(Actor(1), Call::Quit(FIRST, 7), end)?;
     let first = draft.add(
         Actor(1),
-        Order::Make(Call::Fork(FIRST, 7)),
+        Order::Make(Call::Fork(FIRST, 7, None)),
         &none,
         &[
             Edge::to(&[Reply::Again, Reply::NoMemory], end),

@@ -13,7 +13,7 @@ use Rattle.vocabulary.specs.declared.calls.Fate.{Fate}
 use Rattle.definitions.specs.Table.{Hold, Process, Master, Worker, Foreign, Table, Caller, owner_at, live_master, is_live_master, is_held, is_worker, is_active, is_starting, is_exited, is_any, is_draining, is_named}
 use Rattle.definitions.specs.Exits.{change, made_exited, first_changed, caller_exits, without_exited, exited, all_exited, after_exits}
 use Rattle.definitions.specs.Handover.{reading}
-use Rattle.definitions.specs.Calls.{Stepped, gives, each_row, drop_where, suits, moved_if, asked_alive, is_image, is_of_image, without_master, with_holds, put_hold, lacks_address, lowest_free, with_new_socket, with_new_row, is_row, is_of, is_exited_of, made_ready, made_draining, has_process_room, own_step, fault_at, fault_or_own, step_by, step_with}
+use Rattle.definitions.specs.Calls.{Stepped, gives, each_row, drop_where, suits, moved_if, asked_alive, is_image, is_of_image, without_master, with_holds, put_hold, lacks_address, lowest_free, with_new_socket, with_new_row, shared, is_row, is_of, is_exited_of, made_ready, made_draining, has_process_room, own_step, fault_at, fault_or_own, step_by, step_with}
 use Rattle.theorems.proofs.Rows.{FitsIn, every-filter_map, every-append, pick}
 use Rattle.theorems.proofs.Taken.{IsOther, gone-lasts}
 
@@ -71,10 +71,10 @@ module _ (n : ℕ) where
       pick (λ (st : Stepped). A st.table) (is_held a t.rows) (gives answer.InUse t) (if nat_lt (length c.holds) t.limits.descriptors then done else gives answer.TooMany t) (λ e. h)
       (λ e. pick (λ (st : Stepped). A st.table) (nat_lt (length c.holds) t.limits.descriptors) done (gives answer.TooMany t) (λ e. record { all = changed (is_row c.number) (with_holds (put_hold hold)) ((gone-lasts 0 n).keeps (put_hold hold)) t.rows h.all; below = h.below }) (λ e. h))
   own text by c (CloseAt a) t h = absent-each (change (is_of c.number) (with_holds (lacks_address a))) t (changed (is_of c.number) (with_holds (lacks_address a)) ((gone-lasts 0 n).keeps (lacks_address a)) t.rows) h
-  own text by c (Fork g x) t h =
-      let done = gives answer.Forked (with_new_row t (λ k. Worker k c.number g x Starting c.holds)) in
+  own text by c (Fork g x fds) t h =
+      let done = gives answer.Forked (with_new_row t (λ k. Worker k c.number g x Starting (shared fds c.holds))) in
       pick (λ (st : Stepped). A st.table) (list_any (is_worker is_active c.number g x) t.rows) (gives answer.Again t) (if has_process_room t then done else gives answer.Again t) (λ e. h)
-      (λ e. pick (λ (st : Stepped). A st.table) (has_process_room t) done (gives answer.Again t) (λ e. absent-row (λ k. Worker k c.number g x Starting c.holds) t (λ e. absurd (omega (arith, e, h.below))) h) (λ e. h))
+      (λ e. pick (λ (st : Stepped). A st.table) (has_process_room t) done (gives answer.Again t) (λ e. absent-row (λ k. Worker k c.number g x Starting (shared fds c.holds)) t (λ e. absurd (omega (arith, e, h.below))) h) (λ e. h))
   own text by c (AwaitReady g x) t h =
       pick (λ (st : Stepped). A st.table) (list_any (is_worker is_active c.number g x) t.rows) _ _
       (λ e. absent-each (change (is_worker is_starting c.number g x) made_ready) t (every-filter_map (IsOther n) (IsOther n) (change (is_worker is_starting c.number g x) made_ready) (λ p z. pick (IsOther n) (is_worker is_starting c.number g x p) (made_ready p) p (λ e. (gone-lasts 0 n).readies c.number g x p e z) (λ e. z)) t.rows) h)

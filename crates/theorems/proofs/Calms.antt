@@ -1,5 +1,5 @@
 -- The pieces of plans as trees whose calls are gentle to a light fact.
-use Rattle.std.proofs.Common.{◌≡◌, ℕ, zero, suc, true, false, List, [], ◌∷◌, refl, subst, ⊎_elim, inl, inr}
+use Rattle.std.proofs.Common.{◌≡◌, ℕ, zero, suc, true, false, List, [], ◌∷◌, None, refl, subst, ⊎_elim, inl, inr}
 use Rattle.std.specs.Prelude.{⊤}
 use Rattle.listener_set.specs.Numbers.{is_in}
 use Rattle.listener_set.specs.declared.generation.Generation.{Generation}
@@ -52,7 +52,7 @@ module _ (image : ℕ) (mild : Exiting) (due : Asked) (light : Light image mild 
   calm-forks g all [] done ok bad left within on_ok on_bad = on_ok done within
   calm-forks g all (x ∷ ks) done ok bad left within on_ok on_bad =
       let within' = λ (k : ℕ) (e : is_in (x ∷ done) k ≡ true). ⊎_elim (λ same. subst (λ y. is_in all y ≡ true) same (left x (in-here x x ks refl))) (λ a. within k a) (in-cases x k done e) in
-      inl (refl, (light.forks g x, refl), (calm-forks g all ks (x ∷ done) ok bad (λ k e. left k (in-there x k ks e)) within' on_ok on_bad, (on_bad done within, tt)))
+      inl (refl, (light.forks g x None, refl), (calm-forks g all ks (x ∷ done) ok bad (λ k e. left k (in-there x k ks e)) within' on_ok on_bad, (on_bad done within, tt)))
 
   calm-awaits : (g : Generation) (ks : List ℕ) (ok bad : Tree) → ((k : ℕ) → is_in ks k ≡ true → light.Gentle (Kill g k)) → IsCalm ok → IsCalm bad → IsCalm (awaits image g ks ok bad)
   calm-awaits g [] ok bad gentle on_ok on_bad = on_ok
@@ -64,7 +64,7 @@ module _ (image : ℕ) (mild : Exiting) (due : Asked) (light : Light image mild 
 
   calm-forks-any : (g : Generation) (ks : List ℕ) (rest : Tree) → IsCalm rest → IsCalm (forks_any image g ks rest)
   calm-forks-any g [] rest calm = calm
-  calm-forks-any g (x ∷ ks) rest calm = inl (refl, (light.forks g x, refl), (calm-forks-any g ks rest calm, tt))
+  calm-forks-any g (x ∷ ks) rest calm = inl (refl, (light.forks g x None, refl), (calm-forks-any g ks rest calm, tt))
 
   calm-awaits-any : (g : Generation) (ks : List ℕ) (rest : Tree) → ((k : ℕ) → is_in ks k ≡ true → light.Gentle (Kill g k)) → IsCalm rest → IsCalm (awaits_any image g ks rest)
   calm-awaits-any g [] rest gentle calm = calm

@@ -93,9 +93,9 @@ fork-once : (m : ℕ) (g h : Generation) (x j : ℕ) (rows : List Process) (b : 
 fork-once m g h x j rows true e z le = omega (arith, named-none m g h x j rows (bears-is h j g x (e refl)) z)
 fork-once m g h x j rows false e z le = omega arith
 
-pub fork-looks : (v : View) (g : Generation) (x n : ℕ) (rows : List Process) → v.held g ≡ v.holds → list_any (is_worker is_active v.number g x) rows ≡ false → Looks v rows → Looks (after_fork g x v) (rows ++ Worker n v.number g x Starting v.holds ∷ [])
-fork-looks v g x n rows same off looks =
-    let new = Worker n v.number g x Starting v.holds in
+pub fork-looks : (v : View) (g : Generation) (x n : ℕ) (hs : List Hold) (rows : List Process) → v.held g ≡ hs → list_any (is_worker is_active v.number g x) rows ≡ false → Looks v rows → Looks (after_fork g x v) (rows ++ Worker n v.number g x Starting hs ∷ [])
+fork-looks v g x n hs rows same off looks =
+    let new = Worker n v.number g x Starting hs in
     let wide = looks-allows v (after_fork g x v) (record { number = refl; others = λ n e. e; image = refl; holds = refl; starting = λ h k e. or-left (v.starting h k) (bears g x h k) e; ready = λ h k e. e; held_starting = λ h k e. refl; held = λ h k e. refl }) rows looks in
     record {
       fine = every-append (Row (after_fork g x v)) rows new wide.fine (inl (refl, (or-right (v.starting g x) (bears g x g x) (bears-refl g x), sym same)));

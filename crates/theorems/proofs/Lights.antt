@@ -40,7 +40,7 @@ pub record Light (image : ℕ) (mild : Exiting) (due : Asked) : Type 1 where
   pub exits : (es : List Name) (t : Table) → Spares image es → mild es t.rows → Holds t → Holds (after_exits es t)
   pub steps : (text : List ℕ) (call : Call) (fate : Option Fate) (t : Table) → Gentle call → Holds t → Holds (step_with text image call fate t).table
   pub idles : (call : Call) (t : Table) → Gentle call → Holds t → due call t
-  pub forks : (g : Generation) (x : ℕ) → Gentle (Fork g x)
+  pub forks : (g : Generation) (x : ℕ) (fds : Option (List ℕ)) → Gentle (Fork g x fds)
   pub waits : (g : Generation) (x : ℕ) → Gentle (AwaitReady g x)
   pub censuses : (g : Generation) → Gentle (Census g)
   pub counted : (text : List ℕ) (g : Generation) (fate : Option Fate) (t : Table) → Holds t → step_with text image (Census g) fate t ≡ gives (answer.Counted (census_of number g t.rows)) (each_row (drop_where (is_exited_of number)) t)
@@ -116,9 +116,9 @@ module _ (image : ℕ) (mild : Exiting) (due : Asked) (light : Light image mild 
   both-exits : (g : Generation) (x : ℕ) (t : Table) (es : List Name) → Spares image es → mild es t.rows → Both g x t → Both g x (after_exits es t)
   both-exits g x t es sp calm b = (light.exits es t sp calm b.0, light.may_exits es t g x sp calm b.0 b.1)
 
-  fork-lacking : (g : Generation) (x : ℕ) (fate : Option Fate) (t : Table) (o : Option Caller) (l : List ℕ) → lacking_after [] (step_by co.text image o (Fork g x) fate t).answer l ≡ l
-  fork-lacking g x fate t None l = refl
-  fork-lacking g x fate t (Some c) l = fork-cases co.text image c g x fate t (λ st. lacking_after [] st.answer l ≡ l) refl refl (λ off. refl)
+  fork-lacking : (g : Generation) (x : ℕ) (fds : Option (List ℕ)) (fate : Option Fate) (t : Table) (o : Option Caller) (l : List ℕ) → lacking_after [] (step_by co.text image o (Fork g x fds) fate t).answer l ≡ l
+  fork-lacking g x fds fate t None l = refl
+  fork-lacking g x fds fate t (Some c) l = fork-cases co.text image c g x fds fate t (λ st. lacking_after [] st.answer l ≡ l) refl refl (λ off. refl)
 
   wait-lacking : (g : Generation) (x : ℕ) (fate : Option Fate) (t : Table) (o : Option Caller) (l : List ℕ) → lacking_after [] (step_by co.text image o (AwaitReady g x) fate t).answer l ≡ l
   wait-lacking g x fate t None l = refl
@@ -129,14 +129,14 @@ module _ (image : ℕ) (mild : Exiting) (due : Asked) (light : Light image mild 
       let killed = Does image (KillLacking g) [] (then_edge rest) in
       let wait = Does image (AwaitLacking g) [] (await_any_edges rest killed) in
       light-step (ForkLacking g) [] (fork_edges wait rest) p (Both g x) refl (both-exits g x p.table) both
-      (λ q b e. light.idles (Fork g (lowest q.lacking)) q.table (light.forks g (lowest q.lacking)) b.0)
+      (λ q b e. light.idles (Fork g (lowest q.lacking) None) q.table (light.forks g (lowest q.lacking) None) b.0)
       (λ q fate b e.
-      let call = Fork g (lowest q.lacking) in
+      let call = Fork g (lowest q.lacking) None in
       let st = step_with co.text image call fate q.table in
       let p' = after_call (ForkLacking g) [] st q in
-      let h = light.steps co.text call fate q.table (light.forks g (lowest q.lacking)) b.0 in
-      let m = light.may_steps co.text call fate q.table g x (light.forks g (lowest q.lacking)) b.0 b.1 in
-      let is' : p'.lacking ≡ x ∷ xs = fork-lacking g (lowest q.lacking) fate q.table (live_master image q.table.rows) q.lacking ∙ e ∙ is in
+      let h = light.steps co.text call fate q.table (light.forks g (lowest q.lacking) None) b.0 in
+      let m = light.may_steps co.text call fate q.table g x (light.forks g (lowest q.lacking) None) b.0 b.1 in
+      let is' : p'.lacking ≡ x ∷ xs = fork-lacking g (lowest q.lacking) None fate q.table (live_master image q.table.rows) q.lacking ∙ e ∙ is in
       all-go (fork_edges wait rest) (reply_of [] st.answer) p' h (wait-along p' (h, m) is', (next p' h, tt)))
     where
       kill-along : (p : Progress) → Both g x p.table → p.lacking ≡ x ∷ xs → Goes (Does image (KillLacking g) [] (then_edge rest)) p

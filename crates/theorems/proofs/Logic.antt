@@ -5,7 +5,7 @@ use Rattle.std.specs.List.{AllByRecursion, list_any}
 use Rattle.definitions.specs.Table.{is_any, is_draining, FilePath, owner_at, Process, Master, Worker, Table, Caller, is_worker, is_active, is_starting, is_exited, Address, is_held}
 use Rattle.vocabulary.specs.declared.table.Stance.TheVariants.{Starting}
 use Rattle.listener_set.specs.declared.generation.Generation.{Generation}
-use Rattle.definitions.specs.Calls.{suits, is_image, with_file, moved_if, with_files, without_file, Stepped, gives, step_by, fault_if, fault_or_own, own_step, with_new_row, each_row, has_process_room, drop_where, made_ready, lowest_free, with_new_socket}
+use Rattle.definitions.specs.Calls.{suits, is_image, with_file, moved_if, with_files, without_file, Stepped, gives, step_by, fault_if, fault_or_own, own_step, with_new_row, shared, each_row, has_process_room, drop_where, made_ready, lowest_free, with_new_socket}
 use Rattle.vocabulary.specs.declared.calls.Fate.{Fate}
 use Rattle.definitions.specs.Handover.{reading}
 use Rattle.definitions.specs.Exits.{change}
@@ -168,15 +168,15 @@ mutual
 
 ---- The answers of each call
 
-fork-own : (text : List ℕ) (image : ℕ) (c : Caller) (g : Generation) (x : ℕ) (t : Table) (P : Stepped → Type 0) → P (gives Again t) → (list_any (is_worker is_active c.number g x) t.rows ≡ false → P (gives Forked (with_new_row t (λ n. Worker n c.number g x Starting c.holds)))) → P (own_step text image c (Fork g x) t)
-fork-own text image c g x t P again ok =
-    let forked = gives Forked (with_new_row t (λ n. Worker n c.number g x Starting c.holds)) in
+fork-own : (text : List ℕ) (image : ℕ) (c : Caller) (g : Generation) (x : ℕ) (fds : Option (List ℕ)) (t : Table) (P : Stepped → Type 0) → P (gives Again t) → (list_any (is_worker is_active c.number g x) t.rows ≡ false → P (gives Forked (with_new_row t (λ n. Worker n c.number g x Starting (shared fds c.holds))))) → P (own_step text image c (Fork g x fds) t)
+fork-own text image c g x fds t P again ok =
+    let forked = gives Forked (with_new_row t (λ n. Worker n c.number g x Starting (shared fds c.holds))) in
     pick P (list_any (is_worker is_active c.number g x) t.rows) (gives Again t) (if has_process_room t then forked else gives Again t) (λ e. again) (λ off. pick P (has_process_room t) forked (gives Again t) (λ e. ok off) (λ e. again))
 
-pub fork-cases : (text : List ℕ) (image : ℕ) (c : Caller) (g : Generation) (x : ℕ) (fate : Option Fate) (t : Table) (P : Stepped → Type 0) → P (gives Again t) → P (gives NoMemory t) → (list_any (is_worker is_active c.number g x) t.rows ≡ false → P (gives Forked (with_new_row t (λ n. Worker n c.number g x Starting c.holds)))) → P (step_by text image (Some c) (Fork g x) fate t)
-fork-cases text image c g x (Some fate.NoMemory) t P again memory ok = memory
-fork-cases text image c g x (Some fate.Again) t P again memory ok = again
-fork-cases text image c g x _ t P again memory ok = fork-own text image c g x t P again ok
+pub fork-cases : (text : List ℕ) (image : ℕ) (c : Caller) (g : Generation) (x : ℕ) (fds : Option (List ℕ)) (fate : Option Fate) (t : Table) (P : Stepped → Type 0) → P (gives Again t) → P (gives NoMemory t) → (list_any (is_worker is_active c.number g x) t.rows ≡ false → P (gives Forked (with_new_row t (λ n. Worker n c.number g x Starting (shared fds c.holds))))) → P (step_by text image (Some c) (Fork g x fds) fate t)
+fork-cases text image c g x fds (Some fate.NoMemory) t P again memory ok = memory
+fork-cases text image c g x fds (Some fate.Again) t P again memory ok = again
+fork-cases text image c g x fds _ t P again memory ok = fork-own text image c g x fds t P again ok
 
 await-own : (text : List ℕ) (image : ℕ) (c : Caller) (g : Generation) (x : ℕ) (t : Table) (P : Stepped → Type 0) → (list_any (is_worker is_active c.number g x) t.rows ≡ true → P (gives IsReady (each_row (change (is_worker is_starting c.number g x) made_ready) t))) → (list_any (is_worker is_active c.number g x) t.rows ≡ false → P (gives Gone (each_row (drop_where (is_worker is_exited c.number g x)) t))) → P (own_step text image c (AwaitReady g x) t)
 await-own text image c g x t P ok gone = pick P (list_any (is_worker is_active c.number g x) t.rows) _ _ ok gone

@@ -94,7 +94,7 @@ module _ (t : Table) (r : Record) (overdue : List ℕ) (pattern : Pattern) (s : 
     exits = λ es t sp mild h. fact-exits r.pid g.image p (IsOther p) (λ h x. ⊤) (gone-lasts r.pid p) es t sp h;
     steps = λ text call fate t gentle h. fact-steps r.pid g.image p (IsOther p) (λ h x. ⊤) (gone-lasts r.pid p) text call fate t gentle h;
     idles = λ call t gentle h. tt;
-    forks = λ h x. tt;
+    forks = λ h x fds. tt;
     waits = λ h x. tt;
     censuses = λ h. tt;
     counted = λ text h fate t fact. fact-census r.pid g.image p (IsOther p) text h fate t fact;

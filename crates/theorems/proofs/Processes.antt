@@ -15,7 +15,7 @@ use Rattle.vocabulary.specs.declared.calls.Fate.{Fate}
 use Rattle.definitions.specs.Table.{Hold, Process, Master, Worker, Foreign, Table, Caller, owner_at, live_master, caller_if, is_live_master, is_worker, is_named, is_active, is_starting, is_draining, is_exited, is_any, is_held}
 use Rattle.definitions.specs.Exits.{without_exited, kept_if, change, made_exited, first_changed, caller_exits, exited, all_exited, after_exits}
 use Rattle.definitions.specs.Handover.{reading}
-use Rattle.definitions.specs.Calls.{suits, moved_if, is_image, is_image_row, is_of_image, census_of, Stepped, gives, each_row, drop_where, with_holds, put_hold, lacks_address, is_row, is_of, is_exited_of, made_ready, made_draining, with_new_row, with_new_socket, lowest_free, has_process_room, own_step, fault_at, fault_or_own, step_by, step_with}
+use Rattle.definitions.specs.Calls.{suits, moved_if, is_image, is_image_row, is_of_image, census_of, Stepped, gives, each_row, drop_where, with_holds, put_hold, lacks_address, is_row, is_of, is_exited_of, made_ready, made_draining, with_new_row, shared, with_new_socket, lowest_free, has_process_room, own_step, fault_at, fault_or_own, step_by, step_with}
 use Rattle.theorems.proofs.Rows.{weigh-append, one, weigh, worth, FitsIn, change-same, every-filter_map, every-append, every-any, pick}
 use Rattle.theorems.proofs.Views.{master_of, eqb-refl, eqb-off, eqb-is}
 use Rattle.theorems.proofs.Logic.{unfailing}
@@ -83,7 +83,7 @@ pub record Lasts (m n : ℕ) (P : Process → Type 0) (Quits : Generation → �
 abbrev pub Lets : (Generation → ℕ → Type 0) → Call → Type 0
 Lets Quits (OpenAt a) = ⊤
 Lets Quits (CloseAt a) = ⊤
-Lets Quits (Fork g x) = ⊤
+Lets Quits (Fork g x fds) = ⊤
 Lets Quits (AwaitReady g x) = ⊤
 Lets Quits (Quit g x) = Quits g x
 Lets Quits (Kill g x) = ⊤
@@ -240,7 +240,7 @@ fact-exits m image n P Quits lasts es t sp fact =
 abbrev pub AnyCall : ℕ → Call → Type 0
 AnyCall image (OpenAt a) = ⊤
 AnyCall image (CloseAt a) = ⊤
-AnyCall image (Fork g x) = ⊤
+AnyCall image (Fork g x fds) = ⊤
 AnyCall image (AwaitReady g x) = ⊤
 AnyCall image (Census g) = ⊤
 AnyCall image Adopt = ⊤
@@ -282,12 +282,12 @@ module _ (m image n : ℕ) (P : Process → Type 0) (Quits : Generation → ℕ 
       let f = fact-changed (is_row m) (with_holds (put_hold h)) t (λ p e x. lasts.keeps (put_hold h) p x) (λ p e x. (of-lasts m image).1 (put_hold h) p x) (holds-kind m (put_hold h)) fact in
       record { one = f.one; all = f.all; below = f.below; above = f.above }
 
-  fact-forked : (g : Generation) (x : ℕ) (t : Table) → F t → F (with_new_row t (λ k. Worker k m g x Starting hs))
-  fact-forked g x t fact =
-      let new = Worker t.next_process m g x Starting hs in
+  fact-forked : (g : Generation) (x : ℕ) (fds : Option (List ℕ)) (t : Table) → F t → F (with_new_row t (λ k. Worker k m g x Starting (shared fds hs)))
+  fact-forked g x fds t fact =
+      let new = Worker t.next_process m g x Starting (shared fds hs) in
       record {
         one = record { all = every-append (IsOf m image) t.rows new fact.one.all tt; some = omega (arith, fact.one.some, weigh-append (master_of m) t.rows (new ∷ [])) };
-        all = every-append P t.rows new fact.all (lasts.starts t.next_process m g x hs fact.below);
+        all = every-append P t.rows new fact.all (lasts.starts t.next_process m g x (shared fds hs) fact.below);
         below = omega (arith, fact.below);
         above = omega (arith, fact.above);
       }
@@ -299,10 +299,10 @@ module _ (m image n : ℕ) (P : Process → Type 0) (Quits : Generation → ℕ 
       pick (λ (st : Stepped). F st.table) (is_held a t.rows) (gives answer.InUse t) (if nat_lt (length hs) t.limits.descriptors then done else gives answer.TooMany t) (λ e. fact)
       (λ e. pick (λ (st : Stepped). F st.table) (nat_lt (length hs) t.limits.descriptors) done (gives answer.TooMany t) (λ e. fact-opened h t fact) (λ e. fact))
   own-keeps text (CloseAt a) t lets fact = fact-changed (is_of m) (with_holds (lacks_address a)) t (λ p e x. lasts.keeps (lacks_address a) p x) (λ p e x. (of-lasts m image).1 (lacks_address a) p x) (holds-kind m (lacks_address a)) fact
-  own-keeps text (Fork g x) t lets fact =
-      let done = gives answer.Forked (with_new_row t (λ k. Worker k m g x Starting hs)) in
+  own-keeps text (Fork g x fds) t lets fact =
+      let done = gives answer.Forked (with_new_row t (λ k. Worker k m g x Starting (shared fds hs))) in
       pick (λ (st : Stepped). F st.table) (list_any (is_worker is_active m g x) t.rows) (gives answer.Again t) (if has_process_room t then done else gives answer.Again t) (λ e. fact)
-      (λ e. pick (λ (st : Stepped). F st.table) (has_process_room t) done (gives answer.Again t) (λ e. fact-forked g x t fact) (λ e. fact))
+      (λ e. pick (λ (st : Stepped). F st.table) (has_process_room t) done (gives answer.Again t) (λ e. fact-forked g x fds t fact) (λ e. fact))
   own-keeps text (AwaitReady g x) t lets fact =
       pick (λ (st : Stepped). F st.table) (list_any (is_worker is_active m g x) t.rows) _ _
       (λ e. fact-changed (is_worker is_starting m g x) made_ready t (lasts.readies m g x) (λ p e x. (of-lasts m image).2 p x) (ready-kind m) fact)
@@ -329,12 +329,12 @@ module _ (m image n : ℕ) (P : Process → Type 0) (Quits : Generation → ℕ 
       pick (λ (st : Stepped). F st.table) (is_held a t.rows) (gives answer.InUse t) (if nat_lt (length c.holds) t.limits.descriptors then done else gives answer.TooMany t) (λ e. fact)
       (λ e. pick (λ (st : Stepped). F st.table) (nat_lt (length c.holds) t.limits.descriptors) done (gives answer.TooMany t) (λ e. opened) (λ e. fact))
   any-keeps text by c (CloseAt a) t any fact = fact-changed (is_of c.number) (with_holds (lacks_address a)) t (λ p e x. lasts.keeps (lacks_address a) p x) (λ p e x. (of-lasts m image).1 (lacks_address a) p x) (holds-kind m (lacks_address a)) fact
-  any-keeps text by c (Fork g x) t any fact =
-      let new = Worker t.next_process c.number g x Starting c.holds in
-      let done = gives answer.Forked (with_new_row t (λ k. Worker k c.number g x Starting c.holds)) in
+  any-keeps text by c (Fork g x fds) t any fact =
+      let new = Worker t.next_process c.number g x Starting (shared fds c.holds) in
+      let done = gives answer.Forked (with_new_row t (λ k. Worker k c.number g x Starting (shared fds c.holds))) in
       let forked : F done.table = record {
         one = record { all = every-append (IsOf m image) t.rows new fact.one.all tt; some = omega (arith, fact.one.some, weigh-append (master_of m) t.rows (new ∷ [])) };
-        all = every-append P t.rows new fact.all (lasts.starts t.next_process c.number g x c.holds fact.below);
+        all = every-append P t.rows new fact.all (lasts.starts t.next_process c.number g x (shared fds c.holds) fact.below);
         below = omega (arith, fact.below);
         above = omega (arith, fact.above);
       } in

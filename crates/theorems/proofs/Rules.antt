@@ -6,7 +6,7 @@ use Rattle.vocabulary.specs.declared.table.Limits.{Limits}
 use Rattle.definitions.specs.Table.{same_generation, Hold, Process, Master, Worker, Foreign, File, Table, bears, Caller, with_rows, is_worker, is_active, is_ready, is_starting, is_exited, is_any, Address, is_at}
 use Rattle.vocabulary.specs.declared.table.Stance.TheVariants.{Starting}
 use Rattle.listener_set.specs.declared.generation.Generation.{Generation}
-use Rattle.definitions.specs.Calls.{Stepped, gives, step_by, own_step, with_new_row, each_row, is_exited_of, drop_where, made_ready, made_draining, census_of, is_of, with_holds, lacks_address, lowest_free, with_new_socket, is_row, put_hold}
+use Rattle.definitions.specs.Calls.{Stepped, gives, step_by, own_step, with_new_row, shared, each_row, is_exited_of, drop_where, made_ready, made_draining, census_of, is_of, with_holds, lacks_address, lowest_free, with_new_socket, is_row, put_hold}
 use Rattle.vocabulary.specs.declared.calls.Fate.{Fate}
 use Rattle.vocabulary.specs.declared.names.Name.{Name}
 use Rattle.definitions.specs.Exits.{is_active_worker, change, losses_of, all_exited, after_exits}
@@ -280,23 +280,24 @@ module _ (inv : Progress → Type 0) (post : Ending → Progress → Type 0) (co
 
   ---- Fork, AwaitReady, Kill
 
-  pub rule-fork-on : (bs : Branches) (g : Generation) (x : ℕ) (s r t : Names) (n c : ℕ) (w : Bool) (ls : List ℕ) (p : Progress) → u.held g ≡ u.holds → ((q : Progress) → Band u sc (plus s g x) r t n c w ls q → Edge bs reply.Forked q) → ((q : Progress) → Band u sc s r t n (c + 1) true ls q → Edge bs reply.Again q × Edge bs reply.NoMemory q) → Band u sc s r t n c w ls p → Runs (does u.image (Fork g x) bs) p
-  rule-fork-on bs g x s r t n c w ls p same on_ok on_bad b =
-      let order = Make (Fork g x) in
+  pub rule-fork-on : (bs : Branches) (g : Generation) (x : ℕ) (fds : Option (List ℕ)) (s r t : Names) (n c : ℕ) (w : Bool) (ls : List ℕ) (p : Progress) → u.held g ≡ shared fds u.holds → ((q : Progress) → Band u sc (plus s g x) r t n c w ls q → Edge bs reply.Forked q) → ((q : Progress) → Band u sc s r t n (c + 1) true ls q → Edge bs reply.Again q × Edge bs reply.NoMemory q) → Band u sc s r t n c w ls p → Runs (does u.image (Fork g x fds) bs) p
+  rule-fork-on bs g x fds s r t n c w ls p same on_ok on_bad b =
+      let order = Make (Fork g x fds) in
+      let hs = shared fds u.holds in
       rule-step order [] bs s r t n c w ls p refl b (λ q b' fate.
       let failed = on_bad (failed_at q) (band-failed s r t n c w ls q b') in
-      fork-cases co.text u.image me g x fate q.table (λ st. Answers order [] bs q st)
+      fork-cases co.text u.image me g x fds fate q.table (λ st. Answers order [] bs q st)
       failed.0 failed.1
       (λ off.
       let k = q.table.next_process in
-      let after = with_new_row q.table (λ j. Worker j u.number g x Starting u.holds) in
+      let after = with_new_row q.table (λ j. Worker j u.number g x Starting hs) in
       on_ok (passed_at after q) (band-moved u s (plus s g x) r r t n c w ls after q
-      (fork-looks (view u s r) g x k q.table.rows same off b'.looks) (fork-weigh u.number g t x k u.holds q.table.rows)
-      b'.still (sc.grows k g x u.holds q.table.rows q.losses q.faults b'.beside) b')))
+      (fork-looks (view u s r) g x k hs q.table.rows same off b'.looks) (fork-weigh u.number g t x k hs q.table.rows)
+      b'.still (sc.grows k g x hs q.table.rows q.losses q.faults b'.beside) b')))
 
-  pub rule-fork : (ok bad : Tree) (g : Generation) (x : ℕ) (s r t : Names) (n c : ℕ) (w : Bool) (ls : List ℕ) (p : Progress) → u.held g ≡ u.holds → ((q : Progress) → Band u sc (plus s g x) r t n c w ls q → Runs ok q) → ((q : Progress) → Band u sc s r t n (c + 1) true ls q → Runs bad q) → Band u sc s r t n c w ls p → Runs (does u.image (Fork g x) (fork_edges ok bad)) p
-  rule-fork ok bad g x s r t n c w ls p same on_ok on_bad b =
-      rule-fork-on (fork_edges ok bad) g x s r t n c w ls p same on_ok (λ q b'. let h = on_bad q b' in (h, h)) b
+  pub rule-fork : (ok bad : Tree) (g : Generation) (x : ℕ) (fds : Option (List ℕ)) (s r t : Names) (n c : ℕ) (w : Bool) (ls : List ℕ) (p : Progress) → u.held g ≡ shared fds u.holds → ((q : Progress) → Band u sc (plus s g x) r t n c w ls q → Runs ok q) → ((q : Progress) → Band u sc s r t n (c + 1) true ls q → Runs bad q) → Band u sc s r t n c w ls p → Runs (does u.image (Fork g x fds) (fork_edges ok bad)) p
+  rule-fork ok bad g x fds s r t n c w ls p same on_ok on_bad b =
+      rule-fork-on (fork_edges ok bad) g x fds s r t n c w ls p same on_ok (λ q b'. let h = on_bad q b' in (h, h)) b
 
   drops-name : (g : Generation) (x : ℕ) (q : Progress) → sc.Holds q.table.rows q.losses q.faults → sc.Holds (filter_map (drop_where (is_worker is_any u.number g x)) q.table.rows) q.losses q.faults
   drops-name g x q beside = sc.drops (is_worker is_any u.number g x) q.table.rows q.losses q.faults (mine-worker is_any u.number g x, λ z zs. refl) beside
@@ -455,8 +456,8 @@ module _ (inv : Progress → Type 0) (post : Ending → Progress → Type 0) (co
   only-seen g S cs r only h k e = only h k (and-left (r h k) _ e)
 
   -- a step that names its worker when it runs
-  to-fork : (g : Generation) (bs : Branches) (q : Progress) (x : ℕ) (xs : List ℕ) → q.lacking ≡ x ∷ xs → Runs (does u.image (Fork g x) bs) q → Runs (Does u.image (ForkLacking g) [] bs) q
-  to-fork g bs q x xs e h = subst (λ (l : List ℕ). Runs (does u.image (Fork g (lowest l)) bs) q) (sym e) h
+  to-fork : (g : Generation) (bs : Branches) (q : Progress) (x : ℕ) (xs : List ℕ) → q.lacking ≡ x ∷ xs → Runs (does u.image (Fork g x None) bs) q → Runs (Does u.image (ForkLacking g) [] bs) q
+  to-fork g bs q x xs e h = subst (λ (l : List ℕ). Runs (does u.image (Fork g (lowest l) None) bs) q) (sym e) h
 
   to-await : (g : Generation) (bs : Branches) (q : Progress) (x : ℕ) (xs : List ℕ) → q.lacking ≡ x ∷ xs → Runs (does u.image (AwaitReady g x) bs) q → Runs (Does u.image (AwaitLacking g) [] bs) q
   to-await g bs q x xs e h = subst (λ (l : List ℕ). Runs (does u.image (AwaitReady g (lowest l)) bs) q) (sym e) h
@@ -480,7 +481,7 @@ module _ (inv : Progress → Type 0) (post : Ending → Progress → Type 0) (co
       let bad = λ (q : Progress) (b' : Band u sc (minus s g x) r t n (c + 1) true (x ∷ xs) q). next r q only (band-still (minus s g x) none r t n (c + 1) true (x ∷ xs) q (over g x) b') in
       let killed = Does u.image (KillLacking g) [] (then_edge rest) in
       to-fork g (fork_edges (Does u.image (AwaitLacking g) [] (await_any_edges rest killed)) rest) p x xs b.lacking
-      (rule-fork (Does u.image (AwaitLacking g) [] (await_any_edges rest killed)) rest g x none r t n c true (x ∷ xs) p same
+      (rule-fork (Does u.image (AwaitLacking g) [] (await_any_edges rest killed)) rest g x None none r t n c true (x ∷ xs) p same
       (λ q b'. to-await g (await_any_edges rest killed) q x xs b'.lacking
       (rule-await (await_any_edges rest killed) g x s r t t n n c (c + 1) true (x ∷ xs) q off joins
       (λ q' b''. next (plus r g x) q' (only-plus g S r x in_x only) (band-still (minus s g x) none (plus r g x) t n (c + 1) true (x ∷ xs) q' (over g x) b''))
@@ -561,7 +562,7 @@ module _ (inv : Progress → Type 0) (post : Ending → Progress → Type 0) (co
   pub rule-forks : (ok bad : List ℕ → Tree) (g : Generation) (all : List ℕ) → u.held g ≡ u.holds → (r t : Names) (n : ℕ) (w : Bool) (ls : List ℕ) (c : ℕ) → ((done : List ℕ) (s : Names) (q : Progress) → Forking g all [] done s → Band u sc s r t n c w ls q → Runs (ok done) q) → ((ks done : List ℕ) (s : Names) (q : Progress) → Forking g all ks done s → Band u sc s r t n (c + 1) true ls q → Runs (bad done) q) → (ks done : List ℕ) (s : Names) (p : Progress) → Forking g all ks done s → Band u sc s r t n c w ls p → Runs (forks u.image g ks done ok bad) p
   rule-forks ok bad g all same r t n w ls c on_ok on_bad [] done s p h b = on_ok done s p h b
   rule-forks ok bad g all same r t n w ls c on_ok on_bad (x ∷ ks) done s p h b =
-      rule-fork (forks u.image g ks (x ∷ done) ok bad) (bad done) g x s r t n c w ls p same
+      rule-fork (forks u.image g ks (x ∷ done) ok bad) (bad done) g x None s r t n c w ls p same
       (λ q b'. rule-forks ok bad g all same r t n w ls c on_ok on_bad ks (x ∷ done) (plus s g x) q (forking-next g all x ks done s h) b')
       (λ q b'. on_bad (x ∷ ks) done s q h b') b
 
@@ -654,7 +655,7 @@ module _ (inv : Progress → Type 0) (post : Ending → Progress → Type 0) (co
   pub rule-forks-any : (rest : Tree) (g : Generation) → u.held g ≡ u.holds → (ks : List ℕ) (s r t : Names) (n c : ℕ) (w : Bool) (ls : List ℕ) (p : Progress) → ((s' : Names) (c' : ℕ) (w' : Bool) (q : Progress) → Within_or g ks s s' → (w ≡ true → w' ≡ true) → Band u sc s' r t n c' w' ls q → Runs rest q) → Band u sc s r t n c w ls p → Runs (forks_any u.image g ks rest) p
   rule-forks-any rest g same [] s r t n c w ls p next b = next s c w p (λ h k e. inl e) (λ e. e) b
   rule-forks-any rest g same (x ∷ ks) s r t n c w ls p next b =
-      rule-fork-on (fork_any_edges (forks_any u.image g ks rest)) g x s r t n c w ls p same
+      rule-fork-on (fork_any_edges (forks_any u.image g ks rest)) g x None s r t n c w ls p same
       (λ q b'. rule-forks-any rest g same ks (plus s g x) r t n c w ls q
       (λ s' c' w' q' within up b''. next s' c' w' q' (λ h k e. ⊎_elim (λ a. ⊎_elim (λ z. inl z) (λ z. let is = bears-is g x h k z in inr (is.0, in-here x k ks (sym is.1))) (or-elim (s h k) (bears g x h k) a)) (λ a. inr (a.0, in-there x k ks a.1)) (within h k e)) up b'') b')
       (λ q b'.

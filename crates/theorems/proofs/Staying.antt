@@ -15,7 +15,7 @@ use Rattle.vocabulary.specs.declared.calls.Fate.{Fate}
 use Rattle.definitions.specs.Table.{Hold, Process, Master, Worker, Foreign, Table, Caller, owner_at, live_master, number_of, bears, is_worker, is_ready, is_active, is_starting, is_exited, is_any, is_held}
 use Rattle.definitions.specs.Exits.{without_exited, kept_if, change, made_exited, all_exited, after_exits}
 use Rattle.definitions.specs.Handover.{reading}
-use Rattle.definitions.specs.Calls.{suits, moved_if, is_image, is_image_row, is_of_image, Stepped, gives, with_holds, put_hold, lacks_address, is_row, is_of, made_ready, made_draining, is_exited_of, drop_where, census_of, with_new_row, with_new_socket, lowest_free, has_process_room, own_step, fault_at, fault_or_own, step_by, step_with}
+use Rattle.definitions.specs.Calls.{suits, moved_if, is_image, is_image_row, is_of_image, Stepped, gives, with_holds, put_hold, lacks_address, is_row, is_of, made_ready, made_draining, is_exited_of, drop_where, census_of, with_new_row, shared, with_new_socket, lowest_free, has_process_room, own_step, fault_at, fault_or_own, step_by, step_with}
 use Rattle.definitions.specs.Manner.{is_active_process}
 use Rattle.theorems.proofs.Rows.{FitsIn, pick, and-left, and-right, or-right}
 use Rattle.theorems.proofs.Views.{eqb-is}
@@ -177,10 +177,10 @@ module _ (m image n : ℕ) (g0 : Generation) (k0 : ℕ) (low : k0 < 1024) where
       pick (λ (st : Stepped). Has st.table.rows) (is_held a t.rows) (gives answer.InUse t) (if nat_lt (length hs) t.limits.descriptors then done else gives answer.TooMany t) (λ e. has)
       (λ e. pick (λ (st : Stepped). Has st.table.rows) (nat_lt (length hs) t.limits.descriptors) done (gives answer.TooMany t) (λ e. has-changed (is_row m) (with_holds (put_hold h)) (holds-it (is_row m) (put_hold h)) t.rows has) (λ e. has))
   own-has text hs (CloseAt a) t lets other has = has-changed (is_of m) (with_holds (lacks_address a)) (holds-it (is_of m) (lacks_address a)) t.rows has
-  own-has text hs (Fork g x) t lets other has =
-      let done = gives answer.Forked (with_new_row t (λ k. Worker k m g x Starting hs)) in
+  own-has text hs (Fork g x fds) t lets other has =
+      let done = gives answer.Forked (with_new_row t (λ k. Worker k m g x Starting (shared fds hs))) in
       pick (λ (st : Stepped). Has st.table.rows) (list_any (is_worker is_active m g x) t.rows) (gives answer.Again t) (if has_process_room t then done else gives answer.Again t) (λ e. has)
-      (λ e. pick (λ (st : Stepped). Has st.table.rows) (has_process_room t) done (gives answer.Again t) (λ e. has-append t.rows (Worker t.next_process m g x Starting hs) has) (λ e. has))
+      (λ e. pick (λ (st : Stepped). Has st.table.rows) (has_process_room t) done (gives answer.Again t) (λ e. has-append t.rows (Worker t.next_process m g x Starting (shared fds hs)) has) (λ e. has))
   own-has text hs (AwaitReady g x) t lets other has =
       pick (λ (st : Stepped). Has st.table.rows) (list_any (is_worker is_active m g x) t.rows) _ _
       (λ e. has-changed (is_worker is_starting m g x) made_ready (ready-it (is_worker is_starting m g x)) t.rows has)
@@ -269,10 +269,10 @@ module _ (m image n : ℕ) (g0 : Generation) (k0 : ℕ) (low : k0 < 1024) where
       pick (λ (st : Stepped). Has st.table.rows) (is_held a t.rows) (gives answer.InUse t) (if nat_lt (length c.holds) t.limits.descriptors then done else gives answer.TooMany t) (λ e. has)
       (λ e. pick (λ (st : Stepped). Has st.table.rows) (nat_lt (length c.holds) t.limits.descriptors) done (gives answer.TooMany t) (λ e. has-changed (is_row c.number) (with_holds (put_hold h)) (holds-it (is_row c.number) (put_hold h)) t.rows has) (λ e. has))
   any-has text by c (CloseAt a) t any all has = has-changed (is_of c.number) (with_holds (lacks_address a)) (holds-it (is_of c.number) (lacks_address a)) t.rows has
-  any-has text by c (Fork g x) t any all has =
-      let done = gives answer.Forked (with_new_row t (λ k. Worker k c.number g x Starting c.holds)) in
+  any-has text by c (Fork g x fds) t any all has =
+      let done = gives answer.Forked (with_new_row t (λ k. Worker k c.number g x Starting (shared fds c.holds))) in
       pick (λ (st : Stepped). Has st.table.rows) (list_any (is_worker is_active c.number g x) t.rows) (gives answer.Again t) (if has_process_room t then done else gives answer.Again t) (λ e. has)
-      (λ e. pick (λ (st : Stepped). Has st.table.rows) (has_process_room t) done (gives answer.Again t) (λ e. has-append t.rows (Worker t.next_process c.number g x Starting c.holds) has) (λ e. has))
+      (λ e. pick (λ (st : Stepped). Has st.table.rows) (has_process_room t) done (gives answer.Again t) (λ e. has-append t.rows (Worker t.next_process c.number g x Starting (shared fds c.holds)) has) (λ e. has))
   any-has text by c (AwaitReady g x) t any all has =
       pick (λ (st : Stepped). Has st.table.rows) (list_any (is_worker is_active c.number g x) t.rows) _ _
       (λ e. has-changed (is_worker is_starting c.number g x) made_ready (ready-it (is_worker is_starting c.number g x)) t.rows has)
@@ -333,7 +333,7 @@ module _ (m image n : ℕ) (g0 : Generation) (k0 : ℕ) (low : k0 < 1024) where
     exits = stands-exits;
     steps = stands-steps;
     idles = λ call t gentle st. tt;
-    forks = λ g x. (tt, tt);
+    forks = λ g x fds. (tt, tt);
     waits = λ g x. (tt, tt);
     censuses = λ g. (tt, tt);
     counted = λ text g fate t st. fact-census m image n IsIt text g fate t st.fact;

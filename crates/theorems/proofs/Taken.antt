@@ -219,7 +219,7 @@ module _ (m image n : ℕ) (g0 : Generation) (k0 : ℕ) (low : k0 < 1024) where
   lets-any : (call : Call) → Lets IsFree call → Lets (λ g x. ⊤) call
   lets-any (OpenAt a) lets = tt
   lets-any (CloseAt a) lets = tt
-  lets-any (Fork g x) lets = tt
+  lets-any (Fork g x fds) lets = tt
   lets-any (AwaitReady g x) lets = tt
   lets-any (Quit g x) lets = tt
   lets-any (Kill g x) lets = tt
@@ -243,7 +243,7 @@ module _ (m image n : ℕ) (g0 : Generation) (k0 : ℕ) (low : k0 < 1024) where
     exits = λ es t sp mild h. fact-exits m image n (OnlyOurs IsUntouched) IsFree close-lasts es t sp h;
     steps = λ text call fate t gentle h. fact-steps m image n (OnlyOurs IsUntouched) IsFree close-lasts text call fate t gentle.0 h;
     idles = λ call t gentle h. idle IsUntouched call t gentle.1 h;
-    forks = λ g x. (tt, tt);
+    forks = λ g x fds. (tt, tt);
     waits = λ g x. (tt, tt);
     censuses = λ g. (tt, tt);
     counted = λ text g fate t h. fact-census m image n (OnlyOurs IsUntouched) text g fate t h;
@@ -291,7 +291,7 @@ module _ (m image n : ℕ) (g0 : Generation) (k0 : ℕ) (low : k0 < 1024) where
     exits = λ es t sp mild h. fact-exits m image n (OnlyOurs InAny) (λ g x. ⊤) loose-lasts es t sp h;
     steps = λ text call fate t gentle h. fact-steps m image n (OnlyOurs InAny) (λ g x. ⊤) loose-lasts text call fate t gentle.0 h;
     idles = λ call t gentle h. idle InAny call t gentle.1 h;
-    forks = λ g x. (tt, tt);
+    forks = λ g x fds. (tt, tt);
     waits = λ g x. (tt, tt);
     censuses = λ g. (tt, tt);
     counted = λ text g fate t h. fact-census m image n (OnlyOurs InAny) text g fate t h;

@@ -93,10 +93,10 @@ module _ (c : Given) (m : ℕ) (ne : m ≢ c.rec.pid) (r0 : Names) (only0 : Only
   abbrev forking : List Hold → Names → List File → Doing c m ne r0 only0
   forking hs s files = with_starting c m ne r0 only0 (none_yet hs files) s
 
-  forks-all : (ks : List ℕ) (more : List Call) (rest : Tree) (hs : List Hold) (s : Names) (files : List File) (q : Progress) → A files → ((k : ℕ) → is_in ks k ≡ true → is_in S k ≡ true) → Only (new c) S s → ((s' : Names) (q' : Progress) → Only (new c) S s' → H (forking hs s' files) q' → G (tries_all image more rest B) q') → H (forking hs s files) q → G (tries_all image (map (Fork (new c)) ks ++ more) rest B) q
+  forks-all : (ks : List ℕ) (more : List Call) (rest : Tree) (hs : List Hold) (s : Names) (files : List File) (q : Progress) → A files → ((k : ℕ) → is_in ks k ≡ true → is_in S k ≡ true) → Only (new c) S s → ((s' : Names) (q' : Progress) → Only (new c) S s' → H (forking hs s' files) q' → G (tries_all image more rest B) q') → H (forking hs s files) q → G (tries_all image (map (λ k. Fork (new c) k None) ks ++ more) rest B) q
   forks-all [] more rest hs s files q aside within only next b = next s q only b
   forks-all (k ∷ ks) more rest hs s files q aside within only next b =
-      try-fork c m ne r0 only0 (tries_all image (map (Fork (new c)) ks ++ more) rest B) k (forking hs s files) q aside
+      try-fork c m ne r0 only0 (tries_all image (map (λ k. Fork (new c) k None) ks ++ more) rest B) k (forking hs s files) q aside
       (λ q' b'. forks-all ks more rest hs (plus s (new c) k) files q' aside (λ j e. within j (in-there k j ks e))
       (λ h j e. ⊎_elim (λ a. only h j a) (λ a. let is = bears-is (new c) k h j a in (is.0, subst (λ z. is_in S z ≡ true) (sym is.1) (within k (in-here k k ks refl)))) (or-elim (s h j) (bears (new c) k h j) e))
       next b') b
@@ -267,7 +267,7 @@ module _ (c : Given) (m : ℕ) (ne : m ≢ c.rec.pid) (r0 : Names) (only0 : Only
       let last = tries image (Census (new c)) S rest B in
       let writing = pid_calls c.rec.pid_path WritePid in
       let waits = map (AwaitReady (new c)) S in
-      let forks = map (Fork (new c)) S in
+      let forks = map (λ k. Fork (new c) k None) S in
       let opens = map OpenAt added_here in
       let closes = map CloseAt dropped_here in
       let waiting = waits ++ writing in

@@ -129,7 +129,7 @@ module _ (c : Given) (p k : ℕ) (on : has_ready c.t p k ≡ true) where
   unasked-late : (past : List Entry) (call : Call) (t : Table) → AnyCall c.rec.generation.image call → LateFirst past call t
   unasked-late past (OpenAt a) t any = tt
   unasked-late past (CloseAt a) t any = tt
-  unasked-late past (Fork h x) t any = tt
+  unasked-late past (Fork h x fds) t any = tt
   unasked-late past (AwaitReady h x) t any = tt
   unasked-late past (Census h) t any = tt
   unasked-late past Adopt t any = tt

@@ -1,5 +1,5 @@
 -- An upgrade's new master: each of its calls answers plainly, or the old master goes back.
-use Rattle.std.proofs.Common.{◌≡◌, ◌≢◌, ℕ, ◌+◌, ◌≤◌, Bool, true, false, List, [], ◌∷◌, ◌++◌, length, Option, Some, refl, sym, ap, ◌∙◌, subst, arith, inl, ⊎_elim, nat_lt}
+use Rattle.std.proofs.Common.{◌≡◌, ◌≢◌, ℕ, ◌+◌, ◌≤◌, Bool, true, false, List, [], ◌∷◌, ◌++◌, length, Option, Some, None, refl, sym, ap, ◌∙◌, subst, arith, inl, ⊎_elim, nat_lt}
 use Rattle.std.specs.Prelude.{◌&&◌, if◌then◌else◌}
 use Rattle.listener_set.specs.Numbers.{is_in}
 use Rattle.listener_set.specs.declared.generation.Generation.{Generation}
@@ -193,18 +193,18 @@ module _ (c : Given) (m : ℕ) (ne : m ≢ c.rec.pid) (r0 : Names) (only0 : Only
   abbrev pub with_starting : Doing → Names → Doing
   with_starting x s = record { hs = x.hs; s = s; r = x.r; names = x.names; d = x.d; files = x.files }
 
-  pub try-fork : (rest : Tree) (k : ℕ) (x : Doing) (q : Progress) → Aside c c.rec.pid_path x.files → ((q' : Progress) → Held (with_starting x (plus x.s (new c) k)) 0 false [] q' → Goes c (co c) rest q') → Held x 0 false [] q → Goes c (co c) (tries image (Fork (new c) k) [] rest back) q
+  pub try-fork : (rest : Tree) (k : ℕ) (x : Doing) (q : Progress) → Aside c c.rec.pid_path x.files → ((q' : Progress) → Held (with_starting x (plus x.s (new c) k)) 0 false [] q' → Goes c (co c) rest q') → Held x 0 false [] q → Goes c (co c) (tries image (Fork (new c) k None) [] rest back) q
   try-fork rest k x q aside next b =
-      step (Fork (new c) k) [] rest x q refl b
+      step (Fork (new c) k None) [] rest x q refl b
       (λ q' b' looks fate.
       let bad = just-failed x q' aside b' in
-      fork-cases (co c).text image (me x) (new c) k fate q'.table (λ st. Edge (Fork (new c) k) rest [] q' st) bad bad
+      fork-cases (co c).text image (me x) (new c) k None fate q'.table (λ st. Edge (Fork (new c) k None) rest [] q' st) bad bad
       (λ off.
       let j = q'.table.next_process in
       let t' = with_new_row q'.table (λ j. Worker j m (new c) k Starting x.hs) in
       let framed = framed-grow (view v none r0) m j (new c) k x.hs q'.table.rows apart (eqb-refl m m refl) b'.looks in
       next (plain_with t' q'.ready q'.lacking q') (held-plain x (with_starting x (plus x.s (new c) k)) t' q'.ready q'.lacking q' b' b'.still.files_stay refl b'.lacking framed
-      (inl (fork-looks (w c m x.hs x.s x.r) (new c) k j q'.table.rows refl off looks), omega (arith, b'.beside.1, fork-weigh m (new c) x.names k j x.hs q'.table.rows)))))
+      (inl (fork-looks (w c m x.hs x.s x.r) (new c) k j x.hs q'.table.rows refl off looks), omega (arith, b'.beside.1, fork-weigh m (new c) x.names k j x.hs q'.table.rows)))))
       (λ q' b'. just-failed x q' aside b')
 
   -- of the numbers that were forked, those that are Ready, and are counted

@@ -35,7 +35,7 @@ Free past = ⊤
 pub any-stays : (image : ℕ) (call : Call) → AnyCall image call → is_leave_call call ≡ false
 any-stays image (OpenAt a) any = refl
 any-stays image (CloseAt a) any = refl
-any-stays image (Fork h x) any = refl
+any-stays image (Fork h x fds) any = refl
 any-stays image (AwaitReady h x) any = refl
 any-stays image (Census h) any = refl
 any-stays image Adopt any = refl
@@ -95,13 +95,13 @@ module _ (c : Given) (due : Asking) (post : Finally) (mild : Exiting) (lost : (p
     joined : (l k : List Call) → Calls l → Calls k → Calls (l ++ k)
     joined l k a b = all-joined (AnyCall c.rec.generation.image) l k a b
 
-    calls-any : (path : Option FilePath) (closes opens : List Address) (ks : List ℕ) → Calls (Adopt ∷ map CloseAt closes ++ map OpenAt opens ++ map (Fork (new c)) ks ++ map (AwaitReady (new c)) ks ++ pid_calls path WritePid)
+    calls-any : (path : Option FilePath) (closes opens : List Address) (ks : List ℕ) → Calls (Adopt ∷ map CloseAt closes ++ map OpenAt opens ++ map (λ k. Fork (new c) k None) ks ++ map (AwaitReady (new c)) ks ++ pid_calls path WritePid)
     calls-any path closes opens ks =
         let a = Adopt ∷ map CloseAt closes in
         let b = map OpenAt opens in
-        let f = map (Fork (new c)) ks in
+        let f = map (λ k. Fork (new c) k None) ks in
         let w = map (AwaitReady (new c)) ks in
-        joined (a ++ b ++ f ++ w) (pid_calls path WritePid) (joined (a ++ b ++ f) w (joined (a ++ b) f (joined a b (tt, mapped CloseAt closes (λ x. tt)) (mapped OpenAt opens (λ x. tt))) (mapped (Fork (new c)) ks (λ x. tt))) (mapped (AwaitReady (new c)) ks (λ x. tt))) (written path)
+        joined (a ++ b ++ f ++ w) (pid_calls path WritePid) (joined (a ++ b ++ f) w (joined (a ++ b) f (joined a b (tt, mapped CloseAt closes (λ x. tt)) (mapped OpenAt opens (λ x. tt))) (mapped (λ k. Fork (new c) k None) ks (λ x. tt))) (mapped (AwaitReady (new c)) ks (λ x. tt))) (written path)
       where
         mapped : {X : Type 0} (f : X → Call) (l : List X) → ((x : X) → AnyCall c.rec.generation.image (f x)) → Calls (map f l)
         mapped f l h = all-mapped (AnyCall c.rec.generation.image) f l h

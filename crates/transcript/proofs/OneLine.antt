@@ -30,10 +30,11 @@ use Rattle.control_words.specs.Words.{word_text, IsWord}
 use Rattle.plain_text.proofs.NumberTextLemmas.{both}
 use Rattle.plain_text.proofs.CutTexts.{lacks, lacks-append, lacks-all, lacks-decimal}
 use Rattle.call_text.specs.SetText.{run_text, runs_text, set_text}
-use Rattle.call_text.specs.CallText.{worker_text, call_text, answer_text}
+use Rattle.call_text.specs.CallText.{worker_text, forked_text, call_text, answer_text}
 use Rattle.call_text.specs.Words.{note_text, side_text}
 use Rattle.call_text.specs.ReportText.{outcome_text, cause_text, report_text}
-use Rattle.call_text.specs.Ranges.{IsWorker, IsPath, IsCall, IsAnswer, IsCause, IsOutcome, IsReport}
+use Rattle.call_text.specs.Ranges.{IsWorker, IsShare, IsPath, IsCall, IsAnswer, IsCause, IsOutcome, IsReport}
+use Rattle.call_text.proofs.ForkTexts.{are_numbers}
 use Rattle.call_text.proofs.PartTexts.{number_lacks, generation_lacks}
 use Rattle.transcript.specs.EntryReading.{IsEntry, answered_text}
 use Rattle.transcript.specs.BlockLine.{Line, Heard, Unread, Nothing, Refused, Made, Ended, line_text, IsLine}
@@ -99,6 +100,12 @@ worker_lacks g nr h =
     let small : nr < 1024 = h.1 in
     lacks-append 10 (generation_text g) (codes " " ++ decimal nr) (generation_lacks 10 refl refl g h.0) (lacks-append 10 (codes " ") (decimal nr) refl (number_lacks 10 nr refl (omega (arith, small))))
 
+forked_lacks : (g : Generation) (nr : ℕ) (share : Option (List ℕ)) → IsWorker g nr → IsShare share → lacks 10 (forked_text g nr share) ≡ true
+forked_lacks g nr None h s = worker_lacks g nr h
+forked_lacks g nr (Some fds) h s =
+    lacks-append 10 (worker_text g nr) (codes " fds " ++ set_text fds) (worker_lacks g nr h)
+    (lacks-append 10 (codes " fds ") (set_text fds) refl (set_lacks 10 refl refl refl refl refl fds (are_numbers fds s.0)))
+
 octet_lacks : (n : ℕ) → n ≤ 255 → lacks 10 (decimal n) ≡ true
 octet_lacks n le = number_lacks 10 n refl (omega (arith, le))
 
@@ -127,7 +134,7 @@ path_lacks path h = elim h [ inl is ↦ plain path is | inr stem ↦ ap (lacks 1
 call_lacks : (c : Call) → IsCall c → lacks 10 (call_text c) ≡ true
 call_lacks (call.OpenAt a) h = lacks-append 10 (codes "open ") a refl (address_lacks a h)
 call_lacks (call.CloseAt a) h = lacks-append 10 (codes "close ") a refl (address_lacks a h)
-call_lacks (call.Fork g k) h = lacks-append 10 (codes "fork ") (worker_text g k) refl (worker_lacks g k h)
+call_lacks (call.Fork g k fds) h = lacks-append 10 (codes "fork ") (forked_text g k fds) refl (forked_lacks g k fds h.0 h.1)
 call_lacks (call.AwaitReady g k) h = lacks-append 10 (codes "await-ready ") (worker_text g k) refl (worker_lacks g k h)
 call_lacks (call.Quit g k) h = lacks-append 10 (codes "quit ") (worker_text g k) refl (worker_lacks g k h)
 call_lacks (call.Kill g k) h = lacks-append 10 (codes "kill ") (worker_text g k) refl (worker_lacks g k h)

@@ -1,5 +1,5 @@
 -- The new master takes over, in a draft.
-use Rattle.std.proofs.Common.{◌≡◌, ℕ, ◌<◌, List, [], ◌∷◌, ◌++◌, length, map, Option, subst}
+use Rattle.std.proofs.Common.{◌≡◌, ℕ, ◌<◌, List, [], ◌∷◌, ◌++◌, length, map, Option, None, subst}
 use Rattle.listener_set.specs.declared.generation.Generation.{Generation}
 use Rattle.definitions.specs.Table.{Address, FilePath}
 use Rattle.definitions.specs.Calls.{Call, OpenAt, CloseAt, Fork, AwaitReady, Census, Adopt, WritePid}
@@ -18,7 +18,7 @@ pub staffed : (by : ℕ) (g : Generation) (path : Option FilePath) (numbers set 
     → IsMade counted counting (tries by (Census g) set (tree_at old full) (tree_at old back))
     → IsMade written writing (tries_all by (pid_calls path WritePid) (tree_at counted counting) (tree_at counted back))
     → IsMade waited waiting (tries_all by (map (AwaitReady g) numbers) (tree_at written writing) (tree_at written back))
-    → IsMade new place (tries_all by (map (Fork g) numbers) (tree_at waited waiting) (tree_at waited back))
+    → IsMade new place (tries_all by (map (λ k. Fork g k None) numbers) (tree_at waited waiting) (tree_at waited back))
     → IsMade new place (tries_all by (staffing g path numbers) (tries by (Census g) set (tree_at old full) (tree_at old back)) (tree_at old back))
 staffed by g path numbers set old counted written waited new full back counting writing waiting place low k1 k2 k3 counts writes waits forks =
     let bad = tree_at old back in
@@ -27,7 +27,7 @@ staffed by g path numbers set old counted written waited new full back counting 
     let k3' = keeps_on old written waited k2' k3 in
     let wrote = tried_before by (pid_calls path WritePid) counted written counting back writing rest bad (at_kept old counted back k1 low) counts writes in
     let ready = tried_on by (pid_calls path WritePid) (map (AwaitReady g) numbers) written waited writing back waiting rest bad (at_kept old written back k2' low) wrote waits in
-    tried_on by (map (AwaitReady g) numbers ++ pid_calls path WritePid) (map (Fork g) numbers) waited new waiting back place rest bad (at_kept old waited back k3' low) ready forks
+    tried_on by (map (AwaitReady g) numbers ++ pid_calls path WritePid) (map (λ k. Fork g k None) numbers) waited new waiting back place rest bad (at_kept old waited back k3' low) ready forks
 
 -- a handover is adopted, addresses are closed and opened, and then other calls follow
 pub taken_over : (by : ℕ) (calls : List Call) (dropped added : List Address) (set : List ℕ) (old manned opened closed new : Draft) (back manning opening closing place : Place) (rest : Tree)

@@ -18,7 +18,7 @@ calls_are a b c d e = append_assoc (a ++ b ++ c) d e ∙ (append_assoc (a ++ b) 
 taking_over_is : (g : Generation) (path : Option FilePath) (listened wanted : List Address) (n : ℕ) → taking_over (upgrade_generation g) path (only_in listened wanted) (only_in wanted listened) (numbers_below n) ≡ new_calls g path listened wanted n
 taking_over_is g path listened wanted n =
     let new = upgrade_generation g in
-    ap (λ calls. Adopt ∷ calls) (sym (calls_are (map CloseAt (only_in listened wanted)) (map OpenAt (only_in wanted listened)) (map (Fork new) (numbers_below n)) (map (AwaitReady new) (numbers_below n)) (pid_calls path WritePid)))
+    ap (λ calls. Adopt ∷ calls) (sym (calls_are (map CloseAt (only_in listened wanted)) (map OpenAt (only_in wanted listened)) (map (λ k. Fork new k None) (numbers_below n)) (map (AwaitReady new) (numbers_below n)) (pid_calls path WritePid)))
 
 pub succession_is : (old new : Generation) (ready : List ℕ) (rounds : ℕ) (path : Option FilePath) (note : PidNote) (listened wanted dropped added : List Address) (numbers : List ℕ) (n : ℕ)
     → new ≡ upgrade_generation old → dropped ≡ only_in listened wanted → added ≡ only_in wanted listened → numbers ≡ numbers_below n

@@ -1,5 +1,5 @@
 -- The tree of an upgrade, by the lists that it goes through.
-use Rattle.std.specs.Prelude.{ℕ, List, ◌∷◌, ◌++◌, Option, map}
+use Rattle.std.specs.Prelude.{ℕ, List, ◌∷◌, ◌++◌, Option, None, map}
 use Rattle.vocabulary.specs.declared.plans.Side.TheVariants.{Old}
 use Rattle.definitions.specs.Table.{Address, FilePath, Generation}
 use Rattle.definitions.specs.Calls.{Call, OpenAt, CloseAt, Fork, AwaitReady, Census, SpawnMaster, Adopt, WritePid}
@@ -11,7 +11,7 @@ use Rattle.upgrade_planner.specs.declared.pid_file.Aside.TheVariants.{Returns, G
 
 -- The new master forks its workers, waits for them, and writes its pid.
 abbrev pub staffing : Generation → Option FilePath → List ℕ → List Call
-staffing g path numbers = map (Fork g) numbers ++ (map (AwaitReady g) numbers ++ pid_calls path WritePid)
+staffing g path numbers = map (λ k. Fork g k None) numbers ++ (map (AwaitReady g) numbers ++ pid_calls path WritePid)
 
 -- Before that it adopts what it was handed, and closes and opens addresses.
 abbrev pub taking_over : Generation → Option FilePath → List Address → List Address → List ℕ → List Call

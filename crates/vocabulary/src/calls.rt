@@ -1,5 +1,5 @@
 //! Calls of the kernel, their answers, and how a pattern makes them fail.
-use listener_set::{Address, FilePath, Generation, Numbers};
+use listener_set::{Address, DescriptorSet, FilePath, Generation, Numbers};
 
 /// A call that a master makes.
 #[derive(Clone, Copy, Debug, PartialEq, Eq)]
@@ -8,8 +8,9 @@ pub enum Call {
     OpenAt(Address),
     /// The caller and its workers give up their sockets of the address.
     CloseAt(Address),
-    /// Starts a worker with the caller's sockets under the same descriptors.
-    Fork(Generation, u32),
+    /// Starts a worker with the caller's sockets under the same descriptors: those of the set, or all
+    /// where there is none.
+    Fork(Generation, u32, Option<DescriptorSet>),
     /// Waits until a worker is ready or gone.
     AwaitReady(Generation, u32),
     /// Tells a worker to finish what it has and to end.

@@ -16,7 +16,7 @@ is_forked _ = false
 
 -- the worker that a call started, where it is of the generation
 abbrev pub start_by : Generation → Call → Answer → Option ℕ
-start_by g (Fork own nr) a = kept_if (is_forked a && same_generation own g) nr
+start_by g (Fork own nr fds) a = kept_if (is_forked a && same_generation own g) nr
 start_by g _ a = None
 
 abbrev pub start_of : Generation → Entry → Option ℕ

@@ -154,7 +154,7 @@ fn started_in(generation: Generation, log: &CallLog) -> Numbers
 fn start_of(generation: Generation, entry: &Entry) -> Option<u32>
     ensures { result ≡ start_of generation entry.now }
 {
-    let Call::Fork(own, nr) = entry.call else {
+    let Call::Fork(own, nr, _) = entry.call else {
         return None;
     };
     if matches!(entry.answer, Answer::Forked) && own == generation {

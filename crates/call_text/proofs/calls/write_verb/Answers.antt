@@ -1,7 +1,7 @@
 use Rattle.call_text.proofs.calls.write_verb.Goals as goal
 
 pub returns-in-AwaitReady-clause-text : goal.returns-in-AwaitReady-clause-text
-returns-in-AwaitReady-clause-text g c = rw c.in-AwaitReady.is c.write_named-in-AwaitReady.ensures.text
+returns-in-AwaitReady-clause-text g c = rw c.in-AwaitReady.is c.write_named.ensures.text
 
 pub returns-in-AwaitGone-clause-text : goal.returns-in-AwaitGone-clause-text
 returns-in-AwaitGone-clause-text g c = rw c.in-AwaitGone.is c.write_named-in-AwaitGone.ensures.text

@@ -1,5 +1,4 @@
 use Rattle.std.proofs.Common.{◌≡◌, [], Bool, true, false, cond, refl, ◌∙◌}
-use Rattle.vocabulary.specs.declared.calls.Reply.{Reply}
 use Rattle.definitions.specs.Calls.{Stepped}
 use Rattle.definitions.specs.Tree.{reply_of}
 use Rattle.std.specs.List.{list_any}
@@ -13,7 +12,7 @@ either true x y = refl
 either false x y = refl
 
 pub returns-in-Fork : goal.returns-in-Fork
-returns-in-Fork c = rw c.in-Fork.is c.fork_reply.ensures
+returns-in-Fork c = rw c.in-Fork.is (c.fork_reply.ensures c.in-Fork.field-2)
 
 pub returns-in-AwaitReady : goal.returns-in-AwaitReady
 returns-in-AwaitReady c =

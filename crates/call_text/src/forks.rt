@@ -1,0 +1,51 @@
+//! Forks, read.
+ghost use Rattle.std.specs.Prelude.{◌≡◌};
+ghost use Rattle.call_text.specs.CallReading.{some_descriptors, descriptors_of, named_of, fork_of};
+
+use crate::parts::{behind, read_generation, read_worker_number};
+use crate::sets::read_numbers;
+use listener_set::{DescriptorSet, Numbers};
+use plain_text::cut;
+use vocabulary::Call;
+
+/// A set of descriptors, where the numbers are all descriptors and there is one at least.
+fn some_descriptors(numbers: &Numbers) -> Option<DescriptorSet>
+    ensures { result ≡ some_descriptors numbers.now }
+{
+    let set = DescriptorSet::of(numbers)?;
+    if set.is_empty() { None } else { Some(set) }
+}
+
+fn read_descriptors(text: &[u8]) -> Option<DescriptorSet>
+    ensures { result ≡ descriptors_of text.now }
+{
+    let numbers = read_numbers(text)?;
+    some_descriptors(&numbers)
+}
+
+/// The number of a new worker, and the descriptors that it gets, where they are named behind it.
+fn read_named(text: &[u8]) -> Option<(u32, Option<DescriptorSet>)>
+    ensures { result ≡ named_of text.now }
+{
+    match cut(text, b' ') {
+        None => {
+            let nr = read_worker_number(text)?;
+            Some((nr, None))
+        }
+        Some((nr, rest)) => {
+            let nr = read_worker_number(nr)?;
+            let set = read_descriptors(behind(rest, b"fds")?)?;
+            Some((nr, Some(set)))
+        }
+    }
+}
+
+/// What follows the word of a fork.
+pub(crate) fn read_fork(text: &[u8]) -> Option<Call>
+    ensures { result ≡ fork_of text.now }
+{
+    let (generation, rest) = cut(text, b' ')?;
+    let generation = read_generation(generation)?;
+    let (nr, set) = read_named(rest)?;
+    Some(Call::Fork(generation, nr, set))
+}
