@@ -1,11 +1,21 @@
 -- Words on a master that was started on the modelled kernel.
-use Rattle.std.specs.Prelude.{◌≡◌, ℕ, List, Some, Ok}
+use Rattle.std.specs.Prelude.{◌≡◌, ◌⊎◌, ℕ, List, [], Option, Some, None, Ok}
 use Rattle.listener_set.specs.AddressText.{reading}
+use Rattle.definitions.specs.Table.{Table}
+use Rattle.definitions.specs.Record.{Record}
+use Rattle.definitions.specs.Path.{Entry}
+use Rattle.vocabulary.specs.declared.targets.Target.{Target}
 use Rattle.process_table.specs.Foreign.{with_foreign}
 use Rattle.kernel_model.specs.State.{State}
 use Rattle.control_words.specs.declared.words.Word.{Word}
 use Rattle.word_runner.specs.declared.block.Block.{Block}
 use Rattle.word_runner.specs.Words.{Standing, standing, AreDone}
+use Rattle.word_runner.specs.Asking.{asked_by}
+use Rattle.word_runner.specs.declared.asking.Asked.{Asked}
+use Rattle.word_runner.specs.declared.asking.Asked.TheVariants as asks
+use Rattle.certifier.specs.Certified.{IsBeginning}
+use Rattle.certifier.specs.Explained.{IsNoBeginning}
+use Rattle.certifier.specs.declared.mismatch.Mismatch.{Mismatch}
 use Rattle.plan_executor.specs.Words.{Moments, EnactsAt, DeclinesAt}
 use Rattle.prefork.specs.declared.rehearsal.Rehearsal.{Rehearsal}
 
@@ -22,3 +32,23 @@ standing_of it = standing it.kernel it.record it.workers
 pub record IsRehearsed (patterns : List Moments) (words : List Word) (old : Rehearsal) (blocks : List Block) (new : Rehearsal) : Type 0 where
   pub done : AreDone (EnactsAt patterns) (DeclinesAt patterns) (Some old.next) words 0 (standing_of old) blocks (standing_of new)
   pub next : new.next ≡ old.next
+
+---- What the first calls of a word show
+
+-- The pattern that entries show which begin a run of the target; a quiet one where they begin none.
+abbrev pub IsShownOf : Table → Record → Target → List Entry → Moments → Type 0
+IsShownOf t r target entries pattern =
+    IsBeginning t r target entries pattern ⊎ ((pattern ≡ []) × (why : Mismatch) × IsNoBeginning t r target entries why)
+
+-- a word that asks for no target has no first calls
+abbrev pub IsShownWhere : Asked → Table → Record → List Entry → Moments → Type 0
+IsShownWhere (asks.Act target) t r entries pattern = IsShownOf t r target entries pattern
+IsShownWhere _ t r entries pattern = pattern ≡ []
+
+abbrev pub IsShownTo : Option Record → Rehearsal → Word → List Entry → Moments → Type 0
+IsShownTo None it word entries pattern = pattern ≡ []
+IsShownTo (Some r) it word entries pattern = IsShownWhere (asked_by word r it.workers (Some it.next)) it.kernel.table r entries pattern
+
+-- The pattern that entries show which are a word's first calls; a quiet one where they begin no run of the master.
+abbrev pub IsShownBy : Rehearsal → Word → List Entry → Moments → Type 0
+IsShownBy it word entries pattern = IsShownTo it.record it word entries pattern

@@ -5,7 +5,9 @@ ghost use Rattle.table_text.specs.TableText.{IsTextOf};
 ghost use Rattle.word_runner.specs.declared.block.Block.{Block as Done};
 ghost use Rattle.certifier.specs.Blocks.{AreTaken, StopsAtBlock};
 ghost use Rattle.prefork.specs.Starts.{IsStarted};
-ghost use Rattle.prefork.specs.Rehearsals.{Held, standing_of, IsRehearsed};
+ghost use Rattle.definitions.specs.Target.{IsTarget};
+ghost use Rattle.prefork.specs.Rehearsals.{Held, standing_of, IsRehearsed, IsShownOf, IsShownBy};
+ghost use Rattle.prefork.specs.declared.fault.Fault.TheVariants.{Memory};
 
 use crate::fault::Fault;
 use crate::start::{Start, silent_workers};
@@ -17,7 +19,7 @@ use plan_executor::run_words;
 use plan_runner::CallLog;
 use service_state::Record;
 use std::alloc::Global;
-use vocabulary::{Limits, Settings};
+use vocabulary::{Limits, Settings, Target};
 use word_runner::{Asked, Block, asked_by};
 use worker_table::WorkerTable;
 
@@ -129,6 +131,7 @@ impl Rehearsal {
     ) -> Result<Option<Block>, Fault>
         ensures { IfOk result (λ found. (block : Done) × (pattern : List (ℕ × Moment))
             × (found ≡ Some block)
+            × IsShownBy self.old word begun.now.entries pattern
             × IsRehearsed (pattern ∷ []) (word ∷ []) self.old (block ∷ []) self.new) }
     {
         let pattern = self.pattern_of(alloc, word, begun)?;
@@ -139,18 +142,17 @@ impl Rehearsal {
 
     /// The pattern that the first calls of a word show; a quiet one where they begin no run of the master. The only fault
     /// is want of memory.
-    fn pattern_of(&self, alloc: Global, word: Word, begun: &CallLog) -> Result<Pattern, Fault> {
+    fn pattern_of(&self, alloc: Global, word: Word, begun: &CallLog) -> Result<Pattern, Fault>
+        ensures ok { IfOk result (IsShownBy self.now word begun.now.entries) }
+        ensures err { IfErr result (λ fault. fault ≡ Memory) }
+    {
         let Some(record) = self.record else {
             return Ok(Pattern::new(alloc));
         };
         let Asked::Act(target) = asked_by(word, &record, &self.workers, Some(&self.next)) else {
             return Ok(Pattern::new(alloc));
         };
-        match certify_beginning(alloc, &self.kernel, &record, &target, begun) {
-            Ok(pattern) => Ok(pattern),
-            Err(Mismatch::Memory) => Err(Fault::Memory),
-            Err(_) => Ok(Pattern::new(alloc)),
-        }
+        shown_of(alloc, &self.kernel, &record, &target, begun)
     }
 
     /// The table of processes, files and the service.
@@ -158,5 +160,27 @@ impl Rehearsal {
         ensures { IfOk result (λ text. IsTextOf self.now.kernel.table text.items) }
     {
         Ok(self.kernel.table_text()?)
+    }
+}
+
+/// The pattern that calls show which begin a run of a target; a quiet one where they begin none. The only fault is want of
+/// memory.
+fn shown_of(
+    alloc: Global,
+    kernel: &Kernel,
+    state: &Record,
+    target: &Target,
+    begun: &CallLog,
+) -> Result<Pattern, Fault>
+    requires { IsTarget target.now }
+    ensures ok { IfOk result (IsShownOf kernel.now.table state.now target.now begun.now.entries) }
+    ensures err { IfErr result (λ fault. fault ≡ Memory) }
+{
+    match certify_beginning(alloc, kernel, state, target, begun) {
+        Ok(pattern) => Ok(pattern),
+        Err(Mismatch::Memory) => Err(Fault::Memory),
+        Err(Mismatch::Refused | Mismatch::Step(_) | Mismatch::Short | Mismatch::Report) => {
+            Ok(Pattern::new(alloc))
+        }
     }
 }
