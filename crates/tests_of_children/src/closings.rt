@@ -1,5 +1,5 @@
 //! Edges over processes of the system that close their input while they are told.
-use crate::lives::{Case, is_heard_as, live, worker};
+use crate::lives::{Case, edge_on, is_met};
 use crate::setup::{FIRST, ask, edge_of};
 use child_processes::OsFamily;
 use std::test::Fail;
@@ -39,35 +39,22 @@ const CLOSINGS: [Case; 4] = [
 
 #[test]
 fn what_cannot_be_said_is_lost(rt: HostRuntime) -> Result<(), Fail> {
-    let alloc = rt.alloc();
     for case in &CLOSINGS {
-        let command = worker(alloc, case.word, case.instead)?;
-        let mut edge = edge_of(
-            alloc,
-            OsFamily::new(alloc, &rt, "none", command.as_slice())?,
-        )?;
-        let life = live(&mut edge);
-        assert!(rt; is_heard_as(&life, case));
-        assert_eq!(rt; edge.family().count(), 0);
+        assert!(rt; is_met(&rt, case)?, "at {}", case.word);
     }
     Ok(())
 }
 
 #[test]
 fn a_worker_that_ends_before_it_is_told_was_forked(rt: HostRuntime) -> Result<(), Fail> {
-    let alloc = rt.alloc();
     for word in ["worker", "listener", "go"] {
-        let command = worker(alloc, word, "exit 0")?;
-        let mut edge = edge_of(
-            alloc,
-            OsFamily::new(alloc, &rt, "none", command.as_slice())?,
-        )?;
+        let mut edge = edge_on(&rt, word, "exit 0")?;
         for (call, answer) in [
-            (Call::Fork(FIRST, 0), Answer::Forked),
+            (Call::Fork(FIRST, 0, None), Answer::Forked),
             (Call::AwaitReady(FIRST, 0), Answer::Gone),
             (Call::Usr1(FIRST, 0), Answer::Fine),
             (Call::AwaitReady(FIRST, 0), Answer::Gone),
-            (Call::Fork(FIRST, 0), Answer::Forked),
+            (Call::Fork(FIRST, 0, None), Answer::Forked),
             (Call::Quit(FIRST, 0), Answer::Fine),
             (Call::AwaitGone(FIRST, 0), Answer::Gone),
         ] {

@@ -3,7 +3,7 @@ use crate::recorded::{Asked, Recorded};
 use crate::setup::{FIRST, ask, below, edge_of, start};
 use child_edge::Edge;
 use child_family::Heard;
-use listener_set::Address;
+use listener_set::{Address, DescriptorSet};
 use plan_runner::Calls;
 use std::test::Fail;
 use vocabulary::{Answer, Call};
@@ -11,7 +11,7 @@ use vocabulary::{Answer, Call};
 /// Starts two workers; both are told to go before the first is heard.
 fn start_two(edge: &mut Edge<Recorded>) -> bool {
     for nr in 0..2 {
-        if ask(edge, 1, Call::Fork(FIRST, nr)) != Some(Answer::Forked) {
+        if ask(edge, 1, Call::Fork(FIRST, nr, None)) != Some(Answer::Forked) {
             return false;
         }
     }
@@ -77,6 +77,53 @@ fn opens_and_closes(rt: HostRuntime) -> Result<(), Fail> {
     Ok(())
 }
 
+/// Whether just these lines were said, in order, each to the child of its number.
+fn are_said(calls: &[Asked], lines: &[(u32, &[u8])]) -> bool {
+    let mut rest = lines.iter();
+    for call in calls {
+        if let Asked::Said(id, text, true) = call {
+            match rest.next() {
+                Some((child, line)) if child == id && text.as_slice() == *line => {}
+                _ => return false,
+            }
+        }
+    }
+    rest.next().is_none()
+}
+
+#[test]
+fn tells_a_worker_only_of_its_descriptors(rt: HostRuntime) -> Result<(), Fail> {
+    let mut edge = edge_of(rt.alloc(), Recorded::new(rt.alloc(), None))?;
+    let Ok(other) = Address::read(b"0.0.0.0:9090") else {
+        panic!(rt; "no address");
+    };
+    assert!(rt; ask(&mut edge, 1, Call::OpenAt(other)) == Some(Answer::Opened(4)));
+    let mut second = DescriptorSet::none();
+    second.add(4);
+    for (nr, descriptors) in [(0, Some(second)), (1, None)] {
+        let fork = Call::Fork(FIRST, nr, descriptors);
+        assert!(rt; ask(&mut edge, 1, fork) == Some(Answer::Forked));
+    }
+    for address in [Address::plain(), other] {
+        assert!(rt; ask(&mut edge, 1, Call::CloseAt(address)) == Some(Answer::Fine));
+    }
+    let lines: [(u32, &[u8]); 11] = [
+        (10, b"worker 1.1 0 1"),
+        (10, b"listener 0.0.0.0:9090"),
+        (10, b"go"),
+        (11, b"worker 1.1 1 2"),
+        (11, b"listener 0.0.0.0:8080"),
+        (11, b"listener 0.0.0.0:9090"),
+        (11, b"go"),
+        (10, b"close 0.0.0.0:8080"),
+        (11, b"close 0.0.0.0:8080"),
+        (10, b"close 0.0.0.0:9090"),
+        (11, b"close 0.0.0.0:9090"),
+    ];
+    assert!(rt; are_said(edge.family().calls(), &lines));
+    Ok(())
+}
+
 #[test]
 fn asks_nobody_where_there_is_no_child(rt: HostRuntime) -> Result<(), Fail> {
     let mut edge = edge_of(rt.alloc(), Recorded::new(rt.alloc(), None))?;
@@ -133,8 +180,8 @@ fn passes_calls_to_its_child_master(rt: HostRuntime) -> Result<(), Fail> {
 
 /// All calls of two workers' lives.
 const LIFE: [Call; 12] = [
-    Call::Fork(FIRST, 0),
-    Call::Fork(FIRST, 1),
+    Call::Fork(FIRST, 0, None),
+    Call::Fork(FIRST, 1, None),
     Call::AwaitReady(FIRST, 0),
     Call::AwaitReady(FIRST, 1),
     Call::Census(FIRST),

@@ -63,9 +63,20 @@ fn a_child_has_the_standard_error_of_its_master(rt: HostRuntime) -> Result<(), F
     Ok(())
 }
 
-/// Says how many descriptors its master has open, and how many children.
-const COUNTS: &str =
-    "echo $(ls /proc/$PPID/fd | wc -l) $(cat /proc/$PPID/task/$PPID/children | wc -w)";
+/// Says how many descriptors its master has open, and how many children, once it is asked: before that its master may
+/// still have some open for its start.
+const COUNTS: &str = "read asked; \
+    echo $(ls /proc/$PPID/fd | wc -l) $(cat /proc/$PPID/task/$PPID/children | wc -w)";
+
+/// Starts a child that counts, hears what it says, and waits for its end.
+fn count<F: Family>(family: &mut F, line: &mut Line) -> bool {
+    let Ok(id) = family.start(&WORKER) else {
+        return false;
+    };
+    let is_asked = family.say(id, b"count");
+    let heard = family.hear(id, line);
+    family.gone(id) && is_asked && heard == Heard::Line
+}
 
 /// Starts so many workers.
 fn start_many<F: Family>(
@@ -108,19 +119,19 @@ fn two_hundred_that_quit_leave_nothing(rt: HostRuntime) -> Result<(), Fail> {
     let mut counter = OsFamily::new(alloc, &rt, "none", counts.as_slice())?;
     let mut before = Line::new();
     let mut after = Line::new();
-    assert!(rt; hear_one(&mut counter, &WORKER, &mut before));
+    assert!(rt; count(&mut counter, &mut before));
 
     let command = worker(alloc, "none", "exit 1")?;
     let mut family = OsFamily::new(alloc, &rt, "none", command.as_slice())?;
     let ids = start_many(alloc, &mut family, 200)?;
     assert_eq!(rt; ids.len(), 200);
     assert_eq!(rt; family.count(), 200);
-    assert!(rt; hear_one(&mut counter, &WORKER, &mut after));
+    assert!(rt; count(&mut counter, &mut after));
     assert!(rt; before.bytes() != after.bytes());
     assert!(rt; quit_all(&mut family, ids.as_slice()));
     family.finish();
     assert_eq!(rt; family.count(), 0);
-    assert!(rt; hear_one(&mut counter, &WORKER, &mut after));
+    assert!(rt; count(&mut counter, &mut after));
     assert!(rt; before.bytes() == after.bytes());
     Ok(())
 }
@@ -146,7 +157,7 @@ fn two_hundred_that_quit_are_waited_for_of_themselves(rt: HostRuntime) -> Result
     let command = worker(alloc, "none", "exit 1")?;
     let mut family = OsFamily::new(alloc, &rt, "none", command.as_slice())?;
     let stays = start_many(alloc, &mut family, 1)?;
-    assert!(rt; hear_one(&mut counter, &WORKER, &mut before));
+    assert!(rt; count(&mut counter, &mut before));
 
     let ids = start_many(alloc, &mut family, 200)?;
     assert!(rt; quit_all(&mut family, ids.as_slice()));
@@ -158,7 +169,7 @@ fn two_hundred_that_quit_are_waited_for_of_themselves(rt: HostRuntime) -> Result
         }
     }
     assert_eq!(rt; family.count(), 1);
-    assert!(rt; hear_one(&mut counter, &WORKER, &mut after));
+    assert!(rt; count(&mut counter, &mut after));
     assert!(rt; before.bytes() == after.bytes());
     Ok(())
 }

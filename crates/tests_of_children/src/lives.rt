@@ -1,9 +1,11 @@
 //! Workers that are shells on a script, and what an edge hears of one in its life.
-use crate::setup::{FIRST, ask, below, start};
+use crate::setup::{FIRST, ask, below, edge_of, start};
 use child_edge::Edge;
 use child_family::Family;
+use child_processes::OsFamily;
 use listener_set::Numbers;
 use std::alloc::{AllocError, Global};
+use std::test::Fail;
 use vocabulary::{Answer, Call};
 
 /// The words that start a shell on a script.
@@ -62,9 +64,28 @@ pub(crate) struct Case {
 }
 
 /// Whether a worker was ready, and then heard as a case says.
-pub(crate) fn is_heard_as(life: &Life, case: &Case) -> bool {
+fn is_heard_as(life: &Life, case: &Case) -> bool {
     life.ready == Some(Answer::IsReady)
         && life.beats == below(case.beats)
         && life.counted == Some(Answer::Counted(below(case.counted)))
         && life.gone == Some(case.gone)
+}
+
+/// An edge whose workers are such shells.
+pub(crate) fn edge_on<'a>(
+    rt: &'a HostRuntime,
+    word: &str,
+    instead: &str,
+) -> Result<Edge<OsFamily<&'a HostRuntime>>, Fail> {
+    let alloc = rt.alloc();
+    let command = worker(alloc, word, instead)?;
+    let family = OsFamily::new(alloc, rt, "none", command.as_slice())?;
+    Ok(edge_of(alloc, family)?)
+}
+
+/// Whether a worker that does as a case says is heard as it says, and leaves no process.
+pub(crate) fn is_met(rt: &HostRuntime, case: &Case) -> Result<bool, Fail> {
+    let mut edge = edge_on(rt, case.word, case.instead)?;
+    let life = live(&mut edge);
+    Ok(is_heard_as(&life, case) && edge.family().count() == 0)
 }

@@ -1,5 +1,5 @@
 //! Edges over processes of the system. Each child ends with its input, or is stopped by the edge.
-use crate::lives::{Case, is_heard_as, live, worker};
+use crate::lives::{Case, edge_on, is_met, live};
 use crate::setup::{FIRST, ask, below, edge_of, start};
 use child_processes::OsFamily;
 use listener_set::{FilePath, Numbers};
@@ -17,10 +17,7 @@ const FAULTS: [&str; 4] = [
 
 #[test]
 fn two_children_answer_two_ticks(rt: HostRuntime) -> Result<(), Fail> {
-    let alloc = rt.alloc();
-    let command = worker(alloc, "none", "exit 1")?;
-    let family = OsFamily::new(alloc, &rt, "none", command.as_slice())?;
-    let mut edge = edge_of(alloc, family)?;
+    let mut edge = edge_on(&rt, "none", "exit 1")?;
     for nr in 0..2 {
         assert!(rt; start(&mut edge, nr) == Some(Answer::IsReady));
     }
@@ -40,13 +37,8 @@ fn two_children_answer_two_ticks(rt: HostRuntime) -> Result<(), Fail> {
 
 #[test]
 fn hears_faults_at_go(rt: HostRuntime) -> Result<(), Fail> {
-    let alloc = rt.alloc();
     for (at, fault) in FAULTS.iter().enumerate() {
-        let command = worker(alloc, "go", fault)?;
-        let mut edge = edge_of(
-            alloc,
-            OsFamily::new(alloc, &rt, "none", command.as_slice())?,
-        )?;
+        let mut edge = edge_on(&rt, "go", fault)?;
         let life = live(&mut edge);
         let wanted = if at < 2 { Answer::Gone } else { Answer::Late };
         assert!(rt; life.ready == Some(wanted), "at {fault}");
@@ -64,13 +56,8 @@ fn hears_faults_at_go(rt: HostRuntime) -> Result<(), Fail> {
 
 #[test]
 fn hears_faults_at_ping(rt: HostRuntime) -> Result<(), Fail> {
-    let alloc = rt.alloc();
     for fault in FAULTS {
-        let command = worker(alloc, "ping", fault)?;
-        let mut edge = edge_of(
-            alloc,
-            OsFamily::new(alloc, &rt, "none", command.as_slice())?,
-        )?;
+        let mut edge = edge_on(&rt, "ping", fault)?;
         let life = live(&mut edge);
         assert!(rt; life.beats == below(1), "at {fault}");
         assert!(rt;
@@ -85,13 +72,8 @@ fn hears_faults_at_ping(rt: HostRuntime) -> Result<(), Fail> {
 
 #[test]
 fn hears_faults_at_tick(rt: HostRuntime) -> Result<(), Fail> {
-    let alloc = rt.alloc();
     for (at, fault) in FAULTS.iter().enumerate() {
-        let command = worker(alloc, "tick", fault)?;
-        let mut edge = edge_of(
-            alloc,
-            OsFamily::new(alloc, &rt, "none", command.as_slice())?,
-        )?;
+        let mut edge = edge_on(&rt, "tick", fault)?;
         let life = live(&mut edge);
         assert!(rt; life.beats == Numbers::none(), "at {fault}");
 
@@ -108,13 +90,8 @@ fn hears_faults_at_tick(rt: HostRuntime) -> Result<(), Fail> {
 
 #[test]
 fn hears_faults_at_quit(rt: HostRuntime) -> Result<(), Fail> {
-    let alloc = rt.alloc();
     for (at, fault) in FAULTS.iter().enumerate() {
-        let command = worker(alloc, "quit", fault)?;
-        let mut edge = edge_of(
-            alloc,
-            OsFamily::new(alloc, &rt, "none", command.as_slice())?,
-        )?;
+        let mut edge = edge_on(&rt, "quit", fault)?;
         let life = live(&mut edge);
         assert!(rt;
             life.counted == Some(Answer::Counted(below(1))),
@@ -161,16 +138,8 @@ const TWICE: [Case; 4] = [
 
 #[test]
 fn hears_who_answers_twice(rt: HostRuntime) -> Result<(), Fail> {
-    let alloc = rt.alloc();
     for case in &TWICE {
-        let command = worker(alloc, case.word, case.instead)?;
-        let mut edge = edge_of(
-            alloc,
-            OsFamily::new(alloc, &rt, "none", command.as_slice())?,
-        )?;
-        let life = live(&mut edge);
-        assert!(rt; is_heard_as(&life, case), "at {}", case.word);
-        assert_eq!(rt; edge.family().count(), 0);
+        assert!(rt; is_met(&rt, case)?, "at {}", case.word);
     }
     Ok(())
 }
@@ -183,7 +152,7 @@ fn tells_a_missing_program(rt: HostRuntime) -> Result<(), Fail> {
         alloc,
         OsFamily::new(alloc, &rt, "/none/such", command.as_slice())?,
     )?;
-    assert!(rt; ask(&mut edge, 1, Call::Fork(FIRST, 0)) == Some(Answer::Again));
+    assert!(rt; ask(&mut edge, 1, Call::Fork(FIRST, 0, None)) == Some(Answer::Again));
     assert!(rt; ask(&mut edge, 1, Call::SpawnMaster(2)) == Some(Answer::NoImage));
     Ok(())
 }

@@ -29,7 +29,7 @@ pub(crate) fn ask<F: Family + Drop>(edge: &mut Edge<F>, by: u32, call: Call) -> 
 
 /// Starts a worker of master 1, and waits until it is ready.
 pub(crate) fn start<F: Family + Drop>(edge: &mut Edge<F>, nr: u32) -> Option<Answer> {
-    let _ = ask(edge, 1, Call::Fork(FIRST, nr));
+    let _ = ask(edge, 1, Call::Fork(FIRST, nr, None));
     ask(edge, 1, Call::AwaitReady(FIRST, nr))
 }
 

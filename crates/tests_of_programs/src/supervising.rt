@@ -270,26 +270,35 @@ impl Write for FailingWriter {
     }
 }
 
+/// Whether a run over children that obey ends well, or with the fault `file` where it should.
+fn ends_or_fails<I: Read + Drop, O: Write>(
+    alloc: Global,
+    input: I,
+    output: &mut O,
+    fails: bool,
+) -> bool {
+    let family = Recorded::new(alloc, None);
+    let ended = run(alloc, family, Gives::Plain, input, output);
+    let wanted = if fails {
+        Err(SupervisorFault::File)
+    } else {
+        Ok(0)
+    };
+    ended.status == wanted
+}
+
+const TICK_AND_END: &[u8] = b"tick 1\nQUIT\n";
+
 #[test]
 fn ends_where_a_read_fails(rt: HostRuntime) -> Result<(), Fail> {
     let alloc = rt.alloc();
-    let text = b"tick 1\nQUIT\n".as_slice();
     for at in 1..16 {
-        let input = FailingReader { text, at };
+        let text = TICK_AND_END;
         let mut output = Vec::new(alloc);
-        let ended = run(
-            alloc,
-            Recorded::new(alloc, None),
-            Gives::Plain,
-            input,
-            &mut output,
+        assert!(rt;
+            ends_or_fails(alloc, FailingReader { text, at }, &mut output, at <= 13),
+            "at {at}"
         );
-        let wanted = if at <= 13 {
-            Err(SupervisorFault::File)
-        } else {
-            Ok(0)
-        };
-        assert!(rt; ended.status == wanted);
         assert!(rt; A_TICK_AND_AN_END.starts_with(output.as_slice()));
     }
     Ok(())
@@ -299,24 +308,12 @@ fn ends_where_a_read_fails(rt: HostRuntime) -> Result<(), Fail> {
 fn ends_where_a_write_fails(rt: HostRuntime) -> Result<(), Fail> {
     let alloc = rt.alloc();
     for at in 1..12 {
-        let mut output = FailingWriter {
-            written: Vec::new(alloc),
-            at,
-        };
-        let input = b"tick 1\nQUIT\n".as_slice();
-        let ended = run(
-            alloc,
-            Recorded::new(alloc, None),
-            Gives::Plain,
-            input,
-            &mut output,
+        let written = Vec::new(alloc);
+        let mut output = FailingWriter { written, at };
+        assert!(rt;
+            ends_or_fails(alloc, TICK_AND_END, &mut output, at <= 8),
+            "at {at}"
         );
-        let wanted = if at <= 8 {
-            Err(SupervisorFault::File)
-        } else {
-            Ok(0)
-        };
-        assert!(rt; ended.status == wanted);
         assert!(rt; A_TICK_AND_AN_END.starts_with(output.written.as_slice()));
     }
     Ok(())
