@@ -2,12 +2,12 @@
 
     worker.work(page)
 
-obeys the lines of standard input as docs/CHILDREN.md says, takes the listening sockets from the keeper, and serves each
-connection in a thread of its own with `page(request)`, which gives a status and a text. Lines are heard by the main thread
-alone: whatever is being served, the master is answered at once.
+obeys the lines of standard input as docs/CHILDREN.md says, takes the listening sockets from the keeper, and serves
+each connection in a thread of its own with `page(request)`, which gives a status and a text. Lines are heard by the
+main thread alone: whatever is being served, the master is answered at once.
 
-At `quit`, and at the end of input, no connection is accepted any more, and each one that is open gets its answers to the
-end: the next answer on a kept connection says that it is the last. Then `gone` is said, where `quit` was told.
+At `quit`, and at the end of input, no connection is accepted any more, and each one that is open gets its answers to
+the end: the next answer on a kept connection says that it is the last. Then `gone` is said, where `quit` was told.
 """
 import os
 import select
@@ -31,7 +31,8 @@ class Request:
     def __init__(self, head, worker):
         first, *lines = head.decode("latin-1").split("\r\n")
         self.method, self.path, version = first.split(" ")
-        self.headers = {name.strip().lower(): value.strip() for name, _, value in (line.partition(":") for line in lines)}
+        parts = (line.partition(":") for line in lines)
+        self.headers = {name.strip().lower(): value.strip() for name, _, value in parts}
         self.worker = worker
         asked = self.headers.get("connection", "").lower()
         self.keeps = asked != "close" and (version == "HTTP/1.1" or asked == "keep-alive")
@@ -214,6 +215,13 @@ def say(text):
         pass
 
 
+def has_master():
+    """Whether somebody reads its answers."""
+    answers = select.poll()
+    answers.register(1, 0)
+    return not answers.poll(0)
+
+
 class Worker:
     """The master's lines, and what each asks for."""
 
@@ -229,6 +237,9 @@ class Worker:
         elif word == "listener":
             self.server.open(rest[0])
         elif word == "go":
+            if not has_master():
+                # It was killed meanwhile: no request is for a worker that nobody waits for.
+                return False
             self.server.begin()
             say("ready")
         elif word == "ping":
