@@ -155,7 +155,8 @@ class Trials:
                 self.ledger.drop([crate.name])
             else:
                 self.ledger.note(crate.name, crate.key, [base(it) for it in crate.left()])
-        self.ledger.drop([name for name in list(self.ledger.keys) if name not in self.crates or not self.crates[name].edits])
+        kept = {name for name, crate in self.crates.items() if crate.edits}
+        self.ledger.drop([name for name in list(self.ledger.keys) if name not in kept])
         self.ledger.write()
 
     def counts(self):

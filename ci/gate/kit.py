@@ -97,7 +97,8 @@ def edited(edit, folder):
 
 
 def cannot_be_read(line, changed):
-    """Whether a line says that the prover could not read a text, where an edit that only makes a statement false reads well."""
+    """Whether a line says that the prover could not read a text, where an edit that only makes a statement false
+    reads well."""
     return rt.unread(line, changed)
 
 

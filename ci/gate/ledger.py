@@ -16,7 +16,8 @@ HEAD = """\
 
 
 def key(built, edits):
-    """A sum of the toolchain, of how edits are judged, of the crate and its edits, and of what the libraries below it state."""
+    """A sum of the toolchain, of how edits are judged, of the crate and its edits, and of what the libraries below it
+    state."""
     total = hashlib.sha256(kit.identity() + repr(built.of_kit()).encode())
     here = pathlib.Path(__file__).parent
     for judge in ("kit.py", "refusals.py"):

@@ -65,7 +65,8 @@ def turned_function(spots, folder, functions):
     for spot in spots:
         text = content(folder, spot.path)
         start, end = (len(text[:at].encode()) for at in (spot.start, spot.end))
-        around = [it for it in functions if it.file == spot.path and it.has_body and it.opens <= start and end <= it.end]
+        there = [it for it in functions if it.file == spot.path and it.has_body]
+        around = [it for it in there if it.opens <= start and end <= it.end]
         found.add(min(around, key=lambda it: it.end - it.opens) if around else None)
     function = found.pop() if len(found) == 1 else None
     if not function or function.in_cycle:
@@ -75,7 +76,8 @@ def turned_function(spots, folder, functions):
 
 
 def callees(functions):
-    """Of each function those that it may call, whether by itself or by others. What this misses a check's own lines say."""
+    """Of each function those that it may call, whether by itself or by others. What this misses a check's own lines
+    say."""
     named, direct = collections.defaultdict(set), {}
     for function in functions:
         named[function.name].add(function)
