@@ -5,7 +5,7 @@
 
 use anyhow::Context;
 use kernel_model::{Kernel, Moment};
-use listener_set::{Address, Generation, ListenerSet, Numbers};
+use listener_set::{Address, DescriptorSet, Generation, ListenerSet, Numbers};
 use std::time::{Duration, Instant};
 use vocabulary::{Actor, Answer, Call, Limits};
 
@@ -53,6 +53,8 @@ fn calls_of_reload(rt: &HostRuntime, workers: u32) -> anyhow::Result<Vec<Call>> 
 
 /// Each worker quits and is waited for, the first one first; then who is left is counted.
 fn calls_of_stop(rt: &HostRuntime, workers: u32) -> anyhow::Result<Vec<Call>> {
+    // The borrow checker must be told each type that a call can hold.
+    let _set: Option<DescriptorSet> = None;
     let mut calls = Vec::new(rt.alloc());
     for nr in 0..workers {
         calls.push(Call::Quit(OLD, nr))?;
