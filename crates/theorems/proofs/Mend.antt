@@ -16,12 +16,11 @@ use Rattle.vocabulary.specs.declared.targets.Target.TheVariants.{Mend}
 use Rattle.vocabulary.specs.declared.plans.Side.TheVariants.{Target}
 use Rattle.definitions.specs.Tree.{Tree}
 use Rattle.definitions.specs.Plans.{plan_tree, mend_tree, forks_any, awaits_any, settle}
-use Rattle.definitions.specs.Run.{Pattern, Progress, Ending, start_at}
+use Rattle.definitions.specs.Run.{Pattern, Progress, start_at}
 use Rattle.definitions.specs.Claims.{IsStart, MendHeadline}
-use Rattle.theorems.proofs.Same.{Like, first, scene, inv, post, course, acts, good, Goes, new-full, new-short, start-band, whole, IsGood}
+use Rattle.theorems.proofs.Same.{Like, first, scene, Goes, new-full, new-short, start-band, whole, ground}
 use Rattle.theorems.proofs.Workers.{Started, one-more, started-part, all-within}
-use Rattle.theorems.proofs.Logic.{Course}
-use Rattle.theorems.proofs.Rules.{Less, Scene, view, plus, also, Band, band-part, band-anew, band-still, rule-kills, rule-forks-any, rule-awaits-any, rule-settle}
+use Rattle.theorems.proofs.Rules.{Ground, Less, Scene, view, plus, also, Band, band-part, band-anew, band-still, rule-kills, rule-forks-any, rule-awaits-any, rule-settle}
 
 -- a name that failed is done too
 one-more-any : (g : Generation) (R : List ℕ) (n x : ℕ) (ks done : List ℕ) (r t : Names) (count : ℕ) → Started g R n (x ∷ ks) done r t count → (r g x ≡ false) × Started g R n ks (x ∷ done) (plus r g x) (also g x t) (count + 1) × Started g R n ks (x ∷ done) r (also g x t) (count + 1)
@@ -71,20 +70,8 @@ module _ (t : Table) (rec : Record) (overdue : List ℕ) (pattern : Pattern) (s 
   abbrev sc : Scene rec.pid rec.generation.image
   sc = scene t rec (Mend overdue) pattern s like
 
-  abbrev I : Progress → Type 0
-  I = inv t rec (Mend overdue) pattern s like
-
-  abbrev P : Ending → Progress → Type 0
-  P = post t rec (Mend overdue) pattern s like
-
-  abbrev C : Course
-  C = course t rec (Mend overdue) pattern s like
-
-  abbrev A : is_in (g.image ∷ []) g.image ≡ true
-  A = acts t rec (Mend overdue) pattern s like
-
-  abbrev G : IsGood t rec (Mend overdue) pattern s like
-  G = good t rec (Mend overdue) pattern s like
+  abbrev G : Ground u sc
+  G = ground t rec (Mend overdue) pattern s like
 
   low : n ≤ 1024
   low = s.record_in_range.wanted
@@ -116,8 +103,8 @@ module _ (t : Table) (rec : Record) (overdue : List ℕ) (pattern : Pattern) (s 
   on : (done : List ℕ) (r names : Names) (count : ℕ) (w : Bool) (q : Progress) → Started g K n [] done r names count → Band u sc none r names count 0 w [] q → Goes t rec (Mend overdue) pattern s like ending q
   on done r names count w q st b =
       let within = all-within g K n done r names count st in
-      let b1 = band-part I P C u A sc G none r names (named g (is_in (numbers_below n))) count (length (numbers_below n)) 0 w [] q (started-part (view u none r) g K n done r names count [] (numbers_below n) st (below-distinct n) within) (omega arith) b in
-      rule-settle I P C u A sc G Target g (numbers_below n) refl (below-distinct n) (λ k e. omega (arith, below-of n k e, low)) rec.retries false (new-full t rec (Mend overdue) pattern s like false) (new-short t rec (Mend overdue) pattern s like) rec.retries 0 (omega arith) w (λ e. absurd (cc e)) r [] q
+      let b1 = band-part u sc G none r names (named g (is_in (numbers_below n))) count (length (numbers_below n)) 0 w [] q (started-part (view u none r) g K n done r names count [] (numbers_below n) st (below-distinct n) within) (omega arith) b in
+      rule-settle u sc G Target g (numbers_below n) refl (below-distinct n) (λ k e. omega (arith, below-of n k e, low)) rec.retries false (new-full t rec (Mend overdue) pattern s like false) (new-short t rec (Mend overdue) pattern s like) rec.retries 0 (omega arith) w (λ e. absurd (cc e)) r [] q
       (λ h k e. let o = st.only h k e in (o.0, below-on n k (⊎_elim (λ a. kept-low k a) (λ a. (st.started k a).1) o.1)))
       b1
 
@@ -166,15 +153,15 @@ module _ (t : Table) (rec : Record) (overdue : List ℕ) (pattern : Pattern) (s 
   goes : Goes t rec (Mend overdue) pattern s like (mend_tree g.image g R rec.retries overdue n) (start_at t rec.note)
   goes =
       let b0 = start-band t rec (Mend overdue) pattern s like (omega arith) in
-      let b1 = band-part I P C u A sc G none u.ready (named g (is_in R)) (named g (is_in K)) (length R) (length K) 0 false [] (start_at t rec.note) (λ rows looks. weigh-part (view u none u.ready) g rows looks R K dK (λ k e. (in-filter-of (λ j. not (is_in overdue j)) R k e).0)) (omega arith) b0 in
-      rule-kills I P C u A sc G (forks_any g.image g missing (awaits_any g.image g missing ending)) g dead none u.ready (named g (is_in K)) (length K) 0 false [] (start_at t rec.note)
+      let b1 = band-part u sc G none u.ready (named g (is_in R)) (named g (is_in K)) (length R) (length K) 0 false [] (start_at t rec.note) (λ rows looks. weigh-part (view u none u.ready) g rows looks R K dK (λ k e. (in-filter-of (λ j. not (is_in overdue j)) R k e).0)) (omega arith) b0 in
+      rule-kills u sc G (forks_any g.image g missing (awaits_any g.image g missing ending)) g dead none u.ready (named g (is_in K)) (length K) 0 false [] (start_at t rec.note)
       (λ k e. off-name k (not-kept k e))
-      (λ s1 r1 q1 less_s less b2. rule-forks-any I P C u A sc G (awaits_any g.image g missing ending) g refl missing none r1 (named g (is_in K)) (length K) 0 false [] q1
-      (λ s2 c2 w2 q2 within up b3. rule-awaits-any I P C u A sc G (Started g K n) ending g refl (one-more-any g K n) [] 0 missing [] s2 r1 (named g (is_in K)) (length K) w2 q2
-      (λ done s3 r3 t3 n3 w3 q3 st less3 up3 b4. on done r3 t3 n3 w3 q3 st (band-still I P C u A sc G s3 none r3 t3 n3 0 w3 [] q3
+      (λ s1 r1 q1 less_s less b2. rule-forks-any u sc G (awaits_any g.image g missing ending) g refl missing none r1 (named g (is_in K)) (length K) 0 false [] q1
+      (λ s2 c2 w2 q2 within up b3. rule-awaits-any u sc G (Started g K n) ending g refl (one-more-any g K n) [] 0 missing [] s2 r1 (named g (is_in K)) (length K) w2 q2
+      (λ done s3 r3 t3 n3 w3 q3 st less3 up3 b4. on done r3 t3 n3 w3 q3 st (band-still u sc G s3 none r3 t3 n3 0 w3 [] q3
       (λ h k e. let l = less3 h k e in ⊎_elim (λ a. a) (λ a. absurd (true-false (is_in missing k) a.1 (l.1 a.0))) (within h k l.0)) b4))
-      (begun r1 less) (band-anew I P C u A sc G s2 r1 (named g (is_in K)) (length K) c2 w2 [] q2 b3))
-      (band-still I P C u A sc G s1 none r1 (named g (is_in K)) (length K) 0 false [] q1 (λ h k e. (less_s h k e).0) b2))
+      (begun r1 less) (band-anew u sc G s2 r1 (named g (is_in K)) (length K) c2 w2 [] q2 b3))
+      (band-still u sc G s1 none r1 (named g (is_in K)) (length K) 0 false [] q1 (λ h k e. (less_s h k e).0) b2))
       b1
 
 pub mend_headline : MendHeadline

@@ -33,7 +33,7 @@ use Rattle.theorems.proofs.Addresses.{stays-lacks, stays-put, any-put, has-lacks
 use Rattle.theorems.proofs.After.{agrees-after}
 use Rattle.theorems.proofs.Logic.{Unasked, Course, Along, Anyhow, from-along, are-mild-anyhow}
 use Rattle.theorems.proofs.Small.{in-reverse, every-is_in, off-from, true-false, or-elim, map-addresses}
-use Rattle.theorems.proofs.Rules.{Scene, plain_scene, Still, floor-by, view, any, plus, seen, ready_of, also, Marks, Band, band-holds, Less, Only, band-part, band-anew, band-still, rule-quits, rule-starts, rule-settle, rule-count, rule-open, rule-close}
+use Rattle.theorems.proofs.Rules.{Scene, Ground, plain_scene, Still, floor-by, view, any, plus, seen, ready_of, also, Marks, Band, band-holds, Less, Only, band-part, band-anew, band-still, rule-quits, rule-starts, rule-settle, rule-count, rule-open, rule-close}
 
 next-other : (g : Generation) → same_generation (reload_generation g) g ≡ false
 next-other g = go (g.image == g.image) (eqb-off (g.config + 1) g.config (omega arith))
@@ -206,8 +206,14 @@ module _ (t : Table) (rec : Record) (st : Settings) (pattern : Pattern) (s : IsS
       either true = inl refl
       either false = inr refl
 
+  abbrev on-both : (hs : List Hold) → Common hs → Ground (both hs) sc
+  on-both hs common = record { inv = inv; post = post; co = co; acts = acts; good = good-both hs common }
+
   good-same : (hs : List Hold) → Common hs → (names : Names) (count : ℕ) (w : Bool) (q : Progress) → f ≤ count → Looks (view (same hs) any any) q.table.rows → (1 ≤ f → count ≤ ready_of (same hs) names q + q.losses) → Marks w q.faults q.losses q.cause → ⊤ → inv q
   good-same hs common = good (same hs) hs refl refl (λ h. inr refl) common
+
+  abbrev on-same : (hs : List Hold) → Common hs → Ground (same hs) sc
+  on-same hs common = record { inv = inv; post = post; co = co; acts = acts; good = good-same hs common }
 
   held-old : (hs : List Hold) (h : Generation) → h ≡ g → (if same_generation h g then H0 else hs) ≡ H0
   held-old hs h e = go (same_generation h g) (subst (λ x. same_generation x g ≡ true) (sym e) (same-refl g))
@@ -300,9 +306,9 @@ module _ (t : Table) (rec : Record) (st : Settings) (pattern : Pattern) (s : IsS
   close-old : (l : List Address) (hs : List Hold) → From H0 Common l hs → Common hs → (r : Names) (c : ℕ) (ls : List ℕ) (q : Progress) → Only g R r → Band (both hs) sc none r (named g (is_in R)) (length R) c true ls q → Goes (closes g.image l (settle g.image g R Old rec.retries)) q
   close-old [] hs o common r c ls q only b =
       let b' = subst (λ x. Band (both x) sc none r (named g (is_in R)) (length R) c true ls q) o b in
-      rule-settle inv post co (both H0) acts sc (good-both H0 common0) Old g R (held-old H0 g refl) dR low-R rec.retries true old-full old-short rec.retries 0 (omega arith) true (λ e. refl) r ls q only (band-anew inv post co (both H0) acts sc (good-both H0 common0) none r (named g (is_in R)) (length R) c true ls q b')
+      rule-settle (both H0) sc (on-both H0 common0) Old g R (held-old H0 g refl) dR low-R rec.retries true old-full old-short rec.retries 0 (omega arith) true (λ e. refl) r ls q only (band-anew (both H0) sc (on-both H0 common0) none r (named g (is_in R)) (length R) c true ls q b')
   close-old (a ∷ l) hs o common r c ls q only b =
-      rule-close inv post co (both hs) acts sc (good-both hs common) (closes g.image l (settle g.image g R Old rec.retries)) a r (named g (is_in R)) (length R) c true ls q
+      rule-close (both hs) sc (on-both hs common) (closes g.image l (settle g.image g R Old rec.retries)) a r (named g (is_in R)) (length R) c true ls q
       (λ q' b'. close-old l o.before o.rest o.common r c ls q' only (band-holds (after_close a (both hs)) (both o.before) sc none r (named g (is_in R)) (length R) c true ls q' (ap (lacks_address a) o.is ∙ lacks-put a o.hold o.before o.names o.fresh) (λ h k e. cc e)
       (λ h k e. ap (lacks_address a) (held-old hs h (only h k e).0) ∙ lacks-none a H0 o.apart ∙ sym (held-old o.before h (only h k e).0)) b')) b
 
@@ -340,10 +346,10 @@ module _ (t : Table) (rec : Record) (st : Settings) (pattern : Pattern) (s : IsS
   back : (l : List Address) (hs : List Hold) → From H0 Common l hs → Common hs → (ks done quit : List ℕ) (ss r names : Names) (count c : ℕ) (ls : List ℕ) (q : Progress) → St ks done r names count → ((k : ℕ) → is_in done k ≡ true → is_in quit k ≡ true) → Only new quit ss → Band (both hs) sc ss r names count c true ls q → Goes (reload_back g.image g R rec.retries l quit) q
   back l hs o common ks done quit ss r names count c ls q st covers only b =
       let tree = closes g.image l (settle g.image g R Old rec.retries) in
-      let b1 = band-part inv post co (both hs) acts sc (good-both hs common) ss r names (named g (is_in R)) count (length R) c true ls q (old-part hs ks done ss r names count st) (omega arith) b in
-      rule-quits inv post co (both hs) acts sc (good-both hs common) tree new quit ss r (named g (is_in R)) (length R) c true ls q (λ k e. off-old k)
+      let b1 = band-part (both hs) sc (on-both hs common) ss r names (named g (is_in R)) count (length R) c true ls q (old-part hs ks done ss r names count st) (omega arith) b in
+      rule-quits (both hs) sc (on-both hs common) tree new quit ss r (named g (is_in R)) (length R) c true ls q (λ k e. off-old k)
       (λ s' r' q' less_s less b'. close-old l hs o common r' c ls q' (only-old ks done quit r r' names count st covers less)
-      (band-still inv post co (both hs) acts sc (good-both hs common) s' none r' (named g (is_in R)) (length R) c true ls q' (λ h k e. let l = less_s h k e in let o = only h k l.0 in absurd (true-false (is_in quit k) o.1 (l.1 o.0))) b')) b1
+      (band-still (both hs) sc (on-both hs common) s' none r' (named g (is_in R)) (length R) c true ls q' (λ h k e. let l = less_s h k e in let o = only h k l.0 in absurd (true-false (is_in quit k) o.1 (l.1 o.0))) b')) b1
 
   ---- The way on
 
@@ -353,13 +359,13 @@ module _ (t : Table) (rec : Record) (st : Settings) (pattern : Pattern) (s : IsS
 
   close-new : (l : List Address) (hs : List Hold) → Lists (all_closed l hs) → AllByRecursion (λ b. has wanted b ≡ false) l → ((a : Address) → (has_address a hs && not (has l a)) ≡ has wanted a) → Common hs → (r : Names) (c : ℕ) (q : Progress) → Only new (numbers_below n) r → Band (same hs) sc none r (named new (is_in (numbers_below n))) (length (numbers_below n)) c false [] q → Goes (closes g.image l (settle g.image new (numbers_below n) Target rec.retries)) q
   close-new [] hs lists off keys common r c q only b =
-      rule-settle inv post co (same hs) acts sc (good-same hs common) Target new (numbers_below n) refl (below-distinct n) (λ k e. omega (arith, below-of n k e)) rec.retries false (new-full hs lists (λ a. sym (and-true (has_address a hs)) ∙ keys a)) (new-short hs lists (λ a. sym (and-true (has_address a hs)) ∙ keys a)) rec.retries 0 (omega arith) false (λ e. e) r [] q only (band-anew inv post co (same hs) acts sc (good-same hs common) none r (named new (is_in (numbers_below n))) (length (numbers_below n)) c false [] q b)
+      rule-settle (same hs) sc (on-same hs common) Target new (numbers_below n) refl (below-distinct n) (λ k e. omega (arith, below-of n k e)) rec.retries false (new-full hs lists (λ a. sym (and-true (has_address a hs)) ∙ keys a)) (new-short hs lists (λ a. sym (and-true (has_address a hs)) ∙ keys a)) rec.retries 0 (omega arith) false (λ e. e) r [] q only (band-anew (same hs) sc (on-same hs common) none r (named new (is_in (numbers_below n))) (length (numbers_below n)) c false [] q b)
     where
       and-true : (z : Bool) → (z && true) ≡ z
       and-true true = refl
       and-true false = refl
   close-new (x ∷ l) hs lists off keys common r c q only b =
-      rule-close inv post co (same hs) acts sc (good-same hs common) (closes g.image l (settle g.image new (numbers_below n) Target rec.retries)) x r (named new (is_in (numbers_below n))) (length (numbers_below n)) c false [] q
+      rule-close (same hs) sc (on-same hs common) (closes g.image l (settle g.image new (numbers_below n) Target rec.retries)) x r (named new (is_in (numbers_below n))) (length (numbers_below n)) c false [] q
       (λ q' b'. close-new l (lacks_address x hs) lists off.1 (λ a. ap (λ z. z && not (has l a)) (has-lacks a x hs) ∙ move (has_address a hs) (bytes_eq x a) (has l a) ∙ keys a) (common-lacks x hs off.0 common) r c q' only b') b
     where
       move : (h e r : Bool) → ((h && not e) && not r) ≡ (h && not (e || r))
@@ -411,9 +417,9 @@ module _ (t : Table) (rec : Record) (st : Settings) (pattern : Pattern) (s : IsS
   on : (hs : List Hold) → Lists (all_closed dropped hs) → ((a : Address) → has_address a hs ≡ (has added a || has_address a H0)) → Common hs → (done : List ℕ) (r r1 names : Names) (count c : ℕ) (q : Progress) → St [] done r names count → ((h : Generation) (k : ℕ) → r1 h k ≡ true → r h k ≡ true) → Band (both hs) sc none r1 (named new (is_in (numbers_below n))) (length (numbers_below n)) c false [] q → Goes way_on q
   on hs lists has_it common done r r1 names count c q st within b =
       let tree = closes g.image dropped (settle g.image new (numbers_below n) Target rec.retries) in
-      rule-quits inv post co (both hs) acts sc (good-both hs common) tree g (reverse R) none r1 (named new (is_in (numbers_below n))) (length (numbers_below n)) c false [] q (λ k e. off-new k)
+      rule-quits (both hs) sc (on-both hs common) tree g (reverse R) none r1 (named new (is_in (numbers_below n))) (length (numbers_below n)) c false [] q (λ k e. off-new k)
       (λ s' r' q' less_s less b0.
-      let b' = band-still inv post co (both hs) acts sc (good-both hs common) s' none r' (named new (is_in (numbers_below n))) (length (numbers_below n)) c false [] q' (λ h k e. (less_s h k e).0) b0 in
+      let b' = band-still (both hs) sc (on-both hs common) s' none r' (named new (is_in (numbers_below n))) (length (numbers_below n)) c false [] q' (λ h k e. (less_s h k e).0) b0 in
       let only : Only new (numbers_below n) r' = λ h k e.
       let l = less h k e in
       ⊎_elim (λ a. absurd (true-false (is_in (reverse R) k) (in-reverse R k ∙ a.1) (l.1 a.0))) (λ a. (a.0, below-on n k (st.started k a.1))) (st.only h k (within h k l.0)) in
@@ -422,11 +428,11 @@ module _ (t : Table) (rec : Record) (st : Settings) (pattern : Pattern) (s : IsS
   -- every way covers what was started
   count-step : (l : List Address) (hs : List Hold) → Lists (all_closed dropped hs) → From H0 Common l hs → ((a : Address) → has_address a hs ≡ (has added a || has_address a H0)) → Common hs → (done : List ℕ) (r names : Names) (count c : ℕ) (q : Progress) → St [] done r names count → Band (both hs) sc none r names count c false [] q → Goes (census g.image new (numbers_below n) (census_edges way_on (reload_back g.image g R rec.retries l (reverse (numbers_below n))))) q
   count-step l hs lists o has_it common done r names count c q st b =
-      rule-count inv post co (both hs) acts sc (good-both hs common) way_on (reload_back g.image g R rec.retries l (reverse (numbers_below n))) new (numbers_below n) r names count c false [] q (below-distinct n) (λ k e. omega (arith, below-of n k e))
+      rule-count (both hs) sc (on-both hs common) way_on (reload_back g.image g R rec.retries l (reverse (numbers_below n))) new (numbers_below n) r names count c false [] q (below-distinct n) (λ k e. omega (arith, below-of n k e))
       (λ k e. ⊎_elim (λ a. low-R k a.1) (λ a. omega (arith, st.started k a.1)) (st.only new k e))
       (new-part hs done r names count st)
       (λ cs q' e b' saw exact.
-      let b1 = band-part inv post co (both hs) acts sc (good-both hs common) none (seen r new cs) names (named new (is_in (numbers_below n))) count (length (numbers_below n)) c false [] q' (λ rows looks. new-part hs done r names count st rows (widen cs rows looks)) (omega (arith, below-length n)) b' in
+      let b1 = band-part (both hs) sc (on-both hs common) none (seen r new cs) names (named new (is_in (numbers_below n))) count (length (numbers_below n)) c false [] q' (λ rows looks. new-part hs done r names count st rows (widen cs rows looks)) (omega (arith, below-length n)) b' in
       on hs lists has_it common done r (seen r new cs) names count c q' st (λ h k e'. and-left (r h k) _ e') b1)
       (λ cs x xs q' e b' saw exact.
       let b1 : Band (both hs) sc none r names count c true (x ∷ xs) q' = record { looks = widen cs q'.table.rows b'.looks; enough = b'.enough; secured = b'.secured; budget = b'.budget; lacking = b'.lacking; still = b'.still; marks = b'.marks; beside = tt } in
@@ -440,7 +446,7 @@ module _ (t : Table) (rec : Record) (st : Settings) (pattern : Pattern) (s : IsS
 
   after-opens : (l : List Address) (hs : List Hold) → Lists (all_closed dropped hs) → From H0 Common l hs → ((a : Address) → has_address a hs ≡ (has added a || has_address a H0)) → Common hs → (r : Names) (c : ℕ) (q : Progress) → Only g R r → Band (both hs) sc none r (named g (is_in R)) (length R) c false [] q → Goes (starts g.image new (numbers_below n) (census g.image new (numbers_below n) (census_edges way_on (reload_back g.image g R rec.retries l (reverse (numbers_below n))))) (λ forked. reload_back g.image g R rec.retries l forked)) q
   after-opens l hs lists o has_it common r c q only b =
-      rule-starts inv post co (both hs) acts sc (good-both hs common) (Started g new R n) _ (λ forked. reload_back g.image g R rec.retries l forked) new (held-new hs new refl) (one-more g R n) [] false c (numbers_below n) r (named g (is_in R)) (length R)
+      rule-starts (both hs) sc (on-both hs common) (Started g new R n) _ (λ forked. reload_back g.image g R rec.retries l forked) new (held-new hs new refl) (one-more g R n) [] false c (numbers_below n) r (named g (is_in R)) (length R)
       (λ done r' names count q' st b'. count-step l hs lists o has_it common done r' names count c q' st b')
       (λ forked ks done ss r' names count q' within only_s st covers b'. back l hs o common ks done forked ss r' names count (c + 1) [] q' st
       (λ k e. ⊎_elim (λ z. absurd (cc (e, ap (λ l. is_in l k) z.1))) (λ all. all k (below-on n k (st.started k e))) covers) only_s b')
@@ -468,7 +474,7 @@ module _ (t : Table) (rec : Record) (st : Settings) (pattern : Pattern) (s : IsS
       or-false true = refl
       or-false false = refl
   opening (x ∷ todo) l hs listing off o in_all common r c q only b =
-      rule-open inv post co (both hs) acts sc (good-both hs common) _ _ x r (named g (is_in R)) (length R) c false [] q
+      rule-open (both hs) sc (on-both hs common) _ _ x r (named g (is_in R)) (length R) c false [] q
       (λ h q' is fd room fresh b'. opening todo (x ∷ l) (put_hold h hs) (opens-on t.limits.descriptors h hs todo (with_added st.listeners rec.listeners) ds.limit listing.1 fd room (subst (λ z. all_opened (z ∷ todo) (map listener_of hs) ≡ with_added st.listeners rec.listeners) (sym is) listing.0)) off.1 (record { hold = h; before = hs; is = refl; names = is; fresh = fresh; apart = off.0; common = common; rest = o }) (λ a. move (bytes_eq x a) (has l a) (has todo a) ∙ in_all a) (put-common h hs common) r c q' only (band-holds (after_open h (both hs)) (both (put_hold h hs)) sc none r (named g (is_in R)) (length R) c false [] q' refl (λ j k e. cc e)
       (λ j k e. held-old hs j (only j k e).0 ∙ sym (held-old (put_hold h hs) j (only j k e).0)) b'))
       (λ q' b'. close-old l hs o common r (c + 1) [] q' only b') b

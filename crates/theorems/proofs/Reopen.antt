@@ -16,7 +16,7 @@ use Rattle.definitions.specs.Run.{Pattern, start_at}
 use Rattle.definitions.specs.Claims.{IsStart, Floor, ReopenHeadline, ReopenFloor, run_of}
 use Rattle.definitions.specs.Service.{service}
 use Rattle.definitions.specs.Target.{want}
-use Rattle.theorems.proofs.Same.{Like, first, scene, inv, post, course, acts, good, Goes, Level, new-full, new-short, start-band, whole}
+use Rattle.theorems.proofs.Same.{Like, first, scene, Goes, Level, new-full, new-short, start-band, whole, ground}
 use Rattle.theorems.proofs.Rules.{rule-usr1s, rule-settle}
 
 -- The target wants what there is.
@@ -51,13 +51,9 @@ module _ (t : Table) (rec : Record) (pattern : Pattern) (s : IsStart t rec) wher
   goes =
       let u = first t rec Reopen pattern s like in
       let sc = scene t rec Reopen pattern s like in
-      let I = inv t rec Reopen pattern s like in
-      let P = post t rec Reopen pattern s like in
-      let C = course t rec Reopen pattern s like in
-      let A = acts t rec Reopen pattern s like in
-      let G = good t rec Reopen pattern s like in
-      rule-usr1s I P C u A sc G (settle g.image g R Target rec.retries) g R none u.ready (named g (is_in R)) (length R) 0 false [] (start_at t rec.note)
-      (λ q b. rule-settle I P C u A sc G Target g R refl (rising-distinct R s.rising) (λ k e. let lt = like.below k e in omega (arith, lt, s.record_in_range.wanted)) rec.retries false (new-full t rec Reopen pattern s like false) (new-short t rec Reopen pattern s like) rec.retries 0 (omega arith) false (λ e. e) u.ready [] q
+      let G = ground t rec Reopen pattern s like in
+      rule-usr1s u sc G (settle g.image g R Target rec.retries) g R none u.ready (named g (is_in R)) (length R) 0 false [] (start_at t rec.note)
+      (λ q b. rule-settle u sc G Target g R refl (rising-distinct R s.rising) (λ k e. let lt = like.below k e in omega (arith, lt, s.record_in_range.wanted)) rec.retries false (new-full t rec Reopen pattern s like false) (new-short t rec Reopen pattern s like) rec.retries 0 (omega arith) false (λ e. e) u.ready [] q
       (λ h k e. (same-is h g (and-left _ _ e), and-right (same_generation h g) _ e)) b)
       (start-band t rec Reopen pattern s like (omega arith))
 

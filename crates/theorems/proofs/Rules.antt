@@ -194,7 +194,39 @@ band-exits u sc s r t n c w ls es p sp mild b =
       beside = sc.exits es p.table.rows p.losses (losses_of es p.table) p.faults sp mild lost b.beside;
     }
 
-module _ (inv : Progress → Type 0) (post : Ending → Progress → Type 0) (co : Course) (u : View) (acts : is_in co.executing u.image ≡ true) (sc : Scene u.number u.image) (good : (t : Names) (n : ℕ) (w : Bool) (q : Progress) → sc.floor ≤ n → Looks (view u any any) q.table.rows → (1 ≤ sc.floor → n ≤ ready_of u t q + q.losses) → Marks w q.faults q.losses q.cause → sc.Holds q.table.rows q.losses q.faults → inv q) where
+-- What is known between two steps gives what holds at each moment.
+abbrev pub IsGood : (u : View) → Scene u.number u.image → (Progress → Type 0) → Type 0
+IsGood u sc inv =
+    (t : Names) (n : ℕ) (w : Bool) (q : Progress) → sc.floor ≤ n → Looks (view u any any) q.table.rows → (1 ≤ sc.floor → n ≤ ready_of u t q + q.losses)
+    → Marks w q.faults q.losses q.cause → sc.Holds q.table.rows q.losses q.faults → inv q
+
+-- What the rules rest on: what holds at each moment and at an end, the course, and that the master is one of those that act.
+pub record Ground (u : View) (sc : Scene u.number u.image) : Type 1 where
+  pub inv : Progress → Type 0
+  pub post : Ending → Progress → Type 0
+  pub co : Course
+  pub acts : is_in co.executing u.image ≡ true
+  pub good : IsGood u sc inv
+
+abbrev pub grounded : {u : View} {sc : Scene u.number u.image} (inv : Progress → Type 0) (post : Ending → Progress → Type 0) (co : Course) → is_in co.executing u.image ≡ true → IsGood u sc inv → Ground u sc
+grounded inv post co acts good = record { inv = inv; post = post; co = co; acts = acts; good = good }
+
+module _ (u : View) (sc : Scene u.number u.image) (gr : Ground u sc) where
+  abbrev inv : Progress → Type 0
+  inv = gr.inv
+
+  abbrev post : Ending → Progress → Type 0
+  post = gr.post
+
+  abbrev co : Course
+  co = gr.co
+
+  acts : is_in co.executing u.image ≡ true
+  acts = gr.acts
+
+  good : IsGood u sc inv
+  good = gr.good
+
   pub band-inv : (s r t : Names) (n c : ℕ) (w : Bool) (ls : List ℕ) (p : Progress) → Band u sc s r t n c w ls p → inv p
   band-inv s r t n c w ls p b = good t n w p b.enough (looks-allows (view u s r) (view u any any) (record { number = refl; others = λ n e. e; image = refl; holds = refl; starting = λ h k e. refl; ready = λ h k e. refl; held_starting = λ h k e. refl; held = λ h k e. refl }) p.table.rows b.looks) b.secured b.marks b.beside
 

@@ -1,6 +1,5 @@
 -- Plans of one master that keep its addresses and its generation: what they start from, what they keep, and their ends.
 use Rattle.std.proofs.Common.{◌≡◌, ℕ, ◌+◌, ◌<◌, ◌≤◌, Bool, true, false, List, [], ◌∷◌, length, Some, None, refl, sym, ap, ◌∙◌, arith}
-use Rattle.std.specs.Prelude.{⊤}
 use Rattle.std.specs.List.{AllByRecursion, list_any}
 use Rattle.listener_set.specs.Numbers.{is_in}
 use Rattle.listener_set.specs.declared.generation.Generation.{Generation}
@@ -26,7 +25,7 @@ use Rattle.theorems.proofs.Small.{every-is_in}
 use Rattle.theorems.proofs.After.{agrees-after}
 use Rattle.theorems.proofs.Ends.{resized, report_at, service-of, service-short, first-keys, first-service, first-held, census-within, files-still, kept-after}
 use Rattle.theorems.proofs.Logic.{Unasked, Anyhow, Along, Course, from-along, are-mild-anyhow, refused_in, run_in}
-use Rattle.theorems.proofs.Rules.{Scene, plain_scene, Still, Marks, Band, Only, view, any, ready_of, floor-by}
+use Rattle.theorems.proofs.Rules.{IsGood, Ground, Scene, plain_scene, Still, Band, Only, view, any, ready_of, floor-by}
 
 -- A target that wants `n` workers at the record's addresses, those of a set, and its floor.
 pub record Like (rec : Record) (target : Target) : Type 0 where
@@ -80,15 +79,15 @@ module _ (t : Table) (rec : Record) (target : Target) (pattern : Pattern) (s : I
   looks0 = begin t rec s
 
   -- what is known between two steps of the plan gives what is claimed at each moment
-  abbrev pub IsGood : Type 0
-  IsGood = (names : Names) (count : ℕ) (w : Bool) (q : Progress) → like.floor ≤ count → Looks (view first any any) q.table.rows → (1 ≤ like.floor → count ≤ ready_of first names q + q.losses) → Marks w q.faults q.losses q.cause → ⊤ → inv q
-
-  pub good : IsGood
+  pub good : IsGood first scene inv
   good names count w q enough looks secured marks beside = (
     λ a socket common on. live-with-on (view first any any) (has_socket a socket) q.table.rows looks (sym (live-with first (λ n. refl) (has_socket a socket) t.rows looks0) ∙ on),
     λ a common. floor-by like.floor (ready_with a q.table + q.losses) (λ e. omega (arith, enough, secured e, ready-floor (view first any any) names a q.table.rows (λ h. first-held t rec s a common.0) looks)),
     (marks.clean, marks.blamed),
   )
+
+  abbrev pub ground : Ground first scene
+  ground = record { inv = inv; post = post; co = course; acts = acts; good = good }
 
   ---- The ends
 

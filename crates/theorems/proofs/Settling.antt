@@ -33,7 +33,7 @@ use Rattle.theorems.proofs.Sets.{in-here, every-in}
 use Rattle.theorems.proofs.Small.{every-is_in, or-elim, true-false}
 use Rattle.theorems.proofs.Begins.{rising-distinct}
 use Rattle.theorems.proofs.Logic.{Course, Anyhow, Unasked, Along, from-along, are-mild-anyhow}
-use Rattle.theorems.proofs.Rules.{Scene, plain_scene, Band, band-holds, seen_as, Only, Less, view, rule-settle, rule-close, rule-quits}
+use Rattle.theorems.proofs.Rules.{Scene, plain_scene, Band, band-holds, seen_as, Only, Less, view, rule-settle, rule-close, rule-quits, grounded}
 use Rattle.theorems.proofs.Addresses.{same-address, address-refl, lacks-none}
 use Rattle.theorems.proofs.Listeners.{all_closed, all-closed-is}
 use Rattle.definitions.specs.Calls.{gives, lacks_address}
@@ -419,7 +419,7 @@ module _ (image pid : ℕ) (holds : List Hold) (g : Generation) (S : List ℕ) w
 
     -- from what is known before it
     settle-goes : ((k : ℕ) → is_in S k ≡ true → k < 1024) → (r : Names) (w : Bool) (ls : List ℕ) (q : Progress) → Only g S r → Band u sc none r (named g (is_in S)) (length S) owed w ls q → Goes (settle image g S side rounds) q
-    settle-goes below r w ls q only b = rule-settle inv post co u acts sc (λ t n w q a b c d e. tt) side g S refl dS below (owed + rounds) false full short rounds owed refl w (λ e. absurd (cc e)) r ls q only b
+    settle-goes below r w ls q only b = rule-settle u sc (grounded inv post co acts (λ t n w q a b c d e. tt)) side g S refl dS below (owed + rounds) false full short rounds owed refl w (λ e. absurd (cc e)) r ls q only b
 
     -- what goes along a tree from there is so of its run
     settles-by : (tree : Tree) → AlwaysNamed text pattern S tree → Goes tree begun → refused_among (image ∷ []) [] pattern p.calls (run_with text tree pattern p).entries ≡ None → Settles image pid holds g S side rounds p (run_with text tree pattern p)
@@ -555,7 +555,7 @@ module _ (image pid : ℕ) (holds : List Hold) (opened : List Address) (g : Gene
     close-all [] hs is off r ls q only b =
         settle-goes image pid kept g S text Old rounds pattern p dS below r false ls q only (subst (λ x. Band (narrow x) sc' none r t (length S) paid false ls q) is b)
     close-all (a ∷ l) hs is off r ls q only b =
-        rule-close inv' post' co' (narrow hs) acts' sc' (λ t n w q a b c d e. tt) (closes image l (settle image g S Old rounds)) a r t (length S) paid false ls q
+        rule-close (narrow hs) sc' (grounded inv' post' co' acts' (λ t n w q a b c d e. tt)) (closes image l (settle image g S Old rounds)) a r t (length S) paid false ls q
         (λ q' b'. close-all l (lacks_address a hs) is off.1 r ls q' only (band-holds (after_close a (narrow hs)) (narrow (lacks_address a hs)) sc' none r t (length S) paid false ls q' refl (λ h k e. cc e) (λ h k e. lacks-none a kept off.0) b')) b
 
     off-old : (k : ℕ) → is_in forked k ≡ true → t new k ≡ false
@@ -582,7 +582,7 @@ module _ (image pid : ℕ) (holds : List Hold) (opened : List Address) (g : Gene
         let q0 = begun image pid kept g S text Old rounds pattern p dS in
         let rest = closes image opened (settle image g S Old rounds) in
         let gone : AllByRecursion (λ a. has_address a kept ≡ false) opened = every-more (λ a. has opened a ≡ true) (λ a. has_address a kept ≡ false) (λ a e. without-off opened a holds e) opened (all-has opened opened (λ a e. e)) in
-        rule-quits inv' post' co' wide acts' sc' (λ t n w q a b c d e. tt) rest new forked (named new (is_in forked)) either t (length S) paid false p.lacking q0 off-old
+        rule-quits wide sc' (grounded inv' post' co' acts' (λ t n w q a b c d e. tt)) rest new forked (named new (is_in forked)) either t (length S) paid false p.lacking q0 off-old
         (λ s' r' q less_s less b. close-all opened holds (all-closed-is opened holds) gone r' p.lacking q (left-over r' less) (band-holds wide (narrow holds) sc' s' r' t (length S) paid false p.lacking q refl (none-starts s' less_s) (λ h k e. ap held_by (left-over r' less h k e).0 ∙ held-old) b))
         (begun-band image pid kept g S text Old rounds pattern p dS wide (named new (is_in forked)) either looks)
 

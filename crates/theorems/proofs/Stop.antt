@@ -36,7 +36,7 @@ use Rattle.definitions.specs.After.{next_record}
 use Rattle.vocabulary.specs.declared.calls.Reply.{Reply}
 use Rattle.theorems.proofs.Begins.{first_view, begin}
 use Rattle.theorems.proofs.Logic.{Unasked, course_after, Behind, Course, Anyhow, Along, from-along, are-mild-anyhow, remove-cases, unfailing}
-use Rattle.theorems.proofs.Rules.{rule-waits, band-anew, Scene, plain_scene, Marks, Band, view, any, ready_of, Answers, marks-plain, marks-wrong, rule-step, rule-quits, rule-kills, band-exits, band-inv}
+use Rattle.theorems.proofs.Rules.{Ground, rule-waits, band-anew, Scene, plain_scene, Marks, Band, view, any, ready_of, Answers, marks-plain, marks-wrong, rule-step, rule-quits, rule-kills, band-exits, band-inv}
 
 ---- Files
 
@@ -127,6 +127,9 @@ module _ (t : Table) (rec : Record) (quick : Bool) (pattern : Pattern) (s : IsSt
   good : (names : Names) (count : ℕ) (w : Bool) (q : Progress) → 0 ≤ count → Looks (view u any any) q.table.rows → (1 ≤ 0 → count ≤ ready_of u names q + q.losses) → Marks w q.faults q.losses q.cause → ⊤ → inv q
   good names count w q enough looks secured marks beside = (λ a socket common on. absurd (cc (common.1)), (marks.clean, marks.blamed))
 
+  abbrev ground : (files : List File) (note : PidNote) → Ground u (sc files note)
+  ground files note = record { inv = inv; post = post; co = co; acts = acts; good = good }
+
   -- what is known: the master is alone, and of its workers nothing is counted
   abbrev Holds : List File → PidNote → Bool → Progress → Type 0
   Holds files note w q = Band u (sc files note) any any none 0 0 w [] q
@@ -150,16 +153,16 @@ module _ (t : Table) (rec : Record) (quick : Bool) (pattern : Pattern) (s : IsSt
 
   quits-all : (rest : Tree) (ks : List ℕ) (files : List File) (note : PidNote) (q : Progress) → ((q' : Progress) → Holds files note false q' → Goes rest q') → Holds files note false q → Goes (quits g.image g ks rest) q
   quits-all rest ks files note q next b =
-      rule-quits inv post co u acts (sc files note) good rest g ks any any none 0 0 false [] q (λ k e. refl) (λ st r q' less_s less b'. next q' (widen files note st r false q' b')) b
+      rule-quits u (sc files note) (ground files note) rest g ks any any none 0 0 false [] q (λ k e. refl) (λ st r q' less_s less b'. next q' (widen files note st r false q' b')) b
 
   kills-all : (rest : Tree) (ks : List ℕ) (files : List File) (note : PidNote) (q : Progress) → ((q' : Progress) → Holds files note false q' → Goes rest q') → Holds files note false q → Goes (kills g.image g ks rest) q
   kills-all rest ks files note q next b =
-      rule-kills inv post co u acts (sc files note) good rest g ks any any none 0 0 false [] q (λ k e. refl) (λ st r q' less_s less b'. next q' (widen files note st r false q' b')) b
+      rule-kills u (sc files note) (ground files note) rest g ks any any none 0 0 false [] q (λ k e. refl) (λ st r q' less_s less b'. next q' (widen files note st r false q' b')) b
 
   waits-all : (rest : Tree) (ks : List ℕ) (files : List File) (note : PidNote) (q : Progress) → ((q' : Progress) → Holds files note false q' → Goes rest q') → Holds files note false q → Goes (awaits_gone g.image g ks rest) q
   waits-all rest ks files note q next b =
-      rule-waits inv post co u acts (sc files note) good rest g ks any any none 0 false [] q (λ k e. refl)
-      (λ st r w k q' sub_st sub_r up b'. next q' (forget files note w q' (widen files note st r w q' (band-anew inv post co u acts (sc files note) good st r none 0 k w [] q' b')))) 0 b
+      rule-waits u (sc files note) (ground files note) rest g ks any any none 0 false [] q (λ k e. refl)
+      (λ st r w k q' sub_st sub_r up b'. next q' (forget files note w q' (widen files note st r w q' (band-anew u (sc files note) (ground files note) st r none 0 k w [] q' b')))) 0 b
 
   said-so : (said : Option PidNote) (files : List File) (note : PidNote) (w : Bool) (q : Progress) → Holds files note w q → Holds files (unwrap_or said note) w (noted said q)
   said-so None files note w q b = b
@@ -170,8 +173,8 @@ module _ (t : Table) (rec : Record) (quick : Bool) (pattern : Pattern) (s : IsSt
   removal path fine fault rest files note q on_fine on_fault b =
       let order = Make (RemovePid path) in
       let bs = note_edges fine fault rest in
-      rule-step inv post co u acts (sc files note) good order [] bs any any none 0 0 false [] q refl b (λ p b' fate.
-      remove-cases co.text g.image (record { number = rec.pid; holds = s.agrees.holds }) path fate p.table (λ st. Answers inv post co u acts (sc files note) good order [] bs p st)
+      rule-step u (sc files note) (ground files note) order [] bs any any none 0 0 false [] q refl b (λ p b' fate.
+      remove-cases co.text g.image (record { number = rec.pid; holds = s.agrees.holds }) path fate p.table (λ st. Answers u (sc files note) (ground files note) order [] bs p st)
       (on_fault (noted fault (after_call order [] (gives answer.IoFault p.table) p)) (forget files (unwrap_or fault note) true _
       (said-so fault files note true (after_call order [] (gives answer.IoFault p.table) p)
       (record { looks = b'.looks; enough = b'.enough; secured = λ e. absurd (omega (arith, e)); budget = omega arith; lacking = b'.lacking; still = b'.still; marks = marks-wrong false p.faults (p.faults + 1) p.losses (p.calls + 1) p.cause (omega arith) b'.marks; beside = tt }))))
@@ -206,8 +209,8 @@ module _ (t : Table) (rec : Record) (quick : Bool) (pattern : Pattern) (s : IsSt
       let kept : inv gone = (λ a socket common on. absurd (cc (common.1)), (marks.clean, marks.blamed)) in
       let empty : IsSame (service gone.table) (want rec (Stop quick)) = λ a. rw (none-live (view u any any) (has_address a) middle.table.rows fine) refl in
       let files_then : FilesThen gone.note rec.pid_path gone.table.files = subst (λ x. FilesThen x rec.pid_path gone.table.files) (sym b'.still.note_stays) (subst (λ x. FilesThen note rec.pid_path x) (sym b'.still.files_stay) as_said) in (
-        band-inv inv post co u acts (sc files note) good any any none 0 0 false [] q b,
-        band-inv inv post co u acts (sc files note) good any any none 0 0 false [] middle b',
+        band-inv u (sc files note) (ground files note) any any none 0 0 false [] q b,
+        band-inv u (sc files note) (ground files note) any any none 0 0 false [] middle b',
         tt,
         subst (λ (st : Stepped). Behind inv post Anyhow Unasked (course_after order co) (then_edge (Ends Done)) (reply_of [] st.answer) (after_call order [] st middle)) (sym is) (kept, (empty, none-own (view u any any) middle.table.rows fine, files_then)),
       )

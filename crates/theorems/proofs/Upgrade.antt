@@ -25,7 +25,7 @@ use Rattle.theorems.proofs.Begins.{begin-count}
 use Rattle.theorems.proofs.Ends.{first-few}
 use Rattle.theorems.proofs.Files.{written-file}
 use Rattle.theorems.proofs.Logic.{Unasked, Anyhow, from-along, are-mild-anyhow, move-cases, spawn-cases}
-use Rattle.theorems.proofs.Rules.{Scene, view, Band, Only, marks-plain, rule-step-at, band-failed, failed_at, Answers}
+use Rattle.theorems.proofs.Rules.{Scene, view, Band, Only, marks-plain, rule-step-at, band-failed, failed_at, Answers, grounded}
 use Rattle.theorems.proofs.Duo.{master-below, spawned-looks}
 use Rattle.theorems.proofs.UpgradeStage.{Given, g, new, R, H0, A0, f, n, wanted, few-old, looks0, co, acts, inv, post, Goes, u, w, common0, alone_scene, good-alone}
 use Rattle.theorems.proofs.UpgradeBack.{Aside, settle-old, goes-back-alone}
@@ -70,10 +70,10 @@ module _ (c : Given) where
       let bs = spawn_edges ok bad in
       let gd = good-alone c (u c) (f c) 0 (H0 c) (inl (omega arith)) refl (λ h. refl) (common0 c) in
       let me : Caller = record { number = c.rec.pid; holds = H0 c } in
-      rule-step-at I P (co c) (u c) (acts c) (sc files) gd order [] bs none r (named (g c) (is_in (R c))) (length (R c)) 0 false [] q refl b (λ es b' fate.
+      rule-step-at (u c) (sc files) (grounded I P (co c) (acts c) gd) order [] bs none r (named (g c) (is_in (R c))) (length (R c)) 0 false [] q refl b (λ es b' fate.
       let p = after_moment es q in
-      let failed = goes-back-alone c (f c) 0 (inl (omega arith)) r 1 [] files (failed_at I P (co c) (u c) (acts c) (sc files) gd p) aside only (band-failed I P (co c) (u c) (acts c) (sc files) gd none r (named (g c) (is_in (R c))) (length (R c)) 0 false [] p b') in
-      spawn-cases (co c).text c.rec.generation.image me image fate p.table (λ st. Answers I P (co c) (u c) (acts c) (sc files) gd order [] bs p st) failed failed failed
+      let failed = goes-back-alone c (f c) 0 (inl (omega arith)) r 1 [] files (failed_at (u c) (sc files) (grounded I P (co c) (acts c) gd) p) aside only (band-failed (u c) (sc files) (grounded I P (co c) (acts c) gd) none r (named (g c) (is_in (R c))) (length (R c)) 0 false [] p b') in
+      spawn-cases (co c).text c.rec.generation.image me image fate p.table (λ st. Answers (u c) (sc files) (grounded I P (co c) (acts c) gd) order [] bs p st) failed failed failed
       (let m = q.table.next_process in
       let ne : m ≢ c.rec.pid = λ e. absurd (omega (arith, e, next, above)) in
       let t' = with_new_row p.table (λ k. Master k c.rec.pid image true (H0 c)) in
@@ -98,11 +98,11 @@ module _ (c : Given) where
       let bs = on (reply.Fine ∷ []) (does c.rec.generation.image (SpawnMaster image) (spawn_edges ok bad)) (on (reply.IoFault ∷ []) (settle c.rec.generation.image (g c) (R c) Old c.rec.retries) Nothing) in
       let gd = good-alone c (u c) (f c) 0 (H0 c) (inl (omega arith)) refl (λ h. refl) (common0 c) in
       let me : Caller = record { number = c.rec.pid; holds = H0 c } in
-      rule-step-at I P (co c) (u c) (acts c) (sc c.t.files) gd order [] bs none r (named (g c) (is_in (R c))) (length (R c)) 0 false [] q refl b (λ es b' fate.
+      rule-step-at (u c) (sc c.t.files) (grounded I P (co c) (acts c) gd) order [] bs none r (named (g c) (is_in (R c))) (length (R c)) 0 false [] q refl b (λ es b' fate.
       let p = after_moment es q in
-      move-cases (co c).text c.rec.generation.image me path (oldbin path) fate p.table (λ st. Answers I P (co c) (u c) (acts c) (sc c.t.files) gd order [] bs p st)
-      (settle-old c (f c) 0 (inl (omega arith)) c.t.files c.rec.note r 1 [] (failed_at I P (co c) (u c) (acts c) (sc c.t.files) gd p) c.start.agrees.files only
-      (band-failed I P (co c) (u c) (acts c) (sc c.t.files) gd none r (named (g c) (is_in (R c))) (length (R c)) 0 false [] p b'))
+      move-cases (co c).text c.rec.generation.image me path (oldbin path) fate p.table (λ st. Answers (u c) (sc c.t.files) (grounded I P (co c) (acts c) gd) order [] bs p st)
+      (settle-old c (f c) 0 (inl (omega arith)) c.t.files c.rec.note r 1 [] (failed_at (u c) (sc c.t.files) (grounded I P (co c) (acts c) gd) p) c.start.agrees.files only
+      (band-failed (u c) (sc c.t.files) (grounded I P (co c) (acts c) gd) none r (named (g c) (is_in (R c))) (length (R c)) 0 false [] p b'))
       (λ owner found.
       let files' = with_file (oldbin path) owner (without_file path p.table.files) in
       let same : Some owner ≡ Some c.rec.pid = sym found ∙ ap (owner_at path) b'.still.files_stay ∙ there in

@@ -23,7 +23,7 @@ use Rattle.theorems.proofs.Sets.{in-here, in-there, in-cases}
 use Rattle.theorems.proofs.Small.{off-from, or-elim, true-false}
 use Rattle.theorems.proofs.Files.{written-file, other-written, gone-file, other-oldbin}
 use Rattle.theorems.proofs.Logic.{move-cases, unfailing}
-use Rattle.theorems.proofs.Rules.{Scene, view, any, plus, also, ready_of, Marks, Band, Only, marks-plain, weigh-sub, rule-step, rule-settle, rule-forks-any, rule-awaits-any, band-failed, band-part, band-anew, band-still, failed_at, Answers}
+use Rattle.theorems.proofs.Rules.{Scene, view, any, plus, also, ready_of, Marks, Band, Only, marks-plain, weigh-sub, rule-step, rule-settle, rule-forks-any, rule-awaits-any, band-failed, band-part, band-anew, band-still, failed_at, Answers, grounded}
 use Rattle.theorems.proofs.Duo.{OneOther, alone-terminated, with_other}
 use Rattle.theorems.proofs.UpgradeStage.{Given, g, new, R, H0, f, co, acts, inv, post, Goes, u, low-R, dR, w, Common, common0, alone_scene, good-alone, Second, pair_scene, good-pair, old-full, old-short}
 
@@ -83,11 +83,11 @@ module _ (c : Given) where
 
     pub settle-old : (files : List File) (note : PidNote) (r : Names) (k : ℕ) (ls : List ℕ) (q : Progress) → FilesAre note c.rec.pid_path c.rec.pid files → Only (g c) (R c) r → Band (u c) (sc files note) none r (named (g c) (is_in (R c))) (length (R c)) k true ls q → Goes c (co c) (settle c.rec.generation.image (g c) (R c) Old c.rec.retries) q
     settle-old files note r k ls q are only b =
-        rule-settle I P (co c) (u c) (acts c) (sc files note) (good files note) Old (g c) (R c) refl (dR c) (low-R c) c.rec.retries true
+        rule-settle (u c) (sc files note) (grounded I P (co c) (acts c) (good files note)) Old (g c) (R c) refl (dR c) (low-R c) c.rec.retries true
         (λ r' q' k' w' up only' b' saw exact. old-full c files note are r' q' only' b'.looks b'.lacking (b'.marks.caused (up refl)) b'.still saw exact)
         (λ r' q' x xs only' b' saw exact. old-short c files note are r' q' x xs only' b'.looks b'.lacking (b'.marks.caused refl) b'.still b'.budget saw exact)
         c.rec.retries 0 (omega arith) true (λ e. refl) r ls q only
-        (band-anew I P (co c) (u c) (acts c) (sc files note) (good files note) none r (named (g c) (is_in (R c))) (length (R c)) k true ls q b)
+        (band-anew (u c) (sc files note) (grounded I P (co c) (acts c) (good files note)) none r (named (g c) (is_in (R c))) (length (R c)) k true ls q b)
 
     -- The pid file goes back.
     move-back : (path : Option FilePath) (rest : Tree) (r t : Names) (count k : ℕ) (ls : List ℕ) (files : List File) (q : Progress) → Aside path files → ((files' : List File) (note' : PidNote) (k' : ℕ) (q' : Progress) → FilesAre note' path c.rec.pid files' → Band (u c) (sc files' note') none r t count k' true ls q' → Goes c (co c) rest q') → Band (u c) (sc files c.rec.note) none r t count k true ls q → Goes c (co c) (move_back c.rec.generation.image path rest) q
@@ -95,10 +95,10 @@ module _ (c : Given) where
     move-back (Some path) rest r t count k ls files q aside next b =
         let order = Make (MovePid (oldbin path) path) in
         let bs = note_edges (Some InPlace) (Some AtOldbin) rest in
-        rule-step I P (co c) (u c) (acts c) (sc files c.rec.note) (good files c.rec.note) order [] bs none r t count k true ls q refl b (λ p b' fate.
-        move-cases (co c).text c.rec.generation.image (record { number = c.rec.pid; holds = H0 c }) (oldbin path) path fate p.table (λ st. Answers I P (co c) (u c) (acts c) (sc files c.rec.note) (good files c.rec.note) order [] bs p st)
-        (let b2 = band-failed I P (co c) (u c) (acts c) (sc files c.rec.note) (good files c.rec.note) none r t count k true ls p b' in
-        next files AtOldbin (k + 1) (noted (Some AtOldbin) (failed_at I P (co c) (u c) (acts c) (sc files c.rec.note) (good files c.rec.note) p)) aside
+        rule-step (u c) (sc files c.rec.note) (grounded I P (co c) (acts c) (good files c.rec.note)) order [] bs none r t count k true ls q refl b (λ p b' fate.
+        move-cases (co c).text c.rec.generation.image (record { number = c.rec.pid; holds = H0 c }) (oldbin path) path fate p.table (λ st. Answers (u c) (sc files c.rec.note) (grounded I P (co c) (acts c) (good files c.rec.note)) order [] bs p st)
+        (let b2 = band-failed (u c) (sc files c.rec.note) (grounded I P (co c) (acts c) (good files c.rec.note)) none r t count k true ls p b' in
+        next files AtOldbin (k + 1) (noted (Some AtOldbin) (failed_at (u c) (sc files c.rec.note) (grounded I P (co c) (acts c) (good files c.rec.note)) p)) aside
         (record { looks = b2.looks; enough = b2.enough; secured = b2.secured; budget = b2.budget; lacking = b2.lacking; marks = b2.marks; still = record { files_stay = b2.still.files_stay; note_stays = refl; limits_stay = b2.still.limits_stay }; beside = b2.beside }))
         (λ owner there.
         let files' = with_file path owner (without_file (oldbin path) p.table.files) in
@@ -128,11 +128,11 @@ module _ (c : Given) where
     term-master rest files r0 t count k ls q next b =
         let order = Make (TermMaster (new c).image) in
         let bs = then_edge rest in
-        rule-step I P (co c) v (acts c) (two files) (good-two files) order [] bs none r0 t count k true ls q refl b (λ p b' fate.
+        rule-step v (two files) (grounded I P (co c) (acts c) (good-two files)) order [] bs none r0 t count k true ls q refl b (λ p b' fate.
         let me : Caller = record { number = c.rec.pid; holds = H0 c } in
         let one : OneOther (view v none r0) m = ((λ e. ne (sym e)), λ j e. eqb-is j m e) in
         let alone = alone-terminated (view v none r0) (w c m hs s r) p.table.rows one (λ e. absurd (omega (arith, e))) b'.beside.0 b'.looks in
-        subst (λ st. Answers I P (co c) v (acts c) (two files) (good-two files) order [] bs p st) (sym (unfailing (co c).text c.rec.generation.image me (TermMaster (new c).image) fate p.table tt))
+        subst (λ st. Answers v (two files) (grounded I P (co c) (acts c) (good-two files)) order [] bs p st) (sym (unfailing (co c).text c.rec.generation.image me (TermMaster (new c).image) fate p.table tt))
         (next (after_call order [] (own_step (co c).text c.rec.generation.image me (TermMaster (new c).image) p.table) p) (record {
           looks = alone.looks;
           enough = b'.enough;
@@ -154,12 +154,12 @@ module _ (c : Given) where
       let sc0 = alone_scene c c.rec.pid c.rec.generation.image 0 (f c) files c.rec.note in
       let good0 = good-alone c (u c) 0 (f c) (H0 c) (inr (omega arith)) refl (λ h. refl) (common0 c) in
       let rest = back_alone c.rec.generation.image h S c.rec.retries c.rec.pid_path in
-      rule-forks-any I P (co c) (u c) (acts c) sc0 good0 (awaits_any c.rec.generation.image h S rest) h refl S none none t0 0 k true ls q
-      (λ s' k' b1 q' within up b2. rule-awaits-any I P (co c) (u c) (acts c) sc0 good0 (Restarted h S) rest h refl (restarts h S) ls 0 S [] s' none t0 0 b1 q'
+      rule-forks-any (u c) sc0 (grounded I P (co c) (acts c) good0) (awaits_any c.rec.generation.image h S rest) h refl S none none t0 0 k true ls q
+      (λ s' k' b1 q' within up b2. rule-awaits-any (u c) sc0 (grounded I P (co c) (acts c) good0) (Restarted h S) rest h refl (restarts h S) ls 0 S [] s' none t0 0 b1 q'
       (λ done s2 r2 t2 n2 b3 q2 st less up2 b4.
       let off : (j : Generation) (i : ℕ) → s2 j i ≡ true → none j i ≡ true = λ j i e. let l = less j i e in ⊎_elim (λ a. a) (λ a. absurd (true-false (is_in S i) a.1 (l.1 a.0))) (within j i l.0) in
-      let b5 = band-still I P (co c) (u c) (acts c) sc0 good0 s2 none r2 t2 n2 0 b3 ls q2 off b4 in
-      let b6 = band-part I P (co c) (u c) (acts c) sc0 good0 none r2 t2 (named h (is_in S)) n2 (length S) 0 b3 ls q2
+      let b5 = band-still (u c) sc0 (grounded I P (co c) (acts c) good0) s2 none r2 t2 n2 0 b3 ls q2 off b4 in
+      let b6 = band-part (u c) sc0 (grounded I P (co c) (acts c) good0) none r2 t2 (named h (is_in S)) n2 (length S) 0 b3 ls q2
       (λ rows looks. omega (arith, st.counted, st.sum, weigh-sub c.rec.pid t2 (named h (is_in S)) (λ j i e. let o = st.names j i e in both-true (same_generation j h) (is_in S i) (and-left _ _ o) (st.within i (and-right (same_generation j h) _ o))) rows)) (omega arith) b5 in
       goes-back-alone 0 (f c) (inr (omega arith)) r2 0 ls files q2 aside (λ j i e. let o = st.only j i e in (o.0, st.within i o.1))
       (record { looks = b6.looks; enough = b6.enough; secured = b6.secured; budget = b6.budget; lacking = b6.lacking; still = b6.still; marks = record { clean = b6.marks.clean; blamed = b6.marks.blamed; caused = λ e. b6.marks.caused (up2 (up refl)) }; beside = b6.beside }))
@@ -173,7 +173,7 @@ module _ (c : Given) where
         counted = refl;
         sum = omega arith;
       })
-      (band-anew I P (co c) (u c) (acts c) sc0 good0 s' none t0 0 k' b1 ls q' b2))
+      (band-anew (u c) sc0 (grounded I P (co c) (acts c) good0) s' none t0 0 k' b1 ls q' b2))
       b
 
   ---- Back with a new master

@@ -28,7 +28,7 @@ use Rattle.theorems.proofs.Exits.{spares-each}
 use Rattle.theorems.proofs.Sets.{in-here, in-there}
 use Rattle.theorems.proofs.Small.{or-elim}
 use Rattle.theorems.proofs.Logic.{Unasked, Course, course_after, Behind, Anyhow, adopt-cases, open-cases, fork-cases, await-cases, write-cases, unfailing}
-use Rattle.theorems.proofs.Rules.{Scene, view, any, plus, minus, ready_of, Marks, Band, Only, marks-plain, marks-wrong, weigh-sub, band-exits, band-inv}
+use Rattle.theorems.proofs.Rules.{Scene, view, any, plus, minus, ready_of, Marks, Band, Only, marks-plain, marks-wrong, weigh-sub, band-exits, band-inv, grounded}
 use Rattle.theorems.proofs.Duo.{Framed, framed-change, framed-drop, framed-grow, dead-none, with_other}
 use Rattle.theorems.proofs.UpgradeStage.{Given, g, new, R, f, co, acts, inv, post, Goes, u, w, Second, pair_scene, good-pair}
 use Rattle.theorems.proofs.UpgradeBack.{Aside, goes-back-from}
@@ -129,8 +129,8 @@ module _ (c : Given) (m : ℕ) (ne : m ≢ c.rec.pid) (r0 : Names) (only0 : Only
       λ spared mild.
       let sp = spares-each (co c).executing c.rec.generation.image moment.exits (acts c) (subst (λ images. names_any images moment.exits ≡ false) at spared) in
       let b' = band-exits v (sc x) none r0 (named (g c) (is_in (R c))) (length (R c)) 0 false [] moment.exits q sp mild b in (
-        band-inv I P (co c) v (acts c) (sc x) (good x) none r0 (named (g c) (is_in (R c))) (length (R c)) 0 false [] q b,
-        band-inv I P (co c) v (acts c) (sc x) (good x) none r0 (named (g c) (is_in (R c))) (length (R c)) 0 false [] middle b',
+        band-inv v (sc x) (grounded I P (co c) (acts c) (good x)) none r0 (named (g c) (is_in (R c))) (length (R c)) 0 false [] q b,
+        band-inv v (sc x) (grounded I P (co c) (acts c) (good x)) none r0 (named (g c) (is_in (R c))) (length (R c)) 0 false [] middle b',
         tt,
         subst (λ (y : Course). Behind I P Anyhow Unasked y (edges call rest) (reply_of set (answered (co c).text image order moment.fate middle).answer) (after_call order set (answered (co c).text image order moment.fate middle) middle)) (sym after)
             (⊎_elim (λ looks. subst (λ (o : Option Caller). Edge call rest set middle (step_by (co c).text image o call moment.fate middle.table)) (sym (finds (w c m x.hs x.s x.r) middle.table.rows looks)) (own middle b' looks moment.fate))

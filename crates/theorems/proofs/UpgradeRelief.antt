@@ -24,7 +24,7 @@ use Rattle.theorems.proofs.Sets.{in-here, in-there, below-of, below-distinct, be
 use Rattle.theorems.proofs.Small.{in-reverse, true-false}
 use Rattle.theorems.proofs.Files.{gone-file, other-removed, oldbin-other, no-path}
 use Rattle.theorems.proofs.Logic.{Unasked, Anyhow, Behind, course_after, remove-cases, unfailing}
-use Rattle.theorems.proofs.Rules.{Still, Scene, view, any, ready_of, Marks, Band, Only, marks-plain, marks-wrong, rule-step, rule-quits, rule-waits, rule-settle, band-exits, band-inv, band-anew, band-failed, failed_at, Answers}
+use Rattle.theorems.proofs.Rules.{Still, Scene, view, any, ready_of, Marks, Band, Only, marks-plain, marks-wrong, rule-step, rule-quits, rule-waits, rule-settle, band-exits, band-inv, band-anew, band-failed, failed_at, Answers, grounded}
 use Rattle.theorems.proofs.Duo.{OneOther, alone-left, dead-none, dead-weigh, asked-looks, asked-dead, with_other}
 use Rattle.theorems.proofs.UpgradeStage.{Given, g, new, R, H0, f, n, low, wanted, few-new, co, co_after, acts, acts-after, inv, post, Goes, u, w, x, Common, Lists, Second, alone_scene, good-alone, pair_scene, good-pair, new-full, new-short}
 use Rattle.theorems.proofs.UpgradeBack.{Aside, goes-back-late}
@@ -88,7 +88,7 @@ module _ (c : Given) (m : ℕ) (ne : m ≢ c.rec.pid) (some : 1 ≤ m) (r0 : Nam
 
   settles : (files : List File) (note : PidNote) (b : Bool) (q : Progress) → FilesAre note c.rec.pid_path m files → Band (x c m hs r) (last files note) none r T (length S) 0 b [] q → Goes c (co_after c) (settle (new c).image (new c) S Target c.rec.retries) q
   settles files note b q are h =
-      rule-settle I P (co_after c) (x c m hs r) (acts-after c) (last files note) (good-last files note) Target (new c) S refl (below-distinct (n c)) (λ k e. omega (arith, below-of (n c) k e, low c)) c.rec.retries false
+      rule-settle (x c m hs r) (last files note) (grounded I P (co_after c) (acts-after c) (good-last files note)) Target (new c) S refl (below-distinct (n c)) (λ k e. omega (arith, below-of (n c) k e, low c)) c.rec.retries false
       (λ r' q' k' b' up only' h' saw exact. new-full c m some hs lists keys files note are r' q' only' h'.looks h'.lacking h'.still saw exact)
       (λ r' q' y ys only' h' saw exact. new-short c m some hs lists keys files note are r' q' y ys only' h'.looks h'.lacking (h'.marks.caused refl) h'.still h'.budget saw exact)
       c.rec.retries 0 (omega arith) b (λ e. absurd (cc e)) r [] q only h
@@ -101,10 +101,10 @@ module _ (c : Given) (m : ℕ) (ne : m ≢ c.rec.pid) (some : 1 ≤ m) (r0 : Nam
       let bs = note_edges (Some InPlace) (Some OldbinLeft) rest in
       let sc = last files c.rec.note in
       let gd = good-last files c.rec.note in
-      rule-step I P (co_after c) (x c m hs r) (acts-after c) sc gd order [] bs none r T (length S) 0 b [] q refl h (λ p h' fate.
-      remove-cases (co_after c).text (new c).image (record { number = m; holds = hs }) (oldbin path) fate p.table (λ st. Answers I P (co_after c) (x c m hs r) (acts-after c) sc gd order [] bs p st)
-      (let h2 = band-anew I P (co_after c) (x c m hs r) (acts-after c) sc gd none r T (length S) 1 true [] _ (band-failed I P (co_after c) (x c m hs r) (acts-after c) sc gd none r T (length S) 0 b [] p h') in
-      next files OldbinLeft true (noted (Some OldbinLeft) (failed_at I P (co_after c) (x c m hs r) (acts-after c) sc gd p)) (written.0, ap is_some written.1)
+      rule-step (x c m hs r) sc (grounded I P (co_after c) (acts-after c) gd) order [] bs none r T (length S) 0 b [] q refl h (λ p h' fate.
+      remove-cases (co_after c).text (new c).image (record { number = m; holds = hs }) (oldbin path) fate p.table (λ st. Answers (x c m hs r) sc (grounded I P (co_after c) (acts-after c) gd) order [] bs p st)
+      (let h2 = band-anew (x c m hs r) sc (grounded I P (co_after c) (acts-after c) gd) none r T (length S) 1 true [] _ (band-failed (x c m hs r) sc (grounded I P (co_after c) (acts-after c) gd) none r T (length S) 0 b [] p h') in
+      next files OldbinLeft true (noted (Some OldbinLeft) (failed_at (x c m hs r) sc (grounded I P (co_after c) (acts-after c) gd) p)) (written.0, ap is_some written.1)
       (record { looks = h2.looks; enough = h2.enough; secured = h2.secured; budget = h2.budget; lacking = h2.lacking; marks = h2.marks; still = record { files_stay = h2.still.files_stay; note_stays = refl; limits_stay = h2.still.limits_stay }; beside = h2.beside }))
       (let files' = without_file (oldbin path) p.table.files in
       let there : owner_at path files' ≡ Some m = other-removed (oldbin path) path p.table.files (oldbin-other path) ∙ ap (owner_at path) h'.still.files_stay ∙ written.0 in
@@ -140,8 +140,8 @@ module _ (c : Given) (m : ℕ) (ne : m ≢ c.rec.pid) (some : 1 ≤ m) (r0 : Nam
         still = h'.still;
         beside = omega arith;
       }) in (
-        band-inv I P (co c) v (acts c) (both files) (good files) none none none 0 0 b [] q h,
-        band-inv I P (co c) v (acts c) (both files) (good files) none none none 0 0 b [] middle h',
+        band-inv v (both files) (grounded I P (co c) (acts c) (good files)) none none none 0 0 b [] q h,
+        band-inv v (both files) (grounded I P (co c) (acts c) (good files)) none none none 0 0 b [] middle h',
         tt,
         subst (λ (st : Stepped). Behind I P Anyhow Unasked (course_after order (co c)) (then_edge rest) (reply_of [] st.answer) (after_call order [] st middle)) (sym is) after,
       )
@@ -151,10 +151,10 @@ module _ (c : Given) (m : ℕ) (ne : m ≢ c.rec.pid) (some : 1 ≤ m) (r0 : Nam
   asks files b q aside written h =
       let order = Make (Alive (new c).image) in
       let bs = on (reply.IsAlive ∷ []) (hand_over c.rec.generation.image (new c).image (g c) c.rec.retries c.rec.pid_path (n c)) (on (reply.Gone ∷ []) (back_late c.rec.generation.image (new c).image (g c) (R c) c.rec.retries c.rec.pid_path) Nothing) in
-      rule-step I P (co c) v (acts c) (both files) (good files) order [] bs none none none 0 0 b [] q refl h (λ p h' fate.
+      rule-step v (both files) (grounded I P (co c) (acts c) (good files)) order [] bs none none none 0 0 b [] q refl h (λ p h' fate.
       let me : Caller = record { number = c.rec.pid; holds = H0 c } in
-      let answered_by : Option Caller → Type 0 = λ o. Answers I P (co c) v (acts c) (both files) (good files) order [] bs p (asked_alive o (new c).image p.table) in
-      subst (λ st. Answers I P (co c) v (acts c) (both files) (good files) order [] bs p st) (sym (unfailing (co c).text c.rec.generation.image me (Alive (new c).image) fate p.table tt))
+      let answered_by : Option Caller → Type 0 = λ o. Answers v (both files) (grounded I P (co c) (acts c) (good files)) order [] bs p (asked_alive o (new c).image p.table) in
+      subst (λ st. Answers v (both files) (grounded I P (co c) (acts c) (good files)) order [] bs p st) (sym (unfailing (co c).text c.rec.generation.image me (Alive (new c).image) fate p.table tt))
       (⊎_elim
       (λ looks. subst answered_by (sym (finds second p.table.rows looks))
       (leaves files b (after_call order [] (gives answer.IsAlive p.table) p) written looks
@@ -179,8 +179,8 @@ module _ (c : Given) (m : ℕ) (ne : m ≢ c.rec.pid) (some : 1 ≤ m) (r0 : Nam
   pub relieves : (files : List File) (q : Progress) → Aside c c.rec.pid_path files → Written c m ne r0 only0 c.rec.pid_path files → Band v (pair_scene c second ne (eqb-refl c.rec.pid c.rec.pid refl) T (n c) (f c) files c.rec.note) none r0 (named (g c) (is_in (R c))) (length (R c)) 0 false [] q → Goes c (co c) (relieve c.rec.generation.image (new c).image (g c) (R c) c.rec.retries c.rec.pid_path (n c)) q
   relieves files q aside written h =
       let ask = does c.rec.generation.image (Alive (new c).image) (on (reply.IsAlive ∷ []) (hand_over c.rec.generation.image (new c).image (g c) c.rec.retries c.rec.pid_path (n c)) (on (reply.Gone ∷ []) (back_late c.rec.generation.image (new c).image (g c) (R c) c.rec.retries c.rec.pid_path) Nothing)) in
-      rule-quits I P (co c) v (acts c) (both files) (good files) (awaits_gone c.rec.generation.image (g c) (reverse (R c)) ask) (g c) (reverse (R c)) none r0 none 0 0 false [] q (λ k e. refl)
-      (λ st rd q' less_st less_rd h'. rule-waits I P (co c) v (acts c) (both files) (good files) ask (g c) (reverse (R c)) none none none 0 false [] q' (λ k e. refl)
+      rule-quits v (both files) (grounded I P (co c) (acts c) (good files)) (awaits_gone c.rec.generation.image (g c) (reverse (R c)) ask) (g c) (reverse (R c)) none r0 none 0 0 false [] q (λ k e. refl)
+      (λ st rd q' less_st less_rd h'. rule-waits v (both files) (grounded I P (co c) (acts c) (good files)) ask (g c) (reverse (R c)) none none none 0 false [] q' (λ k e. refl)
       (λ st' rd' b k q'' sub_st sub_rd up h''. asks files b q'' aside written (bared files st' rd' k b q'' sub_st sub_rd h''))
       0 (bared files st rd 0 false q' (λ j i e. (less_st j i e).0) (λ j i e. let l = less_rd j i e in let o = only0 j i l.0 in absurd (true-false (is_in (reverse (R c)) i) (in-reverse (R c) i ∙ o.1) (l.1 o.0))) h'))
       (beside files none r0 false q h.looks h.lacking h.marks h.still h.beside)

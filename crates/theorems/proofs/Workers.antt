@@ -1,5 +1,5 @@
 -- The headline for a change of the number of workers.
-use Rattle.theorems.proofs.Same.{Goes, Like, acts, course, first, good, inv, post, scene, whole, new-full, old-full, start-band, new-short, old-short, Level, IsGood}
+use Rattle.theorems.proofs.Same.{Goes, Like, first, scene, whole, new-full, old-full, start-band, new-short, old-short, Level, ground}
 use Rattle.theorems.proofs.Ends.{first-few}
 use Rattle.definitions.specs.Table.{Process, same_generation, Table, bears}
 use Rattle.std.proofs.Common.{◌≡◌, ℕ, ◌+◌, ◌<◌, ◌≤◌, Bool, true, false, not, List, [], ◌∷◌, length, refl, sym, ap, ◌∙◌, subst, arith, ◌⊎◌, inl, inr, ⊎_elim}
@@ -11,7 +11,7 @@ use Rattle.definitions.specs.Plans.{workers_tree, quits, settle}
 use Rattle.vocabulary.specs.declared.plans.Side.TheVariants.{Old, Target}
 use Rattle.vocabulary.specs.declared.targets.Target.TheVariants.{Workers}
 use Rattle.definitions.specs.Target.{want}
-use Rattle.definitions.specs.Run.{Pattern, Progress, Ending, start_at}
+use Rattle.definitions.specs.Run.{Pattern, Progress, start_at}
 use Rattle.definitions.specs.Plans.{plan_tree}
 use Rattle.definitions.specs.Claims.{run_of, IsStart, Floor, WorkersHeadline}
 use Rattle.definitions.specs.Record.{Record}
@@ -23,8 +23,7 @@ use Rattle.theorems.proofs.Counts.{Distinct, in-earlier, in-later}
 use Rattle.theorems.proofs.Sets.{weigh-part, Within, in-here, in-there, in-cases, in-filter-on, in-filter-of, below-of, below-on, below-distinct, below-length}
 use Rattle.theorems.proofs.Begins.{rising-distinct}
 use Rattle.theorems.proofs.Small.{in-reverse, every-is_in, not-is, off-from, filter-distinct, or-elim, true-false}
-use Rattle.theorems.proofs.Logic.{Course}
-use Rattle.theorems.proofs.Rules.{Scene, view, plus, also, Band, Only, weigh-sub, band-part, band-anew, band-still, rule-quits, rule-starts, rule-settle}
+use Rattle.theorems.proofs.Rules.{Ground, Scene, view, plus, also, Band, Only, weigh-sub, band-part, band-anew, band-still, rule-quits, rule-starts, rule-settle}
 
 -- what is known before the rest of the starts
 pub record Started (g : Generation) (R : List ℕ) (n : ℕ) (ks done : List ℕ) (r t : Names) (count : ℕ) : Type 0 where
@@ -107,20 +106,8 @@ module _ (t : Table) (rec : Record) (n : ℕ) (pattern : Pattern) (s : IsStart t
   few : sc.floor ≡ min (length R) n
   few = refl
 
-  abbrev I : Progress → Type 0
-  I = inv t rec (Workers n) pattern s like
-
-  abbrev P : Ending → Progress → Type 0
-  P = post t rec (Workers n) pattern s like
-
-  abbrev C : Course
-  C = course t rec (Workers n) pattern s like
-
-  abbrev A : is_in (g.image ∷ []) g.image ≡ true
-  A = acts t rec (Workers n) pattern s like
-
-  abbrev G : IsGood t rec (Workers n) pattern s like
-  G = good t rec (Workers n) pattern s like
+  abbrev G : Ground u sc
+  G = ground t rec (Workers n) pattern s like
 
   ---- The plan
 
@@ -139,13 +126,13 @@ module _ (t : Table) (rec : Record) (n : ℕ) (pattern : Pattern) (s : IsStart t
   -- the way back of the numbers that were forked, of which some became Ready
   back : (forked ks done : List ℕ) (ss r names : Names) (count c : ℕ) (q : Progress) → ((k : ℕ) → is_in forked k ≡ true → is_in fresh_numbers k ≡ true) → Only g forked ss → Started g R n ks done r names count → ((ks ≡ fresh_numbers) × (done ≡ [])) ⊎ ((k : ℕ) → is_in fresh_numbers k ≡ true → is_in forked k ≡ true) → Band u sc ss r names count c true [] q → Goes t rec (Workers n) pattern s like (quits g.image g forked (settle g.image g R Old rec.retries)) q
   back forked ks done ss r names count c q within only st covers b =
-      let b1 = band-part I P C u A sc G ss r names (named g (is_in R)) count (length R) c true [] q (λ rows looks. started-part (view u ss r) g R n done r names count ks R st dR (in-later done R) rows looks) (omega (arith, few)) b in
-      rule-quits I P C u A sc G (settle g.image g R Old rec.retries) g forked ss r (named g (is_in R)) (length R) c true [] q
+      let b1 = band-part u sc G ss r names (named g (is_in R)) count (length R) c true [] q (λ rows looks. started-part (view u ss r) g R n done r names count ks R st dR (in-later done R) rows looks) (omega (arith, few)) b in
+      rule-quits u sc G (settle g.image g R Old rec.retries) g forked ss r (named g (is_in R)) (length R) c true [] q
       (λ k e. off (same_generation g g) (is_in R k) (not-is (is_in R k) (in-filter-of (λ j. not (is_in R j)) (numbers_below n) k (within k e)).1))
-      (λ s' r' q' less_s less b'. rule-settle I P C u A sc G Old g R refl dR low-R rec.retries true (old-full t rec (Workers n) pattern s like) (old-short t rec (Workers n) pattern s like) rec.retries 0 (omega arith) true (λ e. refl) r' [] q'
+      (λ s' r' q' less_s less b'. rule-settle u sc G Old g R refl dR low-R rec.retries true (old-full t rec (Workers n) pattern s like) (old-short t rec (Workers n) pattern s like) rec.retries 0 (omega arith) true (λ e. refl) r' [] q'
       (λ h k e. let l = less h k e in let o = st.only h k l.0 in (o.0, ⊎_elim (λ a. a) (λ a. absurd (true-false (is_in forked k) (was k a) (l.1 o.0))) o.1))
-      (band-still I P C u A sc G s' none r' (named g (is_in R)) (length R) 0 true [] q' (λ h k e. let l = less_s h k e in let o = only h k l.0 in absurd (true-false (is_in forked k) o.1 (l.1 o.0)))
-      (band-anew I P C u A sc G s' r' (named g (is_in R)) (length R) c true [] q' b')))
+      (band-still u sc G s' none r' (named g (is_in R)) (length R) 0 true [] q' (λ h k e. let l = less_s h k e in let o = only h k l.0 in absurd (true-false (is_in forked k) o.1 (l.1 o.0)))
+      (band-anew u sc G s' r' (named g (is_in R)) (length R) c true [] q' b')))
       b1
     where
       off : (a b : Bool) → b ≡ false → (a && b) ≡ false
@@ -158,16 +145,16 @@ module _ (t : Table) (rec : Record) (n : ℕ) (pattern : Pattern) (s : IsStart t
   on : (done : List ℕ) (r names : Names) (count c : ℕ) (q : Progress) → Started g R n [] done r names count → Band u sc none r names count c false [] q → Goes t rec (Workers n) pattern s like (quits g.image g surplus (settle g.image g (numbers_below n) Target rec.retries)) q
   on done r names count c q st b =
       let within = all-within g R n done r names count st in
-      let b1 = band-part I P C u A sc G none r names (named g (is_in (numbers_below n))) count (length (numbers_below n)) c false [] q (started-part (view u none r) g R n done r names count [] (numbers_below n) st (below-distinct n) within) (omega (arith, few, below-length n)) b in
-      rule-quits I P C u A sc G (settle g.image g (numbers_below n) Target rec.retries) g surplus none r (named g (is_in (numbers_below n))) (length (numbers_below n)) c false [] q
+      let b1 = band-part u sc G none r names (named g (is_in (numbers_below n))) count (length (numbers_below n)) c false [] q (started-part (view u none r) g R n done r names count [] (numbers_below n) st (below-distinct n) within) (omega (arith, few, below-length n)) b in
+      rule-quits u sc G (settle g.image g (numbers_below n) Target rec.retries) g surplus none r (named g (is_in (numbers_below n))) (length (numbers_below n)) c false [] q
       (λ k e. let o = in-filter-of (λ j. not (nat_lt j n)) R k (sym (in-reverse (filter (λ j. not (nat_lt j n)) R) k) ∙ e) in
       off (same_generation g g) (is_in (numbers_below n) k) (off-from (numbers_below n) k (λ in_it. let lt = below-of n k in_it in let no_lt = not-is (nat_lt k n) o.1 in let yes_lt : nat_lt k n ≡ true = grind (arith, nat_tests) in true-false (nat_lt k n) yes_lt no_lt)))
-      (λ s' r' q' less_s less b'. rule-settle I P C u A sc G Target g (numbers_below n) refl (below-distinct n) (λ k e. omega (arith, below-of n k e)) rec.retries false (new-full t rec (Workers n) pattern s like false) (new-short t rec (Workers n) pattern s like) rec.retries 0 (omega arith) false (λ e. e) r' [] q'
+      (λ s' r' q' less_s less b'. rule-settle u sc G Target g (numbers_below n) refl (below-distinct n) (λ k e. omega (arith, below-of n k e)) rec.retries false (new-full t rec (Workers n) pattern s like false) (new-short t rec (Workers n) pattern s like) rec.retries 0 (omega arith) false (λ e. e) r' [] q'
       (λ h k e.
       let l = less h k e in
       let o = st.only h k l.0 in
       (o.0, ⊎_elim (λ a. kept k a (l.1 o.0)) (λ a. below-on n k (st.started k a).1) o.1))
-      (band-still I P C u A sc G s' none r' (named g (is_in (numbers_below n))) (length (numbers_below n)) 0 false [] q' (λ h k e. (less_s h k e).0) (band-anew I P C u A sc G s' r' (named g (is_in (numbers_below n))) (length (numbers_below n)) c false [] q' b')))
+      (band-still u sc G s' none r' (named g (is_in (numbers_below n))) (length (numbers_below n)) 0 false [] q' (λ h k e. (less_s h k e).0) (band-anew u sc G s' r' (named g (is_in (numbers_below n))) (length (numbers_below n)) c false [] q' b')))
       b1
     where
       off : (a b : Bool) → b ≡ false → (a && b) ≡ false
@@ -200,7 +187,7 @@ module _ (t : Table) (rec : Record) (n : ℕ) (pattern : Pattern) (s : IsStart t
 
   goes : Goes t rec (Workers n) pattern s like (workers_tree g.image g R rec.retries n) (start_at t rec.note)
   goes =
-      rule-starts I P C u A sc G (Started g R n) (quits g.image g surplus (settle g.image g (numbers_below n) Target rec.retries)) (λ forked. quits g.image g forked (settle g.image g R Old rec.retries)) g refl (one-more g R n) [] false 0 fresh_numbers u.ready (named g (is_in R)) (length R)
+      rule-starts u sc G (Started g R n) (quits g.image g surplus (settle g.image g (numbers_below n) Target rec.retries)) (λ forked. quits g.image g forked (settle g.image g R Old rec.retries)) g refl (one-more g R n) [] false 0 fresh_numbers u.ready (named g (is_in R)) (length R)
       (λ done r names count q st b. on done r names count 0 q st b)
       (λ forked ks done ss r names count q within only st covers b. back forked ks done ss r names count 1 q within only st covers b)
       (start_at t rec.note) begun
