@@ -1,5 +1,5 @@
 -- Lists of listeners, as the calls change them.
-use Rattle.std.proofs.Common.{◌≡◌, ℕ, zero, suc, ◌+◌, ◌<◌, ◌≤◌, Bool, true, false, ◌||◌, not, cond, nat_eq, nat_lt, Option, Some, None, List, [], ◌∷◌, ◌++◌, length, map, filter, take, drop, get_or, replicate, refl, sym, ap, ◌∙◌, inl, inr, arith}
+use Rattle.std.proofs.Common.{◌≡◌, ℕ, zero, suc, ◌+◌, ◌<◌, ◌≤◌, Bool, true, false, ◌||◌, not, cond, nat_eq, nat_lt, Option, Some, None, List, [], ◌∷◌, ◌++◌, length, map, filter, take, drop, get_or, replicate, refl, sym, ap, subst, ◌∙◌, inl, inr, arith}
 use Rattle.std.specs.Prelude.{codes, bytes_eq, Contains}
 use Rattle.std.proofs.lemmas.Bool.{both_ways, and_parts, or_parts, or_from, ltb-true, cases_Bool, cond_both, cond-true, cond-false, false_from_ne_true, lt-ltb, le-ltb}
 use Rattle.std.proofs.lemmas.Bool.Decides.{eqb_tells}
@@ -16,7 +16,7 @@ use Rattle.vocabulary.specs.declared.table.Listener.{Listener}
 use Rattle.definitions.specs.Record.{listeners_from}
 use Rattle.definitions.specs.After.{listens_on, listener_at, opened_from, added, with_added, all_opened}
 use Rattle.definitions.specs.Handover.{is_above}
-use Rattle.handover_text.specs.Listeners.{AreKept, AreListedFrom, blank_listener}
+use Rattle.handover_text.specs.Listeners.{AreKept, AreListed, AreListedFrom, blank_listener}
 
 pub blanks_kept : (a : List ℕ) → a ≡ codes "0.0.0.0:8080" → AreKept (replicate 64 (record { descriptor = 3; address = a })) 0
 unfolding blank_listener blank
@@ -200,6 +200,12 @@ filter_more_kept p ls i l within is passes =
     sym (filter_more p ls i l within
     ∙ ap (λ m. filter p (take i ls) ++ cond (p m) (m ∷ []) []) (sym is)
     ∙ ap (λ b. filter p (take i ls) ++ cond b (l ∷ []) []) passes)
+
+-- those of the first ones that pass a test, and the next one, which passes too
+pub listed_more : (p : Listener → Bool) (ls kept : List Listener) (i : ℕ) (l : Listener) → kept ≡ filter p (take i ls) → i < length ls → l ≡ get_or ls i l → p l ≡ true → AreListed ls → AreListed (kept ++ l ∷ [])
+listed_more p ls kept i l are within is passes listed =
+    subst AreListed (sym (ap (λ ks. ks ++ l ∷ []) are ∙ filter_more_kept p ls i l within is passes))
+    (AreListedFrom-filter p 3 (take (i + 1) ls) (AreListedFrom-take 3 (i + 1) ls listed))
 
 ---- Opening the addresses that are new
 

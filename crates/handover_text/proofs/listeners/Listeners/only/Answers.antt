@@ -1,8 +1,8 @@
-use Rattle.std.proofs.Common.{◌+◌, ◌++◌, ◌∷◌, [], ◌≤◌, length, take, ap, sym, subst, ◌∙◌, arith}
+use Rattle.std.proofs.Common.{◌≤◌, length, ap, sym, arith}
 use Rattle.vocabulary.specs.declared.table.Listener.{Listener}
 use Rattle.listener_set.specs.Numbers.{is_in}
 use Rattle.handover_text.specs.Listeners.{AreListed}
-use Rattle.handover_text.proofs.Listed.{AreListedFrom-take, AreListedFrom-filter, filter-room, filter_more_kept, descriptor_within}
+use Rattle.handover_text.proofs.Listed.{filter-room, listed_more, descriptor_within}
 use Rattle.handover_text.proofs.listeners.Listeners.only.Goals as goal
 
 pub has-requires : goal.has-requires
@@ -18,10 +18,5 @@ push-requires-clause-room c =
 
 pub push-requires-clause-listed : goal.push-requires-clause-listed
 push-requires-clause-listed c =
-    let i = c.loop-listener.listener-index in
-    let all = c.as_slice-all.result.now in
-    let listed : AreListed all = rw (← c.as_slice-all.ensures.items) at c.as_slice-all.ensures.listed in
-    let more =
-    ap (λ ls. ls ++ c.listener-item.result ∷ []) c.loop-listener.invariant
-    ∙ filter_more_kept (λ (l : Listener). is_in c.args.set.now l.descriptor) all i c.listener-item.result c.loop-listener-test.true c.listener-item.is (sym c.if-has.ensures) in
-    subst AreListed (sym more) (AreListedFrom-filter (λ (l : Listener). is_in c.args.set.now l.descriptor) 3 (take (i + 1) all) (AreListedFrom-take 3 (i + 1) all listed))
+    listed_more (λ (l : Listener). is_in c.args.set.now l.descriptor) c.as_slice-all.result.now _ c.loop-listener.listener-index c.listener-item.result
+    c.loop-listener.invariant c.loop-listener-test.true c.listener-item.is (sym c.if-has.ensures) (rw (← c.as_slice-all.ensures.items) at c.as_slice-all.ensures.listed)
