@@ -1,8 +1,10 @@
-//! Tests of values: numbers, listeners, texts, lines, patterns, and plans that are drawn up by hand.
+//! Tests of values: numbers, listeners, groups, texts, lines, patterns, and plans that are drawn up by hand.
 #![tactic(auto)]
 
 #[cfg(test)]
 mod call_texts;
+#[cfg(test)]
+mod groups;
 #[cfg(test)]
 mod handovers;
 #[cfg(test)]
