@@ -10,7 +10,7 @@ use Rattle.definitions.specs.Calls.{is_exited_of, drop_where, census_of}
 use Rattle.listener_set.specs.Numbers.{is_in}
 use Rattle.definitions.specs.Record.{Record, Agrees, FilesAre, IsRunning, listener_of}
 use Rattle.theorems.proofs.Rows.{one, weigh-same, every-more, count-weigh}
-use Rattle.theorems.proofs.Views.{View, Fine, Row, Looks, masters, master_of, finds, eqb-refl}
+use Rattle.theorems.proofs.Views.{HoldsAll, View, Fine, Row, Looks, masters, master_of, finds, eqb-refl}
 use Rattle.theorems.proofs.Effects.{idle}
 use Rattle.theorems.proofs.Counts.{census-in, census-all, ready-row}
 use Rattle.theorems.proofs.Services.{Sole, sole-fine}
@@ -54,10 +54,10 @@ census-exact v g rows bound looks k =
         beyond : nat_lt k 1024 ≡ false → is_in (census_of v.number g rows) k ≡ false
         beyond off = census-all v.number g rows k ∙ ap (λ z. z && list_any (is_worker is_ready v.number g k) rows) off
 
-running-row : (v : View) (g : Generation) → v.held g ≡ v.holds → ((h : Generation) (k : ℕ) → v.ready h k ≡ true → h ≡ g) → (p : Process) → Fine (idle v) p → IsRunning v.number g v.holds p
+running-row : (v : View) (g : Generation) → HoldsAll v g → ((h : Generation) (k : ℕ) → v.ready h k ≡ true → h ≡ g) → (p : Process) → Fine (idle v) p → IsRunning v.number g v.holds p
 running-row v g same only (Master n q i live hs) h = tt
 running-row v g same only (Worker n q g' k Starting hs) h = absurd (cc (h.1.0))
-running-row v g same only (Worker n q g' k Ready hs) h = λ e. let is = only g' k h.1.0 in (is, h.1.1 ∙ ap v.held is ∙ same)
+running-row v g same only (Worker n q g' k Ready hs) h = λ e. let is = only g' k h.1.0 in (is, h.1.1 ∙ ap (λ f. v.held f k) is ∙ same k)
 running-row v g same only (Worker n q g' k Draining hs) h = tt
 running-row v g same only (Worker n q g' k Exited hs) h = tt
 running-row v g same only (Foreign n hs) h = tt
@@ -68,7 +68,7 @@ one-row v (Worker n q g k s hs) h = refl
 one-row v (Foreign n hs) h = refl
 
 -- a table without Starting workers, whose Ready ones are of one generation and are what the census gave
-pub agrees-after : (v : View) (g : Generation) (t : Table) (r : Record) → Sole v → v.held g ≡ v.holds → ((h : Generation) (k : ℕ) → v.ready h k ≡ true → h ≡ g) → Looks (idle v) t.rows → ((k : ℕ) → list_any (is_worker is_ready v.number g k) t.rows ≡ is_in r.ready k) → r.generation ≡ g → v.image ≡ g.image → r.pid ≡ v.number → map listener_of v.holds ≡ r.listeners → FilesAre r.note r.pid_path r.pid t.files → Agrees t r
+pub agrees-after : (v : View) (g : Generation) (t : Table) (r : Record) → Sole v → HoldsAll v g → ((h : Generation) (k : ℕ) → v.ready h k ≡ true → h ≡ g) → Looks (idle v) t.rows → ((k : ℕ) → list_any (is_worker is_ready v.number g k) t.rows ≡ is_in r.ready k) → r.generation ≡ g → v.image ≡ g.image → r.pid ≡ v.number → map listener_of v.holds ≡ r.listeners → FilesAre r.note r.pid_path r.pid t.files → Agrees t r
 agrees-after v g t r sole same only looks exact is_g is_image is_pid listeners files =
     let fine = sole-fine (idle v) sole t.rows looks.fine in
     record {

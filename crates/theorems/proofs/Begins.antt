@@ -63,7 +63,7 @@ the-row image c (Foreign n hs ∷ rows) all = omega (arith, the-row image c rows
 
 -- the view of a record
 abbrev pub first_view : Record → List Hold → View
-first_view r holds = record { number = r.pid; others = λ n. false; image = r.generation.image; holds = holds; starting = none; ready = λ h k. same_generation h r.generation && is_in r.ready k; held = λ h. holds }
+first_view r holds = record { number = r.pid; others = λ n. false; image = r.generation.image; holds = holds; starting = none; ready = λ h k. same_generation h r.generation && is_in r.ready k; held = λ h k. holds }
 
 begin-row : (r : Record) (holds : List Hold) (rows : List Process) → AllByRecursion (IsThe r.generation.image (record { number = r.pid; holds = holds })) rows → (p : Process) → IsThe r.generation.image (record { number = r.pid; holds = holds }) p × HasParent rows p → IsRunning r.pid r.generation holds p × IsQuiet p → ((k : ℕ) → is_worker is_ready r.pid r.generation k p ≡ true → is_in r.ready k ≡ true) → Fine (first_view r holds) p
 begin-row r holds rows all (Master n q i live hs) a b c = a.0

@@ -23,7 +23,7 @@ off-true b e f = cc
 
 -- as others see it
 abbrev seen_by : View → View
-seen_by w = record { number = w.number; others = λ k. true; image = w.image; holds = []; starting = none; ready = none; held = λ h. [] }
+seen_by w = record { number = w.number; others = λ k. true; image = w.image; holds = []; starting = none; ready = none; held = λ h k. [] }
 
 abbrev pub Dead : View → Process → Type 0
 Dead w (Master n q i live hs) = Other (seen_by w) (Master n q i live hs) ⊎ ((n ≡ w.number) × (i ≡ w.image) × (live ≡ false))
@@ -138,7 +138,7 @@ OnlyOf m test = Mine m test × ((n : ℕ) (hs : List Hold) → test (Foreign n h
 
 -- a view of master m for which all rows of v are others'
 abbrev elsewhere : ℕ → View → View
-elsewhere m v = record { number = m; others = λ k. true; image = v.image + 1; holds = []; starting = none; ready = none; held = λ h. [] }
+elsewhere m v = record { number = m; others = λ k. true; image = v.image + 1; holds = []; starting = none; ready = none; held = λ h k. [] }
 
 misses : (v : View) (m : ℕ) (test : Process → Bool) → v.number ≢ m → OnlyOf m test → (p : Process) → Fine v p → test p ≡ false
 misses v m test ne mine (Master n q i live hs) f = mine.0 (elsewhere m v) (Master n q i live hs) refl ((λ e. ne (sym f.0 ∙ e)), refl, inr (λ e. absurd (omega (arith, e, f.1))))
@@ -464,7 +464,7 @@ fine-with m v (Foreign n hs) f = f
 
 -- the new master's view: it has what the old one has, and no worker
 abbrev pub new_view : ℕ → ℕ → ℕ → List Hold → Names → Names → View
-new_view m image old hs s r = record { number = m; others = λ k. k == old; image = image; holds = hs; starting = s; ready = r; held = λ h. hs }
+new_view m image old hs s r = record { number = m; others = λ k. k == old; image = image; holds = hs; starting = s; ready = r; held = λ h k. hs }
 
 new-row : (v w : View) → v.number ≢ w.number → w.others v.number ≡ true → v.image ≢ w.image → (p : Process) → Fine v p → Row w p × (master_of w.number p ≡ 0) × ((g : Generation) (k : ℕ) → live_named w.number g k p ≡ 0)
 new-row v w ne on apart (Master n q i live hs) f = let o : Other w (Master n q i live hs) = ((λ e. ne (sym f.0 ∙ e)), subst (λ k. w.others k ≡ true) (sym f.0) on, inr (λ e. apart (sym f.1 ∙ e))) in (inr o, other-masters w (Master n q i live hs) o, λ g k. refl)

@@ -55,8 +55,8 @@ pub record Allows (v w : View) : Type 0 where
   pub holds : v.holds ≡ w.holds
   pub starting : (g : Generation) (k : ℕ) → v.starting g k ≡ true → w.starting g k ≡ true
   pub ready : (g : Generation) (k : ℕ) → v.ready g k ≡ true → w.ready g k ≡ true
-  pub held_starting : (g : Generation) (k : ℕ) → v.starting g k ≡ true → v.held g ≡ w.held g
-  pub held : (g : Generation) (k : ℕ) → v.ready g k ≡ true → v.held g ≡ w.held g
+  pub held_starting : (g : Generation) (k : ℕ) → v.starting g k ≡ true → v.held g k ≡ w.held g k
+  pub held : (g : Generation) (k : ℕ) → v.ready g k ≡ true → v.held g k ≡ w.held g k
 
 fine-allows : (v w : View) → Allows v w → (p : Process) → Fine v p → Fine w p
 fine-allows v w a (Master n q i live hs) h = (h.0 ∙ a.number, h.1 ∙ a.image, h.2, h.3 ∙ a.holds)
@@ -93,7 +93,7 @@ fork-once : (m : ℕ) (g h : Generation) (x j : ℕ) (rows : List Process) (b : 
 fork-once m g h x j rows true e z le = omega (arith, named-none m g h x j rows (bears-is h j g x (e refl)) z)
 fork-once m g h x j rows false e z le = omega arith
 
-pub fork-looks : (v : View) (g : Generation) (x n : ℕ) (hs : List Hold) (rows : List Process) → v.held g ≡ hs → list_any (is_worker is_active v.number g x) rows ≡ false → Looks v rows → Looks (after_fork g x v) (rows ++ Worker n v.number g x Starting hs ∷ [])
+pub fork-looks : (v : View) (g : Generation) (x n : ℕ) (hs : List Hold) (rows : List Process) → v.held g x ≡ hs → list_any (is_worker is_active v.number g x) rows ≡ false → Looks v rows → Looks (after_fork g x v) (rows ++ Worker n v.number g x Starting hs ∷ [])
 fork-looks v g x n hs rows same off looks =
     let new = Worker n v.number g x Starting hs in
     let wide = looks-allows v (after_fork g x v) (record { number = refl; others = λ n e. e; image = refl; holds = refl; starting = λ h k e. or-left (v.starting h k) (bears g x h k) e; ready = λ h k e. e; held_starting = λ h k e. refl; held = λ h k e. refl }) rows looks in
@@ -410,7 +410,7 @@ abbrev pub after_open : Hold → View → View
 after_open h v = record { number = v.number; others = v.others; image = v.image; holds = put_hold h v.holds; starting = v.starting; ready = v.ready; held = v.held }
 
 abbrev pub after_close : Address → View → View
-after_close a v = record { number = v.number; others = v.others; image = v.image; holds = lacks_address a v.holds; starting = v.starting; ready = v.ready; held = λ g. lacks_address a (v.held g) }
+after_close a v = record { number = v.number; others = v.others; image = v.image; holds = lacks_address a v.holds; starting = v.starting; ready = v.ready; held = λ g k. lacks_address a (v.held g k) }
 
 open-fine : (v : View) (h : Hold) (p : Process) → Fine v p → FitsIn (Fine (after_open h v)) (change (is_row v.number) (with_holds (put_hold h)) p)
 open-fine v h (Master n q i live hs) f = pick (Fine (after_open h v)) (n == v.number) (Master n q i live (put_hold h hs)) (Master n q i live hs) (λ e. (f.0, f.1, f.2, ap (put_hold h) f.3)) (λ e. absurd (off-true _ e (eqb-refl n v.number f.0)))

@@ -20,7 +20,7 @@ use Rattle.definitions.specs.Run.{Ending, Progress, outcome_of}
 use Rattle.vocabulary.specs.declared.reports.Report.{Report}
 use Rattle.definitions.specs.Claims.{IsStart, IsFewer, AgreesAfter, is_ready_with, ready_with}
 use Rattle.theorems.proofs.Rows.{one, one-le, weigh, weigh-le, count-weigh, both-true, and-left, and-right}
-use Rattle.theorems.proofs.Views.{Names, named, View, Fine, Looks, ready_in, eqb-refl}
+use Rattle.theorems.proofs.Views.{HoldsAll, Names, named, View, Fine, Looks, ready_in, eqb-refl}
 use Rattle.theorems.proofs.Effects.{none, same-is, bears-is}
 use Rattle.theorems.proofs.Sets.{in-here, in-there}
 use Rattle.theorems.proofs.Services.{Sole, live-with, sole-fine, service-is, served-uniform, served-fewer, fewer-same}
@@ -31,7 +31,7 @@ use Rattle.theorems.proofs.Rules.{view, Only, Still}
 ---- The service
 
 -- Of a master alone, whose Ready workers are of one generation and a set and hold what it holds.
-module _ (v : View) (sole : Sole v) (g : Generation) (S : List ℕ) (addresses : List Address) (same : v.held g ≡ v.holds) (keys : (a : Address) → has_address a v.holds ≡ has addresses a) where
+module _ (v : View) (sole : Sole v) (g : Generation) (S : List ℕ) (addresses : List Address) (same : HoldsAll v g) (keys : (a : Address) → has_address a v.holds ≡ has addresses a) where
   -- So many of the set are Ready.
   pub service-of : (r : Names) (n : ℕ) (t : Table) → Only g S r → Looks (view v none r) t.rows → weigh (ready_in v.number (named g (is_in S))) t.rows ≡ n → IsSame (service t) (uniform addresses g n)
   service-of r n t only looks count a = service-is (view v none r) sole g S n t same only looks count a ∙ served-uniform v.holds addresses g n keys a
@@ -57,7 +57,7 @@ first-only t r s h k e = (same-is h r.generation (and-left _ _ e), and-right (sa
 pub first-service : (t : Table) (r : Record) (s : IsStart t r) → IsSame (service t) (uniform (addresses_of r) r.generation (length r.ready))
 first-service t r s =
     let u = first_view r s.agrees.holds in
-    service-of u (λ n. refl) r.generation r.ready (addresses_of r) refl (first-keys t r s) u.ready (length r.ready) t (first-only t r s) (begin t r s) (begin-count t r s)
+    service-of u (λ n. refl) r.generation r.ready (addresses_of r) (λ k. refl) (first-keys t r s) u.ready (length r.ready) t (first-only t r s) (begin t r s) (begin-count t r s)
 
 -- The keys of its service are what the master holds.
 pub first-held : (t : Table) (r : Record) (s : IsStart t r) (a : Address) → is_some (service t a) ≡ true → has_address a s.agrees.holds ≡ true

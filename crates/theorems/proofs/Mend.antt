@@ -104,7 +104,7 @@ module _ (t : Table) (rec : Record) (overdue : List ℕ) (pattern : Pattern) (s 
   on done r names count w q st b =
       let within = all-within g K n done r names count st in
       let b1 = band-part u sc G none r names (named g (is_in (numbers_below n))) count (length (numbers_below n)) 0 w [] q (started-part (view u none r) g K n done r names count [] (numbers_below n) st (below-distinct n) within) (omega arith) b in
-      rule-settle u sc G Target g (numbers_below n) refl (below-distinct n) (λ k e. omega (arith, below-of n k e, low)) rec.retries false (new-full t rec (Mend overdue) pattern s like false) (new-short t rec (Mend overdue) pattern s like) rec.retries 0 (omega arith) w (λ e. absurd (cc e)) r [] q
+      rule-settle u sc G Target g (numbers_below n) (λ k. refl) (below-distinct n) (λ k e. omega (arith, below-of n k e, low)) rec.retries false (new-full t rec (Mend overdue) pattern s like false) (new-short t rec (Mend overdue) pattern s like) rec.retries 0 (omega arith) w (λ e. absurd (cc e)) r [] q
       (λ h k e. let o = st.only h k e in (o.0, below-on n k (⊎_elim (λ a. kept-low k a) (λ a. (st.started k a).1) o.1)))
       b1
 
@@ -156,7 +156,7 @@ module _ (t : Table) (rec : Record) (overdue : List ℕ) (pattern : Pattern) (s 
       let b1 = band-part u sc G none u.ready (named g (is_in R)) (named g (is_in K)) (length R) (length K) 0 false [] (start_at t rec.note) (λ rows looks. weigh-part (view u none u.ready) g rows looks R K dK (λ k e. (in-filter-of (λ j. not (is_in overdue j)) R k e).0)) (omega arith) b0 in
       rule-kills u sc G (forks_any g.image g missing (awaits_any g.image g missing ending)) g dead none u.ready (named g (is_in K)) (length K) 0 false [] (start_at t rec.note)
       (λ k e. off-name k (not-kept k e))
-      (λ s1 r1 q1 less_s less b2. rule-forks-any u sc G (awaits_any g.image g missing ending) g refl missing none r1 (named g (is_in K)) (length K) 0 false [] q1
+      (λ s1 r1 q1 less_s less b2. rule-forks-any u sc G (awaits_any g.image g missing ending) g (λ k. refl) missing none r1 (named g (is_in K)) (length K) 0 false [] q1
       (λ s2 c2 w2 q2 within up b3. rule-awaits-any u sc G (Started g K n) ending g refl (one-more-any g K n) [] 0 missing [] s2 r1 (named g (is_in K)) (length K) w2 q2
       (λ done s3 r3 t3 n3 w3 q3 st less3 up3 b4. on done r3 t3 n3 w3 q3 st (band-still u sc G s3 none r3 t3 n3 0 w3 [] q3
       (λ h k e. let l = less3 h k e in ⊎_elim (λ a. a) (λ a. absurd (true-false (is_in missing k) a.1 (l.1 a.0))) (within h k l.0)) b4))

@@ -166,11 +166,11 @@ module _ (t : Table) (rec : Record) (st : Settings) (pattern : Pattern) (s : IsS
 
   -- the old generation holds what was held at first, and any other what the master holds
   abbrev both : List Hold → View
-  both hs = record { number = rec.pid; others = λ n. false; image = g.image; holds = hs; starting = none; ready = none; held = λ h. if same_generation h g then H0 else hs }
+  both hs = record { number = rec.pid; others = λ n. false; image = g.image; holds = hs; starting = none; ready = none; held = λ h k. if same_generation h g then H0 else hs }
 
   -- all hold what the master holds
   abbrev same : List Hold → View
-  same hs = record { number = rec.pid; others = λ n. false; image = g.image; holds = hs; starting = none; ready = none; held = λ h. hs }
+  same hs = record { number = rec.pid; others = λ n. false; image = g.image; holds = hs; starting = none; ready = none; held = λ h k. hs }
 
   looks0 : Looks (first_view rec H0) t.rows
   looks0 = begin t rec s
@@ -192,15 +192,15 @@ module _ (t : Table) (rec : Record) (st : Settings) (pattern : Pattern) (s : IsS
   common0 : Common H0
   common0 a c = (held-of a c.0, λ k e. e)
 
-  good : (v : View) (hs : List Hold) → v.number ≡ rec.pid → v.holds ≡ hs → ((h : Generation) → (v.held h ≡ H0) ⊎ (v.held h ≡ hs)) → Common hs → (names : Names) (count : ℕ) (w : Bool) (q : Progress) → f ≤ count → Looks (view v any any) q.table.rows → (1 ≤ f → count ≤ ready_of v names q + q.losses) → Marks w q.faults q.losses q.cause → ⊤ → inv q
+  good : (v : View) (hs : List Hold) → v.number ≡ rec.pid → v.holds ≡ hs → ((h : Generation) (k : ℕ) → (v.held h k ≡ H0) ⊎ (v.held h k ≡ hs)) → Common hs → (names : Names) (count : ℕ) (w : Bool) (q : Progress) → f ≤ count → Looks (view v any any) q.table.rows → (1 ≤ f → count ≤ ready_of v names q + q.losses) → Marks w q.faults q.losses q.cause → ⊤ → inv q
   good v hs num is held common names count w q enough looks secured marks beside = (
     λ a k c on. live-with-on (view v any any) (has_socket a k) q.table.rows looks (ap (has_socket a k) is ∙ (common a c).1 k (sym (live-with (first_view rec H0) (λ n. refl) (has_socket a k) t.rows looks0) ∙ on)),
-    λ a c. floor-by f (ready_with a q.table + q.losses) (λ e. omega (arith, enough, secured e, ready-floor (view v any any) names a q.table.rows (λ h. ⊎_elim (λ e. ap (has_address a) e ∙ held-of a c.0) (λ e. ap (has_address a) e ∙ (common a c).0) (held h)) looks)),
+    λ a c. floor-by f (ready_with a q.table + q.losses) (λ e. omega (arith, enough, secured e, ready-floor (view v any any) names a q.table.rows (λ h k. ⊎_elim (λ e. ap (has_address a) e ∙ held-of a c.0) (λ e. ap (has_address a) e ∙ (common a c).0) (held h k)) looks)),
     (marks.clean, marks.blamed),
   )
 
   good-both : (hs : List Hold) → Common hs → (names : Names) (count : ℕ) (w : Bool) (q : Progress) → f ≤ count → Looks (view (both hs) any any) q.table.rows → (1 ≤ f → count ≤ ready_of (both hs) names q + q.losses) → Marks w q.faults q.losses q.cause → ⊤ → inv q
-  good-both hs common = good (both hs) hs refl refl (λ h. either (same_generation h g)) common
+  good-both hs common = good (both hs) hs refl refl (λ h k. either (same_generation h g)) common
     where
       either : (b : Bool) → ((if b then H0 else hs) ≡ H0) ⊎ ((if b then H0 else hs) ≡ hs)
       either true = inl refl
@@ -210,7 +210,7 @@ module _ (t : Table) (rec : Record) (st : Settings) (pattern : Pattern) (s : IsS
   on-both hs common = record { inv = inv; post = post; co = co; acts = acts; good = good-both hs common }
 
   good-same : (hs : List Hold) → Common hs → (names : Names) (count : ℕ) (w : Bool) (q : Progress) → f ≤ count → Looks (view (same hs) any any) q.table.rows → (1 ≤ f → count ≤ ready_of (same hs) names q + q.losses) → Marks w q.faults q.losses q.cause → ⊤ → inv q
-  good-same hs common = good (same hs) hs refl refl (λ h. inr refl) common
+  good-same hs common = good (same hs) hs refl refl (λ h k. inr refl) common
 
   abbrev on-same : (hs : List Hold) → Common hs → Ground (same hs) sc
   on-same hs common = record { inv = inv; post = post; co = co; acts = acts; good = good-same hs common }
@@ -235,14 +235,14 @@ module _ (t : Table) (rec : Record) (st : Settings) (pattern : Pattern) (s : IsS
   Exactly h q = (k : ℕ) → list_any (is_worker is_ready rec.pid h k) q.table.rows ≡ is_in q.ready k
 
   agrees-old : (r : Names) (q : Progress) → Only g R r → Looks (view (both H0) none r) q.table.rows → Exactly g q → Still t.files rec.note t.limits q.table.files q.note q.table.limits → (e : Ending) → Agrees q.table (recorded (resized rec rec.wanted) rec.pid_path (report_at e q) rec.pid)
-  agrees-old r q only looks exact still e = agrees-after (view (both H0) none r) g q.table _ (λ n. refl) (held-old H0 g refl) (λ h k on. (only h k on).0) looks exact refl refl refl s.agrees.listeners (files-still rec.note q.note rec.pid_path rec.pid t.files q.table.files t.limits q.table.limits s.agrees.files still)
+  agrees-old r q only looks exact still e = agrees-after (view (both H0) none r) g q.table _ (λ n. refl) (λ k. held-old H0 g refl) (λ h k on. (only h k on).0) looks exact refl refl refl s.agrees.listeners (files-still rec.note q.note rec.pid_path rec.pid t.files q.table.files t.limits q.table.limits s.agrees.files still)
 
   within-old : (r : Names) (q : Progress) → Only g R r → Looks (view (both H0) none r) q.table.rows → Exactly g q → (k : ℕ) → is_in q.ready k ≡ true → k < rec.wanted
   within-old r q only looks exact k e = every-is_in (λ j. j < rec.wanted) R s.record_in_range.ready k (census-within (both H0) (λ n. refl) g R r q.table.rows q.ready only looks exact k e)
 
   old-full : (r : Names) (q : Progress) (c : ℕ) (w : Bool) → (true ≡ true → w ≡ true) → Only g R r → Band (both H0) sc none r (named g (is_in R)) (length R) c w [] q → ready_of (both H0) (named g (is_in R)) q + length q.lacking ≡ length R → Exactly g q → post (At RolledBack) q
   old-full r q c w up only b saw exact = (
-    λ a. service-of (both H0) (λ n. refl) g R (addresses_of rec) (held-old H0 g refl) (first-keys t rec s) r (length R) q.table only b.looks (omega (arith, saw, ap length b.lacking)) a ∙ sym (first-service t rec s a),
+    λ a. service-of (both H0) (λ n. refl) g R (addresses_of rec) (λ k. held-old H0 g refl) (first-keys t rec s) r (length R) q.table only b.looks (omega (arith, saw, ap length b.lacking)) a ∙ sym (first-service t rec s a),
     tt,
     b.marks.caused (up refl),
     kept-after rec (Reload st) (report_at (At RolledBack) q) q.table rec.wanted refl s.record_in_range s.record_in_range.wanted (within-old r q only b.looks exact) (agrees-old r q only b.looks exact b.still (At RolledBack)),
@@ -252,7 +252,7 @@ module _ (t : Table) (rec : Record) (st : Settings) (pattern : Pattern) (s : IsS
   old-short r q x xs only b saw exact = (
     (
       omega (arith, ap length b.lacking),
-      fewer-same (length q.lacking) _ _ _ _ (λ a. sym (first-service t rec s a)) (λ a. refl) (service-short (both H0) (λ n. refl) g R (addresses_of rec) (held-old H0 g refl) (first-keys t rec s) r (length R) (length q.lacking) q.table only b.looks saw),
+      fewer-same (length q.lacking) _ _ _ _ (λ a. sym (first-service t rec s a)) (λ a. refl) (service-short (both H0) (λ n. refl) g R (addresses_of rec) (λ k. held-old H0 g refl) (first-keys t rec s) r (length R) (length q.lacking) q.table only b.looks saw),
     ),
     omega (arith, b.budget, saw),
     b.marks.caused refl,
@@ -271,7 +271,7 @@ module _ (t : Table) (rec : Record) (st : Settings) (pattern : Pattern) (s : IsS
   moved-is hs lists = ap (λ ls. renewed st ls (next_config rec.generation)) lists ∙ ap (λ o. renewed st (Some (map listener_of hs)) o) (next-is rec.generation numbered)
 
   moved-agrees : (hs : List Hold) (r : Names) (q : Progress) → Only new (numbers_below n) r → Looks (view (same hs) none r) q.table.rows → Exactly new q → Still t.files rec.note t.limits q.table.files q.note q.table.limits → (e : Ending) → Agrees q.table (recorded (moved hs) rec.pid_path (report_at e q) rec.pid)
-  moved-agrees hs r q only looks exact still e = agrees-after (view (same hs) none r) new q.table _ (λ n. refl) refl (λ h k on. (only h k on).0) looks exact refl refl refl refl (files-still rec.note q.note rec.pid_path rec.pid t.files q.table.files t.limits q.table.limits s.agrees.files still)
+  moved-agrees hs r q only looks exact still e = agrees-after (view (same hs) none r) new q.table _ (λ n. refl) (λ k. refl) (λ h k on. (only h k on).0) looks exact refl refl refl refl (files-still rec.note q.note rec.pid_path rec.pid t.files q.table.files t.limits q.table.limits s.agrees.files still)
 
   within-new : (hs : List Hold) (r : Names) (q : Progress) → Only new (numbers_below n) r → Looks (view (same hs) none r) q.table.rows → Exactly new q → (k : ℕ) → is_in q.ready k ≡ true → k < n
   within-new hs r q only looks exact k e = below-of n k (census-within (same hs) (λ n. refl) new (numbers_below n) r q.table.rows q.ready only looks exact k e)
@@ -281,7 +281,7 @@ module _ (t : Table) (rec : Record) (st : Settings) (pattern : Pattern) (s : IsS
 
   new-full : (hs : List Hold) → Lists hs → ((a : Address) → has_address a hs ≡ has wanted a) → (r : Names) (q : Progress) (c : ℕ) (w : Bool) → (false ≡ true → w ≡ true) → Only new (numbers_below n) r → Band (same hs) sc none r (named new (is_in (numbers_below n))) (length (numbers_below n)) c w [] q → ready_of (same hs) (named new (is_in (numbers_below n))) q + length q.lacking ≡ length (numbers_below n) → Exactly new q → post (At Done) q
   new-full hs lists keys r q c w up only b saw exact = (
-    service-of (same hs) (λ n. refl) new (numbers_below n) wanted refl keys r n q.table only b.looks (omega (arith, saw, ap length b.lacking, below-length n)),
+    service-of (same hs) (λ n. refl) new (numbers_below n) wanted (λ k. refl) keys r n q.table only b.looks (omega (arith, saw, ap length b.lacking, below-length n)),
     tt,
     tt,
     moved-left hs keys (At Done) q (moved-is hs lists) (within-new hs r q only b.looks exact) (moved-agrees hs r q only b.looks exact b.still (At Done)),
@@ -289,7 +289,7 @@ module _ (t : Table) (rec : Record) (st : Settings) (pattern : Pattern) (s : IsS
 
   new-short : (hs : List Hold) → Lists hs → ((a : Address) → has_address a hs ≡ has wanted a) → (r : Names) (q : Progress) (x : ℕ) (xs : List ℕ) → Only new (numbers_below n) r → Band (same hs) sc none r (named new (is_in (numbers_below n))) (length (numbers_below n)) rec.retries true (x ∷ xs) q → ready_of (same hs) (named new (is_in (numbers_below n))) q + length q.lacking ≡ length (numbers_below n) → Exactly new q → post (At ShortTarget) q
   new-short hs lists keys r q x xs only b saw exact = (
-    (omega (arith, ap length b.lacking), service-short (same hs) (λ n. refl) new (numbers_below n) wanted refl keys r n (length q.lacking) q.table only b.looks (omega (arith, saw, below-length n))),
+    (omega (arith, ap length b.lacking), service-short (same hs) (λ n. refl) new (numbers_below n) wanted (λ k. refl) keys r n (length q.lacking) q.table only b.looks (omega (arith, saw, below-length n))),
     omega (arith, b.budget, saw),
     b.marks.caused refl,
     moved-left hs keys (At ShortTarget) q (moved-is hs lists) (within-new hs r q only b.looks exact) (moved-agrees hs r q only b.looks exact b.still (At ShortTarget)),
@@ -306,7 +306,7 @@ module _ (t : Table) (rec : Record) (st : Settings) (pattern : Pattern) (s : IsS
   close-old : (l : List Address) (hs : List Hold) → From H0 Common l hs → Common hs → (r : Names) (c : ℕ) (ls : List ℕ) (q : Progress) → Only g R r → Band (both hs) sc none r (named g (is_in R)) (length R) c true ls q → Goes (closes g.image l (settle g.image g R Old rec.retries)) q
   close-old [] hs o common r c ls q only b =
       let b' = subst (λ x. Band (both x) sc none r (named g (is_in R)) (length R) c true ls q) o b in
-      rule-settle (both H0) sc (on-both H0 common0) Old g R (held-old H0 g refl) dR low-R rec.retries true old-full old-short rec.retries 0 (omega arith) true (λ e. refl) r ls q only (band-anew (both H0) sc (on-both H0 common0) none r (named g (is_in R)) (length R) c true ls q b')
+      rule-settle (both H0) sc (on-both H0 common0) Old g R (λ k. held-old H0 g refl) dR low-R rec.retries true old-full old-short rec.retries 0 (omega arith) true (λ e. refl) r ls q only (band-anew (both H0) sc (on-both H0 common0) none r (named g (is_in R)) (length R) c true ls q b')
   close-old (a ∷ l) hs o common r c ls q only b =
       rule-close (both hs) sc (on-both hs common) (closes g.image l (settle g.image g R Old rec.retries)) a r (named g (is_in R)) (length R) c true ls q
       (λ q' b'. close-old l o.before o.rest o.common r c ls q' only (band-holds (after_close a (both hs)) (both o.before) sc none r (named g (is_in R)) (length R) c true ls q' (ap (lacks_address a) o.is ∙ lacks-put a o.hold o.before o.names o.fresh) (λ h k e. cc e)
@@ -359,7 +359,7 @@ module _ (t : Table) (rec : Record) (st : Settings) (pattern : Pattern) (s : IsS
 
   close-new : (l : List Address) (hs : List Hold) → Lists (all_closed l hs) → AllByRecursion (λ b. has wanted b ≡ false) l → ((a : Address) → (has_address a hs && not (has l a)) ≡ has wanted a) → Common hs → (r : Names) (c : ℕ) (q : Progress) → Only new (numbers_below n) r → Band (same hs) sc none r (named new (is_in (numbers_below n))) (length (numbers_below n)) c false [] q → Goes (closes g.image l (settle g.image new (numbers_below n) Target rec.retries)) q
   close-new [] hs lists off keys common r c q only b =
-      rule-settle (same hs) sc (on-same hs common) Target new (numbers_below n) refl (below-distinct n) (λ k e. omega (arith, below-of n k e)) rec.retries false (new-full hs lists (λ a. sym (and-true (has_address a hs)) ∙ keys a)) (new-short hs lists (λ a. sym (and-true (has_address a hs)) ∙ keys a)) rec.retries 0 (omega arith) false (λ e. e) r [] q only (band-anew (same hs) sc (on-same hs common) none r (named new (is_in (numbers_below n))) (length (numbers_below n)) c false [] q b)
+      rule-settle (same hs) sc (on-same hs common) Target new (numbers_below n) (λ k. refl) (below-distinct n) (λ k e. omega (arith, below-of n k e)) rec.retries false (new-full hs lists (λ a. sym (and-true (has_address a hs)) ∙ keys a)) (new-short hs lists (λ a. sym (and-true (has_address a hs)) ∙ keys a)) rec.retries 0 (omega arith) false (λ e. e) r [] q only (band-anew (same hs) sc (on-same hs common) none r (named new (is_in (numbers_below n))) (length (numbers_below n)) c false [] q b)
     where
       and-true : (z : Bool) → (z && true) ≡ z
       and-true true = refl
@@ -446,7 +446,7 @@ module _ (t : Table) (rec : Record) (st : Settings) (pattern : Pattern) (s : IsS
 
   after-opens : (l : List Address) (hs : List Hold) → Lists (all_closed dropped hs) → From H0 Common l hs → ((a : Address) → has_address a hs ≡ (has added a || has_address a H0)) → Common hs → (r : Names) (c : ℕ) (q : Progress) → Only g R r → Band (both hs) sc none r (named g (is_in R)) (length R) c false [] q → Goes (starts g.image new (numbers_below n) (census g.image new (numbers_below n) (census_edges way_on (reload_back g.image g R rec.retries l (reverse (numbers_below n))))) (λ forked. reload_back g.image g R rec.retries l forked)) q
   after-opens l hs lists o has_it common r c q only b =
-      rule-starts (both hs) sc (on-both hs common) (Started g new R n) _ (λ forked. reload_back g.image g R rec.retries l forked) new (held-new hs new refl) (one-more g R n) [] false c (numbers_below n) r (named g (is_in R)) (length R)
+      rule-starts (both hs) sc (on-both hs common) (Started g new R n) _ (λ forked. reload_back g.image g R rec.retries l forked) new (λ k. held-new hs new refl) (one-more g R n) [] false c (numbers_below n) r (named g (is_in R)) (length R)
       (λ done r' names count q' st b'. count-step l hs lists o has_it common done r' names count c q' st b')
       (λ forked ks done ss r' names count q' within only_s st covers b'. back l hs o common ks done forked ss r' names count (c + 1) [] q' st
       (λ k e. ⊎_elim (λ z. absurd (cc (e, ap (λ l. is_in l k) z.1))) (λ all. all k (below-on n k (st.started k e))) covers) only_s b')

@@ -53,7 +53,7 @@ module _ (t : Table) (rec : Record) (pattern : Pattern) (s : IsStart t rec) wher
       let sc = scene t rec Reopen pattern s like in
       let G = ground t rec Reopen pattern s like in
       rule-usr1s u sc G (settle g.image g R Target rec.retries) g R none u.ready (named g (is_in R)) (length R) 0 false [] (start_at t rec.note)
-      (λ q b. rule-settle u sc G Target g R refl (rising-distinct R s.rising) (λ k e. let lt = like.below k e in omega (arith, lt, s.record_in_range.wanted)) rec.retries false (new-full t rec Reopen pattern s like false) (new-short t rec Reopen pattern s like) rec.retries 0 (omega arith) false (λ e. e) u.ready [] q
+      (λ q b. rule-settle u sc G Target g R (λ k. refl) (rising-distinct R s.rising) (λ k e. let lt = like.below k e in omega (arith, lt, s.record_in_range.wanted)) rec.retries false (new-full t rec Reopen pattern s like false) (new-short t rec Reopen pattern s like) rec.retries 0 (omega arith) false (λ e. e) u.ready [] q
       (λ h k e. (same-is h g (and-left _ _ e), and-right (same_generation h g) _ e)) b)
       (start-band t rec Reopen pattern s like (omega arith))
 

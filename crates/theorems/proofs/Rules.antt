@@ -27,7 +27,7 @@ use Rattle.vocabulary.specs.declared.calls.Reply.TheVariants as reply
 use Rattle.definitions.specs.Run.{Progress, after_moment, after_call, Ending, At, answered}
 use Rattle.definitions.specs.Path.{went_wrong, first_cause}
 use Rattle.theorems.proofs.Rows.{one, weigh, weigh-le-all, count-weigh, and-left, and-right, both-true, or-left, or-right}
-use Rattle.theorems.proofs.Views.{Names, named, View, Looks, live_any, ready_in, finds, eqb-is}
+use Rattle.theorems.proofs.Views.{HoldsAll, Names, named, View, Looks, live_any, ready_in, finds, eqb-is}
 use Rattle.theorems.proofs.Exits.{Spares, spares-each, shrinks}
 use Rattle.theorems.proofs.Effects.{Allows, Mine, mine-worker, mine-exited, StaysOther, ready-stays, draining-stays, none, looks-allows, fork-looks, fork-weigh, await-looks, await-gains, gone-looks, gone-weigh, kill-looks, kill-weigh, quit-looks, quit-weigh, bears-is, bears-refl, same-refl, cut-weigh, after_close, cut-looks, after_open, close-weigh, close-looks, mine-of, holds-stay, open-weigh, unheld, open-looks, mine-row}
 use Rattle.theorems.proofs.Counts.{census-looks, census-weigh, census-in, count-set, Distinct}
@@ -169,7 +169,7 @@ abbrev pub seen_as : View → View → View
 seen_as u v = record { number = u.number; others = u.others; image = u.image; holds = v.holds; starting = v.starting; ready = v.ready; held = v.held }
 
 -- the same is known where nobody starts, and the master and those that are ready hold the same
-pub band-holds : (u v : View) (sc : Scene u.number u.image) (s r t : Names) (n c : ℕ) (w : Bool) (ls : List ℕ) (p : Progress) → u.holds ≡ v.holds → ((g : Generation) (k : ℕ) → s g k ≡ true → ⊥) → ((g : Generation) (k : ℕ) → r g k ≡ true → u.held g ≡ v.held g)
+pub band-holds : (u v : View) (sc : Scene u.number u.image) (s r t : Names) (n c : ℕ) (w : Bool) (ls : List ℕ) (p : Progress) → u.holds ≡ v.holds → ((g : Generation) (k : ℕ) → s g k ≡ true → ⊥) → ((g : Generation) (k : ℕ) → r g k ≡ true → u.held g k ≡ v.held g k)
     → Band u sc s r t n c w ls p → Band (seen_as u v) sc none r t n c w ls p
 band-holds u v sc s r t n c w ls p holds idle held b =
     let same : Allows (view u s r) (view (seen_as u v) none r) = record { number = refl; others = λ n e. e; image = refl; holds = holds; starting = λ g k e. absurd (idle g k e); ready = λ g k e. e; held_starting = λ g k e. absurd (idle g k e); held = held } in
@@ -312,7 +312,7 @@ module _ (u : View) (sc : Scene u.number u.image) (gr : Ground u sc) where
 
   ---- Fork, AwaitReady, Kill
 
-  pub rule-fork-on : (bs : Branches) (g : Generation) (x : ℕ) (fds : Option (List ℕ)) (s r t : Names) (n c : ℕ) (w : Bool) (ls : List ℕ) (p : Progress) → u.held g ≡ shared fds u.holds → ((q : Progress) → Band u sc (plus s g x) r t n c w ls q → Edge bs reply.Forked q) → ((q : Progress) → Band u sc s r t n (c + 1) true ls q → Edge bs reply.Again q × Edge bs reply.NoMemory q) → Band u sc s r t n c w ls p → Runs (does u.image (Fork g x fds) bs) p
+  pub rule-fork-on : (bs : Branches) (g : Generation) (x : ℕ) (fds : Option (List ℕ)) (s r t : Names) (n c : ℕ) (w : Bool) (ls : List ℕ) (p : Progress) → u.held g x ≡ shared fds u.holds → ((q : Progress) → Band u sc (plus s g x) r t n c w ls q → Edge bs reply.Forked q) → ((q : Progress) → Band u sc s r t n (c + 1) true ls q → Edge bs reply.Again q × Edge bs reply.NoMemory q) → Band u sc s r t n c w ls p → Runs (does u.image (Fork g x fds) bs) p
   rule-fork-on bs g x fds s r t n c w ls p same on_ok on_bad b =
       let order = Make (Fork g x fds) in
       let hs = shared fds u.holds in
@@ -327,7 +327,7 @@ module _ (u : View) (sc : Scene u.number u.image) (gr : Ground u sc) where
       (fork-looks (view u s r) g x k hs q.table.rows same off b'.looks) (fork-weigh u.number g t x k hs q.table.rows)
       b'.still (sc.grows k g x hs q.table.rows q.losses q.faults b'.beside) b')))
 
-  pub rule-fork : (ok bad : Tree) (g : Generation) (x : ℕ) (fds : Option (List ℕ)) (s r t : Names) (n c : ℕ) (w : Bool) (ls : List ℕ) (p : Progress) → u.held g ≡ shared fds u.holds → ((q : Progress) → Band u sc (plus s g x) r t n c w ls q → Runs ok q) → ((q : Progress) → Band u sc s r t n (c + 1) true ls q → Runs bad q) → Band u sc s r t n c w ls p → Runs (does u.image (Fork g x fds) (fork_edges ok bad)) p
+  pub rule-fork : (ok bad : Tree) (g : Generation) (x : ℕ) (fds : Option (List ℕ)) (s r t : Names) (n c : ℕ) (w : Bool) (ls : List ℕ) (p : Progress) → u.held g x ≡ shared fds u.holds → ((q : Progress) → Band u sc (plus s g x) r t n c w ls q → Runs ok q) → ((q : Progress) → Band u sc s r t n (c + 1) true ls q → Runs bad q) → Band u sc s r t n c w ls p → Runs (does u.image (Fork g x fds) (fork_edges ok bad)) p
   rule-fork ok bad g x fds s r t n c w ls p same on_ok on_bad b =
       rule-fork-on (fork_edges ok bad) g x fds s r t n c w ls p same on_ok (λ q b'. let h = on_bad q b' in (h, h)) b
 
@@ -505,7 +505,7 @@ module _ (u : View) (sc : Scene u.number u.image) (gr : Ground u sc) where
       go true e = e
       go false e = e
 
-  pub rule-round : (rest : Tree) (g : Generation) (x : ℕ) (xs : List ℕ) (r : Names) (S : List ℕ) (n c : ℕ) (p : Progress) → u.held g ≡ u.holds → r g x ≡ false → is_in S x ≡ true → Only g S r → ((r' : Names) (q : Progress) → Only g S r' → Band u sc none r' (named g (is_in S)) n (c + 1) true (x ∷ xs) q → Runs rest q) → Band u sc none r (named g (is_in S)) n c true (x ∷ xs) p → Runs (round u.image g rest) p
+  pub rule-round : (rest : Tree) (g : Generation) (x : ℕ) (xs : List ℕ) (r : Names) (S : List ℕ) (n c : ℕ) (p : Progress) → HoldsAll u g → r g x ≡ false → is_in S x ≡ true → Only g S r → ((r' : Names) (q : Progress) → Only g S r' → Band u sc none r' (named g (is_in S)) n (c + 1) true (x ∷ xs) q → Runs rest q) → Band u sc none r (named g (is_in S)) n c true (x ∷ xs) p → Runs (round u.image g rest) p
   rule-round rest g x xs r S n c p same off in_x only next b =
       let t = named g (is_in S) in
       let joins : Joins g x t t n n c (c + 1) = record { has = both-true (same_generation g g) (is_in S x) (same-refl g) in_x; sub = λ h k e. e; more = omega arith; count = omega arith; enough = b.enough } in
@@ -513,7 +513,7 @@ module _ (u : View) (sc : Scene u.number u.image) (gr : Ground u sc) where
       let bad = λ (q : Progress) (b' : Band u sc (minus s g x) r t n (c + 1) true (x ∷ xs) q). next r q only (band-still (minus s g x) none r t n (c + 1) true (x ∷ xs) q (over g x) b') in
       let killed = Does u.image (KillLacking g) [] (then_edge rest) in
       to-fork g (fork_edges (Does u.image (AwaitLacking g) [] (await_any_edges rest killed)) rest) p x xs b.lacking
-      (rule-fork (Does u.image (AwaitLacking g) [] (await_any_edges rest killed)) rest g x None none r t n c true (x ∷ xs) p same
+      (rule-fork (Does u.image (AwaitLacking g) [] (await_any_edges rest killed)) rest g x None none r t n c true (x ∷ xs) p (same x)
       (λ q b'. to-await g (await_any_edges rest killed) q x xs b'.lacking
       (rule-await (await_any_edges rest killed) g x s r t t n n c (c + 1) true (x ∷ xs) q off joins
       (λ q' b''. next (plus r g x) q' (only-plus g S r x in_x only) (band-still (minus s g x) none (plus r g x) t n (c + 1) true (x ∷ xs) q' (over g x) b''))
@@ -521,7 +521,7 @@ module _ (u : View) (sc : Scene u.number u.image) (gr : Ground u sc) where
       bad b'))
       (λ q b'. next r q only b') b)
 
-  pub rule-settle : (side : Side) (g : Generation) (S : List ℕ) → u.held g ≡ u.holds → Distinct S → ((k : ℕ) → is_in S k ≡ true → k < 1024) → (d : ℕ) (w : Bool) → ((r : Names) (q : Progress) (c : ℕ) (w' : Bool) → (w ≡ true → w' ≡ true) → Only g S r → Band u sc none r (named g (is_in S)) (length S) c w' [] q → Saw g S q → Exact g q → post (At (full_end side)) q) → ((r : Names) (q : Progress) (x : ℕ) (xs : List ℕ) → Only g S r → Band u sc none r (named g (is_in S)) (length S) d true (x ∷ xs) q → Saw g S q → Exact g q → post (At (short_end side)) q) → (rounds c : ℕ) → c + rounds ≡ d → (w' : Bool) → (w ≡ true → w' ≡ true) → (r : Names) (ls : List ℕ) (p : Progress) → Only g S r → Band u sc none r (named g (is_in S)) (length S) c w' ls p → Runs (settle u.image g S side rounds) p
+  pub rule-settle : (side : Side) (g : Generation) (S : List ℕ) → HoldsAll u g → Distinct S → ((k : ℕ) → is_in S k ≡ true → k < 1024) → (d : ℕ) (w : Bool) → ((r : Names) (q : Progress) (c : ℕ) (w' : Bool) → (w ≡ true → w' ≡ true) → Only g S r → Band u sc none r (named g (is_in S)) (length S) c w' [] q → Saw g S q → Exact g q → post (At (full_end side)) q) → ((r : Names) (q : Progress) (x : ℕ) (xs : List ℕ) → Only g S r → Band u sc none r (named g (is_in S)) (length S) d true (x ∷ xs) q → Saw g S q → Exact g q → post (At (short_end side)) q) → (rounds c : ℕ) → c + rounds ≡ d → (w' : Bool) → (w ≡ true → w' ≡ true) → (r : Names) (ls : List ℕ) (p : Progress) → Only g S r → Band u sc none r (named g (is_in S)) (length S) c w' ls p → Runs (settle u.image g S side rounds) p
   rule-settle side g S same dS below_S d w full short zero c sum w' up r ls p only b =
       rule-count (Ends (full_end side)) (Ends (short_end side)) g S r (named g (is_in S)) (length S) c w' ls p dS below_S (λ k e. below_S k (only g k e).1) (λ rows looks. omega arith)
       (λ cs q e b' saw exact. (band-inv none (seen r g cs) (named g (is_in S)) (length S) c w' [] q b', full (seen r g cs) q c w' up (only-seen g S cs r only) b' saw exact))
@@ -591,10 +591,10 @@ module _ (u : View) (sc : Scene u.number u.image) (gr : Ground u sc) where
   }
 
   -- Fork all: nothing is counted until the waits.
-  pub rule-forks : (ok bad : List ℕ → Tree) (g : Generation) (all : List ℕ) → u.held g ≡ u.holds → (r t : Names) (n : ℕ) (w : Bool) (ls : List ℕ) (c : ℕ) → ((done : List ℕ) (s : Names) (q : Progress) → Forking g all [] done s → Band u sc s r t n c w ls q → Runs (ok done) q) → ((ks done : List ℕ) (s : Names) (q : Progress) → Forking g all ks done s → Band u sc s r t n (c + 1) true ls q → Runs (bad done) q) → (ks done : List ℕ) (s : Names) (p : Progress) → Forking g all ks done s → Band u sc s r t n c w ls p → Runs (forks u.image g ks done ok bad) p
+  pub rule-forks : (ok bad : List ℕ → Tree) (g : Generation) (all : List ℕ) → HoldsAll u g → (r t : Names) (n : ℕ) (w : Bool) (ls : List ℕ) (c : ℕ) → ((done : List ℕ) (s : Names) (q : Progress) → Forking g all [] done s → Band u sc s r t n c w ls q → Runs (ok done) q) → ((ks done : List ℕ) (s : Names) (q : Progress) → Forking g all ks done s → Band u sc s r t n (c + 1) true ls q → Runs (bad done) q) → (ks done : List ℕ) (s : Names) (p : Progress) → Forking g all ks done s → Band u sc s r t n c w ls p → Runs (forks u.image g ks done ok bad) p
   rule-forks ok bad g all same r t n w ls c on_ok on_bad [] done s p h b = on_ok done s p h b
   rule-forks ok bad g all same r t n w ls c on_ok on_bad (x ∷ ks) done s p h b =
-      rule-fork (forks u.image g ks (x ∷ done) ok bad) (bad done) g x None s r t n c w ls p same
+      rule-fork (forks u.image g ks (x ∷ done) ok bad) (bad done) g x None s r t n c w ls p (same x)
       (λ q b'. rule-forks ok bad g all same r t n w ls c on_ok on_bad ks (x ∷ done) (plus s g x) q (forking-next g all x ks done s h) b')
       (λ q b'. on_bad (x ∷ ks) done s q h b') b
 
@@ -621,7 +621,7 @@ module _ (u : View) (sc : Scene u.number u.image) (gr : Ground u sc) where
       failed b
 
   -- Fork all, then wait for all. On the way on no number is Starting; on the way back at most those that were forked.
-  pub rule-starts : (Q : Known) (ok : Tree) (bad : List ℕ → Tree) (g : Generation) → u.held g ≡ u.holds → ((x : ℕ) (ks done : List ℕ) (r t : Names) (n : ℕ) → Q (x ∷ ks) done r t n → (r g x ≡ false) × Q ks (x ∷ done) (plus r g x) (also g x t) (n + 1)) → (ls : List ℕ) (w : Bool) (c : ℕ) (all : List ℕ) (r t : Names) (n : ℕ) → ((done : List ℕ) (r' t' : Names) (n' : ℕ) (q : Progress) → Q [] done r' t' n' → Band u sc none r' t' n' c w ls q → Runs ok q) → ((forked ks done : List ℕ) (s r' t' : Names) (n' : ℕ) (q : Progress) → ((k : ℕ) → is_in forked k ≡ true → is_in all k ≡ true) → Only g forked s → Q ks done r' t' n' → ((ks ≡ all) × (done ≡ [])) ⊎ ((k : ℕ) → is_in all k ≡ true → is_in forked k ≡ true) → Band u sc s r' t' n' (c + 1) true ls q → Runs (bad forked) q) → (p : Progress) → Q all [] r t n → Band u sc none r t n c w ls p → Runs (starts u.image g all ok bad) p
+  pub rule-starts : (Q : Known) (ok : Tree) (bad : List ℕ → Tree) (g : Generation) → HoldsAll u g → ((x : ℕ) (ks done : List ℕ) (r t : Names) (n : ℕ) → Q (x ∷ ks) done r t n → (r g x ≡ false) × Q ks (x ∷ done) (plus r g x) (also g x t) (n + 1)) → (ls : List ℕ) (w : Bool) (c : ℕ) (all : List ℕ) (r t : Names) (n : ℕ) → ((done : List ℕ) (r' t' : Names) (n' : ℕ) (q : Progress) → Q [] done r' t' n' → Band u sc none r' t' n' c w ls q → Runs ok q) → ((forked ks done : List ℕ) (s r' t' : Names) (n' : ℕ) (q : Progress) → ((k : ℕ) → is_in forked k ≡ true → is_in all k ≡ true) → Only g forked s → Q ks done r' t' n' → ((ks ≡ all) × (done ≡ [])) ⊎ ((k : ℕ) → is_in all k ≡ true → is_in forked k ≡ true) → Band u sc s r' t' n' (c + 1) true ls q → Runs (bad forked) q) → (p : Progress) → Q all [] r t n → Band u sc none r t n c w ls p → Runs (starts u.image g all ok bad) p
   rule-starts Q ok bad g same more ls w c all r t n on_ok on_bad p h b =
       rule-forks (λ forked. awaits u.image g all ok (bad forked)) bad g all same r t n w ls c
       (λ forked s q fk b'. rule-awaits Q ok (bad forked) g more ls w c all [] s r t n q
@@ -684,10 +684,10 @@ module _ (u : View) (sc : Scene u.number u.image) (gr : Ground u sc) where
   abbrev pub Within_or : Generation → List ℕ → Names → Names → Type 0
   Within_or g ks s s' = (h : Generation) (k : ℕ) → s' h k ≡ true → (s h k ≡ true) ⊎ ((h ≡ g) × (is_in ks k ≡ true))
 
-  pub rule-forks-any : (rest : Tree) (g : Generation) → u.held g ≡ u.holds → (ks : List ℕ) (s r t : Names) (n c : ℕ) (w : Bool) (ls : List ℕ) (p : Progress) → ((s' : Names) (c' : ℕ) (w' : Bool) (q : Progress) → Within_or g ks s s' → (w ≡ true → w' ≡ true) → Band u sc s' r t n c' w' ls q → Runs rest q) → Band u sc s r t n c w ls p → Runs (forks_any u.image g ks rest) p
+  pub rule-forks-any : (rest : Tree) (g : Generation) → HoldsAll u g → (ks : List ℕ) (s r t : Names) (n c : ℕ) (w : Bool) (ls : List ℕ) (p : Progress) → ((s' : Names) (c' : ℕ) (w' : Bool) (q : Progress) → Within_or g ks s s' → (w ≡ true → w' ≡ true) → Band u sc s' r t n c' w' ls q → Runs rest q) → Band u sc s r t n c w ls p → Runs (forks_any u.image g ks rest) p
   rule-forks-any rest g same [] s r t n c w ls p next b = next s c w p (λ h k e. inl e) (λ e. e) b
   rule-forks-any rest g same (x ∷ ks) s r t n c w ls p next b =
-      rule-fork-on (fork_any_edges (forks_any u.image g ks rest)) g x None s r t n c w ls p same
+      rule-fork-on (fork_any_edges (forks_any u.image g ks rest)) g x None s r t n c w ls p (same x)
       (λ q b'. rule-forks-any rest g same ks (plus s g x) r t n c w ls q
       (λ s' c' w' q' within up b''. next s' c' w' q' (λ h k e. ⊎_elim (λ a. ⊎_elim (λ z. inl z) (λ z. let is = bears-is g x h k z in inr (is.0, in-here x k ks (sym is.1))) (or-elim (s h k) (bears g x h k) a)) (λ a. inr (a.0, in-there x k ks a.1)) (within h k e)) up b'') b')
       (λ q b'.

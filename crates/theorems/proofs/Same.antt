@@ -82,7 +82,7 @@ module _ (t : Table) (rec : Record) (target : Target) (pattern : Pattern) (s : I
   pub good : IsGood first scene inv
   good names count w q enough looks secured marks beside = (
     λ a socket common on. live-with-on (view first any any) (has_socket a socket) q.table.rows looks (sym (live-with first (λ n. refl) (has_socket a socket) t.rows looks0) ∙ on),
-    λ a common. floor-by like.floor (ready_with a q.table + q.losses) (λ e. omega (arith, enough, secured e, ready-floor (view first any any) names a q.table.rows (λ h. first-held t rec s a common.0) looks)),
+    λ a common. floor-by like.floor (ready_with a q.table + q.losses) (λ e. omega (arith, enough, secured e, ready-floor (view first any any) names a q.table.rows (λ h k. first-held t rec s a common.0) looks)),
     (marks.clean, marks.blamed),
   )
 
@@ -96,14 +96,14 @@ module _ (t : Table) (rec : Record) (target : Target) (pattern : Pattern) (s : I
 
   -- What a last census says of the record that is left.
   agrees-then : (S : List ℕ) (r : Names) (q : Progress) (wanted : ℕ) → Only g S r → Looks (view first none r) q.table.rows → Exactly q → Still t.files rec.note t.limits q.table.files q.note q.table.limits → (e : Ending) → Agrees q.table (recorded (resized rec wanted) rec.pid_path (report_at e q) rec.pid)
-  agrees-then S r q wanted only looks exact still e = agrees-after (view first none r) g q.table _ (λ n. refl) refl (λ h k on. (only h k on).0) looks exact refl refl refl s.agrees.listeners (files-still rec.note q.note rec.pid_path rec.pid t.files q.table.files t.limits q.table.limits s.agrees.files still)
+  agrees-then S r q wanted only looks exact still e = agrees-after (view first none r) g q.table _ (λ n. refl) (λ k. refl) (λ h k on. (only h k on).0) looks exact refl refl refl s.agrees.listeners (files-still rec.note q.note rec.pid_path rec.pid t.files q.table.files t.limits q.table.limits s.agrees.files still)
 
   within-old : (r : Names) (q : Progress) → Only g R r → Looks (view first none r) q.table.rows → Exactly q → (k : ℕ) → is_in q.ready k ≡ true → k < rec.wanted
   within-old r q only looks exact k e = every-is_in (λ j. j < rec.wanted) R s.record_in_range.ready k (census-within first (λ n. refl) g R r q.table.rows q.ready only looks exact k e)
 
   pub old-full : (r : Names) (q : Progress) (c : ℕ) (w : Bool) → (true ≡ true → w ≡ true) → Only g R r → Band first scene none r (named g (is_in R)) (length R) c w [] q → ready_of first (named g (is_in R)) q + length q.lacking ≡ length R → Exactly q → post (At RolledBack) q
   old-full r q c w up only b saw exact = (
-    λ a. service-of first (λ n. refl) g R (addresses_of rec) refl (first-keys t rec s) r (length R) q.table only b.looks (omega (arith, saw, ap length b.lacking)) a ∙ sym (first-service t rec s a),
+    λ a. service-of first (λ n. refl) g R (addresses_of rec) (λ k. refl) (first-keys t rec s) r (length R) q.table only b.looks (omega (arith, saw, ap length b.lacking)) a ∙ sym (first-service t rec s a),
     tt,
     b.marks.caused (up refl),
     kept-after rec target (report_at (At RolledBack) q) q.table rec.wanted like.rolled_back s.record_in_range s.record_in_range.wanted (within-old r q only b.looks exact) (agrees-then R r q rec.wanted only b.looks exact b.still (At RolledBack)),
@@ -113,7 +113,7 @@ module _ (t : Table) (rec : Record) (target : Target) (pattern : Pattern) (s : I
   old-short r q x xs only b saw exact = (
     (
       omega (arith, ap length b.lacking),
-      fewer-same (length q.lacking) _ _ _ _ (λ a. sym (first-service t rec s a)) (λ a. refl) (service-short first (λ n. refl) g R (addresses_of rec) refl (first-keys t rec s) r (length R) (length q.lacking) q.table only b.looks saw),
+      fewer-same (length q.lacking) _ _ _ _ (λ a. sym (first-service t rec s a)) (λ a. refl) (service-short first (λ n. refl) g R (addresses_of rec) (λ k. refl) (first-keys t rec s) r (length R) (length q.lacking) q.table only b.looks saw),
     ),
     omega (arith, b.budget, saw),
     b.marks.caused refl,
@@ -128,7 +128,7 @@ module _ (t : Table) (rec : Record) (target : Target) (pattern : Pattern) (s : I
 
   pub new-full : (v : Bool) (r : Names) (q : Progress) (c : ℕ) (w : Bool) → (v ≡ true → w ≡ true) → Only g like.set r → Band first scene none r (named g (is_in like.set)) (length like.set) c w [] q → ready_of first (named g (is_in like.set)) q + length q.lacking ≡ length like.set → Exactly q → post (At Done) q
   new-full v r q c w up only b saw exact = (
-    λ a. service-of first (λ n. refl) g like.set (addresses_of rec) refl (first-keys t rec s) r like.count q.table only b.looks (omega (arith, saw, ap length b.lacking, like.sized)) a ∙ ap (λ (f : Service). f a) (sym like.wants),
+    λ a. service-of first (λ n. refl) g like.set (addresses_of rec) (λ k. refl) (first-keys t rec s) r like.count q.table only b.looks (omega (arith, saw, ap length b.lacking, like.sized)) a ∙ ap (λ (f : Service). f a) (sym like.wants),
     tt,
     tt,
     kept-after rec target (report_at (At Done) q) q.table like.wanted like.done s.record_in_range like.most (within-new r q only b.looks exact) (agrees-then like.set r q like.wanted only b.looks exact b.still (At Done)),
@@ -138,7 +138,7 @@ module _ (t : Table) (rec : Record) (target : Target) (pattern : Pattern) (s : I
   new-short r q x xs only b saw exact = (
     (
       omega (arith, ap length b.lacking),
-      fewer-same (length q.lacking) served_fully _ _ _ (λ a. ap (λ (f : Service). f a) (sym like.wants)) (λ a. refl) (service-short first (λ n. refl) g like.set (addresses_of rec) refl (first-keys t rec s) r like.count (length q.lacking) q.table only b.looks (omega (arith, saw, like.sized))),
+      fewer-same (length q.lacking) served_fully _ _ _ (λ a. ap (λ (f : Service). f a) (sym like.wants)) (λ a. refl) (service-short first (λ n. refl) g like.set (addresses_of rec) (λ k. refl) (first-keys t rec s) r like.count (length q.lacking) q.table only b.looks (omega (arith, saw, like.sized))),
     ),
     omega (arith, b.budget, saw),
     b.marks.caused refl,

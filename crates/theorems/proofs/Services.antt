@@ -9,7 +9,7 @@ use Rattle.listener_set.specs.Numbers.{is_in}
 use Rattle.definitions.specs.Service.{Service, is_live_with, is_serving, service, uniform, IsSame}
 use Rattle.definitions.specs.Claims.{IsFewerAt, IsFewer, is_ready_with}
 use Rattle.theorems.proofs.Rows.{every-more, one, one-le, weigh, weigh-same, weigh-le, count-weigh, both-true}
-use Rattle.theorems.proofs.Views.{eqb-off, Row, Other, master_of, Names, named, View, Fine, Looks, ready_in, eqb-refl}
+use Rattle.theorems.proofs.Views.{eqb-off, Row, Other, master_of, Names, named, View, HoldsAll, Fine, Looks, ready_in, eqb-refl}
 use Rattle.theorems.proofs.Effects.{same-is, same-refl}
 
 -- no other master is there
@@ -65,12 +65,12 @@ live-with v sole test rows looks = go (test v.holds) refl
     go false e = none-on rows (sole-fine v sole rows looks.fine) e ∙ sym e
 
 -- the Ready workers of the generation that hold an address are those of the set
-serving-on : (v : View) (g : Generation) (S : List ℕ) (a : Address) → has_address a (v.held g) ≡ true → ((h : Generation) (k : ℕ) → v.ready h k ≡ true → (h ≡ g) × (is_in S k ≡ true)) → (p : Process) → Fine v p → one (is_serving a g p) ≡ ready_in v.number (named g (is_in S)) p
+serving-on : (v : View) (g : Generation) (S : List ℕ) (a : Address) → ((k : ℕ) → has_address a (v.held g k) ≡ true) → ((h : Generation) (k : ℕ) → v.ready h k ≡ true → (h ≡ g) × (is_in S k ≡ true)) → (p : Process) → Fine v p → one (is_serving a g p) ≡ ready_in v.number (named g (is_in S)) p
 serving-on v g S a on only (Master n q i live hs) h = refl
 serving-on v g S a on only (Worker n q g' k Starting hs) h = refl
 serving-on v g S a on only (Worker n q g' k Ready hs) h =
     let o = only g' k h.1.0 in
-    let held : has_address a hs ≡ true = subst (λ l. has_address a l ≡ true) (sym (h.1.1 ∙ ap v.held o.0)) on in
+    let held : has_address a hs ≡ true = subst (λ l. has_address a l ≡ true) (sym (h.1.1 ∙ ap (λ f. v.held f k) o.0)) (on k) in
     let same : same_generation g' g ≡ true = subst (λ f. same_generation f g ≡ true) (sym o.0) (same-refl g) in
     ap one (both-true (same_generation g' g) (has_address a hs) same held) ∙ sym (ap one (both-true (q == v.number) (same_generation g' g && is_in S k) (eqb-refl q v.number h.0) (both-true (same_generation g' g) (is_in S k) same o.1)))
 serving-on v g S a on only (Worker n q g' k Draining hs) h = refl
@@ -102,14 +102,14 @@ served holds g n a =
     then Some (λ h. if same_generation h g then n else 0)
     else None
 
-pub service-is : (v : View) → Sole v → (g : Generation) (S : List ℕ) (n : ℕ) (t : Table) → v.held g ≡ v.holds → ((h : Generation) (k : ℕ) → v.ready h k ≡ true → (h ≡ g) × (is_in S k ≡ true)) → Looks v t.rows → weigh (ready_in v.number (named g (is_in S))) t.rows ≡ n → IsSame (service t) (served v.holds g n)
+pub service-is : (v : View) → Sole v → (g : Generation) (S : List ℕ) (n : ℕ) (t : Table) → HoldsAll v g → ((h : Generation) (k : ℕ) → v.ready h k ≡ true → (h ≡ g) × (is_in S k ≡ true)) → Looks v t.rows → weigh (ready_in v.number (named g (is_in S))) t.rows ≡ n → IsSame (service t) (served v.holds g n)
 service-is v sole g S n t same only looks count a = go (has_address a v.holds) refl
   where
     counts : has_address a v.holds ≡ true → (h : Generation) → count_by (is_serving a h) t.rows ≡ (if same_generation h g then n else 0)
     counts on h = count-weigh (is_serving a h) t.rows ∙ at (same_generation h g) refl
       where
         at : (b : Bool) → same_generation h g ≡ b → weigh (λ p. one (is_serving a h p)) t.rows ≡ (if b then n else 0)
-        at true e = subst (λ f. weigh (λ p. one (is_serving a f p)) t.rows ≡ n) (sym (same-is h g e)) (weigh-same (Fine v) (λ p. one (is_serving a g p)) (ready_in v.number (named g (is_in S))) (serving-on v g S a (ap (has_address a) same ∙ on) only) t.rows (sole-fine v sole t.rows looks.fine) ∙ count)
+        at true e = subst (λ f. weigh (λ p. one (is_serving a f p)) t.rows ≡ n) (sym (same-is h g e)) (weigh-same (Fine v) (λ p. one (is_serving a g p)) (ready_in v.number (named g (is_in S))) (serving-on v g S a (λ k. ap (has_address a) (same k) ∙ on) only) t.rows (sole-fine v sole t.rows looks.fine) ∙ count)
         at false e = weigh-zero (λ p. one (is_serving a h p)) (Fine v) (serving-other v g h S a e only) t.rows (sole-fine v sole t.rows looks.fine)
 
     go : (b : Bool) → has_address a v.holds ≡ b → service t a ≡ served v.holds g n a
@@ -154,18 +154,18 @@ other-unready v t (Worker n q g k s hs) o = go (is_ready s) (q == v.number) (eqb
 other-unready v t (Foreign n hs) o = refl
 
 -- a floor: the Ready workers that hold an address are at least those of some names
-ready-row : (v : View) (t : Names) (a : Address) → ((g : Generation) → has_address a (v.held g) ≡ true) → (p : Process) → Fine v p → ready_in v.number t p ≤ one (is_ready_with a p)
+ready-row : (v : View) (t : Names) (a : Address) → ((g : Generation) (k : ℕ) → has_address a (v.held g k) ≡ true) → (p : Process) → Fine v p → ready_in v.number t p ≤ one (is_ready_with a p)
 ready-row v t a on (Master n q i live hs) h = omega arith
 ready-row v t a on (Worker n q g k Starting hs) h = omega arith
 ready-row v t a on (Worker n q g k Ready hs) h =
-    let held : has_address a hs ≡ true = subst (λ l. has_address a l ≡ true) (sym h.1.1) (on g) in
+    let held : has_address a hs ≡ true = subst (λ l. has_address a l ≡ true) (sym h.1.1) (on g k) in
     omega (arith, ap one held, one-le ((q == v.number) && t g k))
 ready-row v t a on (Worker n q g k Draining hs) h = omega arith
 ready-row v t a on (Worker n q g k Exited hs) h = omega arith
 ready-row v t a on (Foreign n hs) h = omega arith
 
-ready-any : (v : View) (t : Names) (a : Address) → ((g : Generation) → has_address a (v.held g) ≡ true) → (p : Process) → Row v p → ready_in v.number t p ≤ one (is_ready_with a p)
+ready-any : (v : View) (t : Names) (a : Address) → ((g : Generation) (k : ℕ) → has_address a (v.held g k) ≡ true) → (p : Process) → Row v p → ready_in v.number t p ≤ one (is_ready_with a p)
 ready-any v t a on p h = ⊎_elim (λ f. ready-row v t a on p f) (λ o. omega (arith, other-unready v t p o)) h
 
-pub ready-floor : (v : View) (t : Names) (a : Address) (rows : List Process) → ((g : Generation) → has_address a (v.held g) ≡ true) → Looks v rows → weigh (ready_in v.number t) rows ≤ count_by (is_ready_with a) rows
+pub ready-floor : (v : View) (t : Names) (a : Address) (rows : List Process) → ((g : Generation) (k : ℕ) → has_address a (v.held g k) ≡ true) → Looks v rows → weigh (ready_in v.number t) rows ≤ count_by (is_ready_with a) rows
 ready-floor v t a rows on looks = omega (arith, count-weigh (is_ready_with a) rows, weigh-le (Row v) (ready_in v.number t) (λ p. one (is_ready_with a p)) (ready-any v t a on) rows looks.fine)

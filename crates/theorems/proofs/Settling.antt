@@ -273,7 +273,7 @@ master-row v n q i live hs known ours =
 
 module _ (image pid : ℕ) (holds : List Hold) (g : Generation) (S : List ℕ) where
   abbrev u : View
-  u = record { number = pid; others = λ n. true; image = image; holds = holds; starting = none; ready = named g (is_in S); held = λ h. holds }
+  u = record { number = pid; others = λ n. true; image = image; holds = holds; starting = none; ready = named g (is_in S); held = λ h k. holds }
 
   abbrev me : Caller
   me = record { number = pid; holds = holds }
@@ -419,7 +419,7 @@ module _ (image pid : ℕ) (holds : List Hold) (g : Generation) (S : List ℕ) w
 
     -- from what is known before it
     settle-goes : ((k : ℕ) → is_in S k ≡ true → k < 1024) → (r : Names) (w : Bool) (ls : List ℕ) (q : Progress) → Only g S r → Band u sc none r (named g (is_in S)) (length S) owed w ls q → Goes (settle image g S side rounds) q
-    settle-goes below r w ls q only b = rule-settle u sc (grounded inv post co acts (λ t n w q a b c d e. tt)) side g S refl dS below (owed + rounds) false full short rounds owed refl w (λ e. absurd (cc e)) r ls q only b
+    settle-goes below r w ls q only b = rule-settle u sc (grounded inv post co acts (λ t n w q a b c d e. tt)) side g S (λ k. refl) dS below (owed + rounds) false full short rounds owed refl w (λ e. absurd (cc e)) r ls q only b
 
     -- what goes along a tree from there is so of its run
     settles-by : (tree : Tree) → AlwaysNamed text pattern S tree → Goes tree begun → refused_among (image ∷ []) [] pattern p.calls (run_with text tree pattern p).entries ≡ None → Settles image pid holds g S side rounds p (run_with text tree pattern p)
@@ -479,7 +479,7 @@ module _ (image pid : ℕ) (holds : List Hold) (opened : List Address) (g : Gene
 
   -- both the old workers and those that were started
   abbrev wide : View
-  wide = record { number = pid; others = λ n. true; image = image; holds = holds; starting = named new (is_in forked); ready = either; held = held_by }
+  wide = record { number = pid; others = λ n. true; image = image; holds = holds; starting = named new (is_in forked); ready = either; held = λ h k. held_by h }
 
   held-old : held_by g ≡ kept
   held-old = rw (same-refl g) refl
@@ -549,7 +549,7 @@ module _ (image pid : ℕ) (holds : List Hold) (opened : List Address) (g : Gene
 
     -- the old workers, while the master still holds more
     abbrev narrow : List Hold → View
-    narrow hs = record { number = pid; others = λ n. true; image = image; holds = hs; starting = none; ready = named g (is_in S); held = λ h. kept }
+    narrow hs = record { number = pid; others = λ n. true; image = image; holds = hs; starting = none; ready = named g (is_in S); held = λ h k. kept }
 
     close-all : (l : List Address) (hs : List Hold) → all_closed l hs ≡ kept → AllByRecursion (λ a. has_address a kept ≡ false) l → (r : Names) (ls : List ℕ) (q : Progress) → Only g S r → Band (narrow hs) sc' none r t (length S) paid false ls q → Runs' (closes image l (settle image g S Old rounds)) q
     close-all [] hs is off r ls q only b =

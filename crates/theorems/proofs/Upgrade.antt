@@ -68,7 +68,7 @@ module _ (c : Given) where
   spawns r files q only aside next b =
       let order = Make (SpawnMaster image) in
       let bs = spawn_edges ok bad in
-      let gd = good-alone c (u c) (f c) 0 (H0 c) (inl (omega arith)) refl (λ h. refl) (common0 c) in
+      let gd = good-alone c (u c) (f c) 0 (H0 c) (inl (omega arith)) refl (λ h k. refl) (common0 c) in
       let me : Caller = record { number = c.rec.pid; holds = H0 c } in
       rule-step-at (u c) (sc files) (grounded I P (co c) (acts c) gd) order [] bs none r (named (g c) (is_in (R c))) (length (R c)) 0 false [] q refl b (λ es b' fate.
       let p = after_moment es q in
@@ -96,7 +96,7 @@ module _ (c : Given) where
   moves path r q only is there next b =
       let order = Make (MovePid path (oldbin path)) in
       let bs = on (reply.Fine ∷ []) (does c.rec.generation.image (SpawnMaster image) (spawn_edges ok bad)) (on (reply.IoFault ∷ []) (settle c.rec.generation.image (g c) (R c) Old c.rec.retries) Nothing) in
-      let gd = good-alone c (u c) (f c) 0 (H0 c) (inl (omega arith)) refl (λ h. refl) (common0 c) in
+      let gd = good-alone c (u c) (f c) 0 (H0 c) (inl (omega arith)) refl (λ h k. refl) (common0 c) in
       let me : Caller = record { number = c.rec.pid; holds = H0 c } in
       rule-step-at (u c) (sc c.t.files) (grounded I P (co c) (acts c) gd) order [] bs none r (named (g c) (is_in (R c))) (length (R c)) 0 false [] q refl b (λ es b' fate.
       let p = after_moment es q in

@@ -79,11 +79,11 @@ module _ (c : Given) where
     sc files note = alone_scene c c.rec.pid c.rec.generation.image floor need files note
 
     good : (files : List File) (note : PidNote) (names : Names) (count : ℕ) (b : Bool) (q : Progress) → floor ≤ count → Looks (view (u c) any any) q.table.rows → (1 ≤ floor → count ≤ ready_of (u c) names q + q.losses) → Marks b q.faults q.losses q.cause → need ≤ q.losses → I q
-    good files note = good-alone c (u c) floor need (H0 c) kind refl (λ h. refl) (common0 c)
+    good files note = good-alone c (u c) floor need (H0 c) kind refl (λ h k. refl) (common0 c)
 
     pub settle-old : (files : List File) (note : PidNote) (r : Names) (k : ℕ) (ls : List ℕ) (q : Progress) → FilesAre note c.rec.pid_path c.rec.pid files → Only (g c) (R c) r → Band (u c) (sc files note) none r (named (g c) (is_in (R c))) (length (R c)) k true ls q → Goes c (co c) (settle c.rec.generation.image (g c) (R c) Old c.rec.retries) q
     settle-old files note r k ls q are only b =
-        rule-settle (u c) (sc files note) (grounded I P (co c) (acts c) (good files note)) Old (g c) (R c) refl (dR c) (low-R c) c.rec.retries true
+        rule-settle (u c) (sc files note) (grounded I P (co c) (acts c) (good files note)) Old (g c) (R c) (λ k. refl) (dR c) (low-R c) c.rec.retries true
         (λ r' q' k' w' up only' b' saw exact. old-full c files note are r' q' only' b'.looks b'.lacking (b'.marks.caused (up refl)) b'.still saw exact)
         (λ r' q' x xs only' b' saw exact. old-short c files note are r' q' x xs only' b'.looks b'.lacking (b'.marks.caused refl) b'.still b'.budget saw exact)
         c.rec.retries 0 (omega arith) true (λ e. refl) r ls q only
@@ -114,7 +114,7 @@ module _ (c : Given) where
 
   ---- The new master is terminated
 
-  module _ (m : ℕ) (ne : m ≢ c.rec.pid) (hs : List Hold) (s r : Names) (names : Names) (d floor need : ℕ) (kind : (f c ≤ floor) ⊎ ((f c ≤ d) × Common c hs × ((h : Generation) → hs ≡ hs))) (lost : (rows : List Process) (losses : ℕ) → Second c (w c m hs s r) names d rows losses → need ≤ losses) where
+  module _ (m : ℕ) (ne : m ≢ c.rec.pid) (hs : List Hold) (s r : Names) (names : Names) (d floor need : ℕ) (kind : (f c ≤ floor) ⊎ ((f c ≤ d) × Common c hs × ((h : Generation) (k : ℕ) → hs ≡ hs))) (lost : (rows : List Process) (losses : ℕ) → Second c (w c m hs s r) names d rows losses → need ≤ losses) where
     abbrev two : List File → Scene c.rec.pid c.rec.generation.image
     two files = pair_scene c (w c m hs s r) ne (eqb-refl c.rec.pid c.rec.pid refl) names d floor files c.rec.note
 
@@ -122,7 +122,7 @@ module _ (c : Given) where
     v = with_other m (u c)
 
     good-two : (files : List File) (names' : Names) (count : ℕ) (b : Bool) (q : Progress) → floor ≤ count → Looks (view v any any) q.table.rows → (1 ≤ floor → count ≤ ready_of v names' q + q.losses) → Marks b q.faults q.losses q.cause → Second c (w c m hs s r) names d q.table.rows q.losses → I q
-    good-two files = good-pair c v (w c m hs s r) hs names d floor kind refl (λ h. refl)
+    good-two files = good-pair c v (w c m hs s r) hs names d floor kind refl (λ h k. refl)
 
     pub term-master : (rest : Tree) (files : List File) (r0 t : Names) (count k : ℕ) (ls : List ℕ) (q : Progress) → ((q' : Progress) → Band (u c) (alone_scene c c.rec.pid c.rec.generation.image floor need files c.rec.note) none r0 t count k true ls q' → Goes c (co c) rest q') → Band v (two files) none r0 t count k true ls q → Goes c (co c) (does c.rec.generation.image (TermMaster (new c).image) (then_edge rest)) q
     term-master rest files r0 t count k ls q next b =
@@ -152,9 +152,9 @@ module _ (c : Given) where
       let S = R c in
       let t0 = named (g c) (is_in []) in
       let sc0 = alone_scene c c.rec.pid c.rec.generation.image 0 (f c) files c.rec.note in
-      let good0 = good-alone c (u c) 0 (f c) (H0 c) (inr (omega arith)) refl (λ h. refl) (common0 c) in
+      let good0 = good-alone c (u c) 0 (f c) (H0 c) (inr (omega arith)) refl (λ h k. refl) (common0 c) in
       let rest = back_alone c.rec.generation.image h S c.rec.retries c.rec.pid_path in
-      rule-forks-any (u c) sc0 (grounded I P (co c) (acts c) good0) (awaits_any c.rec.generation.image h S rest) h refl S none none t0 0 k true ls q
+      rule-forks-any (u c) sc0 (grounded I P (co c) (acts c) good0) (awaits_any c.rec.generation.image h S rest) h (λ k. refl) S none none t0 0 k true ls q
       (λ s' k' b1 q' within up b2. rule-awaits-any (u c) sc0 (grounded I P (co c) (acts c) good0) (Restarted h S) rest h refl (restarts h S) ls 0 S [] s' none t0 0 b1 q'
       (λ done s2 r2 t2 n2 b3 q2 st less up2 b4.
       let off : (j : Generation) (i : ℕ) → s2 j i ≡ true → none j i ≡ true = λ j i e. let l = less j i e in ⊎_elim (λ a. a) (λ a. absurd (true-false (is_in S i) a.1 (l.1 a.0))) (within j i l.0) in
@@ -200,5 +200,5 @@ module _ (c : Given) where
   -- Back when the new master is gone and the old workers are too: the floor was lost.
   pub goes-back-late : (m : ℕ) (ne : m ≢ c.rec.pid) (hs : List Hold) (s r : Names) → Common c hs → (k : ℕ) (ls : List ℕ) (files : List File) (q : Progress) → Aside c.rec.pid_path files → Band (with_other m (u c)) (pair_scene c (w c m hs s r) ne (eqb-refl c.rec.pid c.rec.pid refl) none (f c) 0 files c.rec.note) none none (named (g c) (is_in [])) 0 k true ls q → Goes c (co c) (back_late c.rec.generation.image (new c).image (g c) (R c) c.rec.retries c.rec.pid_path) q
   goes-back-late m ne hs s r common k ls files q aside b =
-      term-master m ne hs s r none (f c) 0 (f c) (inr (omega arith, common, λ h. refl)) (λ rows losses h. omega (arith, h.1, none-ready m rows)) (starts_any c.rec.generation.image (g c) (R c) (back_alone c.rec.generation.image (g c) (R c) c.rec.retries c.rec.pid_path)) files none (named (g c) (is_in [])) 0 k ls q
+      term-master m ne hs s r none (f c) 0 (f c) (inr (omega arith, common, λ h k. refl)) (λ rows losses h. omega (arith, h.1, none-ready m rows)) (starts_any c.rec.generation.image (g c) (R c) (back_alone c.rec.generation.image (g c) (R c) c.rec.retries c.rec.pid_path)) files none (named (g c) (is_in [])) 0 k ls q
       (λ q' b'. restart k ls files q' aside b') b

@@ -63,7 +63,7 @@ module _ (c : Given) (m : ℕ) (ne : m ≢ c.rec.pid) (r0 : Names) (only0 : Only
   Held x k b ls q = Band v (sc x) none r0 (named (g c) (is_in (R c))) (length (R c)) k b ls q
 
   pub good : (x : Doing) (names' : Names) (count : ℕ) (b : Bool) (q : Progress) → f c ≤ count → Looks (view v any any) q.table.rows → (1 ≤ f c → count ≤ ready_of v names' q + q.losses) → Marks b q.faults q.losses q.cause → Second c (w c m x.hs x.s x.r) x.names x.d q.table.rows q.losses → I q
-  good x = good-pair c v (w c m x.hs x.s x.r) x.hs x.names x.d (f c) (inl (omega arith)) refl (λ h. refl)
+  good x = good-pair c v (w c m x.hs x.s x.r) x.hs x.names x.d (f c) (inl (omega arith)) refl (λ h k. refl)
 
   abbrev pub back : Tree
   back = back_from c.rec.generation.image image (g c) (R c) c.rec.retries c.rec.pid_path

@@ -53,7 +53,7 @@ module _ (c : Given) (m : ℕ) (ne : m ≢ c.rec.pid) (some : 1 ≤ m) (r0 : Nam
   both files = pair_scene c second ne (eqb-refl c.rec.pid c.rec.pid refl) T (n c) 0 files c.rec.note
 
   good : (files : List File) (names' : Names) (count : ℕ) (b : Bool) (q : Progress) → 0 ≤ count → Looks (view v any any) q.table.rows → (1 ≤ 0 → count ≤ ready_of v names' q + q.losses) → Marks b q.faults q.losses q.cause → Second c second T (n c) q.table.rows q.losses → I q
-  good files = good-pair c v second hs T (n c) 0 (inr (few-new c, common, λ h. refl)) refl (λ h. refl)
+  good files = good-pair c v second hs T (n c) 0 (inr (few-new c, common, λ h k. refl)) refl (λ h k. refl)
 
   -- the old master's workers of these names are there, and nothing of them is counted
   abbrev Beside : List File → Names → Names → Bool → Progress → Type 0
@@ -84,11 +84,11 @@ module _ (c : Given) (m : ℕ) (ne : m ≢ c.rec.pid) (some : 1 ≤ m) (r0 : Nam
   last files note = alone_scene c m (new c).image (f c) 0 files note
 
   good-last : (files : List File) (note : PidNote) (names : Names) (count : ℕ) (b : Bool) (q : Progress) → f c ≤ count → Looks (view (x c m hs r) any any) q.table.rows → (1 ≤ f c → count ≤ ready_of (x c m hs r) names q + q.losses) → Marks b q.faults q.losses q.cause → 0 ≤ q.losses → I q
-  good-last files note = good-alone c (x c m hs r) (f c) 0 hs (inl (omega arith)) refl (λ h. refl) common
+  good-last files note = good-alone c (x c m hs r) (f c) 0 hs (inl (omega arith)) refl (λ h k. refl) common
 
   settles : (files : List File) (note : PidNote) (b : Bool) (q : Progress) → FilesAre note c.rec.pid_path m files → Band (x c m hs r) (last files note) none r T (length S) 0 b [] q → Goes c (co_after c) (settle (new c).image (new c) S Target c.rec.retries) q
   settles files note b q are h =
-      rule-settle (x c m hs r) (last files note) (grounded I P (co_after c) (acts-after c) (good-last files note)) Target (new c) S refl (below-distinct (n c)) (λ k e. omega (arith, below-of (n c) k e, low c)) c.rec.retries false
+      rule-settle (x c m hs r) (last files note) (grounded I P (co_after c) (acts-after c) (good-last files note)) Target (new c) S (λ k. refl) (below-distinct (n c)) (λ k e. omega (arith, below-of (n c) k e, low c)) c.rec.retries false
       (λ r' q' k' b' up only' h' saw exact. new-full c m some hs lists keys files note are r' q' only' h'.looks h'.lacking h'.still saw exact)
       (λ r' q' y ys only' h' saw exact. new-short c m some hs lists keys files note are r' q' y ys only' h'.looks h'.lacking (h'.marks.caused refl) h'.still h'.budget saw exact)
       c.rec.retries 0 (omega arith) b (λ e. absurd (cc e)) r [] q only h

@@ -151,8 +151,8 @@ module _ (c : Given) where
   kept-by : (v : View) (hs : List Hold) → v.holds ≡ hs → Common hs → (q : Progress) → Looks v q.table.rows → Kept old target c.t q.table
   kept-by v hs is common q looks = λ a k h on. live-with-on v (has_socket a k) q.table.rows looks (ap (has_socket a k) is ∙ (common a h).1 k (sym (live-with u (λ n. refl) (has_socket a k) c.t.rows looks0) ∙ on))
 
-  level-by : (v : View) (hs : List Hold) → Common hs → ((h : Generation) → v.held h ≡ hs) → (names : Names) (count : ℕ) (q : Progress) → f ≤ count → Looks v q.table.rows → (1 ≤ f → count ≤ ready_of v names q + q.losses) → Level q
-  level-by v hs common held names count q enough looks secured = λ a h. floor-by f (ready_with a q.table + q.losses) (λ e. omega (arith, enough, secured e, ready-floor v names a q.table.rows (λ j. ap (has_address a) (held j) ∙ (common a h).0) looks))
+  level-by : (v : View) (hs : List Hold) → Common hs → ((h : Generation) (k : ℕ) → v.held h k ≡ hs) → (names : Names) (count : ℕ) (q : Progress) → f ≤ count → Looks v q.table.rows → (1 ≤ f → count ≤ ready_of v names q + q.losses) → Level q
+  level-by v hs common held names count q enough looks secured = λ a h. floor-by f (ready_with a q.table + q.losses) (λ e. omega (arith, enough, secured e, ready-floor v names a q.table.rows (λ j k. ap (has_address a) (held j k) ∙ (common a h).0) looks))
 
   ---- The parts
 
@@ -172,7 +172,7 @@ module _ (c : Given) where
     fails = λ rows losses faults h. h;
   }
 
-  pub good-alone : (v : View) (floor need : ℕ) (hs : List Hold) → (f ≤ floor) ⊎ (f ≤ need) → v.holds ≡ hs → ((h : Generation) → v.held h ≡ hs) → Common hs → (names : Names) (count : ℕ) (b : Bool) (q : Progress) → floor ≤ count → Looks (view v any any) q.table.rows → (1 ≤ floor → count ≤ ready_of v names q + q.losses) → Marks b q.faults q.losses q.cause → need ≤ q.losses → inv q
+  pub good-alone : (v : View) (floor need : ℕ) (hs : List Hold) → (f ≤ floor) ⊎ (f ≤ need) → v.holds ≡ hs → ((h : Generation) (k : ℕ) → v.held h k ≡ hs) → Common hs → (names : Names) (count : ℕ) (b : Bool) (q : Progress) → floor ≤ count → Looks (view v any any) q.table.rows → (1 ≤ floor → count ≤ ready_of v names q + q.losses) → Marks b q.faults q.losses q.cause → need ≤ q.losses → inv q
   good-alone v floor need hs kind is held common names count b q enough looks secured marks lost = (
     kept-by (view v any any) hs is common q looks,
     ⊎_elim (λ le. level-by (view v any any) hs common held names count q (omega (arith, le, enough)) looks (λ e. secured (omega (arith, e, le)))) (λ le a h. omega (arith, le, lost)) kind,
@@ -199,7 +199,7 @@ module _ (c : Given) where
   }
 
   -- The floor is the old one's workers', or the other one's.
-  pub good-pair : (v x : View) (hs : List Hold) (names : Names) (d floor : ℕ) → (f ≤ floor) ⊎ ((f ≤ d) × Common hs × ((h : Generation) → x.held h ≡ hs)) → v.holds ≡ H0 → ((h : Generation) → v.held h ≡ H0) → (names' : Names) (count : ℕ) (b : Bool) (q : Progress) → floor ≤ count → Looks (view v any any) q.table.rows → (1 ≤ floor → count ≤ ready_of v names' q + q.losses) → Marks b q.faults q.losses q.cause → Second x names d q.table.rows q.losses → inv q
+  pub good-pair : (v x : View) (hs : List Hold) (names : Names) (d floor : ℕ) → (f ≤ floor) ⊎ ((f ≤ d) × Common hs × ((h : Generation) (k : ℕ) → x.held h k ≡ hs)) → v.holds ≡ H0 → ((h : Generation) (k : ℕ) → v.held h k ≡ H0) → (names' : Names) (count : ℕ) (b : Bool) (q : Progress) → floor ≤ count → Looks (view v any any) q.table.rows → (1 ≤ floor → count ≤ ready_of v names' q + q.losses) → Marks b q.faults q.losses q.cause → Second x names d q.table.rows q.losses → inv q
   good-pair v x hs names d floor kind is held names' count b q enough looks secured marks second = (
     kept-by (view v any any) H0 is common0 q looks,
     ⊎_elim (λ le. level-by (view v any any) H0 common0 held names' count q (omega (arith, le, enough)) looks (λ e. secured (omega (arith, e, le))))
@@ -217,14 +217,14 @@ module _ (c : Given) where
 
   module _ (files : List File) (note : PidNote) (are : FilesAre note c.rec.pid_path c.rec.pid files) where
     agrees-old : (r : Names) (q : Progress) → Only g R r → Looks (view u none r) q.table.rows → Exactly c.rec.pid g q → Still files note c.t.limits q.table.files q.note q.table.limits → (e : Ending) → Agrees q.table (recorded (resized c.rec c.rec.wanted) c.rec.pid_path (report_at e q) c.rec.pid)
-    agrees-old r q only looks exact still e = agrees-after (view u none r) g q.table _ (λ n. refl) refl (λ h k on. (only h k on).0) looks exact refl refl refl c.start.agrees.listeners (files-still note q.note c.rec.pid_path c.rec.pid files q.table.files c.t.limits q.table.limits are still)
+    agrees-old r q only looks exact still e = agrees-after (view u none r) g q.table _ (λ n. refl) (λ k. refl) (λ h k on. (only h k on).0) looks exact refl refl refl c.start.agrees.listeners (files-still note q.note c.rec.pid_path c.rec.pid files q.table.files c.t.limits q.table.limits are still)
 
     within-old : (r : Names) (q : Progress) → Only g R r → Looks (view u none r) q.table.rows → Exactly c.rec.pid g q → (k : ℕ) → is_in q.ready k ≡ true → k < c.rec.wanted
     within-old r q only looks exact k e = every-is_in (λ j. j < c.rec.wanted) R c.start.record_in_range.ready k (census-within u (λ n. refl) g R r q.table.rows q.ready only looks exact k e)
 
     pub old-full : (r : Names) (q : Progress) → Only g R r → Looks (view u none r) q.table.rows → q.lacking ≡ [] → is_some q.cause ≡ true → Still files note c.t.limits q.table.files q.note q.table.limits → Saw c.rec.pid g R q → Exactly c.rec.pid g q → post (At RolledBack) q
     old-full r q only looks full caused still saw exact = (
-      λ a. service-of u (λ n. refl) g R (addresses_of c.rec) refl (first-keys c.t c.rec c.start) r (length R) q.table only looks (omega (arith, saw, ap length full)) a ∙ sym (first-service c.t c.rec c.start a),
+      λ a. service-of u (λ n. refl) g R (addresses_of c.rec) (λ k. refl) (first-keys c.t c.rec c.start) r (length R) q.table only looks (omega (arith, saw, ap length full)) a ∙ sym (first-service c.t c.rec c.start a),
       tt,
       caused,
       kept-after c.rec (Upgrade c.st) (report_at (At RolledBack) q) q.table c.rec.wanted refl c.start.record_in_range c.start.record_in_range.wanted (within-old r q only looks exact) (agrees-old r q only looks exact still (At RolledBack)),
@@ -234,7 +234,7 @@ module _ (c : Given) where
     old-short r q x xs only looks short caused still budget saw exact = (
       (
         omega (arith, ap length short),
-        fewer-same (length q.lacking) _ _ _ _ (λ a. sym (first-service c.t c.rec c.start a)) (λ a. refl) (service-short u (λ n. refl) g R (addresses_of c.rec) refl (first-keys c.t c.rec c.start) r (length R) (length q.lacking) q.table only looks saw),
+        fewer-same (length q.lacking) _ _ _ _ (λ a. sym (first-service c.t c.rec c.start a)) (λ a. refl) (service-short u (λ n. refl) g R (addresses_of c.rec) (λ k. refl) (first-keys c.t c.rec c.start) r (length R) (length q.lacking) q.table only looks saw),
       ),
       omega (arith, budget, saw),
       caused,
@@ -263,11 +263,11 @@ module _ (c : Given) where
     moved-left r q only looks exact still e is =
         moved-after c.rec (Upgrade c.st) (report_at e q) q.table (moved hs) m is (some-held hs wanted keys c.range.listens) low c.range.retries c.range.timeout_least c.range.timeout_most c.start.record_in_range some (λ e. absurd (omega (arith, e)))
         (λ k on. below-of n k (census-within (x m hs r) (λ n. refl) new (numbers_below n) r q.table.rows q.ready only looks exact k on))
-        (agrees-after (view (x m hs r) none r) new q.table _ (λ n. refl) refl (λ h k on. (only h k on).0) looks exact refl refl refl refl (files-still note q.note c.rec.pid_path m files q.table.files c.t.limits q.table.limits are still))
+        (agrees-after (view (x m hs r) none r) new q.table _ (λ n. refl) (λ k. refl) (λ h k on. (only h k on).0) looks exact refl refl refl refl (files-still note q.note c.rec.pid_path m files q.table.files c.t.limits q.table.limits are still))
 
     pub new-full : (r : Names) (q : Progress) → Only new (numbers_below n) r → Looks (view (x m hs r) none r) q.table.rows → q.lacking ≡ [] → Still files note c.t.limits q.table.files q.note q.table.limits → Saw m new (numbers_below n) q → Exactly m new q → post (At Done) q
     new-full r q only looks full still saw exact = (
-      service-of (x m hs r) (λ n. refl) new (numbers_below n) wanted refl keys r n q.table only looks (omega (arith, saw, ap length full, below-length n)),
+      service-of (x m hs r) (λ n. refl) new (numbers_below n) wanted (λ k. refl) keys r n q.table only looks (omega (arith, saw, ap length full, below-length n)),
       tt,
       tt,
       moved-left r q only looks exact still (At Done) (moved-is hs lists),
@@ -275,7 +275,7 @@ module _ (c : Given) where
 
     pub new-short : (r : Names) (q : Progress) (y : ℕ) (ys : List ℕ) → Only new (numbers_below n) r → Looks (view (x m hs r) none r) q.table.rows → q.lacking ≡ y ∷ ys → is_some q.cause ≡ true → Still files note c.t.limits q.table.files q.note q.table.limits → length (numbers_below n) + c.rec.retries ≤ weigh (ready_in m (named new (is_in (numbers_below n)))) q.table.rows + q.losses + q.faults → Saw m new (numbers_below n) q → Exactly m new q → post (At ShortTarget) q
     new-short r q y ys only looks short caused still budget saw exact = (
-      (omega (arith, ap length short), service-short (x m hs r) (λ n. refl) new (numbers_below n) wanted refl keys r n (length q.lacking) q.table only looks (omega (arith, saw, below-length n))),
+      (omega (arith, ap length short), service-short (x m hs r) (λ n. refl) new (numbers_below n) wanted (λ k. refl) keys r n (length q.lacking) q.table only looks (omega (arith, saw, below-length n))),
       omega (arith, budget, saw),
       caused,
       moved-left r q only looks exact still (At ShortTarget) (moved-is hs lists),

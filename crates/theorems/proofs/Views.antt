@@ -27,11 +27,16 @@ pub record View : Type 0 where
   pub holds : List Hold
   pub starting : Names
   pub ready : Names
-  pub held : Generation → List Hold
+  -- what a worker of a name holds
+  pub held : Generation → ℕ → List Hold
+
+-- each worker of the generation holds what the master holds
+abbrev pub HoldsAll : View → Generation → Type 0
+HoldsAll v g = (k : ℕ) → v.held g k ≡ v.holds
 
 abbrev pub FineLive : View → Stance → Generation → ℕ → List Hold → Type 0
-FineLive v Starting g k hs = (v.starting g k ≡ true) × (hs ≡ v.held g)
-FineLive v Ready g k hs = (v.ready g k ≡ true) × (hs ≡ v.held g)
+FineLive v Starting g k hs = (v.starting g k ≡ true) × (hs ≡ v.held g k)
+FineLive v Ready g k hs = (v.ready g k ≡ true) × (hs ≡ v.held g k)
 FineLive v Draining g k hs = hs ≡ []
 FineLive v Exited g k hs = hs ≡ []
 

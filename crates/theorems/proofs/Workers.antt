@@ -129,7 +129,7 @@ module _ (t : Table) (rec : Record) (n : ℕ) (pattern : Pattern) (s : IsStart t
       let b1 = band-part u sc G ss r names (named g (is_in R)) count (length R) c true [] q (λ rows looks. started-part (view u ss r) g R n done r names count ks R st dR (in-later done R) rows looks) (omega (arith, few)) b in
       rule-quits u sc G (settle g.image g R Old rec.retries) g forked ss r (named g (is_in R)) (length R) c true [] q
       (λ k e. off (same_generation g g) (is_in R k) (not-is (is_in R k) (in-filter-of (λ j. not (is_in R j)) (numbers_below n) k (within k e)).1))
-      (λ s' r' q' less_s less b'. rule-settle u sc G Old g R refl dR low-R rec.retries true (old-full t rec (Workers n) pattern s like) (old-short t rec (Workers n) pattern s like) rec.retries 0 (omega arith) true (λ e. refl) r' [] q'
+      (λ s' r' q' less_s less b'. rule-settle u sc G Old g R (λ k. refl) dR low-R rec.retries true (old-full t rec (Workers n) pattern s like) (old-short t rec (Workers n) pattern s like) rec.retries 0 (omega arith) true (λ e. refl) r' [] q'
       (λ h k e. let l = less h k e in let o = st.only h k l.0 in (o.0, ⊎_elim (λ a. a) (λ a. absurd (true-false (is_in forked k) (was k a) (l.1 o.0))) o.1))
       (band-still u sc G s' none r' (named g (is_in R)) (length R) 0 true [] q' (λ h k e. let l = less_s h k e in let o = only h k l.0 in absurd (true-false (is_in forked k) o.1 (l.1 o.0)))
       (band-anew u sc G s' r' (named g (is_in R)) (length R) c true [] q' b')))
@@ -149,7 +149,7 @@ module _ (t : Table) (rec : Record) (n : ℕ) (pattern : Pattern) (s : IsStart t
       rule-quits u sc G (settle g.image g (numbers_below n) Target rec.retries) g surplus none r (named g (is_in (numbers_below n))) (length (numbers_below n)) c false [] q
       (λ k e. let o = in-filter-of (λ j. not (nat_lt j n)) R k (sym (in-reverse (filter (λ j. not (nat_lt j n)) R) k) ∙ e) in
       off (same_generation g g) (is_in (numbers_below n) k) (off-from (numbers_below n) k (λ in_it. let lt = below-of n k in_it in let no_lt = not-is (nat_lt k n) o.1 in let yes_lt : nat_lt k n ≡ true = grind (arith, nat_tests) in true-false (nat_lt k n) yes_lt no_lt)))
-      (λ s' r' q' less_s less b'. rule-settle u sc G Target g (numbers_below n) refl (below-distinct n) (λ k e. omega (arith, below-of n k e)) rec.retries false (new-full t rec (Workers n) pattern s like false) (new-short t rec (Workers n) pattern s like) rec.retries 0 (omega arith) false (λ e. e) r' [] q'
+      (λ s' r' q' less_s less b'. rule-settle u sc G Target g (numbers_below n) (λ k. refl) (below-distinct n) (λ k e. omega (arith, below-of n k e)) rec.retries false (new-full t rec (Workers n) pattern s like false) (new-short t rec (Workers n) pattern s like) rec.retries 0 (omega arith) false (λ e. e) r' [] q'
       (λ h k e.
       let l = less h k e in
       let o = st.only h k l.0 in
@@ -187,7 +187,7 @@ module _ (t : Table) (rec : Record) (n : ℕ) (pattern : Pattern) (s : IsStart t
 
   goes : Goes t rec (Workers n) pattern s like (workers_tree g.image g R rec.retries n) (start_at t rec.note)
   goes =
-      rule-starts u sc G (Started g R n) (quits g.image g surplus (settle g.image g (numbers_below n) Target rec.retries)) (λ forked. quits g.image g forked (settle g.image g R Old rec.retries)) g refl (one-more g R n) [] false 0 fresh_numbers u.ready (named g (is_in R)) (length R)
+      rule-starts u sc G (Started g R n) (quits g.image g surplus (settle g.image g (numbers_below n) Target rec.retries)) (λ forked. quits g.image g forked (settle g.image g R Old rec.retries)) g (λ k. refl) (one-more g R n) [] false 0 fresh_numbers u.ready (named g (is_in R)) (length R)
       (λ done r names count q st b. on done r names count 0 q st b)
       (λ forked ks done ss r names count q within only st covers b. back forked ks done ss r names count 1 q within only st covers b)
       (start_at t rec.note) begun
