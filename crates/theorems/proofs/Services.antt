@@ -1,16 +1,17 @@
 -- What a view says of the service of a table.
 use Rattle.definitions.specs.Table.{is_ready, Address, same_generation, Hold, Process, Master, Worker, Foreign, Table, has_address}
 use Rattle.std.proofs.Common.{⊎_elim, ◌≡◌, ℕ, ◌+◌, ◌≤◌, Bool, true, false, List, [], ◌∷◌, Some, None, refl, sym, ap, ◌∙◌, subst, arith}
-use Rattle.std.specs.Prelude.{◌||◌, count_by, ◌&&◌, ◌==◌, if◌then◌else◌, bytes_eq}
+use Rattle.std.specs.Prelude.{◌||◌, count_by, filter, ◌&&◌, ◌==◌, if◌then◌else◌, bytes_eq}
 use Rattle.std.specs.List.{AllByRecursion, list_any}
 use Rattle.vocabulary.specs.declared.table.Stance.TheVariants.{Starting, Ready, Draining, Exited}
 use Rattle.listener_set.specs.declared.generation.Generation.{Generation}
 use Rattle.listener_set.specs.Numbers.{is_in}
 use Rattle.definitions.specs.Service.{Service, is_live_with, is_serving, service, uniform, IsSame}
 use Rattle.definitions.specs.Claims.{IsFewerAt, IsFewer, is_ready_with}
-use Rattle.theorems.proofs.Rows.{every-more, one, one-le, weigh, weigh-same, weigh-le, count-weigh, both-true}
+use Rattle.theorems.proofs.Rows.{every-more, one, one-le, weigh, weigh-same, weigh-le, count-weigh}
 use Rattle.theorems.proofs.Views.{eqb-off, Row, Other, master_of, Names, named, View, HoldsAll, Fine, Looks, ready_in, eqb-refl}
 use Rattle.theorems.proofs.Effects.{same-is, same-refl}
+use Rattle.theorems.proofs.Counts.{in-filter}
 
 -- no other master is there
 abbrev pub Sole : View → Type 0
@@ -64,18 +65,23 @@ live-with v sole test rows looks = go (test v.holds) refl
     go true e = live-with-on v test rows looks e ∙ sym e
     go false e = none-on rows (sole-fine v sole rows looks.fine) e ∙ sym e
 
--- the Ready workers of the generation that hold an address are those of the set
-serving-on : (v : View) (g : Generation) (S : List ℕ) (a : Address) → ((k : ℕ) → has_address a (v.held g k) ≡ true) → ((h : Generation) (k : ℕ) → v.ready h k ≡ true → (h ≡ g) × (is_in S k ≡ true)) → (p : Process) → Fine v p → one (is_serving a g p) ≡ ready_in v.number (named g (is_in S)) p
-serving-on v g S a on only (Master n q i live hs) h = refl
-serving-on v g S a on only (Worker n q g' k Starting hs) h = refl
-serving-on v g S a on only (Worker n q g' k Ready hs) h =
+-- those of some numbers whose workers hold an address
+abbrev pub holders : View → Generation → List ℕ → Address → List ℕ
+holders v g S a = filter (λ k. has_address a (v.held g k)) S
+
+-- the Ready workers of the generation that hold an address are the holders among those of the set
+serving-on : (v : View) (g : Generation) (S : List ℕ) (a : Address) → ((h : Generation) (k : ℕ) → v.ready h k ≡ true → (h ≡ g) × (is_in S k ≡ true)) → (p : Process) → Fine v p → one (is_serving a g p) ≡ ready_in v.number (named g (is_in (holders v g S a))) p
+serving-on v g S a only (Master n q i live hs) h = refl
+serving-on v g S a only (Worker n q g' k Starting hs) h = refl
+serving-on v g S a only (Worker n q g' k Ready hs) h =
     let o = only g' k h.1.0 in
-    let held : has_address a hs ≡ true = subst (λ l. has_address a l ≡ true) (sym (h.1.1 ∙ ap (λ f. v.held f k) o.0)) (on k) in
+    let held : has_address a hs ≡ has_address a (v.held g k) = ap (has_address a) (h.1.1 ∙ ap (λ f. v.held f k) o.0) in
     let same : same_generation g' g ≡ true = subst (λ f. same_generation f g ≡ true) (sym o.0) (same-refl g) in
-    ap one (both-true (same_generation g' g) (has_address a hs) same held) ∙ sym (ap one (both-true (q == v.number) (same_generation g' g && is_in S k) (eqb-refl q v.number h.0) (both-true (same_generation g' g) (is_in S k) same o.1)))
-serving-on v g S a on only (Worker n q g' k Draining hs) h = refl
-serving-on v g S a on only (Worker n q g' k Exited hs) h = refl
-serving-on v g S a on only (Foreign n hs) h = refl
+    let among : is_in (holders v g S a) k ≡ has_address a (v.held g k) = in-filter (λ j. has_address a (v.held g j)) S k ∙ ap (λ b. b && has_address a (v.held g k)) o.1 in
+    rw (same, eqb-refl q v.number h.0, among, held) refl
+serving-on v g S a only (Worker n q g' k Draining hs) h = refl
+serving-on v g S a only (Worker n q g' k Exited hs) h = refl
+serving-on v g S a only (Foreign n hs) h = refl
 
 serving-other : (v : View) (g h : Generation) (S : List ℕ) (a : Address) → same_generation h g ≡ false → ((h : Generation) (k : ℕ) → v.ready h k ≡ true → (h ≡ g) × (is_in S k ≡ true)) → (p : Process) → Fine v p → one (is_serving a h p) ≡ 0
 serving-other v g h S a off only (Master n q i live hs) f = refl
@@ -95,30 +101,53 @@ weigh-zero : (u : Process → ℕ) (P : Process → Type 0) → ((p : Process) �
 weigh-zero u P h [] all = refl
 weigh-zero u P h (p ∷ rows) all = omega (arith, h p all.0, weigh-zero u P h rows all.1)
 
--- the service of workers of one generation that hold what the master holds
-abbrev pub served : List Hold → Generation → ℕ → Service
-served holds g n a =
+-- the service of workers of one generation, so many at each address that the master holds
+abbrev pub served_by : List Hold → Generation → (Address → ℕ) → Service
+served_by holds g n a =
     if has_address a holds
-    then Some (λ h. if same_generation h g then n else 0)
+    then Some (λ h. if same_generation h g then n a else 0)
     else None
 
-pub service-is : (v : View) → Sole v → (g : Generation) (S : List ℕ) (n : ℕ) (t : Table) → HoldsAll v g → ((h : Generation) (k : ℕ) → v.ready h k ≡ true → (h ≡ g) × (is_in S k ≡ true)) → Looks v t.rows → weigh (ready_in v.number (named g (is_in S))) t.rows ≡ n → IsSame (service t) (served v.holds g n)
-service-is v sole g S n t same only looks count a = go (has_address a v.holds) refl
+-- as many at each
+abbrev pub served : List Hold → Generation → ℕ → Service
+served holds g n = served_by holds g (λ a. n)
+
+-- how many of some numbers are Ready and hold an address
+abbrev pub held_at : View → Generation → List ℕ → Table → Address → ℕ
+held_at v g S t a = weigh (ready_in v.number (named g (is_in (holders v g S a)))) t.rows
+
+pub service-by : (v : View) → Sole v → (g : Generation) (S : List ℕ) (t : Table) → ((h : Generation) (k : ℕ) → v.ready h k ≡ true → (h ≡ g) × (is_in S k ≡ true)) → Looks v t.rows → IsSame (service t) (served_by v.holds g (held_at v g S t))
+service-by v sole g S t only looks a = go (has_address a v.holds) refl
   where
-    counts : has_address a v.holds ≡ true → (h : Generation) → count_by (is_serving a h) t.rows ≡ (if same_generation h g then n else 0)
-    counts on h = count-weigh (is_serving a h) t.rows ∙ at (same_generation h g) refl
+    counts : (h : Generation) → count_by (is_serving a h) t.rows ≡ (if same_generation h g then held_at v g S t a else 0)
+    counts h = count-weigh (is_serving a h) t.rows ∙ at (same_generation h g) refl
       where
-        at : (b : Bool) → same_generation h g ≡ b → weigh (λ p. one (is_serving a h p)) t.rows ≡ (if b then n else 0)
-        at true e = subst (λ f. weigh (λ p. one (is_serving a f p)) t.rows ≡ n) (sym (same-is h g e)) (weigh-same (Fine v) (λ p. one (is_serving a g p)) (ready_in v.number (named g (is_in S))) (serving-on v g S a (λ k. ap (has_address a) (same k) ∙ on) only) t.rows (sole-fine v sole t.rows looks.fine) ∙ count)
+        at : (b : Bool) → same_generation h g ≡ b → weigh (λ p. one (is_serving a h p)) t.rows ≡ (if b then held_at v g S t a else 0)
+        at true e = subst (λ f. weigh (λ p. one (is_serving a f p)) t.rows ≡ held_at v g S t a) (sym (same-is h g e)) (weigh-same (Fine v) (λ p. one (is_serving a g p)) (ready_in v.number (named g (is_in (holders v g S a)))) (serving-on v g S a only) t.rows (sole-fine v sole t.rows looks.fine))
         at false e = weigh-zero (λ p. one (is_serving a h p)) (Fine v) (serving-other v g h S a e only) t.rows (sole-fine v sole t.rows looks.fine)
 
-    go : (b : Bool) → has_address a v.holds ≡ b → service t a ≡ served v.holds g n a
+    go : (b : Bool) → has_address a v.holds ≡ b → service t a ≡ served_by v.holds g (held_at v g S t) a
     go true e =
         let left : list_any (is_live_with (has_address a)) t.rows ≡ true = live-with v sole (has_address a) t.rows looks ∙ e in
-        rw (left, e) (λ i. Some (λ h. counts e h i))
+        rw (left, e) (λ i. Some (λ h. counts h i))
     go false e =
         let left : list_any (is_live_with (has_address a)) t.rows ≡ false = live-with v sole (has_address a) t.rows looks ∙ e in
         rw (left, e)
+
+-- where each holds what the master holds, all are holders
+all-holders : (v : View) (g : Generation) (S : List ℕ) (a : Address) → ((k : ℕ) → has_address a (v.held g k) ≡ true) → holders v g S a ≡ S
+all-holders v g [] a on = refl
+all-holders v g (k ∷ S) a on = rw (on k) (ap (λ ks. k ∷ ks) (all-holders v g S a on))
+
+pub service-is : (v : View) → Sole v → (g : Generation) (S : List ℕ) (n : ℕ) (t : Table) → HoldsAll v g → ((h : Generation) (k : ℕ) → v.ready h k ≡ true → (h ≡ g) × (is_in S k ≡ true)) → Looks v t.rows → weigh (ready_in v.number (named g (is_in S))) t.rows ≡ n → IsSame (service t) (served v.holds g n)
+service-is v sole g S n t same only looks count a = service-by v sole g S t only looks a ∙ go (has_address a v.holds) refl
+  where
+    go : (b : Bool) → has_address a v.holds ≡ b → served_by v.holds g (held_at v g S t) a ≡ served v.holds g n a
+    go true e =
+        let all : holders v g S a ≡ S = all-holders v g S a (λ k. ap (has_address a) (same k) ∙ e) in
+        let many : held_at v g S t a ≡ n = ap (λ ks. weigh (ready_in v.number (named g (is_in ks))) t.rows) all ∙ count in
+        ap (λ m. if has_address a v.holds then Some (λ h. if same_generation h g then m else 0) else None) many
+    go false e = rw e refl
 
 pub served-uniform : (holds : List Hold) (addresses : List Address) (g : Generation) (n : ℕ) → ((a : Address) → has_address a holds ≡ list_any (λ b. bytes_eq b a) addresses) → IsSame (served holds g n) (uniform addresses g n)
 served-uniform holds addresses g n e a = ap (λ b. if b then Some (λ h. if same_generation h g then n else 0) else None) (e a)
