@@ -4,6 +4,7 @@ use Rattle.std.proofs.lemmas.Bool.{cases_eq, cases_lt}
 use Rattle.std.proofs.lemmas.Bool.Decides.{nat_tests}
 use Rattle.listener_set.specs.Numbers.{is_in, RisesFrom, AreBelow}
 use Rattle.listener_set.specs.Descriptors.{descriptors_of, socket_of, without_descriptor, pair_from, only_of}
+use Rattle.listener_set.proofs.NumberBits.{and_true, and_false}
 use Rattle.listener_set.proofs.NumberSets.{filter-filter}
 
 -- a descriptor that has no socket is not among them
@@ -90,14 +91,6 @@ or_true false = refl
 or_false : (b : Bool) → (b || false) ≡ b
 or_false true = refl
 or_false false = refl
-
-and_true : (b : Bool) → (b && true) ≡ b
-and_true true = refl
-and_true false = refl
-
-and_false : (b : Bool) → (b && false) ≡ false
-and_false true = refl
-and_false false = refl
 
 pub left-all : (fds : List ℕ) (pairs : List (ℕ × ℕ)) (b bound : ℕ) → bound ≤ b → RisesFrom b (descriptors_of pairs) → pairs ≡ filter (is_left fds bound) pairs
 left-all fds [] b bound le h = refl

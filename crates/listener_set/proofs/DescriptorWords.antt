@@ -1,6 +1,7 @@
 -- The descriptors of a set, as its word changes.
 use Rattle.std.proofs.Common.{◌≡◌, ℕ, ◌+◌, ◌^◌, ◌<◌, ◌≤◌, Bool, true, false, ◌&&◌, ◌||◌, nat_eq, nat_lt, List, [], ◌∷◌, ◌++◌, filter, refl, sym, ◌∙◌, ap, arith}
 use Rattle.std.specs.Prelude.{bytes_eq, ◌↔◌}
+use Rattle.std.specs.Cmp.{both_ways}
 use Rattle.std.specs.Cmp.Lexicographic.{bytes_decides}
 use Rattle.std.specs.List.{All}
 use Rattle.std.proofs.lemmas.Bool.Decides.{nat_tests}
@@ -62,21 +63,10 @@ all_again word = filter_below-same (is_in (descriptors_in word)) (is_bit word) 6
 
 -- ---- two sets are equal where their words are
 pub same_word : (a b : ℕ) → a < 2 ^ 64 → b < 2 ^ 64 → nat_eq a b ≡ bytes_eq (descriptors_in a) (descriptors_in b)
-same_word a b ha hb = at (nat_eq a b) (bytes_eq (descriptors_in a) (descriptors_in b)) refl refl
-  where
-    equal : (xs : List ℕ) → bytes_eq xs xs ≡ true
-    equal xs = (bytes_decides xs xs).1 refl
-
-    at : (x y : Bool) → nat_eq a b ≡ x → bytes_eq (descriptors_in a) (descriptors_in b) ≡ y → x ≡ y
-    at true true e f = refl
-    at false false e f = refl
-    at true false e f =
-        let same : a ≡ b = grind (arith, nat_tests) in
-        sym (equal (descriptors_in a)) ∙ ap (λ w. bytes_eq (descriptors_in a) (descriptors_in w)) same ∙ f
-    at false true e f =
-        let same : descriptors_in a ≡ descriptors_in b = (bytes_decides (descriptors_in a) (descriptors_in b)).0 f in
-        let words : a ≡ b = sym (word_again a ha) ∙ ap word_of same ∙ word_again b hb in
-        grind (arith, nat_tests)
+same_word a b ha hb =
+    let shown = bytes_decides (descriptors_in a) (descriptors_in b) in
+    both_ways (nat_eq a b) (bytes_eq (descriptors_in a) (descriptors_in b)) (λ e. let same : a ≡ b = grind (arith, nat_tests) in shown.1 (ap descriptors_in same))
+    (λ e. let same : a ≡ b = sym (word_again a ha) ∙ ap word_of (shown.0 e) ∙ word_again b hb in grind (arith, nat_tests))
 
 -- the word of no descriptors is zero
 pub none_in_zero : (word : ℕ) → word < 2 ^ 64 → (nat_eq word 0 ≡ true) ↔ (descriptors_in word ≡ [])

@@ -1,6 +1,7 @@
 -- The numbers of a set, as its words change.
 use Rattle.std.proofs.Common.{◌≡◌, ℕ, zero, suc, ◌+◌, ◌<◌, ◌≤◌, Bool, true, false, cond, not, ◌&&◌, ◌||◌, nat_eq, nat_lt, List, [], ◌∷◌, ◌++◌, length, filter, refl, sym, ◌∙◌, ap, arith, append-nil, add-one, subst}
 use Rattle.std.specs.Prelude.{bytes_eq}
+use Rattle.std.specs.Cmp.{both_ways}
 use Rattle.std.specs.Cmp.Lexicographic.{bytes_decides}
 use Rattle.std.proofs.lemmas.Bool.Decides.{nat_tests}
 use Rattle.std.proofs.lemmas.List.Elements.{filter-append}
@@ -105,19 +106,10 @@ filter_below-more p n b e =
     at false = append-nil (filter p (numbers_below n))
 
 -- ---- two sets are equal where their words are
-pub same_words : (a b : List ℕ) → AreWords a → AreWords b → bytes_eq a b ≡ bytes_eq (numbers_of a) (numbers_of b)
-same_words a b ha hb = at (bytes_eq a b) (bytes_eq (numbers_of a) (numbers_of b)) refl refl
-  where
-    equal : (xs : List ℕ) → bytes_eq xs xs ≡ true
-    equal xs = (bytes_decides xs xs).1 refl
 
-    at : (x y : Bool) → bytes_eq a b ≡ x → bytes_eq (numbers_of a) (numbers_of b) ≡ y → x ≡ y
-    at true true e f = refl
-    at false false e f = refl
-    at true false e f =
-        let same : a ≡ b = (bytes_decides a b).0 e in
-        sym (equal (numbers_of a)) ∙ ap (λ ws. bytes_eq (numbers_of a) (numbers_of ws)) same ∙ f
-    at false true e f =
-        let same : numbers_of a ≡ numbers_of b = (bytes_decides (numbers_of a) (numbers_of b)).0 f in
-        let words : a ≡ b = sym (words_again a ha) ∙ ap words_of same ∙ words_again b hb in
-        sym e ∙ ap (bytes_eq a) (sym words) ∙ equal a
+pub same_words : (a b : List ℕ) → AreWords a → AreWords b → bytes_eq a b ≡ bytes_eq (numbers_of a) (numbers_of b)
+same_words a b ha hb =
+    let told = bytes_decides a b in
+    let shown = bytes_decides (numbers_of a) (numbers_of b) in
+    both_ways (bytes_eq a b) (bytes_eq (numbers_of a) (numbers_of b)) (λ e. shown.1 (ap numbers_of (told.0 e)))
+    (λ e. told.1 (sym (words_again a ha) ∙ ap words_of (shown.0 e) ∙ words_again b hb))

@@ -3,6 +3,8 @@ ghost use Rattle.std.specs.Prelude.{◌≡◌, ◌≤◌, ◌++◌, ◌∷◌, [
 ghost use Rattle.std.specs.List.{sum_by};
 ghost use Rattle.listener_set.specs.Groups.{addresses_in, workers_in, group_of, group_at, part_of, size_in, group_refused, AreGroups};
 
+use crate::listeners::MOST_LISTENERS;
+use crate::numbers::WORKER_LIMIT;
 use std::marker::Model;
 use thiserror::Error;
 
@@ -10,10 +12,7 @@ use thiserror::Error;
 pub const MOST_GROUPS: usize = 16;
 
 /// The most addresses of a service, over all its groups.
-const MOST_ADDRESSES: u32 = 64;
-
-/// The most workers of a service, over all its groups.
-const MOST_WORKERS: u32 = 1024;
+const MOST_ADDRESSES: u32 = MOST_LISTENERS as u32;
 
 /// A group of workers, with listeners of its own: the next so many addresses of a service, and the next so many of its
 /// worker numbers.
@@ -88,7 +87,7 @@ impl Groups {
     pub fn one(addresses: u32, workers: u32) -> Self
         requires some { 1 ≤ addresses }
         requires addresses { addresses ≤ MOST_ADDRESSES }
-        requires workers { workers ≤ MOST_WORKERS }
+        requires workers { workers ≤ WORKER_LIMIT }
         ensures { result ≡ (record { addresses = addresses; workers = workers }) ∷ [] }
     {
         let none = Group {
@@ -175,7 +174,7 @@ impl Groups {
         if group.addresses > MOST_ADDRESSES - self.addresses() {
             return Some(GroupRefusal::TooManyAddresses);
         }
-        if group.workers > MOST_WORKERS - self.workers() {
+        if group.workers > WORKER_LIMIT - self.workers() {
             return Some(GroupRefusal::TooManyWorkers);
         }
         None
