@@ -63,8 +63,11 @@ class Built:
 
     def refuses(self, edit, kept):
         """Whether a whole check refuses the edit, and what is to be said of it: `rt must-fail` of one edit."""
-        well, text = rt.must_fail(self.crate, edit, ["--jobs", "1"], kept)
-        return (well, text) if well else rt.must_fail(self.crate, edit, ["--jobs", "1"])
+        refused = (rt.REFUSED, rt.AT_LIMIT)
+        came_to, text = rt.must_fail(self.crate, edit, ["--jobs", "1"], kept)
+        if came_to not in refused:
+            came_to, text = rt.must_fail(self.crate, edit, ["--jobs", "1"])
+        return came_to in refused, text
 
     def functions(self):
         source = bodies.Source(self.folder)

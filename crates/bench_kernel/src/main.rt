@@ -5,7 +5,7 @@
 
 use anyhow::Context;
 use kernel_model::{Kernel, Moment};
-use listener_set::{Address, DescriptorSet, Generation, ListenerSet, Numbers};
+use listener_set::{Address, DescriptorSet, Generation, Groups, ListenerSet, Numbers};
 use std::time::{Duration, Instant};
 use vocabulary::{Actor, Answer, Call, Limits};
 
@@ -74,7 +74,14 @@ fn started(rt: &HostRuntime, workers: u32, calls: u32) -> anyhow::Result<Kernel>
         processes: 65_535,
         descriptors: 64,
     };
-    let mut kernel = Kernel::boot(rt.alloc(), &listeners, workers, None, limits)?;
+    let mut kernel = Kernel::boot(
+        rt.alloc(),
+        &listeners,
+        &Groups::one(1, 1),
+        workers,
+        None,
+        limits,
+    )?;
     kernel.reserve(calls)?;
     Ok(kernel)
 }

@@ -5,7 +5,7 @@
 ghost use Rattle.std.specs.Prelude.{◌≤◌};
 ghost use Rattle.definitions.specs.Target.{IsTarget};
 
-use listener_set::Numbers;
+use listener_set::{Groups, Numbers};
 use service_state::Record;
 use std::time::{Duration, Instant};
 use vocabulary::{Settings, Target};
@@ -52,6 +52,7 @@ fn renew(rt: &HostRuntime, workers: u32) -> anyhow::Result<()>
 {
     let mut settings = Settings::plain();
     settings.workers = workers;
+    settings.groups = Groups::one(1, workers);
     let ready = Numbers::below(workers);
     let state = Record::start(&settings, workers, &ready, 100);
     measure(rt, "HUP", workers, &state, &Target::Reload(settings))?;

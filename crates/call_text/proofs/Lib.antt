@@ -4,6 +4,7 @@ pub mod ForkTexts
 pub mod CallTexts
 pub mod Runs
 pub mod SetTexts
+pub mod ShortfallTexts
 pub mod AnswerTexts
 pub mod NameTexts
 pub mod ReportTexts

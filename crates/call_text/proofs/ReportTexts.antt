@@ -11,16 +11,16 @@ use Rattle.vocabulary.specs.declared.reports.Outcome.{Outcome}
 use Rattle.vocabulary.specs.declared.reports.Outcome.TheVariants as outcome
 use Rattle.plain_text.specs.NumberText.{number_of}
 use Rattle.call_text.specs.Words.{note_text, side_text}
-use Rattle.call_text.specs.ReportText.{outcome_text, cause_text, ending_text, report_text}
+use Rattle.call_text.specs.ReportText.{shortfalls_text, outcome_text, cause_text, ending_text, report_text}
 use Rattle.call_text.specs.Reads.{Reads}
-use Rattle.call_text.specs.Ranges.{IsCount, IsCause, IsOutcome, IsReport}
-use Rattle.plain_text.specs.NumberText.{count_of}
+use Rattle.call_text.specs.Ranges.{AreShortfalls, IsCause, IsOutcome, IsReport}
 use Rattle.plain_text.specs.Cuts.{cut}
 use Rattle.call_text.specs.Reading.{joined, behind}
-use Rattle.call_text.specs.ReportReading.{all_notes, note_of, both_sides, side_of, plain_outcome, cause_of, noted_of, Ending, ending_of, degraded_from, degraded_of, plain_report, parts_of, report_from, report_of}
+use Rattle.call_text.specs.ReportReading.{all_notes, note_of, both_sides, side_of, plain_outcome, cause_of, noted_of, Ending, ending_of, shortfalls_of, degraded_from, degraded_of, plain_report, parts_of, report_from, report_of}
 use Rattle.plain_text.proofs.CutTexts.{lacks, cut_found, cut_at}
-use Rattle.call_text.proofs.Readers.{IsReader, reads, mapped, then, joined_reads, mapped_reads, behind_found, behind_at, find_found, number_reads, count_reads, same_bytes}
+use Rattle.call_text.proofs.Readers.{IsReader, reads, mapped, then, joined_reads, mapped_reads, behind_found, behind_at, find_found, number_reads, same_bytes}
 use Rattle.call_text.proofs.PartTexts.{number_lacks}
+use Rattle.call_text.proofs.ShortfallTexts.{shortfalls_lack, shortfalls_reads}
 
 -- ---- notes and sides
 note_again : (n : PidNote) → note_of (note_text n) ≡ Some n
@@ -114,24 +114,25 @@ IsWhole p = IsOutcome p.0 × IsEnding p.1
 abbrev whole_text : Outcome × Ending → List ℕ
 whole_text p = outcome_text p.0 ++ 32 ∷ text_of_ending p.1
 
-short_reads : IsReader (λ (p : ℕ × Ending). IsCount p.0 × IsEnding p.1) (λ (p : ℕ × Ending). decimal p.0 ++ 32 ∷ text_of_ending p.1) (joined 32 count_of ending_of)
-short_reads = joined_reads IsCount IsEnding decimal text_of_ending count_of ending_of 32 (λ n h. number_lacks 32 n refl h.1) count_reads ending_reads
+short_reads : IsReader (λ (p : List ℕ × Ending). AreShortfalls p.0 × IsEnding p.1) (λ (p : List ℕ × Ending). shortfalls_text p.0 ++ 32 ∷ text_of_ending p.1) (joined 32 shortfalls_of ending_of)
+short_reads =
+    joined_reads AreShortfalls IsEnding shortfalls_text text_of_ending shortfalls_of ending_of 32 (λ ns h. shortfalls_lack 32 refl refl ns h.within) shortfalls_reads ending_reads
 
-three_reads : IsReader (λ (p : Side × (ℕ × Ending)). ⊤ × (IsCount p.1.0 × IsEnding p.1.1)) (λ (p : Side × (ℕ × Ending)). side_text p.0 ++ 32 ∷ (decimal p.1.0 ++ 32 ∷ text_of_ending p.1.1)) (joined 32 side_of (joined 32 count_of ending_of))
+three_reads : IsReader (λ (p : Side × (List ℕ × Ending)). ⊤ × (AreShortfalls p.1.0 × IsEnding p.1.1)) (λ (p : Side × (List ℕ × Ending)). side_text p.0 ++ 32 ∷ (shortfalls_text p.1.0 ++ 32 ∷ text_of_ending p.1.1)) (joined 32 side_of (joined 32 shortfalls_of ending_of))
 three_reads =
-    joined_reads (λ (s : Side). ⊤) (λ (p : ℕ × Ending). IsCount p.0 × IsEnding p.1) side_text (λ (p : ℕ × Ending). decimal p.0 ++ 32 ∷ text_of_ending p.1) side_of (joined 32 count_of ending_of) 32
+    joined_reads (λ (s : Side). ⊤) (λ (p : List ℕ × Ending). AreShortfalls p.0 × IsEnding p.1) side_text (λ (p : List ℕ × Ending). shortfalls_text p.0 ++ 32 ∷ text_of_ending p.1) side_of (joined 32 shortfalls_of ending_of) 32
     (λ s _. side_lacks s) side_reads short_reads
 
 degraded_found : (rest : List ℕ) (p : Outcome × Ending) → degraded_of rest ≡ Some p → IsWhole p × (codes "degraded " ++ rest ≡ whole_text p)
 degraded_found rest p e =
-    let q = mapped degraded_from (joined 32 side_of (joined 32 count_of ending_of) rest) p e in
+    let q = mapped degraded_from (joined 32 side_of (joined 32 shortfalls_of ending_of) rest) p e in
     let got = three_reads.found rest q.0 q.1 in
     let W : Outcome × Ending → Type 0 = λ p. IsWhole p × (codes "degraded " ++ rest ≡ whole_text p) in
     subst W q.2 ((got.0.1.0, got.0.1.1), ap (λ t. codes "degraded " ++ t) got.1 ∙ sym (regroup q.0.0 q.0.1.0 (text_of_ending q.0.1.1)))
   where
-    regroup : (s : Side) (n : ℕ) (t : List ℕ) → outcome_text (outcome.Degraded s n) ++ 32 ∷ t ≡ codes "degraded " ++ (side_text s ++ 32 ∷ (decimal n ++ 32 ∷ t))
-    regroup side.Old n t = refl
-    regroup side.Target n t = refl
+    regroup : (s : Side) (ns t : List ℕ) → outcome_text (outcome.Degraded s ns) ++ 32 ∷ t ≡ codes "degraded " ++ (side_text s ++ 32 ∷ (shortfalls_text ns ++ 32 ∷ t))
+    regroup side.Old ns t = refl
+    regroup side.Target ns t = refl
 
 plain_found : (word : List ℕ) (o : Outcome) → plain_outcome word ≡ Some o → IsOutcome o × (word ≡ outcome_text o)
 plain_found word o e = at (bytes_eq word (codes "done")) refl (bytes_eq word (codes "rolled-back")) refl (bytes_eq word (codes "lost")) refl e
@@ -174,17 +175,17 @@ plain_only o word e apart other is h =
     ∙ ap (option_and_then (λ o. option_and_then (λ x. Some (o, x)) (ending_of (text_of_ending e)))) is
     ∙ ap (option_and_then (λ x. Some (o, x))) (ending_reads.only e h)
 
-degraded_only : (s : Side) (n : ℕ) (e : Ending) → IsCount n → IsEnding e → parts_of (codes "degraded " ++ (side_text s ++ 32 ∷ (decimal n ++ 32 ∷ text_of_ending e))) ≡ Some (outcome.Degraded s n, e)
-degraded_only s n e h k =
-    ap (option_and_then (λ (q : List ℕ × List ℕ). cond (bytes_eq q.0 (codes "degraded")) (degraded_of q.1) (plain_report q.0 q.1))) (cut_at 32 (codes "degraded") (side_text s ++ 32 ∷ (decimal n ++ 32 ∷ text_of_ending e)) refl)
-    ∙ ap (option_map degraded_from) (three_reads.only (s, (n, e)) (tt, (h, k)))
+degraded_only : (s : Side) (ns : List ℕ) (e : Ending) → AreShortfalls ns → IsEnding e → parts_of (codes "degraded " ++ (side_text s ++ 32 ∷ (shortfalls_text ns ++ 32 ∷ text_of_ending e))) ≡ Some (outcome.Degraded s ns, e)
+degraded_only s ns e h k =
+    ap (option_and_then (λ (q : List ℕ × List ℕ). cond (bytes_eq q.0 (codes "degraded")) (degraded_of q.1) (plain_report q.0 q.1))) (cut_at 32 (codes "degraded") (side_text s ++ 32 ∷ (shortfalls_text ns ++ 32 ∷ text_of_ending e)) refl)
+    ∙ ap (option_map degraded_from) (three_reads.only (s, (ns, e)) (tt, (h, k)))
 
 parts_only : (o : Outcome) (e : Ending) → IsOutcome o → IsEnding e → parts_of (whole_text (o, e)) ≡ Some (o, e)
 parts_only outcome.Done e h k = plain_only outcome.Done (codes "done") e refl refl refl k
 parts_only outcome.RolledBack e h k = plain_only outcome.RolledBack (codes "rolled-back") e refl refl refl k
 parts_only outcome.Lost e h k = plain_only outcome.Lost (codes "lost") e refl refl refl k
-parts_only (outcome.Degraded side.Old n) e h k = degraded_only side.Old n e h k
-parts_only (outcome.Degraded side.Target n) e h k = degraded_only side.Target n e h k
+parts_only (outcome.Degraded side.Old ns) e h k = degraded_only side.Old ns e h k
+parts_only (outcome.Degraded side.Target ns) e h k = degraded_only side.Target ns e h k
 
 parts_reads : IsReader IsWhole whole_text parts_of
 parts_reads = record { found = parts_found; only = λ p h. parts_only p.0 p.1 h.0 h.1 }

@@ -1,7 +1,8 @@
 -- Texts of calls and of their answers.
-use Rattle.std.specs.Prelude.{ℕ, List, [], ◌∷◌, ◌++◌, Option, Some, None, codes}
+use Rattle.std.specs.Prelude.{ℕ, List, [], ◌∷◌, ◌++◌, Option, Some, None, codes, if◌then◌else◌}
 use Rattle.std.specs.Fmt.{decimal}
 use Rattle.listener_set.specs.declared.generation.Generation.{Generation}
+use Rattle.crews.specs.Crews.{Posts, Crew, is_sole}
 use Rattle.vocabulary.specs.declared.calls.Call.{Call}
 use Rattle.vocabulary.specs.declared.calls.Call.TheVariants.{OpenAt, CloseAt, Fork, AwaitReady, Quit, Kill, Census, AwaitGone, SpawnMaster, Adopt, WritePid, MovePid, RemovePid, Alive, Leave, Usr1, TermMaster}
 use Rattle.vocabulary.specs.declared.calls.Answer.{Answer}
@@ -53,9 +54,16 @@ call_line by call = master_text by ++ 32 ∷ call_text call
 abbrev pub missing_text : List ℕ → Generation → List ℕ
 missing_text verb g = verb ++ generation_text g ++ codes " missing"
 
+-- where there are several groups, it gets the descriptors of its own
+abbrev pub group_part : Posts → List ℕ
+group_part posts = if is_sole posts then [] else codes " fds group"
+
+abbrev pub fork_missing : Crew → List ℕ
+fork_missing crew = missing_text (codes "fork ") crew.generation ++ group_part crew.posts
+
 abbrev pub order_text : Order → List ℕ
 order_text (Make call) = call_text call
-order_text (ForkLacking g) = missing_text (codes "fork ") g
+order_text (ForkLacking crew) = fork_missing crew
 order_text (AwaitLacking g) = missing_text (codes "await-ready ") g
 order_text (KillLacking g) = missing_text (codes "kill ") g
 

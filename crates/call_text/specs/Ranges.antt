@@ -1,9 +1,10 @@
 -- The values that have a text which is read.
-use Rattle.std.specs.Prelude.{⊤, ℕ, ◌≡◌, ◌≢◌, ◌≤◌, ◌<◌, ◌^◌, true, ◌⊎◌, List, [], ◌++◌, Option, Some, None, codes}
+use Rattle.std.specs.Prelude.{⊤, ℕ, ◌≡◌, ◌≢◌, ◌≤◌, ◌<◌, ◌^◌, true, ◌⊎◌, List, [], ◌++◌, length, Option, Some, None, codes}
+use Rattle.std.specs.List.{sum}
 use Rattle.listener_set.specs.declared.generation.Generation.{Generation}
 use Rattle.listener_set.specs.AddressText.{IsAddress}
 use Rattle.listener_set.specs.PathText.{is_path}
-use Rattle.listener_set.specs.Numbers.{AreNumbers}
+use Rattle.listener_set.specs.Numbers.{AreBelow, AreNumbers}
 use Rattle.listener_set.specs.DescriptorSets.{AreDescriptorNumbers}
 use Rattle.vocabulary.specs.declared.names.Name.{Name}
 use Rattle.vocabulary.specs.declared.names.Name.TheVariants as name
@@ -76,7 +77,7 @@ IsAnswer _ = ⊤
 abbrev pub IsAnswerTo : Call → Answer → Type 0
 IsAnswerTo call a = IsAnswer a × (is_listed call a ≡ true)
 
--- Calls are counted from 1, and so is what a service lacks. A report's text may name any number as its cause.
+-- Calls are counted from 1. A report's text may name any number as its cause.
 abbrev pub IsCount : ℕ → Type 0
 IsCount n = (1 ≤ n) × (n < 2 ^ 32)
 
@@ -84,10 +85,16 @@ abbrev pub IsCause : Option ℕ → Type 0
 IsCause None = ⊤
 IsCause (Some n) = IsNumber n
 
+-- how many workers each of at most 16 groups lacks, where one group lacks one at least
+pub record AreShortfalls (ns : List ℕ) : Type 0 where
+  pub most : length ns ≤ 16
+  pub within : AreBelow (2 ^ 32) ns
+  pub some : 1 ≤ sum ns
+
 abbrev pub IsOutcome : Outcome → Type 0
 IsOutcome outcome.Done = ⊤
 IsOutcome outcome.RolledBack = ⊤
-IsOutcome (outcome.Degraded side short) = IsCount short
+IsOutcome (outcome.Degraded side shortfalls) = AreShortfalls shortfalls
 IsOutcome outcome.Lost = ⊤
 
 -- a report of which the text says all but the numbers that were ready

@@ -1,5 +1,6 @@
 -- What reading a report gives, part by part.
-use Rattle.std.specs.Prelude.{ℕ, Bool, List, [], ◌∷◌, Option, Some, None, option_map, find, bytes_eq, codes, if◌then◌else◌}
+use Rattle.std.specs.Prelude.{ℕ, nat_lt, Bool, List, [], ◌∷◌, ◌++◌, length, Option, Some, None, option_map, find, bytes_eq, codes, if◌then◌else◌}
+use Rattle.std.specs.List.{slice_split, sum}
 use Rattle.plain_text.specs.NumberText.{number_of}
 use Rattle.vocabulary.specs.declared.plans.PidNote.{PidNote}
 use Rattle.vocabulary.specs.declared.plans.PidNote.TheVariants.{InPlace, AtOldbin, OldbinLeft, Left, NoFile}
@@ -9,9 +10,9 @@ use Rattle.vocabulary.specs.declared.reports.Report.{Report}
 use Rattle.vocabulary.specs.declared.reports.Outcome.{Outcome}
 use Rattle.vocabulary.specs.declared.reports.Outcome.TheVariants as outcome
 use Rattle.call_text.specs.Words.{note_text, side_text}
-use Rattle.plain_text.specs.NumberText.{count_of}
 use Rattle.plain_text.specs.Cuts.{cut}
-use Rattle.call_text.specs.Reading.{◌>>=◌, joined, behind}
+use Rattle.call_text.specs.Reading.{◌>>=◌, some_if, joined, behind}
+use Rattle.call_text.specs.SetReading.{is_comma}
 
 abbrev pub is_note : List ℕ → PidNote → Bool
 is_note text n = bytes_eq (note_text n) text
@@ -52,11 +53,31 @@ Ending = Option ℕ × PidNote
 abbrev pub ending_of : List ℕ → Option Ending
 ending_of text = behind (codes "cause") text >>= (λ rest. joined 32 cause_of noted_of rest)
 
-abbrev pub degraded_from : Side × (ℕ × Ending) → Outcome × Ending
+---- Shortfalls
+
+-- a number behind others, which are less than 16
+abbrev pub with_count : List ℕ → List ℕ → Option (List ℕ)
+with_count ns text = number_of text >>= (λ n. some_if (nat_lt (length ns) 16) (ns ++ n ∷ []))
+
+abbrev pub with_counts : List ℕ → List (List ℕ) → Option (List ℕ)
+with_counts ns [] = Some ns
+with_counts ns (text ∷ texts) = with_count ns text >>= (λ ms. with_counts ms texts)
+
+-- from 1 to 16 numbers
+abbrev pub counts_of : List ℕ → Option (List ℕ)
+counts_of text = with_counts [] (slice_split is_comma text)
+
+-- from 1 to 16 numbers that are not all 0
+abbrev pub shortfalls_of : List ℕ → Option (List ℕ)
+shortfalls_of text = counts_of text >>= (λ ns. some_if (nat_lt 0 (sum ns)) ns)
+
+---- Reports
+
+abbrev pub degraded_from : Side × (List ℕ × Ending) → Outcome × Ending
 degraded_from p = (outcome.Degraded p.0 p.1.0, p.1.1)
 
 abbrev pub degraded_of : List ℕ → Option (Outcome × Ending)
-degraded_of text = option_map degraded_from (joined 32 side_of (joined 32 count_of ending_of) text)
+degraded_of text = option_map degraded_from (joined 32 side_of (joined 32 shortfalls_of ending_of) text)
 
 abbrev pub plain_report : List ℕ → List ℕ → Option (Outcome × Ending)
 plain_report word rest = do

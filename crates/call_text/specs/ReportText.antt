@@ -1,5 +1,6 @@
 -- Texts of reports and of the calls that were made.
-use Rattle.std.specs.Prelude.{ℕ, ◌+◌, List, [], ◌∷◌, ◌++◌, Option, Some, None, codes}
+use Rattle.std.specs.Prelude.{ℕ, ◌+◌, List, [], ◌∷◌, ◌++◌, Option, Some, None, map, codes}
+use Rattle.std.specs.List.{join_with_byte}
 use Rattle.std.specs.Fmt.{decimal}
 use Rattle.vocabulary.specs.declared.plans.PidNote.{PidNote}
 use Rattle.vocabulary.specs.declared.reports.Entry.{Entry}
@@ -11,10 +12,14 @@ use Rattle.call_text.specs.Words.{note_text, side_text}
 
 ---- Reports
 
+-- a number for each group, joined by commas
+abbrev pub shortfalls_text : List ℕ → List ℕ
+shortfalls_text shortfalls = join_with_byte 44 (map decimal shortfalls)
+
 abbrev pub outcome_text : Outcome → List ℕ
 outcome_text outcome.Done = codes "done"
 outcome_text outcome.RolledBack = codes "rolled-back"
-outcome_text (outcome.Degraded s short) = codes "degraded " ++ (side_text s ++ 32 ∷ decimal short)
+outcome_text (outcome.Degraded s shortfalls) = codes "degraded " ++ (side_text s ++ 32 ∷ shortfalls_text shortfalls)
 outcome_text outcome.Lost = codes "lost"
 
 abbrev pub cause_text : Option ℕ → List ℕ

@@ -2,10 +2,11 @@
 ghost use Rattle.std.specs.Prelude.{◌≡◌, ◌<◌, ◌≤◌, ◌++◌, ◌∷◌, length, codes, IfOk};
 ghost use Rattle.std.specs.Fmt.{decimal};
 ghost use Rattle.plain_text.specs.Kept.{kept};
-ghost use Rattle.call_text.specs.CallText.{worker_text, forked_text, missing_text, master_text, call_text, call_line, order_text, order_line};
+ghost use Rattle.call_text.specs.CallText.{worker_text, forked_text, missing_text, group_part, fork_missing, master_text, call_text, call_line, order_text, order_line};
 ghost use Rattle.listener_set.specs.GenerationText.{generation_text};
 
 use crate::sets::write_set;
+use crews::{Crew, Posts};
 use listener_set::{DescriptorSet, FilePath, Generation};
 use plain_text::{LINE_BYTES, Line, Sink, write_number};
 use vocabulary::{Actor, Call, Order};
@@ -96,6 +97,21 @@ fn write_missing<S: Sink>(out: &mut S, verb: &str, generation: Generation) -> Re
     out.put(b" missing")
 }
 
+/// What stands behind the fork of a settle: where there are several groups, the worker gets the descriptors of its own.
+fn group_part(posts: &Posts) -> &'static str
+    ensures { result.now ≡ group_part posts.now }
+{
+    if posts.is_sole() { "" } else { " fds group" }
+}
+
+#[tactic(auto, using(plain_text::proofs::KeptTexts::kept_on))]
+fn write_fork_missing<S: Sink>(out: &mut S, crew: &Crew) -> Result<(), S::Refusal>
+    ensures { IfOk result (λ _. S.text out.new ≡ kept S.most (S.text out.old ++ fork_missing crew.now)) }
+{
+    write_missing(out, "fork ", crew.generation)?;
+    out.put(group_part(&crew.posts).as_bytes())
+}
+
 /// A verb and the number of an image.
 #[tactic(auto, using(plain_text::proofs::KeptTexts::kept_on))]
 fn write_image<S: Sink>(out: &mut S, verb: &str, image: u32) -> Result<(), S::Refusal>
@@ -171,14 +187,15 @@ fn write_step<S: Sink>(out: &mut S, order: &Order) -> Result<(), S::Refusal>
 {
     match order {
         Order::Make(call) => write_verb(out, call),
-        Order::ForkLacking(generation) => write_missing(out, "fork ", *generation),
+        Order::ForkLacking(crew) => write_fork_missing(out, crew),
         Order::AwaitLacking(generation) => write_missing(out, "await-ready ", *generation),
         Order::KillLacking(generation) => write_missing(out, "kill ", *generation),
     }
 }
 
 /// Puts a step of a plan behind what was written, without a newline: the master that makes it, and
-/// what it asks for. A worker of a settle has the word `missing` in place of its number.
+/// what it asks for. A worker of a settle has the word `missing` in place of its number, and `group` in place of the
+/// descriptors that it gets, where there are several groups.
 pub fn write_order<S: Sink>(out: &mut S, by: Actor, order: &Order) -> Result<(), S::Refusal>
     ensures { IfOk result (λ _. S.text out.new ≡ kept S.most (S.text out.old ++ order_line by order.now)) }
 {

@@ -7,9 +7,10 @@ ghost use Rattle.call_text.specs.Ranges.{IsReport};
 ghost use Rattle.call_text.specs.ReportReading.{is_note, note_of, is_side, side_of, plain_outcome, degraded_of, cause_of, noted_of, ending_of, plain_report, parts_of, report_of};
 
 use crate::parts::behind;
+use crate::shortfalls::read_shortfalls;
 use crate::words::{note_text, side_text};
 use listener_set::Numbers;
-use plain_text::{cut, read_count, read_number};
+use plain_text::{cut, read_number};
 use vocabulary::{Outcome, PidNote, Report, Side};
 
 /// All notes.
@@ -99,10 +100,10 @@ fn read_degraded(text: &[u8]) -> Option<(Outcome, (Option<u32>, PidNote))>
 {
     let (side, rest) = cut(text, b' ')?;
     let side = read_side(side)?;
-    let (short, rest) = cut(rest, b' ')?;
-    let short = read_count(short)?;
+    let (shortfalls, rest) = cut(rest, b' ')?;
+    let shortfalls = read_shortfalls(shortfalls)?;
     let ending = read_ending(rest)?;
-    Some((Outcome::Degraded { side, short }, ending))
+    Some((Outcome::Degraded { side, shortfalls }, ending))
 }
 
 fn read_other(word: &[u8], rest: &[u8]) -> Option<(Outcome, (Option<u32>, PidNote))>
@@ -137,9 +138,9 @@ fn read_whole(text: &[u8], ready: &Numbers) -> Option<Report>
 }
 
 /// Reads a report as `write_report` writes it, without a newline, and no other text. The text does
-/// not say which numbers were ready, so they are handed in. A shortfall is from 1 to 4,294,967,295,
-/// a cause from 0 to that: no run blames a call 0, so who compares the report with its run finds it
-/// wrong. Any bytes may come.
+/// not say which numbers were ready, so they are handed in. There are 1 to 16 shortfalls, from 0 to
+/// 4,294,967,295, and not all 0. A cause is such a number too: no run blames a call 0, so who
+/// compares the report with its run finds it wrong. Any bytes may come.
 pub fn read_report(text: &[u8], ready: &Numbers) -> Option<Report>
     ensures exact { result ≡ report_of ready.now text.now }
     ensures reads { Reads (IsReport ready.now) report_text text.now result }

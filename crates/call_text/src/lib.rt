@@ -14,6 +14,7 @@ mod parts;
 mod refusal;
 mod reports;
 mod sets;
+mod shortfalls;
 mod verbs;
 mod words;
 

@@ -4,6 +4,7 @@ ghost use Rattle.call_text.specs.ReportText.{outcome_text, cause_text, report_te
 
 use crate::answers::put_answer;
 use crate::calls::put_call;
+use crate::shortfalls::write_shortfalls;
 use crate::words::{note_text, side_text};
 use plain_text::write_number;
 use std::alloc::AllocError;
@@ -15,11 +16,11 @@ fn write_outcome(out: &mut Vec<u8>, outcome: &Outcome) -> Result<(), AllocError>
     match outcome {
         Outcome::Done => out.extend_from_slice(b"done"),
         Outcome::RolledBack => out.extend_from_slice(b"rolled-back"),
-        Outcome::Degraded { side, short } => {
+        Outcome::Degraded { side, shortfalls } => {
             out.extend_from_slice(b"degraded ")?;
             out.extend_from_slice(side_text(*side).as_bytes())?;
             out.extend_from_slice(b" ")?;
-            write_number(out, u64::from(*short))
+            write_shortfalls(out, shortfalls)
         }
         Outcome::Lost => out.extend_from_slice(b"lost"),
     }

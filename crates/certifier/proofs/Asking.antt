@@ -6,7 +6,7 @@ use Rattle.vocabulary.specs.declared.reports.Outcome.TheVariants as outcome
 use Rattle.vocabulary.specs.declared.plans.End.TheVariants.{Done, RolledBack, ShortOld, ShortTarget}
 use Rattle.vocabulary.specs.declared.plans.PidNote.{PidNote}
 use Rattle.definitions.specs.Tree.{Tree, Ends, Does}
-use Rattle.definitions.specs.Path.{Entry, Report, Trail, Asks, rest_after, IsOver, IsOutcome, Reports}
+use Rattle.definitions.specs.Path.{Entry, Report, Sides, Trail, Asks, rest_after, IsOver, IsOutcome, Reports}
 
 -- an entry that is asked for as another is, is the same call by the same master
 pub asked-same : (rest : Option Tree) (lacking : List ℕ) (x e : Entry) → Asks rest lacking x → Asks rest lacking e → (x.by ≡ e.by) × (x.call ≡ e.call)
@@ -37,25 +37,25 @@ edge-leads (Some edge) there = refl
 
 ---- Reports
 
-same-outcome : (rest : Option Tree) (lacking : List ℕ) (one other : Outcome) → IsOutcome rest lacking one → IsOutcome rest lacking other → one ≡ other
-same-outcome None lacking one other h k = h ∙ sym k
-same-outcome (Some (Ends end)) lacking one other h k = h ∙ sym k
-same-outcome (Some (Does by order set branches)) lacking one other h k = absurd h
+same-outcome : (sides : Sides) (rest : Option Tree) (lacking : List ℕ) (one other : Outcome) → IsOutcome sides rest lacking one → IsOutcome sides rest lacking other → one ≡ other
+same-outcome sides None lacking one other h k = h ∙ sym k
+same-outcome sides (Some (Ends end)) lacking one other h k = h ∙ sym k
+same-outcome sides (Some (Does by order set branches)) lacking one other h k = absurd h
 
 -- a path has one report
-pub one-report : (t : Trail) (one other : Report) → Reports t one → Reports t other → one ≡ other
-one-report t one other h k =
-    let outcomes = same-outcome t.rest t.lacking one.outcome other.outcome h.outcome k.outcome in
+pub one-report : (sides : Sides) (t : Trail) (one other : Report) → Reports sides t one → Reports sides t other → one ≡ other
+one-report sides t one other h k =
+    let outcomes = same-outcome sides t.rest t.lacking one.outcome other.outcome h.outcome k.outcome in
     let causes = h.cause ∙ sym k.cause in
     let notes = h.note ∙ sym k.note in
     let readies = h.ready ∙ sym k.ready in
     λ i. record { outcome = outcomes i; cause = causes i; note = notes i; ready = readies i }
 
 -- a path at an end is not lost
-pub not-lost : (rest : Option Tree) (lacking : List ℕ) (o : Outcome) → is_some rest ≡ true → IsOutcome rest lacking o → o ≡ outcome.Lost → ⊥
-not-lost None lacking o some is lost = let none : false ≡ true = some in cc
-not-lost (Some (Ends Done)) lacking o some is lost = let e : outcome.Done ≡ outcome.Lost = sym is ∙ lost in cc
-not-lost (Some (Ends RolledBack)) lacking o some is lost = let e : outcome.RolledBack ≡ outcome.Lost = sym is ∙ lost in cc
-not-lost (Some (Ends ShortOld)) lacking o some is lost = let e = sym is ∙ lost in cc
-not-lost (Some (Ends ShortTarget)) lacking o some is lost = let e = sym is ∙ lost in cc
-not-lost (Some (Does by order set branches)) lacking o some is lost = is
+pub not-lost : (sides : Sides) (rest : Option Tree) (lacking : List ℕ) (o : Outcome) → is_some rest ≡ true → IsOutcome sides rest lacking o → o ≡ outcome.Lost → ⊥
+not-lost sides None lacking o some is lost = let none : false ≡ true = some in cc
+not-lost sides (Some (Ends Done)) lacking o some is lost = let e : outcome.Done ≡ outcome.Lost = sym is ∙ lost in cc
+not-lost sides (Some (Ends RolledBack)) lacking o some is lost = let e : outcome.RolledBack ≡ outcome.Lost = sym is ∙ lost in cc
+not-lost sides (Some (Ends ShortOld)) lacking o some is lost = let e = sym is ∙ lost in cc
+not-lost sides (Some (Ends ShortTarget)) lacking o some is lost = let e = sym is ∙ lost in cc
+not-lost sides (Some (Does by order set branches)) lacking o some is lost = is

@@ -9,12 +9,11 @@ use Rattle.vocabulary.specs.declared.plans.Order.{Order}
 use Rattle.vocabulary.specs.declared.calls.Reply.{Reply}
 use Rattle.definitions.specs.Calls.{Fate, Stepped, step_with}
 use Rattle.definitions.specs.Exits.{after_exits}
-use Rattle.definitions.specs.Target.{text_handed, want}
+use Rattle.definitions.specs.Target.{text_handed, sides_of}
 use Rattle.definitions.specs.Plans.{plan_tree}
 use Rattle.definitions.specs.Tree.{Tree, Ends, Does, Branches, Nothing, Branch, among, branch, call_of, reply_of}
-use Rattle.definitions.specs.Path.{Entry, Report, Trail, advance, trail_after, IsOver, IsOutcome, Reports}
+use Rattle.definitions.specs.Path.{Entry, Report, Sides, Trail, advance, trail_after, IsOver, IsOutcome, Reports}
 use Rattle.definitions.specs.Run.{Progress, Ending, Lost, Ran, start_at, run_with, goes_with, noted, after_moment, after_call, answered, outcome_of}
-use Rattle.definitions.specs.Service.{service}
 use Rattle.definitions.specs.Claims.{IsStart, HasDescriptors, Says, names_any, executing_at, executing_after, refused_among, heirs_of, run_of}
 use Rattle.plan_executor.specs.Lawful.{trail_at, ending_of}
 use Rattle.plan_executor.specs.Enacted.{EndsSo}
@@ -106,10 +105,10 @@ module _ (text heirs : List ℕ) (fates : ℕ → Option Fate) where
 
 ---- Of a target
 
-outcome-so : (rest : Option Tree) (lacking : List ℕ) (ending : Ending) → IsOver rest → ending_of rest ≡ ending → IsOutcome rest lacking (outcome_of ending lacking)
-outcome-so None lacking ending over is = ap (λ e. outcome_of e lacking) (sym is)
-outcome-so (Some (Ends end)) lacking ending over is = ap (λ e. outcome_of e lacking) (sym is)
-outcome-so (Some (Does by order set branches)) lacking ending over is = absurd over
+outcome-so : (sides : Sides) (rest : Option Tree) (lacking : List ℕ) (ending : Ending) → IsOver rest → ending_of rest ≡ ending → IsOutcome sides rest lacking (outcome_of sides ending lacking)
+outcome-so sides None lacking ending over is = ap (λ e. outcome_of sides e lacking) (sym is)
+outcome-so sides (Some (Ends end)) lacking ending over is = ap (λ e. outcome_of sides e lacking) (sym is)
+outcome-so sides (Some (Does by order set branches)) lacking ending over is = absurd over
 
 ---- It is not lost
 
@@ -129,18 +128,19 @@ never-lost : (t : Table) (r : Record) (target : Target) → IsDue t r target →
 never-lost t r target due fates lost =
     let ran = run_of r target (faults_alone fates) t in
     let kept = due.ends t r (faults_alone fates) due.start due.descriptors due.has_plan (none-named fates (r.generation.image ∷ []) (heirs_of r target) 0 ran.entries) in
-    subst (λ e. Says (outcome_of e ran.last.lacking) (service t) (want r target) ran.last.table) lost kept.ends.says
+    subst (λ e. Says r target (outcome_of (sides_of r target) e ran.last.lacking) t ran.last.table) lost kept.ends.says
 
 -- what comes of a run under faults alone
 pub record IsGood (t : Table) (r : Record) (target : Target) (entries : List Entry) (report : Report) : Type 0 where
   pub next : AreNext (text_handed r target) (heirs_of r target) (begins t r target) entries
   pub over : IsOver (trail_by r target entries).rest
-  pub reports : Reports (trail_by r target entries) report
+  pub reports : Reports (sides_of r target) (trail_by r target entries) report
 
 is-good : (t : Table) (r : Record) (target : Target) (entries : List Entry) (report : Report) → IsDue t r target → IsFaultyRun t r target entries report → IsGood t r target entries report
 is-good t r target entries report due h =
     let text = text_handed r target in
     let heirs = heirs_of r target in
+    let sides = sides_of r target in
     let ran = run_of r target (faults_alone h.fates) t in
     let w = tree-walks text heirs h.fates (plan_tree r target) (start_at t r.note) (r.generation.image ∷ []) (never-lost t r target due h.fates) in
     let trail : trail_by r target entries ≡ trail_at w.rest ran.last = ap (trail_by r target) (sym h.is_run.entries_are) ∙ w.trail in
@@ -148,9 +148,9 @@ is-good t r target entries report due h =
       next = subst (AreNext text heirs (begins t r target)) h.is_run.entries_are w.next;
       over = subst (λ (x : Trail). IsOver x.rest) (sym trail) w.over;
       reports =
-          subst (λ (x : Trail). Reports x report) (sym trail)
-          (subst (Reports (trail_at w.rest ran.last)) (sym h.is_run.report_is)
-          (record { outcome = outcome-so w.rest ran.last.lacking ran.ending w.over w.ending; cause = refl; note = refl; ready = refl }));
+          subst (λ (x : Trail). Reports sides x report) (sym trail)
+          (subst (Reports sides (trail_at w.rest ran.last)) (sym h.is_run.report_is)
+          (record { outcome = outcome-so sides w.rest ran.last.lacking ran.ending w.over w.ending; cause = refl; note = refl; ready = refl }));
     }
 
 -- it is refused, if at all, before its first entry

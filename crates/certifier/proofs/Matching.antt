@@ -1,21 +1,22 @@
 -- What the replay of a target's entries says of the target.
-use Rattle.std.proofs.Common.{◌≡◌, ◌⊎◌, inl, inr, ℕ, ◌+◌, ◌-◌, ◌<◌, ◌≤◌, List, [], ◌∷◌, ◌++◌, take, drop, Result, Ok, Err, true, refl, sym, ◌∙◌, ap, subst, arith}
+use Rattle.std.proofs.Common.{◌≡◌, ◌⊎◌, ◌||◌, inl, inr, not, ℕ, ◌+◌, ◌-◌, ◌<◌, ◌≤◌, List, [], ◌∷◌, ◌++◌, take, drop, Result, Ok, Err, true, refl, sym, ◌∙◌, ap, subst, arith}
 use Rattle.std.specs.Prelude.{◌↔◌, IfOk, IfErr}
 use Rattle.std.specs.Result.{IsErrOf}
-use Rattle.std.proofs.lemmas.Bool.{false≢true, cases_order}
+use Rattle.std.proofs.lemmas.Bool.{false≢true, and_parts, cases_order}
+use Rattle.std.proofs.Math.Bool.{or-true}
 use Rattle.std.proofs.lemmas.List.{take-append-drop}
 use Rattle.std.proofs.Math.Seq.{take-add}
 use Rattle.definitions.specs.Table.{Table}
 use Rattle.definitions.specs.Record.{Record}
 use Rattle.vocabulary.specs.declared.targets.Target.{Target}
-use Rattle.definitions.specs.Target.{text_handed}
+use Rattle.definitions.specs.Target.{text_handed, sides_of}
 use Rattle.definitions.specs.Plans.{plan_tree}
 use Rattle.definitions.specs.Path.{Entry, Report, Trail, IsOver, Reports, KeepsPathLaw}
 use Rattle.definitions.specs.Run.{Moment}
 use Rattle.definitions.specs.Claims.{refused_among, heirs_of}
 use Rattle.kernel_model.specs.Pattern.{moment_at}
 use Rattle.kernel_model.specs.Room.{LacksNumbers}
-use Rattle.definitions.specs.After.{lacks_generation}
+use Rattle.definitions.specs.After.{is_grouped_upgrade, lacks_generation, lacks_plan}
 use Rattle.definitions.specs.Tree.{height}
 use Rattle.reload_planner.specs.declared.refusal.PlanRefusal.{PlanRefusal}
 use Rattle.reload_planner.specs.declared.refusal.PlanRefusal.TheVariants as planner
@@ -65,19 +66,20 @@ module _ (t : Table) (r : Record) (target : Target) (entries : List Entry) (repo
 
   ---- A transcript that holds
 
-  pub certified : (pattern : List (ℕ × Moment)) → Holds (text_handed r target) (heirs_of r target) (begins t r target) entries report pattern → IsCertified t r target entries report pattern
+  pub certified : (pattern : List (ℕ × Moment)) → Holds (text_handed r target) (heirs_of r target) (sides_of r target) (begins t r target) entries report pattern → IsCertified t r target entries report pattern
   certified pattern h =
       let text = text_handed r target in
       let heirs = heirs_of r target in
+      let sides = sides_of r target in
       let p = begins t r target in
       let goes = goes-through (moment_at pattern) (moments_shown text t entries) h.shown in
       let last = (place_after_all text heirs p entries).table in
-      let reports : Reports (trail_by r target entries) report = subst (λ (x : Trail). Reports x report) ended h.reports in
+      let reports : Reports sides (trail_by r target entries) report = subst (λ (x : Trail). Reports sides x report) ended h.reports in
       let edges = next-edges text heirs p entries refl h.next in
-      let law : KeepsPathLaw (plan_tree r target) r.note entries report = record {
+      let law : KeepsPathLaw (plan_tree r target) r.note sides entries report = record {
         path = next-follows text heirs p entries h.next;
         report_is = reports;
-        lost = λ lost. absurd (not-lost (trail_by r target entries).rest (trail_by r target entries).lacking report.outcome edges reports.outcome lost);
+        lost = λ lost. absurd (not-lost sides (trail_by r target entries).rest (trail_by r target entries).lacking report.outcome edges reports.outcome lost);
       } in
       let whole = whole-run r target (moment_at pattern) t last entries report law (next-replays text heirs (moment_at pattern) 0 p entries goes h.next) in
       record {
@@ -90,7 +92,7 @@ module _ (t : Table) (r : Record) (target : Target) (entries : List Entry) (repo
 
   ---- One that does not
 
-  pub mismatched : (why : Mismatch) → FailsBy (text_handed r target) (heirs_of r target) (begins t r target) entries report why → (why ≡ mismatch.Memory) ⊎ IsMismatch t r target entries report why
+  pub mismatched : (why : Mismatch) → FailsBy (text_handed r target) (heirs_of r target) (sides_of r target) (begins t r target) entries report why → (why ≡ mismatch.Memory) ⊎ IsMismatch t r target entries report why
   mismatched mismatch.Refused h = unbegun t r target entries ready mismatch.Refused h
   mismatched (mismatch.Step n) h = unbegun t r target entries ready (mismatch.Step n) h
   mismatched mismatch.Short h = inr (record {
@@ -102,7 +104,7 @@ module _ (t : Table) (r : Record) (target : Target) (entries : List Entry) (repo
     ready = ready;
     explained = is-explained t r target entries h.next;
     over = subst (λ (x : Trail). IsOver x.rest) ended h.over;
-    other = λ reports. h.other (subst (λ (x : Trail). Reports x report) (sym ended) reports);
+    other = λ reports. h.other (subst (λ (x : Trail). Reports (sides_of r target) x report) (sym ended) reports);
   })
   mismatched mismatch.Memory h = unbegun t r target entries ready mismatch.Memory h
 
@@ -186,11 +188,11 @@ none-unbegun t r target es ready all mismatch.Report h = h
 none-unbegun t r target es ready all mismatch.Memory h = h
 
 -- none where the transcript holds
-none-fits : (t : Table) (r : Record) (target : Target) (es : List Entry) (report : Report) → IsReady t r target → (pattern : List (ℕ × Moment)) → Holds (text_handed r target) (heirs_of r target) (begins t r target) es report pattern → (why : Mismatch) → IsMismatch t r target es report why → ⊥
+none-fits : (t : Table) (r : Record) (target : Target) (es : List Entry) (report : Report) → IsReady t r target → (pattern : List (ℕ × Moment)) → Holds (text_handed r target) (heirs_of r target) (sides_of r target) (begins t r target) es report pattern → (why : Mismatch) → IsMismatch t r target es report why → ⊥
 none-fits t r target es report ready pattern holds mismatch.Refused h = none-unbegun t r target es ready (is-explained t r target es holds.next) mismatch.Refused h
 none-fits t r target es report ready pattern holds (mismatch.Step n) h = none-unbegun t r target es ready (is-explained t r target es holds.next) (mismatch.Step n) h
 none-fits t r target es report ready pattern holds mismatch.Short h = h.unfinished (subst (λ (x : Trail). IsOver x.rest) (ended t r target es report ready) holds.over)
-none-fits t r target es report ready pattern holds mismatch.Report h = h.other (subst (λ (x : Trail). Reports x report) (ended t r target es report ready) holds.reports)
+none-fits t r target es report ready pattern holds mismatch.Report h = h.other (subst (λ (x : Trail). Reports (sides_of r target) x report) (ended t r target es report ready) holds.reports)
 none-fits t r target es report ready pattern holds mismatch.Memory h = h
 
 ---- What a certified pattern enacts
@@ -229,11 +231,14 @@ plain-beginnings t r target es = record { one = one-beginning t r target es; ref
 pub plain-mismatches : (t : Table) (r : Record) (target : Target) (es : List Entry) (report : Report) → IsPlain t r target (IsMismatch t r target es report)
 plain-mismatches t r target es report = record { one = one t r target es report; refused = λ unready. unready }
 
--- a target that a planner refuses has no generation left
-planless : (r : Record) (target : Target) (refusal : PlanRefusal) → HasNoPlan r target refusal → lacks_generation r target ≡ true
+-- a target that a planner refuses has no plan
+planless : (r : Record) (target : Target) (refusal : PlanRefusal) → HasNoPlan r target refusal → lacks_plan r target ≡ true
 planless r target planner.Unplanned none = absurd none
 planless r target planner.TooLarge none = absurd none
-planless r target planner.NoGeneration none = none
+planless r target planner.Grouped none = ap (λ b. b || lacks_generation r target) none
+planless r target planner.NoGeneration none =
+    let lacks = and_parts (not (is_grouped_upgrade target)) (lacks_generation r target) none in
+    ap (λ b. is_grouped_upgrade target || b) lacks.1 ∙ or-true (is_grouped_upgrade target)
 planless r target planner.Memory none = absurd none
 
 exact-held : {T : Type 0} (fits : Mismatch → Type 0) (x : T) → ((why : Mismatch) → fits why → ⊥) → IsExactly {T = T} fits (Ok x)
@@ -283,8 +288,8 @@ complete-beginning t r target es pattern (Err why) exact is = elim (exact why) [
 
 -- what a transcript comes to
 pub answered : (t : Table) (r : Record) (target : Target) (es : List Entry) (report : Report) → IsReady t r target → (result : Result (List (ℕ × Moment)) Mismatch) →
-    IfOk result (Holds (text_handed r target) (heirs_of r target) (begins t r target) es report) →
-    IfErr result (FailsBy (text_handed r target) (heirs_of r target) (begins t r target) es report) →
+    IfOk result (Holds (text_handed r target) (heirs_of r target) (sides_of r target) (begins t r target) es report) →
+    IfErr result (FailsBy (text_handed r target) (heirs_of r target) (sides_of r target) (begins t r target) es report) →
     IfOk result (IsCertified t r target es report) × IsExact t r target es report result
 answered t r target es report ready (Ok pattern) holds fails =
     (certified t r target es report ready pattern holds, exact-held (IsMismatch t r target es report) pattern (none-fits t r target es report ready pattern holds))

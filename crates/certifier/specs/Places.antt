@@ -1,10 +1,10 @@
 -- How far entries have come, one after another.
 use Rattle.std.specs.Prelude.{ℕ, ◌≡◌, ◌≤◌, ◌<◌, ◌+◌, ◌^◌, ◌==◌, ◌∷◌, true, false, List, [], is_some, if◌then◌else◌, length, take, ⊤}
 use Rattle.definitions.specs.Table.{Table}
-use Rattle.definitions.specs.Path.{Entry, Report, Trail, Asks, IsOver, Reports, advance, follow}
+use Rattle.definitions.specs.Path.{Entry, Report, Sides, Trail, Asks, IsOver, Reports, advance, follow}
 use Rattle.definitions.specs.Run.{Moment, quiet}
 use Rattle.definitions.specs.Claims.{names_any, executing_at, executing_after}
-use Rattle.plan_runner.specs.Walk.{trail_of}
+use Rattle.plan_runner.specs.Walk.{trail_of, sides_in}
 use Rattle.plan_runner.specs.Fit.{height_next}
 use Rattle.plan_executor.specs.Naming.{listed}
 use Rattle.kernel_model.specs.Pattern.{moment_at}
@@ -60,15 +60,17 @@ pub record IsTaken (old : Replay) (e : Entry) (new : Replay) : Type 0 where
   pub room : HasRoom new
   pub text : new.text.now ≡ old.text.now
   pub heir : new.heir ≡ old.heir
+  pub sides : sides_in new.walk ≡ sides_in old.walk
   pub number : new.number ≡ old.number + 1
   pub place : place_of new ≡ place_after old.text.now (listed old.heir) (place_of old) e
   pub pattern : (n : ℕ) → moment_at new.pattern n ≡ (if n == old.number + 1 then moment_shown old.text.now old.kernel.table e else moment_at old.pattern n)
 
 -- The replay has come from one place by these entries, each of which is next.
-pub record HasTaken (text heirs : List ℕ) (from : Place) (entries : List Entry) (x : Replay) : Type 0 where
+pub record HasTaken (text heirs : List ℕ) (sides : Sides) (from : Place) (entries : List Entry) (x : Replay) : Type 0 where
   pub room : HasRoom x
   pub text_is : x.text.now ≡ text
   pub heirs_are : listed x.heir ≡ heirs
+  pub sides_are : sides_in x.walk ≡ sides
   pub number : x.number ≡ length entries
   pub next : AreNext text heirs from entries
   pub place : place_of x ≡ place_after_all text heirs from entries
@@ -88,11 +90,11 @@ pub record Shows (text heirs : List ℕ) (from : Place) (entries : List Entry) (
   pub shown : (n : ℕ) → moment_at pattern n ≡ pattern_of (moments_shown text from.table entries) n
 
 -- All entries are next one after another, then the path is over, and the report is its report. The pattern is what they show.
-pub record Holds (text heirs : List ℕ) (from : Place) (entries : List Entry) (report : Report) (pattern : List (ℕ × Moment)) : Type 0 where
+pub record Holds (text heirs : List ℕ) (sides : Sides) (from : Place) (entries : List Entry) (report : Report) (pattern : List (ℕ × Moment)) : Type 0 where
   pub next : AreNext text heirs from entries
   pub shown : (n : ℕ) → moment_at pattern n ≡ pattern_of (moments_shown text from.table entries) n
   pub over : IsOver (place_after_all text heirs from entries).trail.rest
-  pub reports : Reports (place_after_all text heirs from entries).trail report
+  pub reports : Reports sides (place_after_all text heirs from entries).trail report
 
 -- All entries are next one after another, and a step is left.
 pub record StopsShort (text heirs : List ℕ) (from : Place) (entries : List Entry) : Type 0 where
@@ -100,10 +102,10 @@ pub record StopsShort (text heirs : List ℕ) (from : Place) (entries : List Ent
   pub left : IsOver (place_after_all text heirs from entries).trail.rest → ⊥
 
 -- All entries are next one after another, then the path is over, and the report is another.
-pub record ReportsOther (text heirs : List ℕ) (from : Place) (entries : List Entry) (report : Report) : Type 0 where
+pub record ReportsOther (text heirs : List ℕ) (sides : Sides) (from : Place) (entries : List Entry) (report : Report) : Type 0 where
   pub next : AreNext text heirs from entries
   pub over : IsOver (place_after_all text heirs from entries).trail.rest
-  pub other : Reports (place_after_all text heirs from entries).trail report → ⊥
+  pub other : Reports sides (place_after_all text heirs from entries).trail report → ⊥
 
 -- Why entries are not next one after another from a place on. Want of memory may come at any time.
 abbrev pub StopsBy : List ℕ → List ℕ → Place → List Entry → Mismatch → Type 0
@@ -114,7 +116,7 @@ StopsBy text heirs from entries mismatch.Report = ⊥
 StopsBy text heirs from entries mismatch.Memory = ⊤
 
 -- Why entries and a report do not hold from a place on: the entries stop, a step is left, or the report is another.
-abbrev pub FailsBy : List ℕ → List ℕ → Place → List Entry → Report → Mismatch → Type 0
-FailsBy text heirs from entries report mismatch.Short = StopsShort text heirs from entries
-FailsBy text heirs from entries report mismatch.Report = ReportsOther text heirs from entries report
-FailsBy text heirs from entries report why = StopsBy text heirs from entries why
+abbrev pub FailsBy : List ℕ → List ℕ → Sides → Place → List Entry → Report → Mismatch → Type 0
+FailsBy text heirs sides from entries report mismatch.Short = StopsShort text heirs from entries
+FailsBy text heirs sides from entries report mismatch.Report = ReportsOther text heirs sides from entries report
+FailsBy text heirs sides from entries report why = StopsBy text heirs from entries why

@@ -3,7 +3,8 @@ ghost use Rattle.std.specs.Prelude.{◌≡◌, ◌⊎◌, ◌↔◌, [], ◌∷�
 ghost use Rattle.definitions.specs.Path.{begin};
 ghost use Rattle.definitions.specs.Target.{IsTarget};
 ghost use Rattle.definitions.specs.Tree.{height};
-ghost use Rattle.rollback_plan.specs.Plans.{tree_of, note_of, text_of};
+ghost use Rattle.rollback_plan.specs.Plans.{tree_of, note_of, sides_told, text_of};
+ghost use Rattle.plan_runner.specs.Walk.{sides_in};
 ghost use Rattle.plan_executor.specs.Naming.{listed};
 ghost use Rattle.plan_executor.specs.Refusals.{IsPlannable};
 ghost use Rattle.certifier.specs.Places.{place_of, HasTaken, StopsBy, Holds, FailsBy};
@@ -23,8 +24,8 @@ use vocabulary::{Report, Target};
 
 /// Replays all entries; the first that can't stand there is a mismatch.
 pub(crate) fn replay_all(replay: &mut Replay<'_>, log: &CallLog) -> Result<(), Mismatch>
-    requires { HasTaken replay.old.text.now (listed replay.old.heir) (place_of replay.old) [] replay.old }
-    ensures ok { OnOk result (HasTaken replay.old.text.now (listed replay.old.heir) (place_of replay.old) log.now.entries replay.new) }
+    requires { HasTaken replay.old.text.now (listed replay.old.heir) (sides_in replay.old.walk) (place_of replay.old) [] replay.old }
+    ensures ok { OnOk result (HasTaken replay.old.text.now (listed replay.old.heir) (sides_in replay.old.walk) (place_of replay.old) log.now.entries replay.new) }
     ensures err { IfErr result (StopsBy replay.old.text.now (listed replay.old.heir) (place_of replay.old) log.now.entries) }
 {
     for place in 0..log.len() {
@@ -46,8 +47,8 @@ fn hold(
     report: &Report,
 ) -> Result<Pattern, Mismatch>
     requires { kernel.room ≡ height (tree_of plan.now) }
-    ensures ok { IfOk result (Holds (text_of plan.now) (listed heir) (record { trail = begin (tree_of plan.now) (note_of plan.now); table = kernel.table; executing = image ∷ [] }) log.now.entries report.now) }
-    ensures err { IfErr result (FailsBy (text_of plan.now) (listed heir) (record { trail = begin (tree_of plan.now) (note_of plan.now); table = kernel.table; executing = image ∷ [] }) log.now.entries report.now) }
+    ensures ok { IfOk result (Holds (text_of plan.now) (listed heir) (sides_told plan.now) (record { trail = begin (tree_of plan.now) (note_of plan.now); table = kernel.table; executing = image ∷ [] }) log.now.entries report.now) }
+    ensures err { IfErr result (FailsBy (text_of plan.now) (listed heir) (sides_told plan.now) (record { trail = begin (tree_of plan.now) (note_of plan.now); table = kernel.table; executing = image ∷ [] }) log.now.entries report.now) }
 {
     let mut replay = Replay::new(alloc, plan, kernel, image, heir);
     replay_all(&mut replay, log)?;

@@ -2,8 +2,8 @@
 ghost use Rattle.std.specs.Prelude.{◌≡◌, ◌↔◌, ◌⊎◌, [], ◌∷◌, IsTrue, IfOk, IfErr};
 ghost use Rattle.definitions.specs.Path.{Asks, IsOver, Reports, begin};
 ghost use Rattle.definitions.specs.Tree.{height};
-ghost use Rattle.rollback_plan.specs.Plans.{tree_of, note_of, text_of};
-ghost use Rattle.plan_runner.specs.Walk.{trail_of};
+ghost use Rattle.rollback_plan.specs.Plans.{tree_of, note_of, sides_told, text_of};
+ghost use Rattle.plan_runner.specs.Walk.{trail_of, sides_in};
 ghost use Rattle.plan_executor.specs.Naming.{listed};
 ghost use Rattle.certifier.specs.Places.{place_of, HasRoom, HasTaken, IsNext, IsTaken};
 
@@ -55,7 +55,8 @@ impl<'a> Replay<'a> {
         ensures place { place_of result ≡ record { trail = begin (tree_of plan.now) (note_of plan.now); table = kernel.table; executing = image ∷ [] } }
         ensures text { result.text.now ≡ text_of plan.now }
         ensures heir { result.heir ≡ heir }
-        ensures taken { HasTaken result.text.now (listed result.heir) (place_of result) [] result }
+        ensures sides { sides_in result.walk ≡ sides_told plan.now }
+        ensures taken { HasTaken result.text.now (listed result.heir) (sides_in result.walk) (place_of result) [] result }
     {
         Replay {
             walk: Walk::new(plan),
@@ -95,10 +96,10 @@ impl<'a> Replay<'a> {
 
     /// The pattern that was shown, where the plan is at an end and the report is the run's.
     pub(crate) fn end(self, report: &Report) -> Result<Pattern, Mismatch>
-        ensures ok { IfOk result (λ pattern. (pattern ≡ self.entry.pattern) × IsOver (trail_of self.entry.walk).rest × Reports (trail_of self.entry.walk) report.now) }
+        ensures ok { IfOk result (λ pattern. (pattern ≡ self.entry.pattern) × IsOver (trail_of self.entry.walk).rest × Reports (sides_in self.entry.walk) (trail_of self.entry.walk) report.now) }
         ensures err { IfErr result (λ why.
             ((why ≡ Mismatch.Short) × (IsOver (trail_of self.entry.walk).rest → ⊥))
-            ⊎ ((why ≡ Mismatch.Report) × IsOver (trail_of self.entry.walk).rest × (Reports (trail_of self.entry.walk) report.now → ⊥))) }
+            ⊎ ((why ≡ Mismatch.Report) × IsOver (trail_of self.entry.walk).rest × (Reports (sides_in self.entry.walk) (trail_of self.entry.walk) report.now → ⊥))) }
     {
         if let Some(_) = self.walk.due() {
             return Err(Mismatch::Short);

@@ -1,12 +1,14 @@
 -- What a master's record becomes once a plan has ended.
-use Rattle.std.specs.Prelude.{ℕ, ◌+◌, ◌==◌, nat_lt, nat_le, Bool, true, false, ◌&&◌, not, List, [], ◌∷◌, Option, Some, None, is_none, option_map, option_and_then, filter, bytes_eq, length, if◌then◌else◌}
+use Rattle.std.specs.Prelude.{ℕ, ◌+◌, ◌==◌, nat_lt, nat_le, Bool, true, false, ◌&&◌, ◌||◌, not, List, [], ◌∷◌, Option, Some, None, is_none, option_map, option_and_then, unwrap_or, filter, bytes_eq, length, if◌then◌else◌}
 use Rattle.std.specs.List.{list_any}
 use Rattle.listener_set.specs.AddressList.{has}
 use Rattle.listener_set.specs.Numbers.{first_from}
 use Rattle.vocabulary.specs.Settings.{Settings}
 use Rattle.definitions.specs.Table.{Address, FilePath, Generation, Table, Caller, live_master}
 use Rattle.definitions.specs.Tree.{Old, Target as TargetSide}
+use Rattle.definitions.specs.Crew.{Posts, Crew, posts_of}
 use Rattle.definitions.specs.Record.{Listener, Record}
+use Rattle.definitions.specs.Target.{generation_wanted}
 use Rattle.definitions.specs.Path.{Report, Outcome}
 use Rattle.vocabulary.specs.declared.reports.Outcome.TheVariants as outcome
 pub use Rattle.vocabulary.specs.declared.targets.Target.{Target}
@@ -51,17 +53,42 @@ reloaded addresses ls = option_map (still_wanted addresses) (with_added addresse
 abbrev pub upgraded : List Address → List Listener → Option (List Listener)
 upgraded addresses ls = with_added addresses (still_wanted addresses ls)
 
+---- Where the workers of a target listen
+
+-- The listeners while the target's workers are started: with what is added, and, of an upgrade, without what is dropped. Where the
+-- added ones are too many no worker is started, and it does not matter.
+abbrev pub listeners_then : Record → Target → List Listener
+listeners_then r (target.Workers n) = r.listeners
+listeners_then r (target.Mend overdue) = r.listeners
+listeners_then r target.Reopen = r.listeners
+listeners_then r (target.Reload s) = unwrap_or (with_added s.listeners r.listeners) r.listeners
+listeners_then r (target.Upgrade s) = unwrap_or (upgraded s.listeners r.listeners) r.listeners
+listeners_then r (target.Stop quick) = r.listeners
+
+abbrev pub posts_wanted : Record → Target → Posts
+posts_wanted r (target.Workers n) = r.posts
+posts_wanted r (target.Mend overdue) = r.posts
+posts_wanted r target.Reopen = r.posts
+posts_wanted r (target.Reload s) = posts_of s.groups s.listeners (listeners_then r (target.Reload s))
+posts_wanted r (target.Upgrade s) = posts_of s.groups s.listeners (listeners_then r (target.Upgrade s))
+posts_wanted r (target.Stop quick) = r.posts
+
+-- the workers that a target wants, as they are started
+abbrev pub crew_wanted : Record → Target → Crew
+crew_wanted r t = record { generation = generation_wanted r t; posts = posts_wanted r t }
+
 ---- What a service stands on
 
 pub record Setup : Type 0 where
   pub listeners : List Listener
+  pub posts : Posts
   pub generation : Generation
   pub wanted : ℕ
   pub retries : ℕ
   pub timeout : ℕ
 
 abbrev pub setup_of : Record → Setup
-setup_of r = record { listeners = r.listeners; generation = r.generation; wanted = r.wanted; retries = r.retries; timeout = r.timeout }
+setup_of r = record { listeners = r.listeners; posts = r.posts; generation = r.generation; wanted = r.wanted; retries = r.retries; timeout = r.timeout }
 
 -- image and config numbers end at 4,294,967,295
 abbrev pub next_number : ℕ → Option ℕ
@@ -89,19 +116,31 @@ lacks_generation r (target.Reload s) = is_none (next_config r.generation)
 lacks_generation r (target.Upgrade s) = is_none (next_image r.generation)
 lacks_generation r (target.Stop quick) = false
 
+-- an upgrade of several groups, which no handover can tell yet
+abbrev pub is_grouped_upgrade : Target → Bool
+is_grouped_upgrade (target.Upgrade s) = not (length s.groups == 1)
+is_grouped_upgrade (target.Workers n) = false
+is_grouped_upgrade (target.Mend overdue) = false
+is_grouped_upgrade target.Reopen = false
+is_grouped_upgrade (target.Reload s) = false
+is_grouped_upgrade (target.Stop quick) = false
+
+abbrev pub lacks_plan : Record → Target → Bool
+lacks_plan r t = is_grouped_upgrade t || lacks_generation r t
+
 -- the service of new settings
-abbrev pub renewed : Settings → Option (List Listener) → Option Generation → Option Setup
-renewed s None g = None
-renewed s (Some ls) None = None
-renewed s (Some ls) (Some g) = Some (record { listeners = ls; generation = g; wanted = s.workers; retries = s.retries; timeout = s.timeout })
+abbrev pub renewed : Settings → Posts → Option (List Listener) → Option Generation → Option Setup
+renewed s posts None g = None
+renewed s posts (Some ls) None = None
+renewed s posts (Some ls) (Some g) = Some (record { listeners = ls; posts = posts; generation = g; wanted = s.workers; retries = s.retries; timeout = s.timeout })
 
 -- the target's service; a stop has none
 abbrev pub target_setup : Record → Target → Option Setup
-target_setup r (target.Workers n) = Some (record { listeners = r.listeners; generation = r.generation; wanted = n; retries = r.retries; timeout = r.timeout })
+target_setup r (target.Workers n) = Some (record { listeners = r.listeners; posts = r.posts; generation = r.generation; wanted = n; retries = r.retries; timeout = r.timeout })
 target_setup r (target.Mend overdue) = Some (setup_of r)
 target_setup r target.Reopen = Some (setup_of r)
-target_setup r (target.Reload s) = renewed s (reloaded s.listeners r.listeners) (next_config r.generation)
-target_setup r (target.Upgrade s) = renewed s (upgraded s.listeners r.listeners) (next_image r.generation)
+target_setup r (target.Reload s) = renewed s (posts_wanted r (target.Reload s)) (reloaded s.listeners r.listeners) (next_config r.generation)
+target_setup r (target.Upgrade s) = renewed s (posts_wanted r (target.Upgrade s)) (upgraded s.listeners r.listeners) (next_image r.generation)
 target_setup r (target.Stop quick) = None
 
 -- the service that ran before; nothing runs after a stop
@@ -117,8 +156,8 @@ old_setup r (target.Stop quick) = None
 abbrev pub setup_after : Outcome → Record → Target → Option Setup
 setup_after outcome.Done r t = target_setup r t
 setup_after outcome.RolledBack r t = old_setup r t
-setup_after (outcome.Degraded Old short) r t = old_setup r t
-setup_after (outcome.Degraded TargetSide short) r t = target_setup r t
+setup_after (outcome.Degraded Old shortfalls) r t = old_setup r t
+setup_after (outcome.Degraded TargetSide shortfalls) r t = target_setup r t
 setup_after outcome.Lost r t = None
 
 ---- The next record
@@ -127,6 +166,7 @@ setup_after outcome.Lost r t = None
 abbrev pub recorded : Setup → Option FilePath → Report → ℕ → Record
 recorded s path report pid = record {
   listeners = s.listeners;
+  posts = s.posts;
   generation = s.generation;
   ready = report.ready;
   wanted = s.wanted;

@@ -1,5 +1,5 @@
 -- What the run of a plan keeps, and how it ends.
-use Rattle.std.specs.Prelude.{map, ℕ, ◌≡◌, ◌≤◌, ◌+◌, min, Bool, true, false, ◌&&◌, ◌||◌, ◌==◌, ◌++◌, List, [], if◌then◌else◌, ◌∷◌, length, Option, Some, None, is_some, count_by, bytes_eq, ⊤}
+use Rattle.std.specs.Prelude.{map, ℕ, ◌≡◌, ◌≤◌, ◌+◌, min, sum, Bool, true, false, ◌&&◌, ◌||◌, ◌==◌, ◌++◌, List, [], if◌then◌else◌, ◌∷◌, length, Option, Some, None, is_some, count_by, bytes_eq, ⊤}
 use Rattle.std.specs.List.{list_any, AllByRecursion}
 use Rattle.listener_set.specs.Numbers.{IsRising, RisesFrom, is_in}
 use Rattle.listener_set.specs.AddressList.{has}
@@ -8,8 +8,9 @@ use Rattle.definitions.specs.Exits.{Name}
 use Rattle.vocabulary.specs.declared.names.Name.TheVariants as name
 use Rattle.definitions.specs.Formed.{IsFormed}
 use Rattle.definitions.specs.Service.{Service, is_live_with, service, IsSame}
-use Rattle.definitions.specs.Record.{Listener, Record, IsRecord, Agrees, PidNote, InPlace, AtOldbin, OldbinLeft, Left, NoFile, oldbin}
-use Rattle.definitions.specs.Target.{Target, Workers, Mend, Reopen, Reload, Upgrade, Stop, want, count_wanted, upgrade_generation, text_handed}
+use Rattle.definitions.specs.Record.{Listener, Record, IsRecord, Agrees, layout_of, PidNote, InPlace, AtOldbin, OldbinLeft, Left, NoFile, oldbin}
+use Rattle.definitions.specs.Crew.{Layout, short_at}
+use Rattle.definitions.specs.Target.{Target, Workers, Mend, Reopen, Reload, Upgrade, Stop, want, wanted_at, layout_wanted, sides_of, upgrade_generation, text_handed}
 use Rattle.definitions.specs.Tree.{Tree, height}
 use Rattle.definitions.specs.Plans.{plan_tree}
 use Rattle.definitions.specs.Path.{Report, Outcome, Entry}
@@ -82,18 +83,24 @@ IsFewerAt m (Some full) (Some less) =
 IsFewerAt m None (Some less) = ⊥
 IsFewerAt m (Some full) None = ⊥
 
--- The same addresses, at each m workers fewer.
-abbrev pub IsFewer : ℕ → Service → Service → Type 0
-IsFewer m full less = (a : Address) → IsFewerAt m (full a) (less a)
+-- The same addresses, at each so many workers fewer.
+abbrev pub IsFewer : (Address → ℕ) → Service → Service → Type 0
+IsFewer short full less = (a : Address) → IsFewerAt (short a) (full a) (less a)
 
--- What an outcome says of the last table: Done, the target's service; RolledBack, the old one; Degraded, that side's with the
--- named shortfall, which is at least 1. Lost never comes.
-abbrev pub Says : Outcome → Service → Service → Table → Type 0
-Says outcome.Done old target t = IsSame (service t) target
-Says outcome.RolledBack old target t = IsSame (service t) old
-Says (outcome.Degraded side.Old short) old target t = (1 ≤ short) × IsFewer short old (service t)
-Says (outcome.Degraded side.Target short) old target t = (1 ≤ short) × IsFewer short target (service t)
-Says outcome.Lost old target t = ⊥
+-- One service is the other less the shortfalls of its groups, each at the addresses where the group listens. There is one for each
+-- group, and one of them is at least 1.
+abbrev pub FallsShort : Layout → List ℕ → Service → Service → Type 0
+FallsShort layout shortfalls full less =
+    (length shortfalls ≡ length layout.groups) × (1 ≤ sum shortfalls) × IsFewer (short_at layout shortfalls) full less
+
+-- What an outcome says of the last table: Done, the target's service; RolledBack, the one of the first table; Degraded, that side's
+-- less the named shortfalls. Lost never comes.
+abbrev pub Says : Record → Target → Outcome → Table → Table → Type 0
+Says r target outcome.Done first last = IsSame (service last) (want r target)
+Says r target outcome.RolledBack first last = IsSame (service last) (service first)
+Says r target (outcome.Degraded side.Old shortfalls) first last = FallsShort (layout_of r) shortfalls (service first) (service last)
+Says r target (outcome.Degraded side.Target shortfalls) first last = FallsShort (layout_wanted r target) shortfalls (want r target) (service last)
+Says r target outcome.Lost first last = ⊥
 
 -- The record that the report leaves to the master that reigns agrees with the last table, and its values are in range. Its note
 -- says what the files are. A master of the old image is the old master.
@@ -133,13 +140,13 @@ StopNote OldbinLeft path ran = ⊥
 
 -- What a run leaves: after a stop there is no record, and no master and no worker.
 abbrev pub IsSucceeded : Record → Target → Ran → Type 0
-IsSucceeded r (Workers n) ran = AgreesAfter r (Workers n) (report_of ran) ran.last.table
-IsSucceeded r (Mend overdue) ran = AgreesAfter r (Mend overdue) (report_of ran) ran.last.table
-IsSucceeded r Reopen ran = AgreesAfter r Reopen (report_of ran) ran.last.table
-IsSucceeded r (Reload s) ran = AgreesAfter r (Reload s) (report_of ran) ran.last.table
-IsSucceeded r (Upgrade s) ran = AgreesAfter r (Upgrade s) (report_of ran) ran.last.table
+IsSucceeded r (Workers n) ran = AgreesAfter r (Workers n) (report_of (sides_of r (Workers n)) ran) ran.last.table
+IsSucceeded r (Mend overdue) ran = AgreesAfter r (Mend overdue) (report_of (sides_of r (Mend overdue)) ran) ran.last.table
+IsSucceeded r Reopen ran = AgreesAfter r Reopen (report_of (sides_of r Reopen) ran) ran.last.table
+IsSucceeded r (Reload s) ran = AgreesAfter r (Reload s) (report_of (sides_of r (Reload s)) ran) ran.last.table
+IsSucceeded r (Upgrade s) ran = AgreesAfter r (Upgrade s) (report_of (sides_of r (Upgrade s)) ran) ran.last.table
 IsSucceeded r (Stop quick) ran =
-    (next_record r (Stop quick) (report_of ran) ran.last.table ≡ None) × (list_any is_own ran.last.table.rows ≡ false) × StopNote ran.last.note r.pid_path ran
+    (next_record r (Stop quick) (report_of (sides_of r (Stop quick)) ran) ran.last.table ≡ None) × (list_any is_own ran.last.table.rows ≡ false) × StopNote ran.last.note r.pid_path ran
 
 ---- What is kept throughout
 
@@ -167,8 +174,8 @@ ready_with a t = count_by (is_ready_with a) t.rows
 
 -- At each such address the Ready workers that hold it, and the losses so far, are at least as many as in the first table or as
 -- are wanted, whichever is fewer.
-abbrev pub Floor : Service → Service → Table → ℕ → Progress → Type 0
-Floor old target first wanted p = (a : Address) → IsCommon old target a → min (ready_with a first) wanted ≤ ready_with a p.table + p.losses
+abbrev pub Floor : Service → Service → Table → (Address → ℕ) → Progress → Type 0
+Floor old target first wanted p = (a : Address) → IsCommon old target a → min (ready_with a first) (wanted a) ≤ ready_with a p.table + p.losses
 
 ---- The accounts
 
@@ -180,42 +187,42 @@ IsBlamed p = (is_some p.cause ≡ false → p.faults ≡ 0) × (is_some p.cause 
 abbrev pub HasCause : Outcome → Option ℕ → Type 0
 HasCause outcome.Done cause = ⊤
 HasCause outcome.RolledBack cause = is_some cause ≡ true
-HasCause (outcome.Degraded side short) cause = is_some cause ≡ true
+HasCause (outcome.Degraded side shortfalls) cause = is_some cause ≡ true
 HasCause outcome.Lost cause = ⊥
 
--- A shortfall and the retries before it are no more than what failed or was lost.
+-- The shortfalls of all groups and the retries before them are together no more than what failed or was lost.
 abbrev pub IsPaid : ℕ → Outcome → Progress → Type 0
 IsPaid retries outcome.Done p = ⊤
 IsPaid retries outcome.RolledBack p = ⊤
-IsPaid retries (outcome.Degraded side short) p = short + retries ≤ p.faults + p.losses
+IsPaid retries (outcome.Degraded side shortfalls) p = sum shortfalls + retries ≤ p.faults + p.losses
 IsPaid retries outcome.Lost p = ⊥
 
 ---- The headline
 
 -- The run of a target's plan ends as its report says, and keeps what it has to.
 pub record EndsAsReported (t : Table) (r : Record) (target : Target) (ran : Ran) : Type 0 where
-  pub says : Says (report_of ran).outcome (service t) (want r target) ran.last.table
+  pub says : Says r target (report_of (sides_of r target) ran).outcome t ran.last.table
   pub after : IsSucceeded r target ran
   pub kept : AllByRecursion (λ p. Kept (service t) (want r target) t p.table) ran.passed
   pub blamed : AllByRecursion IsBlamed ran.passed
-  pub cause : HasCause (report_of ran).outcome ran.last.cause
-  pub paid : IsPaid r.retries (report_of ran).outcome ran.last
+  pub cause : HasCause (report_of (sides_of r target) ran).outcome ran.last.cause
+  pub paid : IsPaid r.retries (report_of (sides_of r target) ran).outcome ran.last
 
 abbrev pub KeepsFloor : Table → Record → Target → Ran → Type 0
-KeepsFloor t r target ran = AllByRecursion (Floor (service t) (want r target) t (count_wanted r target)) ran.passed
+KeepsFloor t r target ran = AllByRecursion (Floor (service t) (want r target) t (wanted_at r target)) ran.passed
 
 -- Descriptors rise, from 3 on, and a process may have at most 64.
 pub record HasDescriptors (t : Table) (r : Record) : Type 0 where
   pub descriptors : RisesFrom 3 (map (λ (l : Listener). l.descriptor) r.listeners)
   pub limit : t.limits.descriptors ≤ 64
 
--- What is asked of the start, beside that it is one: of the target, and of the pattern, which must not name an executing master.
+-- What is asked of the start, beside that it is one: of the target, an upgrade's having one group, and of the pattern, which must not name an executing master.
 abbrev pub Accepts : Table → Record → Target → Type 0
 Accepts t r (Workers n) = n ≤ 1024
 Accepts t r (Mend overdue) = ⊤
 Accepts t r Reopen = ⊤
 Accepts t r (Reload s) = IsInRange s × HasDescriptors t r × (is_some (next_config r.generation) ≡ true)
-Accepts t r (Upgrade s) = IsInRange s × HasDescriptors t r × (is_some (next_image r.generation) ≡ true)
+Accepts t r (Upgrade s) = (length s.groups ≡ 1) × IsInRange s × HasDescriptors t r × (is_some (next_image r.generation) ≡ true)
 Accepts t r (Stop quick) = ⊤
 
 pub record IsAccepted (t : Table) (r : Record) (target : Target) (pattern : Pattern) : Type 0 where
@@ -259,7 +266,7 @@ UpgradeHeadline =
 abbrev pub InManner : Target → Type 0
 InManner target =
     (t : Table) (r : Record) (pattern : Pattern) → IsAccepted t r target pattern →
-    Manner r target (report_of (run_of r target pattern t)).outcome t (run_of r target pattern t)
+    Manner r target (report_of (sides_of r target) (run_of r target pattern t)).outcome t (run_of r target pattern t)
 
 -- A run makes no more calls than the longest path of its plan has steps.
 abbrev pub RunsWithin : Type 0

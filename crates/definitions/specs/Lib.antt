@@ -2,6 +2,7 @@ pub mod Table
 pub mod Exits
 pub mod Handover
 pub mod Calls
+pub mod Crew
 pub mod Formed
 pub mod Service
 pub mod Record

@@ -136,8 +136,8 @@ LeavesLast r ran = AreWaitedFor r (before_leave ran.entries)
 abbrev pub is_old_side : Outcome → Bool
 is_old_side outcome.Done = false
 is_old_side outcome.RolledBack = true
-is_old_side (outcome.Degraded side.Old short) = true
-is_old_side (outcome.Degraded side.Target short) = false
+is_old_side (outcome.Degraded side.Old shortfalls) = true
+is_old_side (outcome.Degraded side.Target shortfalls) = false
 is_old_side outcome.Lost = false
 
 -- Which worker numbers stay: on the old side all.

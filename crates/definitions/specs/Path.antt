@@ -1,5 +1,5 @@
 -- Paths of a plan's tree, and what a report says of one.
-use Rattle.std.specs.Prelude.{ℕ, ◌+◌, ◌≡◌, Bool, true, false, not, List, [], ◌∷◌, ◌++◌, length, Option, Some, None, unwrap_or}
+use Rattle.std.specs.Prelude.{ℕ, ◌+◌, ◌≡◌, Bool, true, false, not, List, [], ◌∷◌, ◌++◌, Option, Some, None, unwrap_or}
 use Rattle.listener_set.specs.Numbers.{lacks}
 use Rattle.definitions.specs.Calls.{Call, Answer}
 use Rattle.vocabulary.specs.declared.calls.Answer.TheVariants as answer
@@ -8,6 +8,8 @@ pub use Rattle.vocabulary.specs.declared.reports.Entry.{Entry}
 pub use Rattle.vocabulary.specs.declared.reports.Report.{Report}
 pub use Rattle.vocabulary.specs.declared.reports.Outcome.{Outcome}
 use Rattle.vocabulary.specs.declared.reports.Outcome.TheVariants as outcome
+pub use Rattle.vocabulary.specs.declared.plans.Sides.{Sides}
+use Rattle.definitions.specs.Crew.{shortfalls_of}
 
 -- How far a path has come: the rest of the tree, or nothing where the last answer had no edge; the last count and what it
 -- lacked of its set; the note; the first call that went wrong, counted from 1; and how many calls were made.
@@ -95,20 +97,21 @@ IsOver (Some (Does by order set branches)) = ⊥
 
 ---- Reports
 
-abbrev pub outcome_at : End → List ℕ → Outcome
-outcome_at Done lacking = outcome.Done
-outcome_at RolledBack lacking = outcome.RolledBack
-outcome_at ShortOld lacking = outcome.Degraded Old (length lacking)
-outcome_at ShortTarget lacking = outcome.Degraded Target (length lacking)
+-- what an end says, by the groups of its side and what the last census lacked
+abbrev pub outcome_at : Sides → End → List ℕ → Outcome
+outcome_at sides Done lacking = outcome.Done
+outcome_at sides RolledBack lacking = outcome.RolledBack
+outcome_at sides ShortOld lacking = outcome.Degraded Old (shortfalls_of sides.old lacking)
+outcome_at sides ShortTarget lacking = outcome.Degraded Target (shortfalls_of sides.target lacking)
 
 -- the end that the path is at, or Lost where the last answer had no edge
-abbrev pub IsOutcome : Option Tree → List ℕ → Outcome → Type 0
-IsOutcome None lacking o = o ≡ outcome.Lost
-IsOutcome (Some (Ends end)) lacking o = o ≡ outcome_at end lacking
-IsOutcome (Some (Does by order set branches)) lacking o = ⊥
+abbrev pub IsOutcome : Sides → Option Tree → List ℕ → Outcome → Type 0
+IsOutcome sides None lacking o = o ≡ outcome.Lost
+IsOutcome sides (Some (Ends end)) lacking o = o ≡ outcome_at sides end lacking
+IsOutcome sides (Some (Does by order set branches)) lacking o = ⊥
 
-pub record Reports (t : Trail) (report : Report) : Type 0 where
-  pub outcome : IsOutcome t.rest t.lacking report.outcome
+pub record Reports (sides : Sides) (t : Trail) (report : Report) : Type 0 where
+  pub outcome : IsOutcome sides t.rest t.lacking report.outcome
   pub cause : report.cause ≡ t.cause
   pub note : report.note ≡ t.note
   pub ready : report.ready ≡ t.ready
@@ -119,7 +122,7 @@ EndsGone entries = (front : List Entry) × (last : Entry) × (entries ≡ front 
 
 -- The entries are a whole path of the tree, or a path and one entry after it where a master is gone and the step has no edge for
 -- that, and the report is theirs.
-pub record KeepsPathLaw (tree : Tree) (note : PidNote) (entries : List Entry) (report : Report) : Type 0 where
+pub record KeepsPathLaw (tree : Tree) (note : PidNote) (sides : Sides) (entries : List Entry) (report : Report) : Type 0 where
   pub path : Follows (begin tree note) entries
-  pub report_is : Reports (trail_after (begin tree note) entries) report
+  pub report_is : Reports sides (trail_after (begin tree note) entries) report
   pub lost : report.outcome ≡ outcome.Lost → EndsGone entries

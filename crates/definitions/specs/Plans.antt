@@ -2,10 +2,11 @@
 use Rattle.std.specs.Prelude.{ℕ, zero, suc, not, ◌||◌, nat_lt, Bool, true, false, List, [], ◌∷◌, ◌++◌, Option, Some, None, filter, map, reverse, if◌then◌else◌}
 use Rattle.listener_set.specs.Numbers.{numbers_below, is_in}
 use Rattle.definitions.specs.Table.{Address, FilePath, Generation}
-use Rattle.definitions.specs.Calls.{Call, OpenAt, CloseAt, Fork, AwaitReady, Quit, Kill, Census, AwaitGone, SpawnMaster, Adopt, WritePid, MovePid, RemovePid, Alive, Leave, Usr1, TermMaster}
-use Rattle.definitions.specs.Record.{Record, PidNote, InPlace, AtOldbin, OldbinLeft, Left, NoFile, oldbin, addresses_of}
-use Rattle.definitions.specs.Target.{Target, Workers, Mend, Reopen, Reload, Upgrade, Stop, only_in, reload_generation, upgrade_generation}
-use Rattle.definitions.specs.After.{lacks_generation}
+use Rattle.definitions.specs.Calls.{Call, OpenAt, CloseAt, AwaitReady, Quit, Kill, Census, AwaitGone, SpawnMaster, Adopt, WritePid, MovePid, RemovePid, Alive, Leave, Usr1, TermMaster}
+use Rattle.definitions.specs.Crew.{Crew, fork_of}
+use Rattle.definitions.specs.Record.{Record, PidNote, InPlace, AtOldbin, OldbinLeft, Left, NoFile, oldbin, addresses_of, crew_of}
+use Rattle.definitions.specs.Target.{Target, Workers, Mend, Reopen, Reload, Upgrade, Stop, only_in}
+use Rattle.definitions.specs.After.{crew_wanted, lacks_plan}
 use Rattle.definitions.specs.Tree.{Reply, plain_reply, replies_to, Side, End, Done, RolledBack, ShortOld, ShortTarget, Make, ForkLacking, AwaitLacking, KillLacking, Tree, Branches, Ends, Does, Nothing, Branch}
 use Rattle.vocabulary.specs.declared.plans.Side.TheVariants as side
 use Rattle.vocabulary.specs.declared.calls.Reply.TheVariants as reply
@@ -63,21 +64,22 @@ short_end side.Old = ShortOld
 short_end side.Target = ShortTarget
 
 -- One round: start the lowest number that is lacking, and go on whatever was answered. A failed fork goes straight on.
-abbrev pub round : ℕ → Generation → Tree → Tree
-round by g rest =
-    Does by (ForkLacking g) [] (fork_edges (Does by (AwaitLacking g) [] (await_any_edges rest (Does by (KillLacking g) [] (then_edge rest)))) rest)
+abbrev pub round : ℕ → Crew → Tree → Tree
+round by crew rest =
+    Does by (ForkLacking crew) []
+    (fork_edges (Does by (AwaitLacking crew.generation) [] (await_any_edges rest (Does by (KillLacking crew.generation) [] (then_edge rest)))) rest)
 
 -- A census of the set: full ends well; short makes a round and counts again, as long as rounds are left.
-abbrev pub settle : ℕ → Generation → List ℕ → Side → ℕ → Tree
-settle by g set side zero = census by g set (census_edges (Ends (full_end side)) (Ends (short_end side)))
-settle by g set side (suc rounds) = census by g set (census_edges (Ends (full_end side)) (round by g (settle by g set side rounds)))
+abbrev pub settle : ℕ → Crew → List ℕ → Side → ℕ → Tree
+settle by crew set side zero = census by crew.generation set (census_edges (Ends (full_end side)) (Ends (short_end side)))
+settle by crew set side (suc rounds) = census by crew.generation set (census_edges (Ends (full_end side)) (round by crew (settle by crew set side rounds)))
 
 ---- Starts and quits
 
 -- Fork these numbers upwards. The first failed fork leads to `bad` of those that were forked, the last first.
-abbrev pub forks : ℕ → Generation → List ℕ → List ℕ → (List ℕ → Tree) → (List ℕ → Tree) → Tree
-forks by g [] done ok bad = ok done
-forks by g (k ∷ ks) done ok bad = does by (Fork g k None) (fork_edges (forks by g ks (k ∷ done) ok bad) (bad done))
+abbrev pub forks : ℕ → Crew → List ℕ → List ℕ → (List ℕ → Tree) → (List ℕ → Tree) → Tree
+forks by crew [] done ok bad = ok done
+forks by crew (k ∷ ks) done ok bad = does by (fork_of crew k) (fork_edges (forks by crew ks (k ∷ done) ok bad) (bad done))
 
 -- Wait for these numbers upwards. The first that fails, killed where it is late, leads to `bad`.
 abbrev pub awaits : ℕ → Generation → List ℕ → Tree → Tree → Tree
@@ -85,8 +87,8 @@ awaits by g [] ok bad = ok
 awaits by g (k ∷ ks) ok bad = does by (AwaitReady g k) (await_edges (awaits by g ks ok bad) bad (does by (Kill g k) (then_edge bad)))
 
 -- Fork all, then wait for all. A failure leads to `bad` of those that were forked, the last first.
-abbrev pub starts : ℕ → Generation → List ℕ → Tree → (List ℕ → Tree) → Tree
-starts by g ks ok bad = forks by g ks [] (λ forked. awaits by g ks ok (bad forked)) bad
+abbrev pub starts : ℕ → Crew → List ℕ → Tree → (List ℕ → Tree) → Tree
+starts by crew ks ok bad = forks by crew ks [] (λ forked. awaits by crew.generation ks ok (bad forked)) bad
 
 -- Quit these numbers in their order.
 abbrev pub quits : ℕ → Generation → List ℕ → Tree → Tree
@@ -94,9 +96,9 @@ quits by g [] rest = rest
 quits by g (k ∷ ks) rest = does by (Quit g k) (then_edge (quits by g ks rest))
 
 -- Fork these numbers upwards, whatever is answered.
-abbrev pub forks_any : ℕ → Generation → List ℕ → Tree → Tree
-forks_any by g [] rest = rest
-forks_any by g (k ∷ ks) rest = does by (Fork g k None) (fork_any_edges (forks_any by g ks rest))
+abbrev pub forks_any : ℕ → Crew → List ℕ → Tree → Tree
+forks_any by crew [] rest = rest
+forks_any by crew (k ∷ ks) rest = does by (fork_of crew k) (fork_any_edges (forks_any by crew ks rest))
 
 -- Wait for these numbers upwards, whatever is answered; one that is late is killed.
 abbrev pub awaits_any : ℕ → Generation → List ℕ → Tree → Tree
@@ -105,8 +107,8 @@ awaits_any by g (k ∷ ks) rest =
     does by (AwaitReady g k) (await_any_edges (awaits_any by g ks rest) (does by (Kill g k) (then_edge (awaits_any by g ks rest))))
 
 -- Fork all, then wait for all, going on after a failure.
-abbrev pub starts_any : ℕ → Generation → List ℕ → Tree → Tree
-starts_any by g ks rest = forks_any by g ks (awaits_any by g ks rest)
+abbrev pub starts_any : ℕ → Crew → List ℕ → Tree → Tree
+starts_any by crew ks rest = forks_any by crew ks (awaits_any by crew.generation ks rest)
 
 abbrev pub kills : ℕ → Generation → List ℕ → Tree → Tree
 kills by g [] rest = rest
@@ -137,42 +139,42 @@ closes by (a ∷ more) rest = does by (CloseAt a) (then_edge (closes by more res
 
 -- The numbers below n that are lacking are started, those from n on quit downwards, and the target settles. A failed start
 -- quits what was forked, downwards, and the old side settles.
-abbrev pub workers_tree : ℕ → Generation → List ℕ → ℕ → ℕ → Tree
-workers_tree by g ready retries n =
-    starts by g (filter (λ k. not (is_in ready k)) (numbers_below n))
-    (quits by g (reverse (filter (λ k. not (nat_lt k n)) ready)) (settle by g (numbers_below n) side.Target retries))
-    (λ forked. quits by g forked (settle by g ready side.Old retries))
+abbrev pub workers_tree : ℕ → Crew → List ℕ → ℕ → ℕ → Tree
+workers_tree by crew ready retries n =
+    starts by crew (filter (λ k. not (is_in ready k)) (numbers_below n))
+    (quits by crew.generation (reverse (filter (λ k. not (nat_lt k n)) ready)) (settle by crew (numbers_below n) side.Target retries))
+    (λ forked. quits by crew.generation forked (settle by crew ready side.Old retries))
 
 -- Those that are overdue and ready are killed; each wanted number that isn't ready or is overdue is started, going on after
 -- a failure; and the target settles.
-abbrev pub mend_tree : ℕ → Generation → List ℕ → ℕ → List ℕ → ℕ → Tree
-mend_tree by g ready retries overdue wanted =
-    kills by g (filter (is_in ready) overdue)
-    (starts_any by g (filter (λ k. not (is_in ready k) || is_in overdue k) (numbers_below wanted)) (settle by g (numbers_below wanted) side.Target retries))
+abbrev pub mend_tree : ℕ → Crew → List ℕ → ℕ → List ℕ → ℕ → Tree
+mend_tree by crew ready retries overdue wanted =
+    kills by crew.generation (filter (is_in ready) overdue)
+    (starts_any by crew (filter (λ k. not (is_in ready k) || is_in overdue k) (numbers_below wanted)) (settle by crew (numbers_below wanted) side.Target retries))
 
 -- Each ready worker is told, and the target settles.
-abbrev pub reopen_tree : ℕ → Generation → List ℕ → ℕ → Tree
-reopen_tree by g ready retries = usr1s by g ready (settle by g ready side.Target retries)
+abbrev pub reopen_tree : ℕ → Crew → List ℕ → ℕ → Tree
+reopen_tree by crew ready retries = usr1s by crew.generation ready (settle by crew ready side.Target retries)
 
 -- Back from a reload: the new workers quit, what was opened is closed, the last first, and the old side settles.
-abbrev pub reload_back : ℕ → Generation → List ℕ → ℕ → List Address → List ℕ → Tree
-reload_back by g ready retries opened forked = quits by (reload_generation g) forked (closes by opened (settle by g ready side.Old retries))
+abbrev pub reload_back : ℕ → Crew → Crew → List ℕ → ℕ → List Address → List ℕ → Tree
+reload_back by old new ready retries opened forked = quits by new.generation forked (closes by opened (settle by old ready side.Old retries))
 
 -- On with a reload: the old workers quit, the dropped addresses are closed in the old order, and the target settles.
-abbrev pub reload_on : ℕ → Generation → List ℕ → ℕ → List Address → ℕ → Tree
-reload_on by g ready retries dropped n =
-    quits by g (reverse ready) (closes by dropped (settle by (reload_generation g) (numbers_below n) side.Target retries))
+abbrev pub reload_on : ℕ → Crew → Crew → List ℕ → ℕ → List Address → ℕ → Tree
+reload_on by old new ready retries dropped n =
+    quits by old.generation (reverse ready) (closes by dropped (settle by new (numbers_below n) side.Target retries))
 
 -- The added addresses are opened, the new workers started and counted; if all is well, it goes on, and else back.
-abbrev pub reload_tree : ℕ → Generation → List ℕ → ℕ → List Address → List Address → ℕ → Tree
-reload_tree by g ready retries old wanted n =
-    opens by (only_in wanted old) []
-    (λ opened. starts by (reload_generation g) (numbers_below n)
-    (census by (reload_generation g) (numbers_below n) (census_edges
-    (reload_on by g ready retries (only_in old wanted) n)
-    (reload_back by g ready retries opened (reverse (numbers_below n)))))
-    (reload_back by g ready retries opened))
-    (λ opened. closes by opened (settle by g ready side.Old retries))
+abbrev pub reload_tree : ℕ → Crew → Crew → List ℕ → ℕ → List Address → List Address → ℕ → Tree
+reload_tree by old new ready retries held wanted n =
+    opens by (only_in wanted held) []
+    (λ opened. starts by new (numbers_below n)
+    (census by new.generation (numbers_below n) (census_edges
+    (reload_on by old new ready retries (only_in held wanted) n)
+    (reload_back by old new ready retries opened (reverse (numbers_below n)))))
+    (reload_back by old new ready retries opened))
+    (λ opened. closes by opened (settle by old ready side.Old retries))
 
 ---- Stop
 
@@ -222,10 +224,10 @@ pid_calls (Some path) call = call path ∷ []
 
 -- What the new master does before it is counted: it adopts, closes the dropped addresses and opens the added ones, forks its
 -- workers and waits for them, and writes its pid.
-abbrev pub new_calls : Generation → Option FilePath → List Address → List Address → ℕ → List Call
-new_calls g path old wanted n =
-    Adopt ∷ map CloseAt (only_in old wanted) ++ map OpenAt (only_in wanted old) ++ map (λ k. Fork (upgrade_generation g) k None) (numbers_below n)
-    ++ map (AwaitReady (upgrade_generation g)) (numbers_below n) ++ pid_calls path WritePid
+abbrev pub new_calls : Crew → Option FilePath → List Address → List Address → ℕ → List Call
+new_calls crew path held wanted n =
+    Adopt ∷ map CloseAt (only_in held wanted) ++ map OpenAt (only_in wanted held) ++ map (fork_of crew) (numbers_below n)
+    ++ map (AwaitReady crew.generation) (numbers_below n) ++ pid_calls path WritePid
 
 -- The pid file goes aside, where it isn't yet.
 abbrev pub move_aside : ℕ → Option FilePath → PidNote → Tree → Tree → Tree
@@ -244,49 +246,53 @@ remove_oldbin by None rest = rest
 remove_oldbin by (Some path) rest = does by (RemovePid (oldbin path)) (note_edges (Some InPlace) (Some OldbinLeft) rest)
 
 -- Back without a new master, and with one.
-abbrev pub back_alone : ℕ → Generation → List ℕ → ℕ → Option FilePath → Tree
-back_alone by g ready retries path = move_back by path (settle by g ready side.Old retries)
+abbrev pub back_alone : ℕ → Crew → List ℕ → ℕ → Option FilePath → Tree
+back_alone by crew ready retries path = move_back by path (settle by crew ready side.Old retries)
 
-abbrev pub back_from : ℕ → ℕ → Generation → List ℕ → ℕ → Option FilePath → Tree
-back_from by new g ready retries path = does by (TermMaster new) (then_edge (back_alone by g ready retries path))
+abbrev pub back_from : ℕ → ℕ → Crew → List ℕ → ℕ → Option FilePath → Tree
+back_from by heir crew ready retries path = does by (TermMaster heir) (then_edge (back_alone by crew ready retries path))
 
 -- Back after the old workers are gone: they are started again.
-abbrev pub back_late : ℕ → ℕ → Generation → List ℕ → ℕ → Option FilePath → Tree
-back_late by new g ready retries path = does by (TermMaster new) (then_edge (starts_any by g ready (back_alone by g ready retries path)))
+abbrev pub back_late : ℕ → ℕ → Crew → List ℕ → ℕ → Option FilePath → Tree
+back_late by heir crew ready retries path = does by (TermMaster heir) (then_edge (starts_any by crew ready (back_alone by crew ready retries path)))
 
 -- The old master leaves; the new one removes the old file and settles.
-abbrev pub hand_over : ℕ → ℕ → Generation → ℕ → Option FilePath → ℕ → Tree
-hand_over by new g retries path n = does by Leave (then_edge (remove_oldbin new path (settle new (upgrade_generation g) (numbers_below n) side.Target retries)))
+abbrev pub hand_over : ℕ → Crew → ℕ → Option FilePath → ℕ → Tree
+hand_over by new retries path n =
+    does by Leave (then_edge (remove_oldbin new.generation.image path (settle new.generation.image new (numbers_below n) side.Target retries)))
 
 -- The old workers quit and are waited for; then, if the new master still lives, the old one leaves.
-abbrev pub relieve : ℕ → ℕ → Generation → List ℕ → ℕ → Option FilePath → ℕ → Tree
-relieve by new g ready retries path n =
-    quits by g (reverse ready) (awaits_gone by g (reverse ready)
-    (does by (Alive new) (on (reply.IsAlive ∷ []) (hand_over by new g retries path n) (on (reply.Gone ∷ []) (back_late by new g ready retries path) Nothing))))
+abbrev pub relieve : ℕ → Crew → Crew → List ℕ → ℕ → Option FilePath → ℕ → Tree
+relieve by old new ready retries path n =
+    let heir = new.generation.image in
+    quits by old.generation (reverse ready) (awaits_gone by old.generation (reverse ready)
+    (does by (Alive heir) (on (reply.IsAlive ∷ []) (hand_over by new retries path n) (on (reply.Gone ∷ []) (back_late by heir old ready retries path) Nothing))))
 
 abbrev pub spawn_edges : Tree → Tree → Branches
 spawn_edges ok bad = on (reply.Spawned ∷ []) ok (on (reply.Again ∷ reply.NoMemory ∷ reply.NoImage ∷ []) bad Nothing)
 
-abbrev pub upgrade_tree : ℕ → Generation → List ℕ → ℕ → Option FilePath → PidNote → List Address → List Address → ℕ → Tree
-upgrade_tree by g ready retries path note old wanted n =
-    let new = (upgrade_generation g).image in
-    let back = back_from by new g ready retries path in
+abbrev pub upgrade_tree : ℕ → Crew → Crew → List ℕ → ℕ → Option FilePath → PidNote → List Address → List Address → ℕ → Tree
+upgrade_tree by old new ready retries path note held wanted n =
+    let heir = new.generation.image in
+    let back = back_from by heir old ready retries path in
     move_aside by path note
-    (does by (SpawnMaster new) (spawn_edges
-    (tries_all new (new_calls g path old wanted n) (tries new (Census (upgrade_generation g)) (numbers_below n) (relieve by new g ready retries path n) back) back)
-    (back_alone by g ready retries path)))
-    (settle by g ready side.Old retries)
+    (does by (SpawnMaster heir) (spawn_edges
+    (tries_all heir (new_calls new path held wanted n) (tries heir (Census new.generation) (numbers_below n) (relieve by old new ready retries path n) back) back)
+    (back_alone by old ready retries path)))
+    (settle by old ready side.Old retries)
 
 ---- The plan of a target
 
 abbrev pub plan_tree : Record → Target → Tree
-plan_tree r (Workers n) = workers_tree r.generation.image r.generation r.ready r.retries n
-plan_tree r (Mend overdue) = mend_tree r.generation.image r.generation r.ready r.retries overdue r.wanted
-plan_tree r Reopen = reopen_tree r.generation.image r.generation r.ready r.retries
-plan_tree r (Reload s) = reload_tree r.generation.image r.generation r.ready r.retries (addresses_of r) s.listeners s.workers
-plan_tree r (Upgrade s) = upgrade_tree r.generation.image r.generation r.ready r.retries r.pid_path r.note (addresses_of r) s.listeners s.workers
+plan_tree r (Workers n) = workers_tree r.generation.image (crew_of r) r.ready r.retries n
+plan_tree r (Mend overdue) = mend_tree r.generation.image (crew_of r) r.ready r.retries overdue r.wanted
+plan_tree r Reopen = reopen_tree r.generation.image (crew_of r) r.ready r.retries
+plan_tree r (Reload s) = reload_tree r.generation.image (crew_of r) (crew_wanted r (Reload s)) r.ready r.retries (addresses_of r) s.listeners s.workers
+plan_tree r (Upgrade s) =
+    upgrade_tree r.generation.image (crew_of r) (crew_wanted r (Upgrade s)) r.ready r.retries r.pid_path r.note (addresses_of r) s.listeners s.workers
 plan_tree r (Stop quick) = stop_tree r.generation.image r.generation r.ready r.pid_path r.note quick
 
--- The plan of a target for a running master. There is none where a number of the target's generation would pass its limit.
+-- The plan of a target for a running master. There is none for an upgrade of several groups, nor where a number of the target's
+-- generation would pass its limit.
 abbrev pub planned : Record → Target → Option Tree
-planned r target = if lacks_generation r target then None else Some (plan_tree r target)
+planned r target = if lacks_plan r target then None else Some (plan_tree r target)

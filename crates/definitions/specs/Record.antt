@@ -4,6 +4,9 @@ use Rattle.std.specs.List.{list_any, AllByRecursion}
 use Rattle.listener_set.specs.Numbers.{is_in}
 pub use Rattle.vocabulary.specs.declared.table.Listener.{Listener}
 use Rattle.vocabulary.specs.Settings.{Settings, HasSuffixRoom}
+use Rattle.listener_set.specs.Groups.{AreGroups}
+use Rattle.crews.specs.Crews.{first_posts}
+use Rattle.definitions.specs.Crew.{Posts, Crew, share, Layout, layout_at}
 use Rattle.definitions.specs.Table.{Address, FilePath, Generation, Hold, Starting, Ready, Draining, Exited, Process, Master, Worker, Foreign, File, Table, is_master, is_ready, is_worker, live_master, owner_at}
 pub use Rattle.vocabulary.specs.declared.plans.PidNote.{PidNote}
 pub use Rattle.vocabulary.specs.declared.plans.PidNote.TheVariants.{InPlace, AtOldbin, OldbinLeft, Left, NoFile}
@@ -11,6 +14,8 @@ pub use Rattle.vocabulary.specs.declared.plans.PidNote.TheVariants.{InPlace, AtO
 pub record Record : Type 0 where
   -- in ascending descriptors
   pub listeners : List Listener
+  -- where the workers of each group listen
+  pub posts : Posts
   pub generation : Generation
   -- in ascending order
   pub ready : List ℕ
@@ -21,9 +26,10 @@ pub record Record : Type 0 where
   pub note : PidNote
   pub pid : ℕ
 
--- at least one listener, ready numbers below the wanted count, and the ranges of a configuration
+-- at least one listener, 1 to 16 groups, ready numbers below the wanted count, and the ranges of a configuration
 pub record IsRecord (r : Record) : Type 0 where
   pub listens : 1 ≤ length r.listeners
+  pub groups : AreGroups r.posts.groups
   pub wanted : r.wanted ≤ 1024
   pub ready : AllByRecursion (λ k. k < r.wanted) r.ready
   pub retries : r.retries ≤ 8
@@ -34,6 +40,12 @@ pub record IsRecord (r : Record) : Type 0 where
 
 abbrev pub addresses_of : Record → List Address
 addresses_of r = map (λ (l : Listener). l.address) r.listeners
+
+abbrev pub crew_of : Record → Crew
+crew_of r = record { generation = r.generation; posts = r.posts }
+
+abbrev pub layout_of : Record → Layout
+layout_of r = layout_at r.posts r.listeners
 
 -- addresses in order, from a descriptor on
 abbrev pub listeners_from : ℕ → List Address → List Listener
@@ -47,10 +59,12 @@ first_note (Some path) = InPlace
 abbrev pub first_generation : Generation
 first_generation = record { image = 1; config = 1 }
 
--- The record of a master that starts with these settings: generation 1.1, descriptors from 3 on.
+-- The record of a master that starts with these settings: generation 1.1, descriptors from 3 on, of which each group takes the
+-- next so many.
 abbrev pub started : Settings → ℕ → List ℕ → ℕ → Record
 started s wanted ready pid = record {
   listeners = listeners_from 3 s.listeners;
+  posts = first_posts s.groups;
   generation = first_generation;
   ready = ready;
   wanted = wanted;
@@ -66,14 +80,15 @@ started s wanted ready pid = record {
 abbrev pub listener_of : Hold → Listener
 listener_of h = record { descriptor = h.fd; address = h.address }
 
--- Of the master's workers none is Starting, and each Ready one is of the generation and holds what the master holds.
-abbrev pub IsRunning : ℕ → Generation → List Hold → Process → Type 0
-IsRunning m g holds (Worker n q g' k Ready hs) = q ≡ m → (g' ≡ g) × (hs ≡ holds)
-IsRunning m g holds (Worker n q g' k Starting hs) = q ≡ m → ⊥
-IsRunning m g holds (Worker n q g' k Draining hs) = ⊤
-IsRunning m g holds (Worker n q g' k Exited hs) = ⊤
-IsRunning m g holds (Master n q i live hs) = ⊤
-IsRunning m g holds (Foreign n hs) = ⊤
+-- Of the master's workers none is Starting, and each Ready one is of the crew's generation and holds its share of what the master
+-- holds.
+abbrev pub IsRunning : ℕ → Crew → List Hold → Process → Type 0
+IsRunning m crew holds (Worker n q g k Ready hs) = q ≡ m → (g ≡ crew.generation) × (hs ≡ share crew.posts k holds)
+IsRunning m crew holds (Worker n q g k Starting hs) = q ≡ m → ⊥
+IsRunning m crew holds (Worker n q g k Draining hs) = ⊤
+IsRunning m crew holds (Worker n q g k Exited hs) = ⊤
+IsRunning m crew holds (Master n q i live hs) = ⊤
+IsRunning m crew holds (Foreign n hs) = ⊤
 
 abbrev pub oldbin : FilePath → FilePath
 oldbin path = path ++ codes ".oldbin"
@@ -93,6 +108,6 @@ pub record Agrees (t : Table) (r : Record) : Type 0 where
   pub lives : live_master r.generation.image t.rows ≡ Some (record { number = r.pid; holds = holds })
   pub alone : count_by is_master t.rows ≡ 1
   pub listeners : map listener_of holds ≡ r.listeners
-  pub running : AllByRecursion (IsRunning r.pid r.generation holds) t.rows
+  pub running : AllByRecursion (IsRunning r.pid (crew_of r) holds) t.rows
   pub ready : (k : ℕ) → list_any (is_worker is_ready r.pid r.generation k) t.rows ≡ is_in r.ready k
   pub files : FilesAre r.note r.pid_path r.pid t.files

@@ -4,7 +4,7 @@ use Rattle.definitions.specs.Table.{Table}
 use Rattle.definitions.specs.Exits.{Name, after_exits, losses_of}
 use Rattle.definitions.specs.Calls.{Call, Answer, Fate, Stepped, step_with}
 use Rattle.definitions.specs.Tree.{Reply, among, reply_of, same_reply, plain_reply, End, PidNote, Order, call_of, Tree, Branches, Ends, Does, Nothing, Branch}
-use Rattle.definitions.specs.Path.{Report, Outcome, outcome_at, Entry, ready_after, lacking_after, went_wrong, first_cause}
+use Rattle.definitions.specs.Path.{Report, Outcome, Sides, outcome_at, Entry, ready_after, lacking_after, went_wrong, first_cause}
 use Rattle.vocabulary.specs.declared.calls.Answer.TheVariants as answer
 use Rattle.vocabulary.specs.declared.reports.Outcome.TheVariants as outcome
 
@@ -101,13 +101,13 @@ abbrev mutual
       ]
 
 -- the outcome of a run that ends so, by what its last census lacked
-abbrev pub outcome_of : Ending → List ℕ → Outcome
-outcome_of (At end) lacking = outcome_at end lacking
-outcome_of Lost lacking = outcome.Lost
+abbrev pub outcome_of : Sides → Ending → List ℕ → Outcome
+outcome_of sides (At end) lacking = outcome_at sides end lacking
+outcome_of sides Lost lacking = outcome.Lost
 
--- What the report of a run says.
-abbrev pub report_of : Ran → Report
-report_of ran = record { outcome = outcome_of ran.ending ran.last.lacking; cause = ran.last.cause; note = ran.last.note; ready = ran.last.ready }
+-- What the report of a run says, by the groups of both sides.
+abbrev pub report_of : Sides → Ran → Report
+report_of sides ran = record { outcome = outcome_of sides ran.ending ran.last.lacking; cause = ran.last.cause; note = ran.last.note; ready = ran.last.ready }
 
 -- From one table to another by these calls, each of which is handed the text, the first being number n + 1 of the pattern:
 -- before each the exits of its moment, and each with the one answer that it can have there.

@@ -26,11 +26,11 @@ service t a =
     then Some (λ g. count_by (is_serving a g) t.rows)
     else None
 
--- The same count of one generation at each of these addresses.
-abbrev pub uniform : List Address → Generation → ℕ → Service
-uniform addresses g n a =
+-- At each of these addresses so many of one generation.
+abbrev pub serving : List Address → Generation → (Address → ℕ) → Service
+serving addresses g count a =
     if list_any (λ b. bytes_eq b a) addresses
-    then Some (λ h. if same_generation h g then n else 0)
+    then Some (λ h. if same_generation h g then count a else 0)
     else None
 
 abbrev pub IsSame : Service → Service → Type 0

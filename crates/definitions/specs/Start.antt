@@ -3,6 +3,8 @@ use Rattle.std.specs.Prelude.{ℕ, ◌+◌, true, List, [], ◌∷◌, length, m
 use Rattle.listener_set.specs.Numbers.{numbers_below}
 use Rattle.vocabulary.specs.Settings.{Settings}
 use Rattle.definitions.specs.Table.{Address, FilePath, Hold, Ready, Limits, Process, Master, Worker, File, Table}
+use Rattle.crews.specs.Crews.{first_posts}
+use Rattle.definitions.specs.Crew.{Posts, Group, share}
 use Rattle.definitions.specs.Record.{first_generation, started, Agrees}
 
 -- a socket for each address in order, from a descriptor and a socket number on
@@ -10,20 +12,21 @@ abbrev pub holds_from : ℕ → ℕ → List Address → List Hold
 holds_from fd socket [] = []
 holds_from fd socket (a ∷ rest) = (record { fd = fd; socket = socket; address = a }) ∷ holds_from (fd + 1) (socket + 1) rest
 
-abbrev pub first_worker : List Hold → ℕ → Process
-first_worker holds k = Worker (101 + k) 100 first_generation k Ready holds
+abbrev pub first_worker : Posts → List Hold → ℕ → Process
+first_worker posts holds k = Worker (101 + k) 100 first_generation k Ready (share posts k holds)
 
-abbrev pub first_rows : List Hold → ℕ → List Process
-first_rows holds workers = Master 100 1 1 true holds ∷ map (first_worker holds) (numbers_below workers)
+abbrev pub first_rows : Posts → List Hold → ℕ → List Process
+first_rows posts holds workers = Master 100 1 1 true holds ∷ map (first_worker posts holds) (numbers_below workers)
 
 abbrev pub first_files : Option FilePath → List File
 first_files None = []
 first_files (Some path) = (record { path = path; owner = 100 }) ∷ []
 
--- The master of image 1 with the listeners from descriptor 3 on, its Ready workers from number 0 on, and the pid file.
-abbrev pub booted : List Address → ℕ → Option FilePath → Limits → Table
-booted listeners workers pid_file limits = record {
-  rows = first_rows (holds_from 3 1 listeners) workers;
+-- The master of image 1 with the listeners from descriptor 3 on, its Ready workers from number 0 on, each with its group's share,
+-- and the pid file.
+abbrev pub booted : List Address → List Group → ℕ → Option FilePath → Limits → Table
+booted listeners groups workers pid_file limits = record {
+  rows = first_rows (first_posts groups) (holds_from 3 1 listeners) workers;
   files = first_files pid_file;
   next_process = 101 + workers;
   next_socket = length listeners + 1;
@@ -32,4 +35,4 @@ booted listeners workers pid_file limits = record {
 
 -- What the master of process 100 that starts with some settings knows of itself is so, however many workers run and are wanted.
 abbrev pub StartsAgree : Type 0
-StartsAgree = (s : Settings) (wanted workers : ℕ) (limits : Limits) → Agrees (booted s.listeners workers s.pid limits) (started s wanted (numbers_below workers) 100)
+StartsAgree = (s : Settings) (wanted workers : ℕ) (limits : Limits) → Agrees (booted s.listeners s.groups workers s.pid limits) (started s wanted (numbers_below workers) 100)

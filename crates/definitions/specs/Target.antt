@@ -1,11 +1,14 @@
 -- The service that a target wants.
-use Rattle.std.specs.Prelude.{⊤, ℕ, ◌≤◌, ◌+◌, not, List, [], length, filter}
+use Rattle.std.specs.Prelude.{⊤, ℕ, ◌≤◌, ◌+◌, not, List, [], filter}
 use Rattle.definitions.specs.Table.{Address, Generation}
 use Rattle.listener_set.specs.AddressList.{has}
 use Rattle.definitions.specs.Handover.{Handover, spelling}
 use Rattle.vocabulary.specs.Settings.{Settings}
-use Rattle.definitions.specs.Service.{Service, uniform}
-use Rattle.definitions.specs.Record.{Record, addresses_of}
+use Rattle.listener_set.specs.Numbers.{numbers_below}
+use Rattle.definitions.specs.Service.{Service, serving}
+use Rattle.definitions.specs.Crew.{Layout, layout_in, served}
+use Rattle.definitions.specs.Record.{Record, addresses_of, layout_of}
+pub use Rattle.vocabulary.specs.declared.plans.Sides.{Sides}
 pub use Rattle.vocabulary.specs.declared.targets.Target.{Target}
 pub use Rattle.vocabulary.specs.declared.targets.Target.TheVariants.{Workers, Mend, Reopen, Reload, Upgrade, Stop}
 
@@ -47,18 +50,35 @@ generation_wanted r (Reload s) = reload_generation r.generation
 generation_wanted r (Upgrade s) = upgrade_generation r.generation
 generation_wanted r (Stop quick) = r.generation
 
--- A reopening wants as many workers as there are.
-abbrev pub count_wanted : Record → Target → ℕ
-count_wanted r (Workers n) = n
-count_wanted r (Mend overdue) = r.wanted
-count_wanted r Reopen = length r.ready
-count_wanted r (Reload s) = s.workers
-count_wanted r (Upgrade s) = s.workers
-count_wanted r (Stop quick) = 0
+-- The worker numbers that are wanted. A reopening wants those that are ready.
+abbrev pub numbers_wanted : Record → Target → List ℕ
+numbers_wanted r (Workers n) = numbers_below n
+numbers_wanted r (Mend overdue) = numbers_below r.wanted
+numbers_wanted r Reopen = r.ready
+numbers_wanted r (Reload s) = numbers_below s.workers
+numbers_wanted r (Upgrade s) = numbers_below s.workers
+numbers_wanted r (Stop quick) = []
 
--- The service that a target wants: so many workers of one generation at each of its addresses.
+-- Which groups there are then, and which listens where.
+abbrev pub layout_wanted : Record → Target → Layout
+layout_wanted r (Workers n) = layout_of r
+layout_wanted r (Mend overdue) = layout_of r
+layout_wanted r Reopen = layout_of r
+layout_wanted r (Reload s) = layout_in s.groups s.listeners
+layout_wanted r (Upgrade s) = layout_in s.groups s.listeners
+layout_wanted r (Stop quick) = layout_of r
+
+-- how many workers a target wants at an address: the numbers of its group
+abbrev pub wanted_at : Record → Target → Address → ℕ
+wanted_at r target a = served (layout_wanted r target) (numbers_wanted r target) a
+
+-- The service that a target wants: at each of its addresses the workers of its group, of one generation.
 abbrev pub want : Record → Target → Service
-want r target = uniform (addresses_wanted r target) (generation_wanted r target) (count_wanted r target)
+want r target = serving (addresses_wanted r target) (generation_wanted r target) (wanted_at r target)
+
+-- The groups of both sides.
+abbrev pub sides_of : Record → Target → Sides
+sides_of r target = record { old = r.posts.groups; target = (layout_wanted r target).groups }
 
 ---- What a new master is handed
 

@@ -3,6 +3,7 @@ use Rattle.std.specs.Prelude.{ℕ, suc, max, Bool, true, false, ◌&&◌, ◌||�
 use Rattle.std.specs.List.{list_any, list_all}
 use Rattle.listener_set.specs.Numbers.{lacks}
 use Rattle.definitions.specs.Calls.{Call, OpenAt, CloseAt, Fork, AwaitReady, Quit, Kill, Census, AwaitGone, SpawnMaster, Adopt, WritePid, MovePid, RemovePid, Alive, Leave, Usr1, TermMaster, Answer}
+use Rattle.definitions.specs.Crew.{fork_of}
 use Rattle.vocabulary.specs.declared.calls.Answer.TheVariants as answer
 pub use Rattle.vocabulary.specs.declared.calls.Reply.{Reply}
 pub use Rattle.vocabulary.specs.declared.calls.Reply.TheVariants as reply
@@ -136,7 +137,7 @@ lowest (k ∷ ks) = k
 -- the call that a step asks for, once its worker is named
 abbrev pub call_of : Order → List ℕ → Call
 call_of (Make call) lacking = call
-call_of (ForkLacking g) lacking = Fork g (lowest lacking) None
+call_of (ForkLacking crew) lacking = fork_of crew (lowest lacking)
 call_of (AwaitLacking g) lacking = AwaitReady g (lowest lacking)
 call_of (KillLacking g) lacking = Kill g (lowest lacking)
 
@@ -144,13 +145,13 @@ call_of (KillLacking g) lacking = Kill g (lowest lacking)
 
 abbrev pub order_replies : Order → List Reply
 order_replies (Make call) = replies_to call
-order_replies (ForkLacking g) = reply.Forked ∷ reply.Again ∷ reply.NoMemory ∷ []
+order_replies (ForkLacking crew) = reply.Forked ∷ reply.Again ∷ reply.NoMemory ∷ []
 order_replies (AwaitLacking g) = reply.IsReady ∷ reply.Gone ∷ reply.Late ∷ []
 order_replies (KillLacking g) = reply.Fine ∷ []
 
 abbrev pub names_lacking : Order → Bool
 names_lacking (Make call) = false
-names_lacking (ForkLacking g) = true
+names_lacking (ForkLacking crew) = true
 names_lacking (AwaitLacking g) = true
 names_lacking (KillLacking g) = true
 

@@ -5,4 +5,4 @@ mod explanation;
 mod sentences;
 
 pub use explanation::{Explanation, explanation_of};
-pub use sentences::EXPLANATIONS;
+pub use sentences::{FAULTS, WORDS};

@@ -2,8 +2,9 @@
 
 use crate::Explanation;
 
-/// All codes that the program prints, those that begin its faults first.
-pub const EXPLANATIONS: [Explanation; 56] = [
+/// The codes that the program prints: those that begin its faults, and those of addresses, starts, configurations, targets
+/// and handovers. (In two lists, since the prover takes too long over one of all.)
+pub const FAULTS: [Explanation; 35] = [
     Explanation {
         code: "usage",
         meaning: "the command line asks for nothing that there is",
@@ -24,7 +25,7 @@ beat or a tick is one argument: quote it, as in 'tick 60'.",
         meaning: "a configuration file is refused",
         remedy: "\
 It is the file of --from, or else that of --to. The fault goes on with the
-first rule that the file breaks, C1 to C9. Nothing was started.",
+first rule that the file breaks, C1 to C11. Nothing was started.",
     },
     Explanation {
         code: "boot",
@@ -135,21 +136,25 @@ bits.",
     Explanation {
         code: "C2",
         meaning: "a key is unknown",
-        remedy: "The keys are command, listeners, pid, retries, timeout and workers.",
+        remedy: "\
+The keys are command, groups, listeners, pid, retries, timeout and workers;
+those of a group are listeners and workers.",
     },
     Explanation {
         code: "C3",
         meaning: "a value is not of its key's kind",
         remedy: "\
 The key follows the code. retries, timeout and workers are whole numbers, pid
-is a text, listeners and command are lists of texts.",
+is a text, listeners and command are lists of texts, groups is a list of
+tables.",
     },
     Explanation {
         code: "C4",
         meaning: "a number is out of its range",
         remedy: "\
 The key follows the code. workers is 0 to 1024, retries 0 to 8, timeout 1 to
-86400; there are at most 64 listeners.",
+86400; there are at most 64 listeners, and 1 to 16 groups. With groups the
+listeners and workers of all are counted.",
     },
     Explanation {
         code: "C5",
@@ -162,13 +167,16 @@ A5.",
         code: "C6",
         meaning: "a listener stands in the list twice",
         remedy: "\
-The place of the second, counted from 0, follows the code. Addresses are
-compared by their texts.",
+The place of the second, counted from 0, follows the code; in a group, the
+place in that group's list, and the first may be an earlier group's. Addresses
+are compared by their texts.",
     },
     Explanation {
         code: "C7",
         meaning: "the list of listeners is empty",
-        remedy: "Name at least one, or leave the key out: the default is 0.0.0.0:8080.",
+        remedy: "\
+Name at least one, or leave the key out: the default is 0.0.0.0:8080. A group
+has no default.",
     },
     Explanation {
         code: "C8",
@@ -183,6 +191,21 @@ space.",
         remedy: "\
 It has 1 to 16 texts, each of 1 to 255 bytes without a byte 0; the first is
 the program.",
+    },
+    Explanation {
+        code: "C10",
+        meaning: "listeners or workers stand beside groups",
+        remedy: "\
+Where there are groups, each names its own: move them into a group, or leave
+the key groups out.",
+    },
+    Explanation {
+        code: "C11",
+        meaning: "a group is refused",
+        remedy: "\
+The group's place, counted from 0, follows the code, and then the first rule
+that it breaks: C2 to C7, as of a configuration. The addresses and the workers
+of the groups before it count: all addresses are different.",
     },
     Explanation {
         code: "H1",
@@ -215,6 +238,10 @@ pipe was closed.",
         meaning: "something follows the handover's line 'end'",
         remedy: "",
     },
+];
+
+/// The others: those of plans, words, workers and texts.
+pub const WORDS: [Explanation; 24] = [
     Explanation {
         code: "P1",
         meaning: "the plan would have more than 65,536 steps",
@@ -229,6 +256,13 @@ pipe was closed.",
         code: "P3",
         meaning: "the number of the next configuration or image would pass 4,294,967,295",
         remedy: "Each HUP takes one, and each USR2 one of both. Start the master anew.",
+    },
+    Explanation {
+        code: "P4",
+        meaning: "a new executable cannot take over a service of several groups yet",
+        remedy: "\
+This version can hand over to one group alone. HUP goes over to the groups
+without a new executable; a stop and a start brings both. Nothing was changed.",
     },
     Explanation {
         code: "W1",
@@ -289,7 +323,7 @@ and start it anew.",
     Explanation {
         code: "E3",
         meaning: "there is no plan",
-        remedy: "Why follows the code: P3. Nothing was changed.",
+        remedy: "Why follows the code: P3 or P4. Nothing was changed.",
     },
     Explanation {
         code: "E4",

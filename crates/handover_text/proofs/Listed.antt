@@ -5,13 +5,15 @@ use Rattle.std.proofs.lemmas.Bool.{both_ways, and_parts, or_parts, or_from, ltb-
 use Rattle.std.proofs.lemmas.Bool.Decides.{eqb_tells}
 use Rattle.std.proofs.lemmas.Cmp.{nat_list_eq_equiv}
 use Rattle.std.specs.Cmp.Lexicographic.{same_text}
-use Rattle.std.proofs.lemmas.List.{length-take, length-take-le, get_or-take, take_more, at_drop_more}
+use Rattle.std.proofs.lemmas.List.{length-take, length-take-le, get_or-take, take_more, at_drop_more, map-append, append-nil}
 use Rattle.std.proofs.lemmas.List.Elements.{filter_more}
 use Rattle.std.proofs.lemmas.List.Folds.{list_any_at, Any-from_list_any}
 use Rattle.std.proofs.lemmas.List.Sums.{length-filter, count_by-le-length}
 use Rattle.listener_set.proofs.PaddedLists.{none-padded}
 use Rattle.listener_set.specs.AddressList.{blank, has, AreDistinct}
 use Rattle.listener_set.specs.Descriptors.{IsDescriptor}
+use Rattle.listener_set.specs.Numbers.{with_number, AreBelow}
+use Rattle.listener_set.proofs.Rising.{with_number-above}
 use Rattle.vocabulary.specs.declared.table.Listener.{Listener}
 use Rattle.definitions.specs.Record.{listeners_from}
 use Rattle.definitions.specs.After.{listens_on, listener_at, opened_from, added, with_added, all_opened}
@@ -206,6 +208,39 @@ pub listed_more : (p : Listener → Bool) (ls kept : List Listener) (i : ℕ) (l
 listed_more p ls kept i l are within is passes listed =
     subst AreListed (sym (ap (λ ks. ks ++ l ∷ []) are ∙ filter_more_kept p ls i l within is passes))
     (AreListedFrom-filter p 3 (take (i + 1) ls) (AreListedFrom-take 3 (i + 1) ls listed))
+
+---- Descriptors of listeners
+
+descriptor-rises : (fd : ℕ) (ls : List Listener) (i : ℕ) (d : Listener) → AreListedFrom fd ls → i < length ls → fd ≤ (get_or ls i d).descriptor
+descriptor-rises fd [] i d h lt = absurd (let none : i < 0 = lt in omega arith)
+descriptor-rises fd (l ∷ ls) zero d h lt = h.0
+descriptor-rises fd (l ∷ ls) (suc i) d h lt = omega (arith, h.0, descriptor-rises (l.descriptor + 1) ls i d h.3 (omega (arith, lt)))
+
+module _ (p : Listener → Bool) where
+  -- the descriptors of listeners before another are below its own
+  descriptors-before : (fd : ℕ) (ls : List Listener) (i : ℕ) (d : Listener) → AreListedFrom fd ls → i < length ls → AreBelow (get_or ls i d).descriptor (map (λ (l : Listener). l.descriptor) (filter p (take i ls)))
+  descriptors-before fd ls zero d h lt = tt
+  descriptors-before fd [] (suc i) d h lt = tt
+  descriptors-before fd (l ∷ ls) (suc i) d h lt =
+      let rest = descriptors-before (l.descriptor + 1) ls i d h.3 (omega (arith, lt)) in
+      let above = descriptor-rises (l.descriptor + 1) ls i d h.3 (omega (arith, lt)) in
+      cond_both (p l) (l ∷ filter p (take i ls)) (filter p (take i ls)) (λ ms. AreBelow (get_or ls i d).descriptor (map (λ (m : Listener). m.descriptor) ms))
+      (λ yes. (omega (arith, above), rest))
+      (λ no. rest)
+
+  module _ (ls : List Listener) (i : ℕ) (l : Listener) (within : i < length ls) (is : l ≡ get_or ls i l) where
+    pub descriptors-kept : AreListed ls → p l ≡ true → with_number (map (λ (m : Listener). m.descriptor) (filter p (take i ls))) l.descriptor ≡ map (λ (m : Listener). m.descriptor) (filter p (take (i + 1) ls))
+    descriptors-kept listed passes =
+        with_number-above (map (λ (m : Listener). m.descriptor) (filter p (take i ls))) l.descriptor (subst (λ (m : Listener). AreBelow m.descriptor (map (λ (k : Listener). k.descriptor) (filter p (take i ls)))) (sym is) (descriptors-before 3 ls i l listed within))
+        ∙ sym (map-append (λ (m : Listener). m.descriptor) (filter p (take i ls)) (l ∷ []))
+        ∙ ap (map (λ (m : Listener). m.descriptor)) (filter_more_kept p ls i l within is passes)
+
+    pub filter_more_left : p l ≡ false → filter p (take i ls) ≡ filter p (take (i + 1) ls)
+    filter_more_left fails =
+        sym (filter_more p ls i l within
+        ∙ ap (λ m. filter p (take i ls) ++ cond (p m) (m ∷ []) []) (sym is)
+        ∙ ap (λ b. filter p (take i ls) ++ cond b (l ∷ []) []) fails
+        ∙ append-nil (filter p (take i ls)))
 
 ---- Opening the addresses that are new
 

@@ -3,6 +3,7 @@ ghost use Rattle.std.specs.Prelude.{◌≡◌, ◌<◌, ◌≤◌, ◌↔◌, �
 ghost use Rattle.definitions.specs.Record.{listeners_from};
 ghost use Rattle.definitions.specs.Table.{Address as AddressText};
 ghost use Rattle.definitions.specs.After.{listener_at, listens_on, opened_from, still_wanted, with_added, reloaded, upgraded};
+ghost use Rattle.definitions.specs.Crew.{descriptors_at};
 ghost use Rattle.definitions.specs.Handover.{is_above};
 ghost use Rattle.handover_text.specs.Listeners.{AreListed, only_under};
 
@@ -152,6 +153,20 @@ impl Listeners {
         listeners
     }
 
+    /// The descriptors of the listeners whose addresses a list has.
+    pub fn descriptors_at(&self, addresses: &[Address]) -> DescriptorSet
+        ensures { result ≡ descriptors_at self.now addresses.now }
+    {
+        let mut set = DescriptorSet::none();
+        let all = self.as_slice();
+        for listener in all {
+            if addresses.contains(&listener.address) {
+                set.add(listener.descriptor);
+            }
+        }
+        set
+    }
+
     /// The place of the first gap: the descriptors before it are 3, 4 and so on.
     fn first_gap(&self) -> usize
         ensures within { result ≤ length self.now }
@@ -180,7 +195,7 @@ impl Listeners {
 
     /// Opens the addresses of the set that are not listened on yet, in its order. None where a process would have
     /// more than 64 descriptors.
-    fn opened(&self, addresses: &ListenerSet) -> Option<Self>
+    pub fn opened(&self, addresses: &ListenerSet) -> Option<Self>
         ensures { result ≡ with_added addresses.now self.now }
     {
         let mut listeners = *self;

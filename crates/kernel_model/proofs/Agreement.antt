@@ -166,7 +166,7 @@ none_in (n ∷ ns) none =
 ---- The record and the table
 
 -- what a record says of the live master of its image
-pub agreed : (t : Table) (m : Caller) (c : Running) (wanted retries timeout : ℕ) → Some m ≡ live_master c.generation.image t.rows → Agrees t (running c wanted retries timeout) → MasterAgrees t.rows m c × WorkersAgree t.rows m c
+pub agreed : (t : Table) (m : Caller) (c : Running) (wanted retries timeout : ℕ) → Some m ≡ live_master c.crew.generation.image t.rows → Agrees t (running c wanted retries timeout) → MasterAgrees t.rows m c × WorkersAgree t.rows m c
 agreed t m c wanted retries timeout found a =
     let lives : Some m ≡ Some (record { number = c.pid; holds = a.holds }) = found ∙ a.lives in
     let is : m ≡ record { number = c.pid; holds = a.holds } = cc in

@@ -11,6 +11,8 @@ use Rattle.listener_set.specs.Numbers.{numbers_below, is_in}
 use Rattle.listener_set.specs.Descriptors as pairs
 use Rattle.vocabulary.specs.declared.table.Limits.{Limits}
 use Rattle.definitions.specs.Table.{Address, FilePath, Generation, same_generation, Hold, Process, Master, is_active, is_worker}
+use Rattle.crews.specs.Crews.{first_posts}
+use Rattle.definitions.specs.Crew.{Posts, Group, fds_of}
 use Rattle.definitions.specs.Record.{first_generation}
 use Rattle.definitions.specs.Calls.{is_image}
 use Rattle.definitions.specs.Formed.{IsQuiet, HasParent, IsAscending}
@@ -22,7 +24,7 @@ use Rattle.process_table.specs.Free.{KnowsFree}
 use Rattle.definitions.specs.Start.{holds_from, first_worker, first_rows, first_files, booted}
 use Rattle.kernel_model.specs.Boot.{first_pairs}
 use Rattle.process_table.proofs.Lists.{list_any-map, map-push}
-use Rattle.kernel_model.proofs.CallSteps.{all-append, ascending-append, count-append, and-both}
+use Rattle.kernel_model.proofs.CallSteps.{all-append, ascending-append, count-append, and-both, within-shared}
 
 -- ---- the first descriptors
 pub first_pairs-none : first_pairs 0 ≡ []
@@ -129,52 +131,52 @@ pub first-holds : (addresses : List Address) (n : ℕ) → n ≡ length addresse
 first-holds addresses n e = seen-first addresses n (omega (arith, e)) ∙ ap (holds_from 3 1) (take_all n addresses (omega (arith, e)))
 
 -- ---- the first rows
-pub first_rows-more : (holds : List Hold) (n : ℕ) → first_rows holds (n + 1) ≡ first_rows holds n ++ first_worker holds n ∷ []
-first_rows-more holds n =
-    ap (λ k. Master 100 1 1 true holds ∷ map (first_worker holds) (numbers_below k)) (add-one n)
-    ∙ ap (λ rows. Master 100 1 1 true holds ∷ rows) (map-push (first_worker holds) (numbers_below n) n)
+pub first_rows-more : (posts : Posts) (holds : List Hold) (n : ℕ) → first_rows posts holds (n + 1) ≡ first_rows posts holds n ++ first_worker posts holds n ∷ []
+first_rows-more posts holds n =
+    ap (λ k. Master 100 1 1 true holds ∷ map (first_worker posts holds) (numbers_below k)) (add-one n)
+    ∙ ap (λ rows. Master 100 1 1 true holds ∷ rows) (map-push (first_worker posts holds) (numbers_below n) n)
 
-module _ (holds : List Hold) where
-  all-workers : (P : Process → Type 0) (limit n : ℕ) → n ≤ limit → ((k : ℕ) → k < limit → P (first_worker holds k)) → AllByRecursion P (map (first_worker holds) (numbers_below n))
+module _ (posts : Posts) (holds : List Hold) where
+  all-workers : (P : Process → Type 0) (limit n : ℕ) → n ≤ limit → ((k : ℕ) → k < limit → P (first_worker posts holds k)) → AllByRecursion P (map (first_worker posts holds) (numbers_below n))
   all-workers P limit zero le h = tt
   all-workers P limit (suc n) le h =
-      subst (AllByRecursion P) (sym (map-push (first_worker holds) (numbers_below n) n))
-      (all-append P (map (first_worker holds) (numbers_below n)) (first_worker holds n) (all-workers P limit n (omega arith) h) (h n (omega arith)))
+      subst (AllByRecursion P) (sym (map-push (first_worker posts holds) (numbers_below n) n))
+      (all-append P (map (first_worker posts holds) (numbers_below n)) (first_worker posts holds n) (all-workers P limit n (omega arith) h) (h n (omega arith)))
 
-  ascending-workers : (n : ℕ) → IsAscending 101 (map (first_worker holds) (numbers_below n)) (101 + n)
+  ascending-workers : (n : ℕ) → IsAscending 101 (map (first_worker posts holds) (numbers_below n)) (101 + n)
   ascending-workers zero = omega arith
   ascending-workers (suc n) =
       let next : 101 + n + 1 ≡ 101 + suc n = omega arith in
-      subst (λ rows. IsAscending 101 rows (101 + suc n)) (sym (map-push (first_worker holds) (numbers_below n) n))
-      (subst (IsAscending 101 (map (first_worker holds) (numbers_below n) ++ first_worker holds n ∷ [])) next (ascending-append (map (first_worker holds) (numbers_below n)) 101 (101 + n) (first_worker holds n) refl (ascending-workers n)))
+      subst (λ rows. IsAscending 101 rows (101 + suc n)) (sym (map-push (first_worker posts holds) (numbers_below n) n))
+      (subst (IsAscending 101 (map (first_worker posts holds) (numbers_below n) ++ first_worker posts holds n ∷ [])) next (ascending-append (map (first_worker posts holds) (numbers_below n)) 101 (101 + n) (first_worker posts holds n) refl (ascending-workers n)))
 
   module _ (q : ℕ) (g : Generation) (k : ℕ) where
-    number-of : (n : ℕ) → is_worker is_active q g k (first_worker holds n) ≡ true → n ≡ k
+    number-of : (n : ℕ) → is_worker is_active q g k (first_worker posts holds n) ≡ true → n ≡ k
     number-of n e =
         let rest = and-both (nat_eq 100 q) (same_generation first_generation g && nat_eq n k) e in
         let last = and-both (same_generation first_generation g) (nat_eq n k) rest.1 in
         let is = last.1 in
         grind (arith, nat_tests)
 
-    count-workers : (n : ℕ) → (n ≤ k → count_by (is_worker is_active q g k) (map (first_worker holds) (numbers_below n)) ≡ 0) × (count_by (is_worker is_active q g k) (map (first_worker holds) (numbers_below n)) ≤ 1)
+    count-workers : (n : ℕ) → (n ≤ k → count_by (is_worker is_active q g k) (map (first_worker posts holds) (numbers_below n)) ≡ 0) × (count_by (is_worker is_active q g k) (map (first_worker posts holds) (numbers_below n)) ≤ 1)
     count-workers zero = (λ le. refl, omega arith)
     count-workers (suc n) =
-        let more = ap (count_by (is_worker is_active q g k)) (map-push (first_worker holds) (numbers_below n) n) ∙ count-append (is_worker is_active q g k) (map (first_worker holds) (numbers_below n)) (first_worker holds n) in
-        at (is_worker is_active q g k (first_worker holds n)) (number-of n) (count-workers n) more
+        let more = ap (count_by (is_worker is_active q g k)) (map-push (first_worker posts holds) (numbers_below n) n) ∙ count-append (is_worker is_active q g k) (map (first_worker posts holds) (numbers_below n)) (first_worker posts holds n) in
+        at (is_worker is_active q g k (first_worker posts holds n)) (number-of n) (count-workers n) more
       where
         at : (b : Bool) → (b ≡ true → n ≡ k)
-            → (n ≤ k → count_by (is_worker is_active q g k) (map (first_worker holds) (numbers_below n)) ≡ 0) × (count_by (is_worker is_active q g k) (map (first_worker holds) (numbers_below n)) ≤ 1)
-            → count_by (is_worker is_active q g k) (map (first_worker holds) (numbers_below (suc n))) ≡ count_by (is_worker is_active q g k) (map (first_worker holds) (numbers_below n)) + cond b 1 0
-            → (suc n ≤ k → count_by (is_worker is_active q g k) (map (first_worker holds) (numbers_below (suc n))) ≡ 0) × (count_by (is_worker is_active q g k) (map (first_worker holds) (numbers_below (suc n))) ≤ 1)
+            → (n ≤ k → count_by (is_worker is_active q g k) (map (first_worker posts holds) (numbers_below n)) ≡ 0) × (count_by (is_worker is_active q g k) (map (first_worker posts holds) (numbers_below n)) ≤ 1)
+            → count_by (is_worker is_active q g k) (map (first_worker posts holds) (numbers_below (suc n))) ≡ count_by (is_worker is_active q g k) (map (first_worker posts holds) (numbers_below n)) + cond b 1 0
+            → (suc n ≤ k → count_by (is_worker is_active q g k) (map (first_worker posts holds) (numbers_below (suc n))) ≡ 0) × (count_by (is_worker is_active q g k) (map (first_worker posts holds) (numbers_below (suc n))) ≤ 1)
         at true same ih more = let e = same refl in let none = ih.0 (omega arith) in (λ le. absurd (omega arith), omega arith)
         at false same ih more = (λ le. (let none = ih.0 (omega arith) in omega arith), (let most = ih.1 in omega arith))
 
 -- no worker is a master
-count-masters : (holds : List Hold) (i n : ℕ) → count_by (is_image i) (map (first_worker holds) (numbers_below n)) ≡ 0
-count-masters holds i zero = refl
-count-masters holds i (suc n) =
-    let more = ap (count_by (is_image i)) (map-push (first_worker holds) (numbers_below n) n) ∙ count-append (is_image i) (map (first_worker holds) (numbers_below n)) (first_worker holds n) in
-    let rest = count-masters holds i n in
+count-masters : (posts : Posts) (holds : List Hold) (i n : ℕ) → count_by (is_image i) (map (first_worker posts holds) (numbers_below n)) ≡ 0
+count-masters posts holds i zero = refl
+count-masters posts holds i (suc n) =
+    let more = ap (count_by (is_image i)) (map-push (first_worker posts holds) (numbers_below n) n) ∙ count-append (is_image i) (map (first_worker posts holds) (numbers_below n)) (first_worker posts holds n) in
+    let rest = count-masters posts holds i n in
     omega arith
 
 one-at-most : (b : Bool) {m n : ℕ} → m ≡ cond b 1 0 + n → n ≡ 0 → m ≤ 1
@@ -186,37 +188,38 @@ within-from next fd s [] least le = tt
 within-from next fd s (x ∷ xs) least le = ((least, omega arith), within-from next (fd + 1) (s + 1) xs (omega arith) (omega arith))
 
 -- a start keeps what every table keeps
-pub IsKept-booted : (listeners : List Address) (n : ℕ) (pid_file : Option FilePath) (limits : Limits) → limits.descriptors ≤ 64 → IsKept (booted listeners n pid_file limits)
-IsKept-booted listeners n pid_file limits most =
+pub IsKept-booted : (listeners : List Address) (groups : List Group) (n : ℕ) (pid_file : Option FilePath) (limits : Limits) → limits.descriptors ≤ 64 → IsKept (booted listeners groups n pid_file limits)
+IsKept-booted listeners groups n pid_file limits most =
+    let posts = first_posts groups in
     let holds = holds_from 3 1 listeners in
-    let rows = first_rows holds n in
+    let rows = first_rows posts holds n in
     let sockets = within-from (length listeners + 1) 3 1 listeners (omega arith) (omega arith) in
     record {
       masters = λ i.
-          let first = sum_by-cons (λ (p : Process). cond (is_image i p) 1 0) (Master 100 1 1 true holds) (map (first_worker holds) (numbers_below n)) in
-          let rest = count-masters holds i n in
+          let first = sum_by-cons (λ (p : Process). cond (is_image i p) 1 0) (Master 100 1 1 true holds) (map (first_worker posts holds) (numbers_below n)) in
+          let rest = count-masters posts holds i n in
           one-at-most (is_image i (Master 100 1 1 true holds)) first rest;
       formed = record {
         once = λ q g k.
             let test = is_worker is_active q g k in
-            let first = sum_by-cons (λ (p : Process). cond (test p) 1 0) (Master 100 1 1 true holds) (map (first_worker holds) (numbers_below n)) in
-            let rest = (count-workers holds q g k n).1 in
+            let first = sum_by-cons (λ (p : Process). cond (test p) 1 0) (Master 100 1 1 true holds) (map (first_worker posts holds) (numbers_below n)) in
+            let rest = (count-workers posts holds q g k n).1 in
             omega (arith, first, rest);
-        quiet = (tt, all-workers holds IsQuiet n n (omega arith) (λ k lt. tt));
-        parents = (tt, all-workers holds (HasParent rows) n n (omega arith) (λ k lt. refl));
-        ascending = (omega arith, ascending-workers holds n);
+        quiet = (tt, all-workers posts holds IsQuiet n n (omega arith) (λ k lt. tt));
+        parents = (tt, all-workers posts holds (HasParent rows) n n (omega arith) (λ k lt. refl));
+        ascending = (omega arith, ascending-workers posts holds n);
       };
-      sockets = (sockets, all-workers holds (HasSockets (length listeners + 1)) n n (omega arith) (λ k lt. sockets));
+      sockets = (sockets, all-workers posts holds (HasSockets (length listeners + 1)) n n (omega arith) (λ k lt. within-shared (fds_of posts k) (length listeners + 1) holds sockets));
       first = omega arith;
       descriptors = most;
     }
 
-module _ (s : Store) (listeners : List Address) (n : ℕ) (pid_file : Option FilePath) (limits : Limits) (first : List (ℕ × ℕ)) (same : s.addresses.items ≡ listeners) (holds : first ≡ first_pairs (length listeners)) (rows : (addresses : List Address) → seen_rows addresses s.holders.items ≡ first_rows (seen_holds addresses first) n) (files : map seen_file s.files.items ≡ first_files pid_file) (next : s.next_process ≡ 101 + n) (limit : s.limits ≡ limits) where
+module _ (s : Store) (listeners : List Address) (groups : List Group) (n : ℕ) (pid_file : Option FilePath) (limits : Limits) (first : List (ℕ × ℕ)) (same : s.addresses.items ≡ listeners) (holds : first ≡ first_pairs (length listeners)) (rows : (addresses : List Address) → seen_rows addresses s.holders.items ≡ first_rows (first_posts groups) (seen_holds addresses first) n) (files : map seen_file s.files.items ≡ first_files pid_file) (next : s.next_process ≡ 101 + n) (limit : s.limits ≡ limits) where
   -- the store of a start
-  pub seen-booted : seen s ≡ booted listeners n pid_file limits
+  pub seen-booted : seen s ≡ booted listeners groups n pid_file limits
   seen-booted =
       let held : seen_holds listeners first ≡ holds_from 3 1 listeners = ap (seen_holds listeners) holds ∙ first-holds listeners (length listeners) refl in
-      let all = ap (λ addresses. seen_rows addresses s.holders.items) same ∙ rows listeners ∙ ap (λ hs. first_rows hs n) held in
+      let all = ap (λ addresses. seen_rows addresses s.holders.items) same ∙ rows listeners ∙ ap (λ hs. first_rows (first_posts groups) hs n) held in
       let count = ap (λ xs. length xs + 1) same in
       (λ i. record { rows = all i; files = files i; next_process = next i; next_socket = count i; limits = limit i })
 
@@ -227,6 +230,6 @@ module _ (s : Store) (listeners : List Address) (n : ℕ) (pid_file : Option Fil
       process_numbers = omega (arith, next);
       socket_numbers = (let count = ap length same in omega arith);
     };
-    kept = subst IsKept (sym seen-booted) (IsKept-booted listeners n pid_file limits most);
+    kept = subst IsKept (sym seen-booted) (IsKept-booted listeners groups n pid_file limits most);
     free = free;
   }

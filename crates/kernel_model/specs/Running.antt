@@ -3,6 +3,7 @@ use Rattle.std.specs.Prelude.{ℕ, ◌≡◌, List, map, count_by}
 use Rattle.std.specs.List.{list_any, AllByRecursion}
 use Rattle.listener_set.specs.Numbers.{is_in}
 use Rattle.definitions.specs.Table.{Generation, Hold, Process, Caller, is_master, is_ready, is_worker}
+use Rattle.definitions.specs.Crew.{Crew}
 use Rattle.definitions.specs.Record.{Record, IsRunning, listener_of}
 use Rattle.kernel_model.specs.declared.running.Running.{Running}
 
@@ -10,7 +11,8 @@ use Rattle.kernel_model.specs.declared.running.Running.{Running}
 abbrev pub running : Running → ℕ → ℕ → ℕ → Record
 running c wanted retries timeout = record {
   listeners = c.listeners.now;
-  generation = c.generation;
+  posts = c.crew.posts;
+  generation = c.crew.generation;
   ready = c.ready;
   wanted = wanted;
   retries = retries;
@@ -20,8 +22,8 @@ running c wanted retries timeout = record {
   pid = c.pid;
 }
 
-abbrev pub AreRunning : ℕ → Generation → List Hold → List Process → Type 0
-AreRunning pid g holds rows = AllByRecursion (IsRunning pid g holds) rows
+abbrev pub AreRunning : ℕ → Crew → List Hold → List Process → Type 0
+AreRunning pid crew holds rows = AllByRecursion (IsRunning pid crew holds) rows
 
 -- The numbers of the master's Ready workers in the generation are these.
 abbrev pub AreReady : ℕ → Generation → List Process → List ℕ → Type 0
@@ -35,5 +37,5 @@ pub record MasterAgrees (rows : List Process) (master : Caller) (c : Running) : 
 
 -- The master's workers are the record's.
 pub record WorkersAgree (rows : List Process) (master : Caller) (c : Running) : Type 0 where
-  pub running : AreRunning master.number c.generation master.holds rows
-  pub ready : AreReady master.number c.generation rows c.ready
+  pub running : AreRunning master.number c.crew master.holds rows
+  pub ready : AreReady master.number c.crew.generation rows c.ready

@@ -1,14 +1,14 @@
 //! How a kernel starts.
 ghost use Rattle.std.specs.Prelude.{◌≡◌, ◌<◌, ◌≤◌, ◌↔◌, ℕ, List, length, map, IfOk, IsTrue, IsErrOf};
-ghost use Rattle.definitions.specs.Table.{Hold};
 ghost use Rattle.process_table.specs.Holds.{seen_holds};
-ghost use Rattle.process_table.specs.Seen.{process_of, seen, seen_rows, seen_file};
+ghost use Rattle.process_table.specs.Seen.{seen, seen_holder, seen_rows, seen_file};
 ghost use Rattle.process_table.specs.Room.{IsSound};
 ghost use Rattle.definitions.specs.Start.{booted, first_worker, first_rows, first_files};
 ghost use Rattle.kernel_model.specs.Boot.{first_pairs, AreBadLimits};
 
-use listener_set::{DescriptorTable, FilePath, Generation, ListenerSet};
-use process_table::{FileRow, FreeNames, Holder, Row, Store};
+use crews::Posts;
+use listener_set::{DescriptorTable, FilePath, Generation, Groups, ListenerSet};
+use process_table::{FileRow, FreeNames, Holder, Row, Store, holds};
 use std::alloc::{AllocError, Global};
 use std::error::Error;
 use std::fmt;
@@ -17,7 +17,7 @@ use vocabulary::{Limits, Stance};
 /// Why no kernel is started.
 #[derive(Clone, Copy, Debug, PartialEq, Eq)]
 pub enum BootRefusal {
-    /// B1: the limits do not allow the start.
+    /// B1: the limits do not allow the start, or the groups have more or fewer addresses than there are.
     BadLimits,
     /// Memory was refused.
     Memory,
@@ -51,12 +51,13 @@ impl fmt::Display for BootRefusal {
 
 impl Error for BootRefusal {}
 
-fn are_bad(listeners: usize, workers: u32, limits: Limits) -> bool
+fn are_bad(listeners: usize, groups: &Groups, workers: u32, limits: Limits) -> bool
     requires { listeners ≤ 64 }
-    ensures { IsTrue result ↔ AreBadLimits listeners workers limits }
+    ensures { IsTrue result ↔ AreBadLimits listeners groups.now workers limits }
 {
     let listeners = listeners as u32;
-    1024 < workers
+    groups.addresses() != listeners
+        || 1024 < workers
         || limits.processes < 1 + workers
         || 65_535 < limits.processes
         || limits.descriptors < listeners
@@ -75,10 +76,15 @@ fn first_holds(count: u32) -> DescriptorTable
     holds
 }
 
-/// The master and its Ready workers.
-fn holders(alloc: Global, holds: &DescriptorTable, workers: u32) -> Result<Vec<Holder>, AllocError>
+/// The master and its Ready workers, each with its group's share of the holds.
+fn holders(
+    alloc: Global,
+    posts: &Posts,
+    holds: &DescriptorTable,
+    workers: u32,
+) -> Result<Vec<Holder>, AllocError>
     requires { workers ≤ 1024 }
-    ensures { (addresses : List (List ℕ)) → IfOk result (λ v. seen_rows addresses v.items ≡ first_rows (seen_holds addresses holds.now) workers) }
+    ensures { (addresses : List (List ℕ)) → IfOk result (λ v. seen_rows addresses v.items ≡ first_rows posts.now (seen_holds addresses holds.now) workers) }
 {
     let mut holders = Vec::new(alloc);
     holders.push(Holder {
@@ -91,19 +97,16 @@ fn holders(alloc: Global, holds: &DescriptorTable, workers: u32) -> Result<Vec<H
         holds: *holds,
     })?;
     for nr in 0..workers {
-        holders.push(Holder {
-            row: first_worker(nr),
-            holds: *holds,
-        })?;
+        holders.push(first_worker(posts, holds, nr))?;
     }
     Ok(holders)
 }
 
-fn first_worker(nr: u32) -> Row
+fn first_worker(posts: &Posts, holds: &DescriptorTable, nr: u32) -> Holder
     requires { nr < 1024 }
-    ensures { (hs : List Hold) → process_of result hs ≡ first_worker hs nr }
+    ensures { (addresses : List (List ℕ)) → seen_holder addresses result ≡ first_worker posts.now (seen_holds addresses holds.now) nr }
 {
-    Row::Worker {
+    let row = Row::Worker {
         number: 101 + nr,
         parent: 100,
         generation: Generation {
@@ -112,6 +115,10 @@ fn first_worker(nr: u32) -> Row
         },
         nr,
         stance: Stance::Ready,
+    };
+    Holder {
+        row,
+        holds: holds::shared(holds, posts.given(nr)),
     }
 }
 
@@ -129,17 +136,18 @@ fn files(alloc: Global, pid_file: Option<FilePath>) -> Result<Vec<FileRow>, Allo
 fn allowed(
     alloc: Global,
     listeners: &ListenerSet,
+    groups: &Groups,
     workers: u32,
     pid_file: Option<FilePath>,
     limits: Limits,
 ) -> Result<Store, AllocError>
     requires few { workers ≤ 1024 }
     requires most { limits.descriptors ≤ 64 }
-    ensures table { IfOk result (λ s. seen s ≡ booted listeners.now workers pid_file limits) }
+    ensures table { IfOk result (λ s. seen s ≡ booted listeners.now groups.now workers pid_file limits) }
     ensures sound { IfOk result (λ s. IsSound 0 s) }
 {
     let holds = first_holds(listeners.len() as u32);
-    let holders = holders(alloc, &holds, workers)?;
+    let holders = holders(alloc, &Posts::first(groups), &holds, workers)?;
     let free = FreeNames::among(
         &holders,
         100,
@@ -163,16 +171,17 @@ fn allowed(
 pub fn store(
     alloc: Global,
     listeners: &ListenerSet,
+    groups: &Groups,
     workers: u32,
     pid_file: Option<FilePath>,
     limits: Limits,
 ) -> Result<Store, BootRefusal>
-    ensures table { IfOk result (λ s. seen s ≡ booted listeners.now workers pid_file limits) }
+    ensures table { IfOk result (λ s. seen s ≡ booted listeners.now groups.now workers pid_file limits) }
     ensures sound { IfOk result (λ s. IsSound 0 s) }
-    ensures bad_limits { IsErrOf result BootRefusal.BadLimits ↔ AreBadLimits (length listeners.now) workers limits }
+    ensures bad_limits { IsErrOf result BootRefusal.BadLimits ↔ AreBadLimits (length listeners.now) groups.now workers limits }
 {
-    if are_bad(listeners.len(), workers, limits) {
+    if are_bad(listeners.len(), groups, workers, limits) {
         return Err(BootRefusal::BadLimits);
     }
-    allowed(alloc, listeners, workers, pid_file, limits).map_err(|_| BootRefusal::Memory)
+    allowed(alloc, listeners, groups, workers, pid_file, limits).map_err(|_| BootRefusal::Memory)
 }

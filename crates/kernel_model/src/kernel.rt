@@ -13,7 +13,7 @@ ghost use Rattle.process_table.specs.Foreign.{with_foreign};
 use crate::boot::{self, BootRefusal};
 use crate::{ForeignRefusal, ReserveRefusal, calls, exits};
 use event_pattern::Moment;
-use listener_set::{Address, FilePath, ListenerSet};
+use listener_set::{Address, FilePath, Groups, ListenerSet};
 use process_table::Store;
 use std::alloc::{AllocError, Global};
 use std::marker::Model;
@@ -41,23 +41,26 @@ impl Model for Kernel {
 
 impl Kernel {
     /// A kernel with the master of image 1 and its Ready workers. The master has process number 100, parent 1 and the
-    /// listeners from descriptor 3 on in their order; the workers, of generation 1.1, are numbered from 0 and have process
-    /// numbers from 101. Where there is a pid file it holds 100. Room is for no call.
+    /// listeners from descriptor 3 on in their order, of which each group has the next so many; the workers, of generation
+    /// 1.1, are numbered from 0, have process numbers from 101, and hold what their group has. Where there is a pid file it
+    /// holds 100. Room is for no call.
     ///
-    /// B1 where the processes are limited to fewer than these or to more than 65,535, the descriptors to fewer than the
-    /// listeners or to more than 64, or there are more than 1,024 workers.
+    /// B1 where the groups have more or fewer addresses than there are listeners, the processes are limited to fewer than
+    /// these or to more than 65,535, the descriptors to fewer than the listeners or to more than 64, or there are more than
+    /// 1,024 workers.
     pub fn boot(
         alloc: Global,
         listeners: &ListenerSet,
+        groups: &Groups,
         workers: u32,
         pid_file: Option<FilePath>,
         limits: Limits,
     ) -> Result<Self, BootRefusal>
-        ensures ok { IfOk result (λ k. k ≡ record { table = booted listeners.now workers pid_file limits; room = 0 }) }
-        ensures bad_limits { IsErrOf result BootRefusal.BadLimits ↔ AreBadLimits (length listeners.now) workers limits }
+        ensures ok { IfOk result (λ k. k ≡ record { table = booted listeners.now groups.now workers pid_file limits; room = 0 }) }
+        ensures bad_limits { IsErrOf result BootRefusal.BadLimits ↔ AreBadLimits (length listeners.now) groups.now workers limits }
         ensures formed { IfOk result (λ k. IsFormed k.table) }
     {
-        let store = boot::store(alloc, listeners, workers, pid_file, limits)?;
+        let store = boot::store(alloc, listeners, groups, workers, pid_file, limits)?;
         Ok(Kernel { store, room: 0 })
     }
 

@@ -10,12 +10,13 @@ ghost use Rattle.process_table.specs.Seen.{seen, seen_caller, seen_file, seen_ho
 ghost use Rattle.kernel_model.specs.Running.{running, AreRunning, AreReady, MasterAgrees, WorkersAgree};
 
 use crate::Kernel;
+use crews::Crew;
 use listener_set::{
     Address, DescriptorTable, FIRST_DESCRIPTOR, FilePath, Generation, MOST_DESCRIPTORS, Numbers,
     WORKER_LIMIT,
 };
 use process_table::files::owner_at;
-use process_table::{Caller, FileRow, Holder, Row, Stances, Store};
+use process_table::{Caller, FileRow, Holder, Row, Stances, Store, holds};
 use vocabulary::{Listener, PidNote, Stance};
 
 /// What a master's record says of the table.
@@ -23,7 +24,8 @@ use vocabulary::{Listener, PidNote, Stance};
 pub struct Running<'a> {
     /// In ascending descriptors.
     pub listeners: &'a [Listener],
-    pub generation: Generation,
+    /// What the workers run, and where those of each group listen.
+    pub crew: Crew,
     /// The numbers of the Ready workers.
     pub ready: Numbers,
     /// Where the pid file is to stand.
@@ -86,20 +88,24 @@ fn same_holds(holds: &DescriptorTable, others: &DescriptorTable) -> bool
     true
 }
 
-/// Whether a process, if it is a worker of the master, is not Starting and, where it is Ready, is of the generation and
-/// holds what the master holds.
-fn is_running(holder: &Holder, master: &Caller, generation: Generation) -> bool
-    ensures { (addresses : List (List ℕ)) → IsTrue result ↔ IsRunning master.now.number generation (seen_holds addresses master.now.holds) (seen_holder addresses holder.now) }
+/// Whether a process, if it is a worker of the master, is not Starting and, where it is Ready, is of the crew's generation
+/// and holds its group's share of what the master holds.
+fn is_running(holder: &Holder, master: &Caller, crew: &Crew) -> bool
+    ensures { (addresses : List (List ℕ)) → IsTrue result ↔ IsRunning master.now.number crew.now (seen_holds addresses master.now.holds) (seen_holder addresses holder.now) }
 {
     match holder.row {
         Row::Worker {
             parent,
-            generation: own,
+            generation,
+            nr,
             stance,
             ..
         } if parent == master.number => match stance {
             Stance::Starting => false,
-            Stance::Ready => own == generation && same_holds(&holder.holds, &master.holds),
+            Stance::Ready => {
+                let share = holds::shared(&master.holds, crew.posts.given(nr));
+                generation == crew.generation && same_holds(&holder.holds, &share)
+            }
             Stance::Draining | Stance::Exited => true,
         },
         _ => true,
@@ -107,11 +113,11 @@ fn is_running(holder: &Holder, master: &Caller, generation: Generation) -> bool
 }
 
 /// Whether each process is so.
-fn are_running(holders: &[Holder], master: &Caller, generation: Generation) -> bool
-    ensures { (addresses : List (List ℕ)) → IsTrue result ↔ AreRunning master.now.number generation (seen_holds addresses master.now.holds) (seen_rows addresses holders.now) }
+fn are_running(holders: &[Holder], master: &Caller, crew: &Crew) -> bool
+    ensures { (addresses : List (List ℕ)) → IsTrue result ↔ AreRunning master.now.number crew.now (seen_holds addresses master.now.holds) (seen_rows addresses holders.now) }
 {
     for holder in holders {
-        if !is_running(holder, master, generation) {
+        if !is_running(holder, master, crew) {
             return false;
         }
     }
@@ -173,11 +179,11 @@ fn master_agrees(store: &Store, master: &Caller, claim: &Running<'_>) -> bool
 fn workers_agree(store: &Store, master: &Caller, claim: &Running<'_>) -> bool
     ensures { IsTrue result ↔ WorkersAgree (seen store.now).rows (seen_caller store.now.addresses.items master.now) claim.now }
 {
-    are_running(&store.holders, master, claim.generation)
+    are_running(&store.holders, master, &claim.crew)
         && are_ready(
             &store.holders,
             master.number,
-            claim.generation,
+            claim.crew.generation,
             &claim.ready,
         )
 }
@@ -185,13 +191,13 @@ fn workers_agree(store: &Store, master: &Caller, claim: &Running<'_>) -> bool
 impl Kernel {
     /// Whether the table is as a record says: it has one master row, live, with the generation's image and the process
     /// number; its descriptors are exactly the listeners; of its workers none is Starting, the Ready ones are exactly those
-    /// of the generation with the ready numbers, each holding what the master holds; and the files are as the note says. The
-    /// path of the pid file has at most 100 bytes.
+    /// of the generation with the ready numbers, each holding its group's share of what the master holds; and the files are
+    /// as the note says. The path of the pid file has at most 100 bytes.
     pub fn agrees_with(&self, claim: &Running<'_>) -> bool
         requires { HasSuffixRoom claim.now.pid_path }
         ensures { (wanted retries timeout : ℕ) → IsTrue result ↔ Agrees self.now.table (running claim.now wanted retries timeout) }
     {
-        match self.store.live_master(claim.generation.image) {
+        match self.store.live_master(claim.crew.generation.image) {
             Some(master) => {
                 master_agrees(&self.store, &master, claim)
                     && workers_agree(&self.store, &master, claim)

@@ -60,7 +60,7 @@ pub enum GroupRefusal {
 }
 
 /// The groups of a service, from 1 to 16, with at most 64 addresses and 1024 workers in all.
-#[derive(Clone, Copy, Debug)]
+#[derive(Clone, Copy, Debug, PartialEq, Eq)]
 pub struct Groups {
     items: [Group; MOST_GROUPS],
     len: usize,

@@ -1,18 +1,24 @@
 -- The rules for lists of texts, case by case.
-use Rattle.std.proofs.Common.{◌≡◌, ℕ, ◌+◌, ◌<◌, ◌≤◌, Bool, true, false, cond, nat_le, nat_lt, List, [], ◌∷◌, ◌++◌, length, get_or, map, drop, Result, Ok, Err, IfOk, refl, sym, ◌∙◌, ap, arith}
+use Rattle.std.proofs.Common.{◌≡◌, ℕ, ◌+◌, ◌<◌, ◌≤◌, Bool, true, false, cond, if◌then◌else◌, nat_le, nat_lt, List, [], ◌∷◌, ◌++◌, length, get_or, map, drop, Result, Ok, Err, IfOk, refl, sym, ◌∙◌, ap, arith}
 use Rattle.std.proofs.lemmas.Bool.Decides.{nat_tests}
 use Rattle.std.proofs.lemmas.List.{drop_more, length_push, get_or-map, length-map}
+use Rattle.std.proofs.lemmas.List.Sums.{sum_by-cons}
 use Rattle.std.specs.List.{list_all}
 use Rattle.listener_set.specs.AddressText.{reading}
 use Rattle.listener_set.specs.AddressList.{has}
+use Rattle.listener_set.specs.declared.groups.Group.{Group}
+use Rattle.listener_set.specs.Groups.{AreGroups, addresses_in}
 use Rattle.listener_set.specs.declared.address.AddressRefusal.{AddressRefusal}
+use Rattle.toml.specs.Data.{Data, Items, Members}
 use Rattle.toml.specs.View.{view}
 use Rattle.toml.specs.declared.value.Value.{Value}
-use Rattle.master_config.specs.Values.{◌>>=◌, text_of}
-use Rattle.master_config.specs.Configuration.{is_argument, is_command, accepted_at, added_at, listener_read, listeners_after, listeners_read}
-use Rattle.master_config.specs.declared.key.Key.TheVariants.{Listeners}
+use Rattle.master_config.specs.Values.{◌>>=◌, text_of, data_of}
+use Rattle.master_config.specs.Configuration.{is_argument, is_command}
+use Rattle.master_config.specs.Listening.{accepted_at, added_at, listener_read, listeners_after, listeners_read}
+use Rattle.master_config.specs.Groups.{Pools, no_pools, group_in, groups_after, groups_read, tables_read, is_mixed, pools_in}
+use Rattle.master_config.specs.declared.key.Key.TheVariants.{Groups, Listeners}
 use Rattle.master_config.specs.declared.refusal.ConfigRefusal.{ConfigRefusal}
-use Rattle.master_config.specs.declared.refusal.ConfigRefusal.TheVariants.{OutOfRange, Doubled}
+use Rattle.master_config.specs.declared.refusal.ConfigRefusal.TheVariants.{OutOfRange, Doubled, Mixed}
 
 abbrev pub Addresses : Type 0
 Addresses = List (List ℕ)
@@ -35,16 +41,16 @@ short_command texts some few =
     rw (there, under) refl
 
 -- ---- the listeners
-pub many_listeners : (texts : Addresses) → 64 < length texts → Err (OutOfRange Listeners) ≡ listeners_read texts
-many_listeners [] h = absurd (omega (arith, h))
-many_listeners (t ∷ ts) h =
-    let over : nat_lt 64 (length (t ∷ ts)) ≡ true = grind (arith, nat_tests) in
+pub many_listeners : (ls texts : Addresses) → 0 < length texts → 64 < length ls + length texts → Err (OutOfRange Listeners) ≡ listeners_read ls texts
+many_listeners ls [] some h = absurd (omega (arith, some))
+many_listeners ls (t ∷ ts) some h =
+    let over : nat_lt 64 (length ls + length (t ∷ ts)) ≡ true = grind (arith, nat_tests, h) in
     rw over refl
 
-pub few_listeners : (texts : Addresses) → 0 < length texts → length texts ≤ 64 → listeners_after [] 0 texts ≡ listeners_read texts
-few_listeners [] some few = absurd (omega (arith, some))
-few_listeners (t ∷ ts) some few =
-    let under : nat_lt 64 (length (t ∷ ts)) ≡ false = grind (arith, nat_tests) in
+pub few_listeners : (ls texts : Addresses) → 0 < length texts → length ls + length texts ≤ 64 → listeners_after ls 0 texts ≡ listeners_read ls texts
+few_listeners ls [] some few = absurd (omega (arith, some))
+few_listeners ls (t ∷ ts) some few =
+    let under : nat_lt 64 (length ls + length (t ∷ ts)) ≡ false = grind (arith, nat_tests, few) in
     rw under refl
 
 ok_same : (a b : Addresses) → ◌≡◌ {A = Result Addresses ConfigRefusal} (Ok a) (Ok b) → a ≡ b
@@ -78,10 +84,10 @@ length-listeners_after (t ∷ ts) ls index r e = first (listener_read index ls t
         elsewhere (Ok all) e = cc
         elsewhere (Err y) e = tt
 
-pub some_listeners : (texts : Addresses) (r : Result Addresses ConfigRefusal) → 0 < length texts → listeners_after [] 0 texts ≡ r → IfOk r (λ all. 1 ≤ length all)
-some_listeners texts r some e = more r (length-listeners_after texts [] 0 r e)
+pub some_listeners : (ls texts : Addresses) (r : Result Addresses ConfigRefusal) → 0 < length texts → listeners_after ls 0 texts ≡ r → IfOk r (λ all. length ls < length all)
+some_listeners ls texts r some e = more r (length-listeners_after texts ls 0 r e)
   where
-    more : (q : Result Addresses ConfigRefusal) → IfOk q (λ all. length all ≡ 0 + length texts) → IfOk q (λ all. 1 ≤ length all)
+    more : (q : Result Addresses ConfigRefusal) → IfOk q (λ all. length all ≡ length ls + length texts) → IfOk q (λ all. length ls < length all)
     more (Ok all) h = omega (arith, h, some)
     more (Err x) h = tt
 
@@ -98,3 +104,35 @@ text_first vs index value text inside is says =
 
 pub listeners_step : (vs : List Value) (index : ℕ) (value : Value) (text : List ℕ) (ls : Addresses) → index < length vs → value ≡ get_or vs index value → text ≡ text_of (view value) → listeners_after ls index (drop index (texts_in vs)) ≡ (listener_read index ls text >>= (λ more. listeners_after more (index + 1) (drop (index + 1) (texts_in vs))))
 listeners_step vs index value text ls inside is says = ap (listeners_after ls index) (text_first vs index value text inside is says)
+
+-- ---- the groups
+pub pools_from : (members : Members) (value : Data) (items : Items) → Ok items ≡ tables_read value → is_mixed members ≡ false → groups_read (data_of items) ≡ pools_in members value
+pools_from members value items are pure = ap (λ b. if b then Err Mixed else groups_read (data_of items)) (sym pure) ∙ ap (λ r. r >>= (λ those. if is_mixed members then Err Mixed else groups_read (data_of those))) are
+
+pub few_groups : (values : List Data) → 0 < length values → length values ≤ 16 → groups_after no_pools 0 values ≡ groups_read values
+few_groups [] some few = absurd (omega (arith, some))
+few_groups (v ∷ vs) some few =
+    let under : nat_lt 16 (length (v ∷ vs)) ≡ false = grind (arith, nat_tests, few) in
+    rw under refl
+
+pub no_groups : (values : List Data) → length values ≡ 0 → Err (OutOfRange Groups) ≡ groups_read values
+no_groups [] none = refl
+no_groups (v ∷ vs) none = absurd (omega (arith, none))
+
+pub many_groups : (values : List Data) → 16 < length values → Err (OutOfRange Groups) ≡ groups_read values
+many_groups [] many = refl
+many_groups (v ∷ vs) many =
+    let over : nat_lt 16 (length (v ∷ vs)) ≡ true = grind (arith, nat_tests, many) in
+    rw over refl
+
+-- the group of an item, before those behind it
+pub groups_step : (vs : List Value) (index : ℕ) (value : Value) (pools : Pools) → index < length vs → value ≡ get_or vs index value → groups_after pools index (drop index (map view vs)) ≡ (group_in index pools (view value) >>= (λ more. groups_after more (index + 1) (drop (index + 1) (map view vs))))
+groups_step vs index value pools inside is =
+    let here : get_or (map view vs) index (view value) ≡ view value = get_or-map view vs index value (view value) inside ∙ ap view (sym is) in
+    ap (groups_after pools index) (drop_more (map view vs) index (view value) (omega (arith, length-map vs view)) ∙ ap (λ d. d ∷ drop (index + 1) (map view vs)) here)
+
+-- groups have an address
+pub some_addresses : (gs : List Group) → AreGroups gs → 1 ≤ addresses_in gs
+some_addresses [] are = absurd (omega (arith, are.some))
+some_addresses (g ∷ gs) are =
+    omega (arith, sum_by-cons (λ (x : Group). x.addresses) g gs, are.listening.0)

@@ -1,19 +1,20 @@
 -- What a configuration says, as a function of the tree of its text: the settings and the command, or the first rule
 -- that it breaks.
-use Rattle.std.specs.Prelude.{◌≡◌, ◌≢◌, ◌⊎◌, ℕ, ◌+◌, nat_eq, nat_lt, nat_le, Bool, ◌&&◌, not, List, [], ◌∷◌, ◌++◌, length, IsUtf8, Option, Some, None, Result, Ok, Err, if◌then◌else◌}
+use Rattle.std.specs.Prelude.{◌≡◌, ◌≢◌, ◌⊎◌, ℕ, nat_eq, nat_lt, nat_le, Bool, ◌&&◌, not, List, [], length, IsUtf8, Option, Some, None, Result, Ok, Err, if◌then◌else◌}
 use Rattle.std.specs.List.{list_all, list_any}
-use Rattle.listener_set.specs.AddressText.{reading}
-use Rattle.listener_set.specs.AddressList.{has}
+use Rattle.listener_set.specs.Groups.{workers_in}
 use Rattle.listener_set.specs.PathText.{path_reading}
-use Rattle.listener_set.specs.declared.address.AddressRefusal.{AddressRefusal}
 use Rattle.listener_set.specs.declared.file_path.BadFile.{BadFile}
-use Rattle.vocabulary.specs.Settings.{Settings, plain_settings}
+use Rattle.vocabulary.specs.Settings.{Settings}
 use Rattle.toml.specs.Data.{Data, Members, as_str}
 use Rattle.toml.specs.Parse.{parse_document}
-use Rattle.master_config.specs.Values.{◌>>=◌, value_at, has_only_known, number_at, texts_read, texts_of}
-use Rattle.master_config.specs.declared.key.Key.TheVariants.{Command, Listeners, Pid, Retries, Timeout, Workers}
+use Rattle.master_config.specs.Names.{is_known}
+use Rattle.master_config.specs.Values.{◌>>=◌, value_at, has_only, number_at, texts_read, texts_of}
+use Rattle.master_config.specs.Listening.{listeners_at}
+use Rattle.master_config.specs.Groups.{Pools, one_pool, pools_in}
+use Rattle.master_config.specs.declared.key.Key.TheVariants.{Command, Groups, Listeners, Pid, Retries, Timeout, Workers}
 use Rattle.master_config.specs.declared.refusal.ConfigRefusal.{ConfigRefusal}
-use Rattle.master_config.specs.declared.refusal.ConfigRefusal.TheVariants.{NotToml, UnknownKey, WrongKind, OutOfRange, BadAddress, Doubled, NoListener, BadPid, BadCommand, Memory}
+use Rattle.master_config.specs.declared.refusal.ConfigRefusal.TheVariants.{NotToml, UnknownKey, WrongKind, BadPid, BadCommand, Memory}
 
 -- what a configuration says: the settings, and the command that starts a worker, with no text where none is given
 pub record Configuration : Type 0 where
@@ -40,35 +41,6 @@ abbrev pub command_at : Option Data → Result (List (List ℕ)) ConfigRefusal
 command_at None = Ok []
 command_at (Some value) = command_in value
 
--- ---- the listeners
-abbrev pub accepted_at : ℕ → Result (List ℕ) AddressRefusal → Result (List ℕ) ConfigRefusal
-accepted_at index (Ok address) = Ok address
-accepted_at index (Err refusal) = Err (BadAddress index refusal)
-
-abbrev pub added_at : ℕ → List (List ℕ) → List ℕ → Result (List (List ℕ)) ConfigRefusal
-added_at index listeners address = if has listeners address then Err (Doubled index) else Ok (listeners ++ address ∷ [])
-
--- the listeners with the address of a text at their end
-abbrev pub listener_read : ℕ → List (List ℕ) → List ℕ → Result (List (List ℕ)) ConfigRefusal
-listener_read index listeners text = accepted_at index (reading text) >>= added_at index listeners
-
--- the listeners with those of the texts, whose indices count on
-abbrev pub listeners_after : List (List ℕ) → ℕ → List (List ℕ) → Result (List (List ℕ)) ConfigRefusal
-listeners_after listeners index [] = Ok listeners
-listeners_after listeners index (text ∷ texts) = listener_read index listeners text >>= (λ more. listeners_after more (index + 1) texts)
-
--- 1 to 64 distinct addresses
-abbrev pub listeners_read : List (List ℕ) → Result (List (List ℕ)) ConfigRefusal
-listeners_read [] = Err NoListener
-listeners_read (text ∷ texts) = if nat_lt 64 (length (text ∷ texts)) then Err (OutOfRange Listeners) else listeners_after [] 0 (text ∷ texts)
-
-abbrev pub listeners_in : Data → Result (List (List ℕ)) ConfigRefusal
-listeners_in value = texts_read Listeners value >>= (λ items. listeners_read (texts_of items))
-
-abbrev pub listeners_at : Option Data → Result (List (List ℕ)) ConfigRefusal
-listeners_at None = Ok plain_settings.listeners
-listeners_at (Some value) = listeners_in value
-
 -- ---- the pid file
 abbrev pub path_or_refusal : Result (List ℕ) BadFile → Result (Option (List ℕ)) ConfigRefusal
 path_or_refusal (Ok path) = Ok (Some path)
@@ -83,24 +55,50 @@ pid_at None = Ok None
 pid_at (Some value) = pid_read (as_str value)
 
 -- ---- the whole
-abbrev pub settings_of : Members → Result Settings ConfigRefusal
-settings_of members = do
-  listeners ← listeners_at (value_at Listeners members)
+
+-- what does not hang on groups
+pub record Rest : Type 0 where
+  pub pid : Option (List ℕ)
+  pub retries : ℕ
+  pub timeout : ℕ
+
+abbrev pub rest_of : Members → Result Rest ConfigRefusal
+rest_of members = do
   pid ← pid_at (value_at Pid members)
   retries ← number_at Retries 0 8 3 (value_at Retries members)
   timeout ← number_at Timeout 1 86400 60 (value_at Timeout members)
+  Ok (record { pid = pid; retries = retries; timeout = timeout })
+
+abbrev pub settings_with : Pools → Rest → Settings
+settings_with pools rest = record { listeners = pools.listeners; workers = workers_in pools.groups; groups = pools.groups; timeout = rest.timeout; retries = rest.retries; pid = rest.pid }
+
+-- where no groups are named
+abbrev pub settings_of_one : Members → Result Settings ConfigRefusal
+settings_of_one members = do
+  listeners ← listeners_at (value_at Listeners members)
+  rest ← rest_of members
   workers ← number_at Workers 0 1024 1 (value_at Workers members)
-  Ok (record { listeners = listeners; workers = workers; timeout = timeout; retries = retries; pid = pid })
+  Ok (settings_with (one_pool listeners workers) rest)
+
+abbrev pub settings_of_groups : Members → Data → Result Settings ConfigRefusal
+settings_of_groups members value = do
+  pools ← pools_in members value
+  rest ← rest_of members
+  Ok (settings_with pools rest)
+
+abbrev pub settings_at : Option Data → Members → Result Settings ConfigRefusal
+settings_at None members = settings_of_one members
+settings_at (Some value) members = settings_of_groups members value
 
 abbrev pub values_of : Members → Result Configuration ConfigRefusal
 values_of members = do
   command ← command_at (value_at Command members)
-  settings ← settings_of members
+  settings ← settings_at (value_at Groups members) members
   Ok (record { settings = settings; command = command })
 
 -- what a configuration says, or the first rule that it breaks
 abbrev pub configuration_of : Members → Result Configuration ConfigRefusal
-configuration_of members = if has_only_known members then values_of members else Err UnknownKey
+configuration_of members = if has_only is_known members then values_of members else Err UnknownKey
 
 -- ---- texts
 

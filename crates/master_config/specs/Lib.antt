@@ -1,5 +1,7 @@
 pub mod Codes
 pub mod Configuration
+pub mod Groups
 pub mod KeyNames
+pub mod Listening
 pub mod Names
 pub mod Values

@@ -3,7 +3,6 @@ use Rattle.std.specs.Prelude.{ℕ, nat_le, Bool, true, ◌&&◌, List, [], ◌�
 use Rattle.std.specs.List.{list_all}
 use Rattle.toml.specs.Data.{Data, array, Items, no_items, item, Members, no_members, member, get_member, as_integer, as_str}
 use Rattle.master_config.specs.KeyNames.{key_name}
-use Rattle.master_config.specs.Names.{is_known}
 use Rattle.master_config.specs.declared.key.Key.{Key}
 use Rattle.master_config.specs.declared.refusal.ConfigRefusal.{ConfigRefusal}
 use Rattle.master_config.specs.declared.refusal.ConfigRefusal.TheVariants.{WrongKind, OutOfRange}
@@ -21,10 +20,10 @@ Err e >>= f = Err e
 abbrev pub value_at : Key → Members → Option Data
 value_at key members = get_member (key_name key) members
 
--- each key is one of a configuration's
-abbrev pub has_only_known : Members → Bool
-has_only_known no_members = true
-has_only_known (member name value members) = is_known name && has_only_known members
+-- each key is one of these
+abbrev pub has_only : (List ℕ → Bool) → Members → Bool
+has_only is_known no_members = true
+has_only is_known (member name value members) = is_known name && has_only is_known members
 
 -- ---- whole numbers
 abbrev pub number_read : Key → ℕ → ℕ → Option ℤ → Result ℕ ConfigRefusal

@@ -1,17 +1,17 @@
 //! The configuration of a text.
-ghost use Rattle.std.specs.Prelude.{◌≡◌, ◌≢◌, ◌↔◌, ◌⊎◌, IfOk, IfErr, Err};
-ghost use Rattle.vocabulary.specs.Settings.{HasSuffixRoom};
+ghost use Rattle.std.specs.Prelude.{◌≡◌, ◌≢◌, ◌↔◌, ◌⊎◌, IfErr, Err};
 ghost use Rattle.toml.specs.View.{view, table_view};
-ghost use Rattle.toml.specs.Data.{as_str};
 ghost use Rattle.toml.specs.Errors.{IsMemory};
 ghost use Rattle.master_config.specs.Values.{value_at};
-ghost use Rattle.master_config.specs.Configuration.{pid_read, pid_at, settings_of, configuration_of, Reads};
+ghost use Rattle.master_config.specs.Configuration.{settings_of_one, settings_of_groups, settings_at, configuration_of, Reads};
 
 use crate::command::{command_at, copied};
+use crate::groups::pools_in;
 use crate::listening::listeners_at;
+use crate::pools::Pools;
+use crate::rest::rest_of;
 use crate::values::{has_only_known, number_at, value_at};
 use crate::{ConfigRefusal, Key};
-use listener_set::FilePath;
 use std::alloc::Global;
 use std::marker::Model;
 use toml::de::Error;
@@ -36,44 +36,32 @@ impl Model for Config {
     ghost view = { λ c. record { settings = c.settings; command = map string_bytes c.command.items } };
 }
 
-fn pid_in(value: &Value) -> Result<Option<FilePath>, ConfigRefusal>
-    ensures pid { result ≡ pid_read (as_str (view value.now)) }
-    ensures room { IfOk result HasSuffixRoom }
+/// The settings of a table that names no groups.
+fn settings_of_one(table: &Table) -> Result<Settings, ConfigRefusal>
+    ensures { result ≡ settings_of_one (table_view table.now) }
 {
-    match value.as_str() {
-        None => Err(ConfigRefusal::WrongKind(Key::Pid)),
-        Some(text) => match FilePath::read(text.as_bytes()) {
-            Ok(path) => Ok(Some(path)),
-            Err(_) => Err(ConfigRefusal::BadPid),
-        },
-    }
+    let listeners = listeners_at(table)?;
+    let rest = rest_of(table)?;
+    let workers = number_at(table, Key::Workers, 0, 1024, 1)?;
+    Ok(Pools::one(&listeners, workers).settings(&rest))
 }
 
-fn pid_at(table: &Table) -> Result<Option<FilePath>, ConfigRefusal>
-    ensures pid { result ≡ pid_at (value_at Key.Pid (table_view table.now)) }
-    ensures room { IfOk result HasSuffixRoom }
+/// The settings of a table whose groups are a value.
+fn settings_of_groups(table: &Table, value: &Value) -> Result<Settings, ConfigRefusal>
+    ensures { result ≡ settings_of_groups (table_view table.now) (view value.now) }
 {
-    match value_at(table, Key::Pid) {
-        None => Ok(None),
-        Some(value) => pid_in(value),
-    }
+    let pools = pools_in(table, value)?;
+    let rest = rest_of(table)?;
+    Ok(pools.settings(&rest))
 }
 
 fn settings_in(table: &Table) -> Result<Settings, ConfigRefusal>
-    ensures { result ≡ settings_of (table_view table.now) }
+    ensures { result ≡ settings_at (value_at Key.Groups (table_view table.now)) (table_view table.now) }
 {
-    let listeners = listeners_at(table)?;
-    let pid = pid_at(table)?;
-    let retries = number_at(table, Key::Retries, 0, 8, 3)?;
-    let timeout = number_at(table, Key::Timeout, 1, 86400, 60)?;
-    let workers = number_at(table, Key::Workers, 0, 1024, 1)?;
-    Ok(Settings {
-        listeners,
-        workers,
-        timeout,
-        retries,
-        pid,
-    })
+    match value_at(table, Key::Groups) {
+        None => settings_of_one(table),
+        Some(value) => settings_of_groups(table, value),
+    }
 }
 
 /// What a table says. Want of memory is told only where no rule is broken.
@@ -107,7 +95,8 @@ fn unread(error: &Error) -> ConfigRefusal
 
 /// Reads a configuration. A text that is not TOML is refused as such, in bytes that are no UTF-8 too; then come a key
 /// that is not known, and each key's rules in the order of the crate's page. A key that is missing has its default:
-/// the listener 0.0.0.0:8080, one worker, a timeout of 60 seconds, three retries, no pid file and no command.
+/// the listener 0.0.0.0:8080, one worker, a timeout of 60 seconds, three retries, no pid file and no command; without
+/// groups all listeners and workers are one group.
 pub fn read(alloc: Global, text: &[u8]) -> Result<Config, ConfigRefusal>
     ensures { Reads text.now result }
 {

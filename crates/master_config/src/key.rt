@@ -1,6 +1,6 @@
 //! The keys of a configuration.
 ghost use Rattle.std.specs.Prelude.{◌≡◌};
-ghost use Rattle.master_config.specs.Names.{is_known};
+ghost use Rattle.master_config.specs.Names.{is_known, is_of_group};
 
 use std::fmt;
 
@@ -8,6 +8,7 @@ use std::fmt;
 #[derive(Clone, Copy, Debug, PartialEq, Eq)]
 pub enum Key {
     Command,
+    Groups,
     Listeners,
     Pid,
     Retries,
@@ -24,6 +25,7 @@ impl Key {
     {
         match self {
             Key::Command => "command",
+            Key::Groups => "groups",
             Key::Listeners => "listeners",
             Key::Pid => "pid",
             Key::Retries => "retries",
@@ -49,9 +51,17 @@ pub(crate) fn is_known(name: &str) -> bool
     ensures { result ≡ is_known name.now }
 {
     name == "command"
+        || name == "groups"
         || name == "listeners"
         || name == "pid"
         || name == "retries"
         || name == "timeout"
         || name == "workers"
+}
+
+/// Whether a group of a configuration has such a key.
+pub(crate) fn is_of_group(name: &str) -> bool
+    ensures { result ≡ is_of_group name.now }
+{
+    name == "listeners" || name == "workers"
 }

@@ -1,17 +1,22 @@
 //! The configuration of a master, read from a TOML text.
 //!
 //! A text is checked in a fixed order, and the first rule that it breaks is its refusal: the text is TOML, each key is
-//! known, and then the keys `command`, `listeners`, `pid`, `retries`, `timeout` and `workers`, each first by the kind
-//! of its value and then by the value itself.
+//! known, and then the keys `command`, `groups`, `listeners`, `pid`, `retries`, `timeout` and `workers`, each first by
+//! the kind of its value and then by the value itself; each group in the same way, in their order.
 #![tactic(auto)]
 
 mod command;
 mod config;
+mod group_fault;
+mod groups;
 mod key;
 mod listening;
+mod pools;
 mod refusal;
+mod rest;
 mod values;
 
 pub use config::{Config, read};
+pub use group_fault::GroupFault;
 pub use key::Key;
 pub use refusal::ConfigRefusal;

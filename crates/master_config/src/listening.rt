@@ -1,8 +1,8 @@
 //! The listeners of a configuration.
-ghost use Rattle.std.specs.Prelude.{◌≡◌, ◌<◌, ◌≤◌, [], length, Ok, Err, OnOk, IfOk, IfErr, vec_len};
+ghost use Rattle.std.specs.Prelude.{◌≡◌, ◌+◌, ◌<◌, ◌≤◌, length, Ok, Err, OnOk, IfOk, IfErr, vec_len};
 ghost use Rattle.toml.specs.View.{view, table_view, array_view};
 ghost use Rattle.master_config.specs.Values.{value_at, texts_of};
-ghost use Rattle.master_config.specs.Configuration.{listener_read, listeners_after, listeners_in, listeners_at};
+ghost use Rattle.master_config.specs.Listening.{listener_read, listeners_after, listeners_in, listeners_at, listeners_behind};
 
 use crate::values::{text_of, texts_in, value_at};
 use crate::{ConfigRefusal, Key};
@@ -29,29 +29,30 @@ fn add(listeners: &mut ListenerSet, index: usize, text: &[u8]) -> Result<(), Con
     }
 }
 
-fn read_all(items: &Array) -> Result<ListenerSet, ConfigRefusal>
-    requires { vec_len items.now ≤ MOST_LISTENERS }
-    ensures { result ≡ listeners_after [] 0 (texts_of (array_view items.now)) }
+fn read_all(before: &ListenerSet, items: &Array) -> Result<ListenerSet, ConfigRefusal>
+    requires { length before.now + vec_len items.now ≤ MOST_LISTENERS }
+    ensures { result ≡ listeners_after before.now 0 (texts_of (array_view items.now)) }
 {
-    let mut listeners = ListenerSet::new();
+    let mut listeners = *before;
     for (index, item) in items.iter().enumerate() {
         add(&mut listeners, index, text_of(item).as_bytes())?;
     }
     Ok(listeners)
 }
 
-fn listeners_in(value: &Value) -> Result<ListenerSet, ConfigRefusal>
-    ensures listeners { result ≡ listeners_in (view value.now) }
-    ensures some { IfOk result (λ listeners. 1 ≤ length listeners) }
+/// The listeners with those of a value at their end, at least one.
+fn listeners_in(before: &ListenerSet, value: &Value) -> Result<ListenerSet, ConfigRefusal>
+    ensures listeners { result ≡ listeners_in before.now (view value.now) }
+    ensures some { IfOk result (λ listeners. length before.now < length listeners) }
 {
     let items = texts_in(value, Key::Listeners)?;
     if items.is_empty() {
         return Err(ConfigRefusal::NoListener);
     }
-    if items.len() > MOST_LISTENERS {
+    if items.len() > MOST_LISTENERS - before.len() {
         return Err(ConfigRefusal::OutOfRange(Key::Listeners));
     }
-    read_all(items)
+    read_all(before, items)
 }
 
 /// The listeners of a table, or 0.0.0.0:8080 where it names none.
@@ -61,6 +62,17 @@ pub fn listeners_at(table: &Table) -> Result<ListenerSet, ConfigRefusal>
 {
     match value_at(table, Key::Listeners) {
         None => Ok(Settings::plain().listeners),
-        Some(value) => listeners_in(value),
+        Some(value) => listeners_in(&ListenerSet::new(), value),
+    }
+}
+
+/// The listeners with those of a group's table at their end.
+pub fn listeners_behind(before: &ListenerSet, table: &Table) -> Result<ListenerSet, ConfigRefusal>
+    ensures listeners { result ≡ listeners_behind before.now (value_at Key.Listeners (table_view table.now)) }
+    ensures some { IfOk result (λ listeners. length before.now < length listeners) }
+{
+    match value_at(table, Key::Listeners) {
+        None => Err(ConfigRefusal::NoListener),
+        Some(value) => listeners_in(before, value),
     }
 }

@@ -1,23 +1,24 @@
 //! Why a text is no configuration.
 ghost use Rattle.std.specs.Prelude.{◌≡◌};
 
-use crate::Key;
+use crate::{GroupFault, Key};
 use listener_set::AddressRefusal;
 use std::alloc::AllocError;
 use std::error::Error;
 use std::fmt;
 
 /// Why a text is no configuration: the first rule that it breaks, or that memory was refused. It is written as its
-/// code, with the key, the index or the address's code that it is about: `C1`, `C3 workers`, `C6 1`, `C5 0 A3`.
+/// code, with the key, the index or the address's code that it is about, or the group's index and its fault: `C1`,
+/// `C3 workers`, `C6 1`, `C5 0 A3`, `C11 1 C6 0`.
 #[derive(Clone, Copy, Debug, PartialEq, Eq)]
 pub enum ConfigRefusal {
     /// C1: the text is not TOML.
     NotToml,
     /// C2: a key is none of a configuration's.
     UnknownKey,
-    /// C3: the value is not a whole number, a text or a list of texts, as the key wants it.
+    /// C3: the value is not a whole number, a text, or a list of texts or of tables, as the key wants it.
     WrongKind(Key),
-    /// C4: the number is out of the key's range, or there are more than 64 listeners.
+    /// C4: the number is out of the key's range, there are more than 64 listeners, or not 1 to 16 groups.
     OutOfRange(Key),
     /// C5: the listener at the index, counted from 0, is no address.
     BadAddress(usize, AddressRefusal),
@@ -29,6 +30,10 @@ pub enum ConfigRefusal {
     BadPid,
     /// C9: the command has no text or more than 16, or one that is empty, longer than 255 bytes or has a byte 0.
     BadCommand,
+    /// C10: listeners or workers stand beside groups.
+    Mixed,
+    /// C11: the group at the index, counted from 0, breaks this rule.
+    Group(usize, GroupFault),
     /// Memory was refused.
     Memory,
 }
@@ -50,6 +55,8 @@ impl ConfigRefusal {
             ConfigRefusal::NoListener => "C7",
             ConfigRefusal::BadPid => "C8",
             ConfigRefusal::BadCommand => "C9",
+            ConfigRefusal::Mixed => "C10",
+            ConfigRefusal::Group(..) => "C11",
             ConfigRefusal::Memory => "memory",
         }
     }
@@ -71,6 +78,7 @@ impl fmt::Display for ConfigRefusal {
                 write!(f, "{code} {index} {}", refusal.code())
             }
             ConfigRefusal::Doubled(index) => write!(f, "{code} {index}"),
+            ConfigRefusal::Group(index, fault) => write!(f, "{code} {index} {fault}"),
             _ => f.write_str(code),
         }
     }

@@ -3,7 +3,8 @@ ghost use Rattle.std.specs.Prelude.{◌≡◌, ◌≤◌, IfOk, option_map};
 ghost use Rattle.std.specs.List.{list_all};
 ghost use Rattle.toml.specs.Data.{as_integer};
 ghost use Rattle.toml.specs.View.{view, table_view, array_view};
-ghost use Rattle.master_config.specs.Values.{value_at, number_read, number_at, is_text, text_of, data_of, texts_read, result_map, has_only_known};
+ghost use Rattle.master_config.specs.Names.{is_known, is_of_group};
+ghost use Rattle.master_config.specs.Values.{value_at, number_read, number_at, is_text, text_of, data_of, texts_read, result_map, has_only};
 
 use crate::{ConfigRefusal, Key, key};
 use toml::value::{Array, Table, Value};
@@ -15,9 +16,16 @@ pub fn value_at(table: &Table, key: Key) -> Option<&Value>
     table.get(key.name())
 }
 
+/// Whether each key is one of a group's.
+pub fn has_only_of_group(table: &Table) -> bool
+    ensures { result ≡ has_only is_of_group (table_view table.now) }
+{
+    table.keys().all(|name| key::is_of_group(name.as_str()))
+}
+
 /// Whether each key is one of a configuration's.
 pub fn has_only_known(table: &Table) -> bool
-    ensures { result ≡ has_only_known (table_view table.now) }
+    ensures { result ≡ has_only is_known (table_view table.now) }
 {
     table.keys().all(|name| key::is_known(name.as_str()))
 }

@@ -1,23 +1,26 @@
 -- What is carried out ends as it reports.
-use Rattle.std.proofs.Common.{◌≡◌, ℕ, ◌+◌, true, false, Bool, List, [], ◌∷◌, length, Option, Some, None, refl, sym, ◌∙◌, ap, subst}
+use Rattle.std.proofs.Common.{◌≡◌, ℕ, ◌+◌, ◌==◌, not, arith, true, false, Bool, List, [], ◌∷◌, length, Option, Some, None, refl, sym, ◌∙◌, ap, subst}
 use Rattle.std.specs.Prelude.{is_some, is_none}
-use Rattle.std.proofs.lemmas.Bool.{false≢true}
+use Rattle.std.proofs.lemmas.Bool.{false≢true, or_parts}
+use Rattle.std.proofs.lemmas.Bool.Decides.{nat_tests}
+use Rattle.listener_set.specs.declared.groups.Group.{Group}
 use Rattle.definitions.specs.Table.{Table, Generation}
 use Rattle.definitions.specs.Record.{Record}
-use Rattle.definitions.specs.Target.{IsTarget, text_handed}
+use Rattle.definitions.specs.Target.{IsTarget, sides_of, text_handed}
 use Rattle.vocabulary.specs.declared.targets.Target.{Target}
 use Rattle.vocabulary.specs.declared.targets.Target.TheVariants.{Workers, Mend, Reopen, Reload, Upgrade, Stop}
 use Rattle.definitions.specs.Tree.{Tree, height}
 use Rattle.vocabulary.specs.declared.plans.PidNote.{PidNote}
+use Rattle.vocabulary.specs.declared.plans.Sides.{Sides}
 use Rattle.vocabulary.specs.declared.reports.Entry.{Entry}
 use Rattle.vocabulary.specs.declared.reports.Report.{Report}
 use Rattle.kernel_model.specs.Pattern.{moment_at}
 use Rattle.kernel_model.specs.State.{State}
 use Rattle.definitions.specs.Plans.{plan_tree}
 use Rattle.definitions.specs.Run.{Moment, Pattern, Replays}
-use Rattle.rollback_plan.specs.Plans.{tree_of, note_of, text_of}
+use Rattle.rollback_plan.specs.Plans.{tree_of, note_of, sides_told, text_of}
 use Rattle.definitions.specs.Path.{KeepsPathLaw}
-use Rattle.definitions.specs.After.{next_record, next_config, next_image}
+use Rattle.definitions.specs.After.{next_record, next_config, next_image, is_grouped_upgrade, lacks_generation}
 use Rattle.word_runner.specs.declared.enactor.Enacted.{Enacted}
 use Rattle.plan_executor.specs.Lawful.{IsWholeRun}
 use Rattle.plan_executor.specs.Enacted.{EndsSo, IsEnacted}
@@ -52,6 +55,10 @@ there : (g : Option Generation) → is_none g ≡ false → is_some g ≡ true
 there None h = absurd (false≢true (sym h))
 there (Some g) h = refl
 
+-- one group, where there are not several
+one-group : (gs : List Group) → not (length gs == 1) ≡ false → length gs ≡ 1
+one-group gs h = grind (arith, nat_tests)
+
 pub keeps : Headlines → (target : Target) → IsTarget target → HasRange target → EndsSo target
 keeps h (Workers n) within range t r pattern start ds plan spared =
     let a : IsAccepted t r (Workers n) pattern = record { start = start; accepts = within; spared = spared } in
@@ -66,7 +73,8 @@ keeps h (Reload s) within range t r pattern start ds plan spared =
     let a : IsAccepted t r (Reload s) pattern = record { start = start; accepts = (range, ds, there (next_config r.generation) plan); spared = spared } in
     let k = h.reloads t r s pattern a in record { ends = k.0; floor = k.1; manner = h.reloads_manner s t r pattern a }
 keeps h (Upgrade s) within range t r pattern start ds plan spared =
-    let a : IsAccepted t r (Upgrade s) pattern = record { start = start; accepts = (range, ds, there (next_image r.generation) plan); spared = spared } in
+    let parts = or_parts (is_grouped_upgrade (Upgrade s)) (lacks_generation r (Upgrade s)) plan in
+    let a : IsAccepted t r (Upgrade s) pattern = record { start = start; accepts = (one-group s.groups parts.0, range, ds, there (next_image r.generation) parts.1); spared = spared } in
     let k = h.upgrades t r s pattern a in record { ends = k.0; floor = k.1; manner = h.upgrades_manner s t r pattern a }
 keeps h (Stop quick) within range t r pattern start ds plan spared =
     let a : IsAccepted t r (Stop quick) pattern = record { start = start; accepts = tt; spared = spared } in
@@ -76,18 +84,21 @@ keeps h (Stop quick) within range t r pattern start ds plan spared =
 
 -- The calls follow the target's plan from the one table to the other under the pattern, and the report is theirs.
 pub record IsMade (first : Table) (r : Record) (target : Target) (pattern : Pattern) (entries : List Entry) (last : Table) (report : Report) : Type 0 where
-  pub law : KeepsPathLaw (plan_tree r target) r.note entries report
+  pub law : KeepsPathLaw (plan_tree r target) r.note (sides_of r target) entries report
   pub replays : Replays (text_handed r target) pattern 0 first entries last
 
 -- what is executed of what was prepared, on its copy
 pub made : (first : State) (r : Record) (target : Target) (p : Prepared) (moments : List (ℕ × Moment)) (calls then : Patterned) (entries : List Entry) (report : Report) →
     IsPrepared first r target p → calls.kernel ≡ p.copy → calls.pattern.now ≡ moments → calls.text.now ≡ text_of p.plan → calls.number ≡ 0 →
-    KeepsPathLaw (tree_of p.plan) (note_of p.plan) entries report → CallsLed calls entries then → IsMade first.table r target (moment_at moments) entries then.kernel.table report
+    KeepsPathLaw (tree_of p.plan) (note_of p.plan) (sides_told p.plan) entries report → CallsLed calls entries then → IsMade first.table r target (moment_at moments) entries then.kernel.table report
 made first r target p moments calls then entries report is kernel pattern text number law led =
     let copied : calls.kernel ≡ record { table = first.table; room = height (plan_tree r target) } = kernel ∙ is.copy in
     let last = then.kernel.table in
     record {
-      law = subst (λ (tree : Tree). KeepsPathLaw tree r.note entries report) is.tree (subst (λ (note : PidNote). KeepsPathLaw (tree_of p.plan) note entries report) is.note law);
+      law =
+          subst (λ (tree : Tree). KeepsPathLaw tree r.note (sides_of r target) entries report) is.tree
+          (subst (λ (note : PidNote). KeepsPathLaw (tree_of p.plan) note (sides_of r target) entries report) is.note
+          (subst (λ (sides : Sides). KeepsPathLaw (tree_of p.plan) (note_of p.plan) sides entries report) is.sides law));
       replays =
           subst (λ handed. Replays handed (moment_at moments) 0 first.table entries last) (text ∙ is.text)
           (subst (λ ms. Replays calls.text.now (moment_at ms) 0 first.table entries last) pattern

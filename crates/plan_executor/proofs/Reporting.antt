@@ -5,38 +5,38 @@ use Rattle.vocabulary.specs.declared.reports.Report.{Report}
 use Rattle.vocabulary.specs.declared.reports.Outcome.{Outcome}
 use Rattle.definitions.specs.Table.{Table}
 use Rattle.definitions.specs.Tree.{Tree, Ends, Does}
-use Rattle.definitions.specs.Path.{Trail, begin, trail_after, IsOver, IsOutcome, Reports, KeepsPathLaw}
+use Rattle.definitions.specs.Path.{Trail, Sides, begin, trail_after, IsOver, IsOutcome, Reports, KeepsPathLaw}
 use Rattle.definitions.specs.Run.{Pattern, Ran, start_at, outcome_of, report_of, Replays}
 use Rattle.definitions.specs.Record.{Record}
 use Rattle.vocabulary.specs.declared.targets.Target.{Target}
-use Rattle.definitions.specs.Target.{text_handed}
+use Rattle.definitions.specs.Target.{sides_of, text_handed}
 use Rattle.definitions.specs.Plans.{plan_tree}
 use Rattle.definitions.specs.Claims.{run_of}
 use Rattle.plan_executor.specs.Lawful.{ending_of, IsRun, IsWholeRun}
 use Rattle.plan_executor.proofs.Running.{runs-as}
 
-over : (rest : Option Tree) (lacking : List ℕ) (o : Outcome) → IsOutcome rest lacking o → IsOver rest
-over None lacking o h = tt
-over (Some (Ends end)) lacking o h = tt
-over (Some (Does by order set branches)) lacking o h = absurd h
+over : (sides : Sides) (rest : Option Tree) (lacking : List ℕ) (o : Outcome) → IsOutcome sides rest lacking o → IsOver rest
+over sides None lacking o h = tt
+over sides (Some (Ends end)) lacking o h = tt
+over sides (Some (Does by order set branches)) lacking o h = absurd h
 
-outcome-is : (rest : Option Tree) (lacking : List ℕ) (o : Outcome) → IsOutcome rest lacking o → o ≡ outcome_of (ending_of rest) lacking
-outcome-is None lacking o h = h
-outcome-is (Some (Ends end)) lacking o h = h
-outcome-is (Some (Does by order set branches)) lacking o h = absurd h
+outcome-is : (sides : Sides) (rest : Option Tree) (lacking : List ℕ) (o : Outcome) → IsOutcome sides rest lacking o → o ≡ outcome_of sides (ending_of rest) lacking
+outcome-is sides None lacking o h = h
+outcome-is sides (Some (Ends end)) lacking o h = h
+outcome-is sides (Some (Does by order set branches)) lacking o h = absurd h
 
-reported : (t : Trail) (entries : List Entry) (last : Table) (ran : Ran) (report : Report) → IsRun entries last t ran → Reports t report → report ≡ report_of ran
-reported t entries last ran report is h =
+reported : (sides : Sides) (t : Trail) (entries : List Entry) (last : Table) (ran : Ran) (report : Report) → IsRun entries last t ran → Reports sides t report → report ≡ report_of sides ran
+reported sides t entries last ran report is h =
     let lacking : t.lacking ≡ ran.last.lacking = ap (λ (x : Trail). x.lacking) (sym is.trail) in
-    let outcome = outcome-is t.rest t.lacking report.outcome h.outcome ∙ (ap (λ e. outcome_of e t.lacking) (sym is.ending) ∙ ap (outcome_of ran.ending) lacking) in
+    let outcome = outcome-is sides t.rest t.lacking report.outcome h.outcome ∙ (ap (λ e. outcome_of sides e t.lacking) (sym is.ending) ∙ ap (outcome_of sides ran.ending) lacking) in
     let cause = h.cause ∙ ap (λ (x : Trail). x.cause) (sym is.trail) in
     let note = h.note ∙ ap (λ (x : Trail). x.note) (sym is.trail) in
     let ready = h.ready ∙ ap (λ (x : Trail). x.ready) (sym is.trail) in
     λ i. record { outcome = outcome i; cause = cause i; note = note i; ready = ready i }
 
 -- the run of the target's plan
-pub whole-run : (r : Record) (target : Target) (pattern : Pattern) (first last : Table) (entries : List Entry) (report : Report) → KeepsPathLaw (plan_tree r target) r.note entries report → Replays (text_handed r target) pattern 0 first entries last → IsWholeRun r target pattern first entries last report
+pub whole-run : (r : Record) (target : Target) (pattern : Pattern) (first last : Table) (entries : List Entry) (report : Report) → KeepsPathLaw (plan_tree r target) r.note (sides_of r target) entries report → Replays (text_handed r target) pattern 0 first entries last → IsWholeRun r target pattern first entries last report
 whole-run r target pattern first last entries report law replays =
     let t = trail_after (begin (plan_tree r target) r.note) entries in
-    let is = runs-as (text_handed r target) entries (plan_tree r target) pattern (start_at first r.note) last law.path (over t.rest t.lacking report.outcome law.report_is.outcome) replays in
-    record { entries_are = is.entries_are; table = is.table; report_is = reported t entries last (run_of r target pattern first) report is law.report_is }
+    let is = runs-as (text_handed r target) entries (plan_tree r target) pattern (start_at first r.note) last law.path (over (sides_of r target) t.rest t.lacking report.outcome law.report_is.outcome) replays in
+    record { entries_are = is.entries_are; table = is.table; report_is = reported (sides_of r target) t entries last (run_of r target pattern first) report is law.report_is }

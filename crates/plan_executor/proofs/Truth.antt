@@ -5,6 +5,7 @@ use Rattle.definitions.specs.Table.{Table}
 use Rattle.definitions.specs.Record.{Record}
 use Rattle.vocabulary.specs.declared.targets.Target.{Target}
 use Rattle.definitions.specs.Run.{Ran as TheRun, report_of}
+use Rattle.definitions.specs.Target.{sides_of}
 use Rattle.definitions.specs.After.{next_record}
 use Rattle.vocabulary.specs.declared.targets.Target.TheVariants.{Workers, Mend, Reopen, Reload, Upgrade, Stop}
 use Rattle.vocabulary.specs.declared.reports.Report.{Report}
@@ -44,12 +45,12 @@ declined-is patterns first place r target NoNumbers exact = record { why = NoNum
 agreed : (target : Target) (r : Record) (state : Option Record) (report : Report) (t : Table) → state ≡ next_record r target report t → AgreesAfter r target report t → IsTrueOf t state
 agreed target r state report t is after = subst (IsTrueOf t) (sym (is ∙ after.is)) after.agrees
 
-left-true : (target : Target) (r : Record) (state : Option Record) (ran : TheRun) → state ≡ next_record r target (report_of ran) ran.last.table → IsSucceeded r target ran → IsTrueOf ran.last.table state
-left-true (Workers n) r state ran is after = agreed (Workers n) r state (report_of ran) ran.last.table is after
-left-true (Mend overdue) r state ran is after = agreed (Mend overdue) r state (report_of ran) ran.last.table is after
-left-true Reopen r state ran is after = agreed Reopen r state (report_of ran) ran.last.table is after
-left-true (Reload s) r state ran is after = agreed (Reload s) r state (report_of ran) ran.last.table is after
-left-true (Upgrade s) r state ran is after = agreed (Upgrade s) r state (report_of ran) ran.last.table is after
+left-true : (target : Target) (r : Record) (state : Option Record) (ran : TheRun) → state ≡ next_record r target (report_of (sides_of r target) ran) ran.last.table → IsSucceeded r target ran → IsTrueOf ran.last.table state
+left-true (Workers n) r state ran is after = agreed (Workers n) r state (report_of (sides_of r (Workers n)) ran) ran.last.table is after
+left-true (Mend overdue) r state ran is after = agreed (Mend overdue) r state (report_of (sides_of r (Mend overdue)) ran) ran.last.table is after
+left-true Reopen r state ran is after = agreed Reopen r state (report_of (sides_of r Reopen) ran) ran.last.table is after
+left-true (Reload s) r state ran is after = agreed (Reload s) r state (report_of (sides_of r (Reload s)) ran) ran.last.table is after
+left-true (Upgrade s) r state ran is after = agreed (Upgrade s) r state (report_of (sides_of r (Upgrade s)) ran) ran.last.table is after
 left-true (Stop quick) r state ran is after = subst (IsTrueOf ran.last.table) (sym (is ∙ after.0)) tt
 
 -- a run leaves a record that is true of the kernel
@@ -57,7 +58,7 @@ ran-true : (patterns : List Moments) (place : ℕ) (old : Standing State) (r : R
 ran-true patterns place old r target log report new h =
     let is = h.enacted in
     let ran = run_of r target (moment_at (pattern_at patterns place)) old.world.table in
-    let left : new.state ≡ next_record r target (report_of ran) ran.last.table = is.after ∙ (λ i. next_record r target (is.is_run.report_is i) (sym is.is_run.table i)) in
+    let left : new.state ≡ next_record r target (report_of (sides_of r target) ran) ran.last.table = is.after ∙ (λ i. next_record r target (is.is_run.report_is i) (sym is.is_run.table i)) in
     subst (λ (t : Table). IsTrueOf t new.state) is.is_run.table (left-true target r new.state ran left is.ends.after)
 
 pub done-true : (patterns : List Moments) (settings : Option Settings) (words : List Word) (first : Standing State) (blocks : List Block) (last : Standing State) → AreDone (EnactsAt patterns) (DeclinesAt patterns) settings words 0 first blocks last → IsTrueOf first.world.table first.state → IsTrueOf last.world.table last.state

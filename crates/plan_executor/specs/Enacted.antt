@@ -4,6 +4,7 @@ use Rattle.vocabulary.specs.declared.targets.Target.{Target}
 use Rattle.vocabulary.specs.declared.targets.Target.TheVariants.{Workers, Mend, Reopen, Reload, Upgrade, Stop}
 use Rattle.definitions.specs.Table.{Table}
 use Rattle.definitions.specs.Record.{Record, Agrees}
+use Rattle.definitions.specs.Target.{sides_of}
 use Rattle.definitions.specs.Tree.{height}
 use Rattle.definitions.specs.Plans.{plan_tree}
 use Rattle.definitions.specs.Run.{Pattern, Ran, report_of}
@@ -29,7 +30,7 @@ HasFloor t r (Stop quick) ran = ⊤
 pub record IsKept (t : Table) (r : Record) (target : Target) (ran : Ran) : Type 0 where
   pub ends : EndsAsReported t r target ran
   pub floor : HasFloor t r target ran
-  pub manner : Manner r target (report_of ran).outcome t ran
+  pub manner : Manner r target (report_of (sides_of r target) ran).outcome t ran
 
 -- So does each run of the target that starts where a record is true of a table of the kernel's, where there is a plan and no
 -- executing master exits.
@@ -52,4 +53,4 @@ pub record IsEnacted (first last : State) (r : Record) (target : Target) (patter
   pub after : e.after ≡ next_record r target e.report last.table
   pub ends : EndsAsReported first.table r target (run_of r target pattern first.table)
   pub floor : HasFloor first.table r target (run_of r target pattern first.table)
-  pub manner : Manner r target (report_of (run_of r target pattern first.table)).outcome first.table (run_of r target pattern first.table)
+  pub manner : Manner r target (report_of (sides_of r target) (run_of r target pattern first.table)).outcome first.table (run_of r target pattern first.table)

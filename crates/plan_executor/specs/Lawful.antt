@@ -7,6 +7,7 @@ use Rattle.definitions.specs.Path.{Trail}
 use Rattle.vocabulary.specs.declared.reports.Report.{Report}
 use Rattle.definitions.specs.Run.{Pattern, Progress, Ending, At, Lost, Ran, report_of}
 use Rattle.definitions.specs.Record.{Record}
+use Rattle.definitions.specs.Target.{sides_of}
 use Rattle.vocabulary.specs.declared.targets.Target.{Target}
 use Rattle.definitions.specs.Claims.{run_of}
 
@@ -31,4 +32,4 @@ pub record IsRun (entries : List Entry) (last : Table) (t : Trail) (ran : Ran) :
 pub record IsWholeRun (r : Record) (target : Target) (pattern : Pattern) (first : Table) (entries : List Entry) (last : Table) (report : Report) : Type 0 where
   pub entries_are : (run_of r target pattern first).entries ≡ entries
   pub table : (run_of r target pattern first).last.table ≡ last
-  pub report_is : report ≡ report_of (run_of r target pattern first)
+  pub report_is : report ≡ report_of (sides_of r target) (run_of r target pattern first)

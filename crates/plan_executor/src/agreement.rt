@@ -8,7 +8,7 @@ use service_state::Record;
 
 /// Whether the kernel runs what the record says: one master, with the record's image, process number and listeners;
 /// of its workers none is starting, and the ready ones are exactly the record's, of its generation, each holding what
-/// the master holds; and the pid files are as the note says.
+/// its group has of what the master holds; and the pid files are as the note says.
 pub fn agrees(state: &Record, kernel: &Kernel) -> bool
     ensures agrees { IsTrue result ↔ Agrees kernel.now.table state.now }
     ensures in_range { IsRecord state.now }
@@ -19,7 +19,7 @@ pub fn agrees(state: &Record, kernel: &Kernel) -> bool
     let _ = state.ready.lowest();
     kernel.agrees_with(&Running {
         listeners: state.listeners.as_slice(),
-        generation: state.generation,
+        crew: state.crew(),
         ready: state.ready,
         pid_path: state.pid_path,
         note: state.note,

@@ -2,9 +2,9 @@
 use Rattle.std.proofs.Common.{◌≡◌, ℕ, ◌+◌, List, [], ◌∷◌, length, map, take, drop, reverse, Option, Some, None, slice_get, option_map, refl, sym, ◌∙◌, ap, arith}
 use Rattle.std.proofs.lemmas.List.{take_all, drop_all, length-map, reverse-append}
 use Rattle.std.proofs.lemmas.Option.{slice_get-map}
-use Rattle.listener_set.specs.declared.generation.Generation.{Generation}
 use Rattle.definitions.specs.Table.{Address}
-use Rattle.definitions.specs.Calls.{Call, Fork, OpenAt}
+use Rattle.definitions.specs.Calls.{Call, OpenAt}
+use Rattle.definitions.specs.Crew.{Crew, fork_of}
 use Rattle.definitions.specs.Tree.{Tree}
 use Rattle.definitions.specs.Plans.{forks, opens}
 use Rattle.rollback_plan.proofs.Lists.{take_at, drop_at}
@@ -30,9 +30,9 @@ module _ {X : Type 0} (by : ℕ) (call : X → Call) (tree : List X → List X �
         each = λ i c at. one i c (slice_get xs i) refl (sym (slice_get-map call xs i) ∙ at);
       }
 
-pub forks_attempted : (by : ℕ) (g : Generation) (ks : List ℕ) (rest : Tree) (ok bad : List ℕ → Tree) → ok (reverse ks) ≡ rest
-    → IsAttempted by (map (λ k. Fork g k None) ks) rest (λ i. bad (reverse (take i ks))) (λ i. forks by g (drop i ks) (reverse (take i ks)) ok bad)
-forks_attempted by g ks rest ok bad e = attempted by (λ k. Fork g k None) (λ more done. forks by g more done ok bad) bad (λ k more done. refl) ks rest e
+pub forks_attempted : (by : ℕ) (crew : Crew) (ks : List ℕ) (rest : Tree) (ok bad : List ℕ → Tree) → ok (reverse ks) ≡ rest
+    → IsAttempted by (map (fork_of crew) ks) rest (λ i. bad (reverse (take i ks))) (λ i. forks by crew (drop i ks) (reverse (take i ks)) ok bad)
+forks_attempted by crew ks rest ok bad e = attempted by (fork_of crew) (λ more done. forks by crew more done ok bad) bad (λ k more done. refl) ks rest e
 
 pub opens_attempted : (by : ℕ) (xs : List Address) (rest : Tree) (ok bad : List Address → Tree) → ok (reverse xs) ≡ rest
     → IsAttempted by (map OpenAt xs) rest (λ i. bad (reverse (take i xs))) (λ i. opens by (drop i xs) (reverse (take i xs)) ok bad)

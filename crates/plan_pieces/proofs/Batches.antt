@@ -1,12 +1,13 @@
 -- Calls of one kind.
-use Rattle.std.proofs.Common.{◌≡◌, ℕ, ◌+◌, ◌*◌, List, [], ◌∷◌, ◌++◌, ◌≤◌, length, map, take, drop, reverse, Some, None, slice_get, refl, ◌∙◌, ap, arith}
+use Rattle.std.proofs.Common.{◌≡◌, ℕ, ◌+◌, ◌*◌, List, [], ◌∷◌, ◌++◌, ◌≤◌, length, map, take, drop, reverse, Some, slice_get, refl, ◌∙◌, ap, arith}
 use Rattle.std.proofs.lemmas.List.{reverse-append, take-append-drop}
-use Rattle.definitions.specs.Calls.{Call, OpenAt, CloseAt, Fork, AwaitReady, Quit, Kill, AwaitGone, Usr1}
+use Rattle.definitions.specs.Calls.{Call, OpenAt, CloseAt, AwaitReady, Quit, Kill, AwaitGone, Usr1}
+use Rattle.definitions.specs.Crew.{fork_of}
 use Rattle.definitions.specs.Tree.{Tree}
 use Rattle.definitions.specs.Plans.{quits, forks_any, awaits_any, kills, usr1s, awaits_gone, closes}
 use Rattle.rollback_plan.specs.declared.batch.Asked.TheVariants as asked
 use Rattle.rollback_plan.specs.declared.batch.Batch.{Batch}
-use Rattle.rollback_plan.specs.declared.batch.Batch.TheVariants.{Workers, Opens, Closes}
+use Rattle.rollback_plan.specs.declared.batch.Batch.TheVariants.{Workers, Forks, Opens, Closes}
 use Rattle.rollback_plan.proofs.Lists.{drop_at, reverse-map}
 use Rattle.plan_pieces.specs.Pieces.{anyway, anyway_steps, all_anyway, in_turn, made_calls, steps_in}
 
@@ -24,12 +25,12 @@ each_back_is : {X : Type 0} (by : ℕ) (call : X → Call) (all : List X → Tre
 each_back_is by call all none more xs rest = ap (λ calls. all_anyway by calls rest) (reverse-map call xs) ∙ each_is by call all none more (reverse xs) rest
 
 pub in_turn_is : (by : ℕ) (b : Batch) (rest : Tree) → all_anyway by (made_calls b) rest ≡ in_turn by b rest
-in_turn_is by (Workers asked.Fork g numbers) rest = each_is by (λ k. Fork g k None) (forks_any by g) (λ t. refl) (λ k more t. refl) numbers.now rest
 in_turn_is by (Workers asked.AwaitReady g numbers) rest = each_is by (AwaitReady g) (awaits_any by g) (λ t. refl) (λ k more t. refl) numbers.now rest
 in_turn_is by (Workers asked.Quit g numbers) rest = each_back_is by (Quit g) (quits by g) (λ t. refl) (λ k more t. refl) numbers.now rest
 in_turn_is by (Workers asked.Kill g numbers) rest = each_is by (Kill g) (kills by g) (λ t. refl) (λ k more t. refl) numbers.now rest
 in_turn_is by (Workers asked.AwaitGone g numbers) rest = each_back_is by (AwaitGone g) (awaits_gone by g) (λ t. refl) (λ k more t. refl) numbers.now rest
 in_turn_is by (Workers asked.Usr1 g numbers) rest = each_is by (Usr1 g) (usr1s by g) (λ t. refl) (λ k more t. refl) numbers.now rest
+in_turn_is by (Forks crew numbers) rest = each_is by (fork_of crew.now) (forks_any by crew.now) (λ t. refl) (λ k more t. refl) numbers.now rest
 in_turn_is by (Opens addresses) rest = refl
 in_turn_is by (Closes addresses) rest = each_is by CloseAt (closes by) (λ t. refl) (λ x more t. refl) addresses.now rest
 
@@ -56,12 +57,12 @@ double call [] h = omega arith
 double call (x ∷ xs) h = omega (arith, h x, double call xs h)
 
 pub steps_are : (b : Batch) → all_steps (made_calls b) ≡ steps_in b
-steps_are (Workers asked.Fork g numbers) = single (λ k. Fork g k None) numbers.now (λ k. refl)
 steps_are (Workers asked.AwaitReady g numbers) = double (AwaitReady g) numbers.now (λ k. refl)
 steps_are (Workers asked.Quit g numbers) = steps-reverse (map (Quit g) numbers.now) ∙ single (Quit g) numbers.now (λ k. refl)
 steps_are (Workers asked.Kill g numbers) = single (Kill g) numbers.now (λ k. refl)
 steps_are (Workers asked.AwaitGone g numbers) = steps-reverse (map (AwaitGone g) numbers.now) ∙ double (AwaitGone g) numbers.now (λ k. refl)
 steps_are (Workers asked.Usr1 g numbers) = single (Usr1 g) numbers.now (λ k. refl)
+steps_are (Forks crew numbers) = single (fork_of crew.now) numbers.now (λ k. refl)
 steps_are (Opens addresses) = single OpenAt addresses.now (λ x. refl)
 steps_are (Closes addresses) = single CloseAt addresses.now (λ x. refl)
 

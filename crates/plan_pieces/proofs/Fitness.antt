@@ -3,17 +3,18 @@
 use Rattle.std.proofs.Common.{◌≡◌, ℕ, zero, suc, Bool, true, false, List, [], ◌∷◌, Option, refl}
 use Rattle.listener_set.specs.declared.generation.Generation.{Generation}
 use Rattle.definitions.specs.Table.{Address, FilePath}
+use Rattle.definitions.specs.Crew.{Crew}
 use Rattle.vocabulary.specs.declared.plans.PidNote.{PidNote}
 use Rattle.vocabulary.specs.declared.plans.Side.{Side}
 use Rattle.vocabulary.specs.declared.calls.Call.TheVariants.{RemovePid}
 use Rattle.definitions.specs.Tree.{Tree, is_fit}
 use Rattle.definitions.specs.Plans.{does, note_edges, settle, quits, awaits, forks, awaits_any, forks_any, starts_any, kills, usr1s, awaits_gone, opens, closes}
 
-pub settle_fit : (by : ℕ) (g : Generation) (set : List ℕ) (side : Side) (rounds : ℕ) (short : Bool) → is_fit short (settle by g set side rounds) ≡ true
-settle_fit by g set side zero true = refl
-settle_fit by g set side zero false = refl
-settle_fit by g set side (suc rounds) true = let h = settle_fit by g set side rounds true in rw h refl
-settle_fit by g set side (suc rounds) false = let h = settle_fit by g set side rounds true in rw h refl
+pub settle_fit : (by : ℕ) (crew : Crew) (set : List ℕ) (side : Side) (rounds : ℕ) (short : Bool) → is_fit short (settle by crew set side rounds) ≡ true
+settle_fit by crew set side zero true = refl
+settle_fit by crew set side zero false = refl
+settle_fit by crew set side (suc rounds) true = let h = settle_fit by crew set side rounds true in rw h refl
+settle_fit by crew set side (suc rounds) false = let h = settle_fit by crew set side rounds true in rw h refl
 
 pub quits_fit : (by : ℕ) (g : Generation) (ks : List ℕ) (rest : Tree) (short : Bool) → is_fit short rest ≡ true → is_fit short (quits by g ks rest) ≡ true
 quits_fit by g [] rest short h = h
@@ -44,20 +45,20 @@ pub awaits_fit : (by : ℕ) (g : Generation) (ks : List ℕ) (ok bad : Tree) (sh
 awaits_fit by g [] ok bad short h e = h
 awaits_fit by g (k ∷ ks) ok bad short h e = let tail = awaits_fit by g ks ok bad short h e in rw (tail, e) refl
 
-pub forks_fit : (by : ℕ) (g : Generation) (ks done : List ℕ) (ok bad : List ℕ → Tree) (short : Bool) → ((forked : List ℕ) → is_fit short (ok forked) ≡ true) → ((forked : List ℕ) → is_fit short (bad forked) ≡ true) → is_fit short (forks by g ks done ok bad) ≡ true
-forks_fit by g [] done ok bad short h e = h done
-forks_fit by g (k ∷ ks) done ok bad short h e = let tail = forks_fit by g ks (k ∷ done) ok bad short h e in let failed = e done in rw (tail, failed) refl
+pub forks_fit : (by : ℕ) (crew : Crew) (ks done : List ℕ) (ok bad : List ℕ → Tree) (short : Bool) → ((forked : List ℕ) → is_fit short (ok forked) ≡ true) → ((forked : List ℕ) → is_fit short (bad forked) ≡ true) → is_fit short (forks by crew ks done ok bad) ≡ true
+forks_fit by crew [] done ok bad short h e = h done
+forks_fit by crew (k ∷ ks) done ok bad short h e = let tail = forks_fit by crew ks (k ∷ done) ok bad short h e in let failed = e done in rw (tail, failed) refl
 
 awaits_any_fit : (by : ℕ) (g : Generation) (ks : List ℕ) (rest : Tree) (short : Bool) → is_fit short rest ≡ true → is_fit short (awaits_any by g ks rest) ≡ true
 awaits_any_fit by g [] rest short h = h
 awaits_any_fit by g (k ∷ ks) rest short h = let tail = awaits_any_fit by g ks rest short h in rw tail refl
 
-forks_any_fit : (by : ℕ) (g : Generation) (ks : List ℕ) (rest : Tree) (short : Bool) → is_fit short rest ≡ true → is_fit short (forks_any by g ks rest) ≡ true
-forks_any_fit by g [] rest short h = h
-forks_any_fit by g (k ∷ ks) rest short h = let tail = forks_any_fit by g ks rest short h in rw tail refl
+forks_any_fit : (by : ℕ) (crew : Crew) (ks : List ℕ) (rest : Tree) (short : Bool) → is_fit short rest ≡ true → is_fit short (forks_any by crew ks rest) ≡ true
+forks_any_fit by crew [] rest short h = h
+forks_any_fit by crew (k ∷ ks) rest short h = let tail = forks_any_fit by crew ks rest short h in rw tail refl
 
-pub starts_any_fit : (by : ℕ) (g : Generation) (ks : List ℕ) (rest : Tree) (short : Bool) → is_fit short rest ≡ true → is_fit short (starts_any by g ks rest) ≡ true
-starts_any_fit by g ks rest short h = forks_any_fit by g ks _ short (awaits_any_fit by g ks rest short h)
+pub starts_any_fit : (by : ℕ) (crew : Crew) (ks : List ℕ) (rest : Tree) (short : Bool) → is_fit short rest ≡ true → is_fit short (starts_any by crew ks rest) ≡ true
+starts_any_fit by crew ks rest short h = forks_any_fit by crew ks _ short (awaits_any_fit by crew.generation ks rest short h)
 
 ---- Opens
 

@@ -1,13 +1,13 @@
 -- What plans do for each of a list of calls.
-use Rattle.std.specs.Prelude.{◌≡◌, ℕ, ◌+◌, ◌*◌, List, [], ◌∷◌, Some, length, map, reverse, slice_get}
+use Rattle.std.specs.Prelude.{◌≡◌, ℕ, ◌+◌, ◌*◌, Bool, true, false, List, [], ◌∷◌, Some, length, map, reverse, slice_get, if◌then◌else◌}
 use Rattle.listener_set.specs.declared.generation.Generation.{Generation}
-use Rattle.definitions.specs.Calls.{Call, OpenAt, AwaitReady, Quit, Kill, AwaitGone}
+use Rattle.definitions.specs.Calls.{Call, OpenAt, AwaitReady, Kill, AwaitGone}
 use Rattle.definitions.specs.Tree.{Tree, Nothing, plain_reply, replies_to}
 use Rattle.definitions.specs.Plans.{on, does, then_edge, await_any_edges, gone_edges, others, quits, forks_any, awaits_any, kills, usr1s, awaits_gone, closes}
 use Rattle.rollback_plan.specs.declared.batch.Asked.{Asked}
 use Rattle.rollback_plan.specs.declared.batch.Asked.TheVariants as asked
 use Rattle.rollback_plan.specs.declared.batch.Batch.{Batch}
-use Rattle.rollback_plan.specs.declared.batch.Batch.TheVariants.{Workers, Opens, Closes}
+use Rattle.rollback_plan.specs.declared.batch.Batch.TheVariants.{Workers, Forks, Opens, Closes}
 use Rattle.rollback_plan.specs.Batches.{calls_of}
 
 ---- Whatever is answered
@@ -25,7 +25,6 @@ anyway_steps call = 1
 
 -- the same call for each of some workers: quits, and waits until they are gone, from the last to the first
 abbrev pub asked_tree : ℕ → Asked → Generation → List ℕ → Tree → Tree
-asked_tree by asked.Fork g ks = forks_any by g ks
 asked_tree by asked.AwaitReady g ks = awaits_any by g ks
 asked_tree by asked.Quit g ks = quits by g (reverse ks)
 asked_tree by asked.Kill g ks = kills by g ks
@@ -40,20 +39,26 @@ all_anyway by (call ∷ calls) rest = anyway by call (all_anyway by calls rest)
 -- calls of one kind
 abbrev pub in_turn : ℕ → Batch → Tree → Tree
 in_turn by (Workers what g numbers) rest = asked_tree by what g numbers.now rest
+in_turn by (Forks crew numbers) rest = forks_any by crew.now numbers.now rest
 in_turn by (Opens addresses) rest = all_anyway by (map OpenAt addresses.now) rest
 in_turn by (Closes addresses) rest = closes by addresses.now rest
 
+-- whether the last of the calls is made first
+abbrev pub goes_back : Batch → Bool
+goes_back (Workers asked.Quit g numbers) = true
+goes_back (Workers asked.AwaitGone g numbers) = true
+goes_back calls = false
+
 -- the calls in the order in which they are made
 abbrev pub made_calls : Batch → List Call
-made_calls (Workers asked.Quit g numbers) = reverse (map (Quit g) numbers.now)
-made_calls (Workers asked.AwaitGone g numbers) = reverse (map (AwaitGone g) numbers.now)
-made_calls calls = calls_of calls
+made_calls calls = if goes_back calls then reverse (calls_of calls) else calls_of calls
 
 -- how many steps that takes
 abbrev pub steps_in : Batch → ℕ
 steps_in (Workers asked.AwaitReady g numbers) = 2 * length numbers.now
 steps_in (Workers asked.AwaitGone g numbers) = 2 * length numbers.now
 steps_in (Workers what g numbers) = length numbers.now
+steps_in (Forks crew numbers) = length numbers.now
 steps_in (Opens addresses) = length addresses.now
 steps_in (Closes addresses) = length addresses.now
 

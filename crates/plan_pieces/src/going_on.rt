@@ -5,10 +5,11 @@ ghost use Rattle.rollback_plan.specs.declared.draft.TheConstants.{MOST_STEPS};
 ghost use Rattle.definitions.specs.Plans.{starts_any};
 ghost use Rattle.rollback_plan.specs.Batches.{size_of};
 ghost use Rattle.rollback_plan.specs.Drafts.{trees_of, tree_at, IsMade, Keeps, Grows};
-ghost use Rattle.plan_pieces.specs.Pieces.{anyway, anyway_steps, in_turn, made_calls, steps_in};
+ghost use Rattle.plan_pieces.specs.Pieces.{anyway, anyway_steps, in_turn, goes_back, made_calls, steps_in};
 
 use call_replies::all_replies;
-use listener_set::{Generation, Numbers};
+use crews::Crew;
+use listener_set::Numbers;
 use rollback_plan::{Asked, Batch, Draft, DraftRefusal, Edge, Place};
 use vocabulary::{Actor, Call, Order, Reply};
 
@@ -34,26 +35,32 @@ pub fn add_each(
     Ok(next)
 }
 
-/// Adds the forks of these numbers and then a wait for each, upwards, before the rest, which
-/// follows whatever is answered; a worker that is late is killed. `TooLarge` only where the draft
-/// would pass its most steps. A refused call may leave some of the steps.
+/// Adds the forks of these numbers of a crew and then a wait for each, upwards, before the rest,
+/// which follows whatever is answered; a worker that is late is killed. `TooLarge` only where the
+/// draft would pass its most steps. A refused call may leave some of the steps.
 pub fn add_starts_any(
     draft: &mut Draft,
     by: Actor,
-    generation: Generation,
+    crew: &Crew,
     numbers: &[u32],
     rest: Place,
 ) -> Result<Place, DraftRefusal>
     requires { rest.0 < length (trees_of draft.old) }
-    ensures made { IfOk result (λ place. IsMade draft.new place (starts_any by generation numbers.now (tree_at draft.old rest))) }
+    ensures made { IfOk result (λ place. IsMade draft.new place (starts_any by crew.now numbers.now (tree_at draft.old rest))) }
     ensures count { OnOk result (length (trees_of draft.new) ≡ length (trees_of draft.old) + 3 * length numbers.now) }
     ensures keeps { Keeps draft.old draft.new }
     ensures too_large { IsErrOf result TooLarge → MOST_STEPS < length (trees_of draft.old) + 3 * length numbers.now }
 {
-    let waits = Batch::Workers(Asked::AwaitReady, generation, numbers);
-    let forks = Batch::Workers(Asked::Fork, generation, numbers);
+    let waits = Batch::Workers(Asked::AwaitReady, crew.generation, numbers);
     let waiting = add_each(draft, by, &waits, rest)?;
-    add_each(draft, by, &forks, waiting)
+    add_each(draft, by, &Batch::Forks(crew, numbers), waiting)
+}
+
+/// Whether the last of these calls is made first.
+fn goes_back(calls: &Batch<'_>) -> bool
+    ensures { result ≡ goes_back calls.now }
+{
+    matches!(calls, Batch::Workers(Asked::Quit | Asked::AwaitGone, _, _))
 }
 
 /// The call that is made at this place, counted from 0.
@@ -61,11 +68,10 @@ fn made_at(calls: &Batch<'_>, place: usize) -> Call
     requires { place < size_of calls.now }
     ensures { slice_get (made_calls calls.now) place ≡ Some result }
 {
-    match calls {
-        Batch::Workers(Asked::Quit | Asked::AwaitGone, _, numbers) => calls.get(
-            numbers.len() - 1 - place,
-        ),
-        _ => calls.get(place),
+    if goes_back(calls) {
+        calls.get(calls.len() - 1 - place)
+    } else {
+        calls.get(place)
     }
 }
 

@@ -9,18 +9,19 @@ ghost use Rattle.rollback_plan.specs.Drafts.{trees_of, tree_at, are_places, IsMa
 ghost use Rattle.rollback_plan.specs.Back.{AreMade};
 
 use crate::attempting::add_attempts;
+use crews::Crew;
 use listener_set::{Generation, Numbers};
-use rollback_plan::{Asked, Batch, Draft, DraftRefusal, Edge, Place};
+use rollback_plan::{Batch, Draft, DraftRefusal, Edge, Place};
 use vocabulary::{Actor, Call, Order, Reply};
 
-/// Adds the forks of these numbers and then a wait for each, upwards, before the rest. The i-th of
-/// the ways back is taken where the first i numbers were forked and a start fails; a worker that is
-/// late is killed first. `TooLarge` only where the draft would pass its most steps. A refused call
-/// may leave some of the steps.
+/// Adds the forks of these numbers of a crew and then a wait for each, upwards, before the rest. The
+/// i-th of the ways back is taken where the first i numbers were forked and a start fails; a worker
+/// that is late is killed first. `TooLarge` only where the draft would pass its most steps. A refused
+/// call may leave some of the steps.
 pub fn add_starts(
     draft: &mut Draft,
     by: Actor,
-    generation: Generation,
+    crew: &Crew,
     numbers: &[u32],
     rest: Place,
     ways_back: &[Place],
@@ -29,15 +30,14 @@ pub fn add_starts(
     requires each { length ways_back.now ≡ length numbers.now + 1 }
     requires ways { IsTrue (are_places draft.old ways_back.now) }
     ensures made { IfOk result (λ place. (bad : List ℕ → Tree) → AreMade draft.old ways_back.now (length numbers.now) (λ i. bad (reverse (take i numbers.now)))
-        → IsMade draft.new place (plans.starts by generation numbers.now (tree_at draft.old rest) bad)) }
+        → IsMade draft.new place (plans.starts by crew.now numbers.now (tree_at draft.old rest) bad)) }
     ensures count { OnOk result (length (trees_of draft.new) ≡ length (trees_of draft.old) + 3 * length numbers.now) }
     ensures keeps { Keeps draft.old draft.new }
     ensures too_large { IsErrOf result TooLarge → MOST_STEPS < length (trees_of draft.old) + 3 * length numbers.now }
 {
     let failed = ways_back[numbers.len()];
-    let waits = add_awaits(draft, by, generation, numbers, rest, failed)?;
-    let forks = Batch::Workers(Asked::Fork, generation, numbers);
-    add_attempts(draft, by, &forks, waits, ways_back)
+    let waits = add_awaits(draft, by, crew.generation, numbers, rest, failed)?;
+    add_attempts(draft, by, &Batch::Forks(crew, numbers), waits, ways_back)
 }
 
 /// Adds a wait for each of these numbers, upwards, before the rest.

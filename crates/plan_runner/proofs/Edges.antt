@@ -125,7 +125,7 @@ listed_reply call set answer.IsAlive h = inr h
 
 replies_of_order : (lacking : List ℕ) (order : Order) → replies_to (call_of order lacking) ≡ order_replies order
 replies_of_order lacking (Make call) = refl
-replies_of_order lacking (ForkLacking g) = refl
+replies_of_order lacking (ForkLacking crew) = refl
 replies_of_order lacking (AwaitLacking g) = refl
 replies_of_order lacking (KillLacking g) = refl
 

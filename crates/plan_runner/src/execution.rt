@@ -2,7 +2,7 @@
 ghost use Rattle.std.specs.Prelude.{◌≡◌, ◌+◌, ◌≤◌, [], length};
 ghost use Rattle.definitions.specs.Tree.{height};
 ghost use Rattle.definitions.specs.Path.{KeepsPathLaw};
-ghost use Rattle.rollback_plan.specs.Plans.{tree_of, note_of};
+ghost use Rattle.rollback_plan.specs.Plans.{tree_of, note_of, sides_told};
 
 use crate::walk::Walk;
 use crate::{CallLog, Calls};
@@ -18,7 +18,7 @@ pub fn execute<C: Calls>(plan: &Plan, calls: &mut C, log: &mut CallLog) -> Repor
     requires calls { height (tree_of plan.now) ≤ C.room calls.old }
     requires room { height (tree_of plan.now) ≤ log.old.room }
     requires empty { log.old.entries ≡ [] }
-    ensures path_law { KeepsPathLaw (tree_of plan.now) (note_of plan.now) log.new.entries result }
+    ensures path_law { KeepsPathLaw (tree_of plan.now) (note_of plan.now) (sides_told plan.now) log.new.entries result }
     ensures follows { C.follows calls.old log.new.entries calls.new }
     ensures longest { length log.new.entries ≤ height (tree_of plan.now) }
     ensures room_left { C.room calls.old ≤ C.room calls.new + length log.new.entries }

@@ -1,16 +1,19 @@
 //! How far the execution of a plan has come.
-ghost use Rattle.std.specs.Prelude.{◌≡◌, ◌+◌, ◌<◌, ◌≤◌, ◌^◌, IsTrue, IfSome, IfNone, None, is_none, length};
+ghost use Rattle.std.specs.Prelude.{◌≡◌, ◌+◌, ◌<◌, ◌≤◌, ◌^◌, IsTrue, IfSome, IfNone, None, is_none};
 ghost use Rattle.std.specs.Option.{option_map};
 ghost use Rattle.vocabulary.specs.declared.calls.Answer.TheVariants.{MasterGone};
+ghost use Rattle.definitions.specs.Crew.{shortfalls_of};
 ghost use Rattle.definitions.specs.Path.{first_cause};
 ghost use Rattle.rollback_plan.specs.Bounds.{is_short};
 ghost use Rattle.rollback_plan.specs.Cursors.{rest_of};
-ghost use Rattle.rollback_plan.specs.Plans.{tree_of, note_of};
+ghost use Rattle.rollback_plan.specs.Plans.{tree_of, note_of, sides_told};
 ghost use Rattle.plan_runner.specs.Fit.{is_fit_next, height_next};
 
 use call_replies::{plain_reply, reply_to};
+use crews::Shortfalls;
+use listener_set::Groups;
 use rollback_plan::{Bound, Cursor, Plan};
-use vocabulary::{Actor, Call, End, Entry, Outcome, PidNote, Report, Side};
+use vocabulary::{Actor, Call, End, Entry, Outcome, PidNote, Report, Side, Sides};
 
 /// A call that is due, and the master that makes it.
 #[derive(Clone, Copy)]
@@ -19,8 +22,8 @@ pub struct Due {
     pub call: Call,
 }
 
-/// How far the execution of a plan has come: where it is, what the last census said, and what
-/// the report will say.
+/// How far the execution of a plan has come: where it is, what the last census said, what the report
+/// will say, and the groups of both sides, by which it says what one lacks.
 #[derive(Clone, Copy)]
 pub struct Walk<'a> {
     rest: Option<Cursor<'a>>,
@@ -28,6 +31,7 @@ pub struct Walk<'a> {
     note: PidNote,
     cause: Option<u32>,
     made: u32,
+    sides: &'a Sides,
     ghost fit: { IsTrue (is_fit_next (is_short bound.lacking) (option_map rest_of rest)) },
     ghost countable: { made + height_next (option_map rest_of rest) < 2 ^ 32 },
 }
@@ -35,11 +39,12 @@ pub struct Walk<'a> {
 impl<'a> Walk<'a> {
     ghost use Rattle.definitions.specs.Tree.{is_listed};
     ghost use Rattle.definitions.specs.Path.{begin, advance, Asks, IsOver, IsOutcome, Reports};
-    ghost use Rattle.plan_runner.specs.Walk.{trail_of, AsksFor};
+    ghost use Rattle.plan_runner.specs.Walk.{trail_of, sides_in, AsksFor};
 
     /// Before the first call.
     pub fn new(plan: &'a Plan) -> Walk<'a>
-        ensures { trail_of result ≡ begin (tree_of plan.now) (note_of plan.now) }
+        ensures trail { trail_of result ≡ begin (tree_of plan.now) (note_of plan.now) }
+        ensures sides { sides_in result ≡ sides_told plan.now }
     {
         Walk {
             rest: Some(plan.start()),
@@ -47,6 +52,7 @@ impl<'a> Walk<'a> {
             note: plan.note(),
             cause: None,
             made: 0,
+            sides: plan.sides(),
         }
     }
 
@@ -67,6 +73,7 @@ impl<'a> Walk<'a> {
         requires asks { Asks (trail_of self.now).rest (trail_of self.now).lacking entry.now }
         requires listed { IsTrue (is_listed entry.now.call entry.now.answer) }
         ensures trail { trail_of result ≡ advance (trail_of self.now) entry.now }
+        ensures sides { sides_in result ≡ sides_in self.now }
         ensures lost { (trail_of result).rest ≡ None → entry.now.answer ≡ MasterGone }
         ensures lower { height_next (trail_of result).rest + 1 ≤ height_next (trail_of self.now).rest }
     {
@@ -88,6 +95,7 @@ impl<'a> Walk<'a> {
                 note: self.note,
                 cause,
                 made,
+                sides: self.sides,
             };
         };
         Walk {
@@ -96,6 +104,7 @@ impl<'a> Walk<'a> {
             note: edge.note.unwrap_or(self.note),
             cause,
             made,
+            sides: self.sides,
         }
     }
 
@@ -109,7 +118,7 @@ impl<'a> Walk<'a> {
     /// What the report says of a walk that is over.
     pub fn report(&self) -> Report
         requires { IsOver (trail_of self.now).rest }
-        ensures { Reports (trail_of self.now) result }
+        ensures { Reports (sides_in self.now) (trail_of self.now) result }
     {
         Report {
             outcome: self.outcome(),
@@ -121,7 +130,7 @@ impl<'a> Walk<'a> {
 
     fn outcome(&self) -> Outcome
         requires { IsOver (trail_of self.now).rest }
-        ensures { IsOutcome (trail_of self.now).rest (trail_of self.now).lacking result }
+        ensures { IsOutcome (sides_in self.now) (trail_of self.now).rest (trail_of self.now).lacking result }
     {
         let Some(cursor) = self.rest else {
             return Outcome::Lost;
@@ -129,19 +138,19 @@ impl<'a> Walk<'a> {
         match cursor.end() {
             Some(End::Done) => Outcome::Done,
             Some(End::RolledBack) => Outcome::RolledBack,
-            Some(End::ShortOld) => self.degraded(Side::Old),
-            Some(End::ShortTarget) => self.degraded(Side::Target),
+            Some(End::ShortOld) => self.degraded(Side::Old, &self.sides.old),
+            Some(End::ShortTarget) => self.degraded(Side::Target, &self.sides.target),
             None => unreachable!(),
         }
     }
 
-    /// A side that lacks what the last census lacked.
-    fn degraded(&self, side: Side) -> Outcome
-        ensures { result ≡ Outcome.Degraded side (length (trail_of self.now).lacking) }
+    /// A side of these groups that lacks what the last census lacked.
+    fn degraded(&self, side: Side, groups: &Groups) -> Outcome
+        ensures { result ≡ Outcome.Degraded side (shortfalls_of groups.now (trail_of self.now).lacking) }
     {
         Outcome::Degraded {
             side,
-            short: self.bound.short(),
+            shortfalls: Shortfalls::of(groups, self.bound.lacking()),
         }
     }
 }

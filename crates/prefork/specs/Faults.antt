@@ -1,6 +1,8 @@
--- Which fault a refusal is, and what a fault says.
-use Rattle.std.specs.Prelude.{ℕ, List, ◌++◌, codes}
+-- Which fault a refusal is, which one is told, and what a fault says.
+use Rattle.std.specs.Prelude.{◌≡◌, ◌≢◌, ◌⊎◌, ℕ, List, ◌++◌, Option, IfSome, Result, Ok, Err, codes}
 use Rattle.std.specs.Fmt.{decimal}
+use Rattle.std.specs.declared.io.ErrorKind.{ErrorKind}
+use Rattle.std.specs.declared.io.ErrorKind.TheVariants.{OutOfMemory}
 use Rattle.command_line.specs.Codes.{refusal_code}
 use Rattle.command_line.specs.declared.Refusal.{Refusal}
 use Rattle.command_line.specs.declared.Refusal.TheVariants as command
@@ -17,6 +19,7 @@ use Rattle.master_config.specs.declared.refusal.ConfigRefusal.TheVariants as con
 use Rattle.call_text.specs.Codes.{refusal_text}
 use Rattle.call_text.specs.declared.refusal.TextRefusal.{TextRefusal}
 use Rattle.call_text.specs.declared.refusal.TextRefusal.TheVariants as pattern
+use Rattle.pattern_text.specs.PatternsText.{patterns_of}
 use Rattle.supervisor.specs.declared.fault.SupervisorFault.{SupervisorFault}
 use Rattle.supervisor.specs.declared.fault.SupervisorFault.TheVariants as supervisor
 use Rattle.prefork.specs.declared.fault.Fault.{Fault}
@@ -58,6 +61,26 @@ supervisor_fault supervisor.File = File
 abbrev pub block_fault : ℕ → Mismatch → Fault
 block_fault number mismatch.Memory = Memory
 block_fault number other = Certify number other
+
+-- that of an error of a read or a write: such an error tells want of memory too
+abbrev pub IsOfKind : ErrorKind → Fault → Type 0
+IsOfKind kind fault = ((kind ≡ OutOfMemory) × (fault ≡ Memory)) ⊎ ((kind ≢ OutOfMemory) × (fault ≡ File))
+
+---- Which fault is told
+
+-- The one that is due, and want of memory only where none is.
+abbrev pub IsDue : {A : Type 0} → Result A Fault → Fault → Type 0
+IsDue (Ok value) fault = fault ≡ Memory
+IsDue (Err due) fault = fault ≡ due
+
+-- A read or a write failed.
+abbrev pub IsOfFile : Fault → Type 0
+IsOfFile fault = (fault ≡ File) ⊎ (fault ≡ Memory)
+
+-- The patterns of an input can't be had: a text is refused, which is the input's where its bytes are known, or else the read failed.
+abbrev pub IsOfPatterns : Option (List ℕ) → Fault → Type 0
+IsOfPatterns input (Pattern refusal) = (text : List ℕ) × IfSome input (λ bytes. text ≡ bytes) × (patterns_of text ≡ Err refusal)
+IsOfPatterns input fault = IsOfFile fault
 
 ---- What a fault says
 

@@ -2,5 +2,6 @@ pub mod Certificates
 pub mod Faults
 pub mod Outlooks
 pub mod Output
+pub mod Refusals
 pub mod Rehearsals
 pub mod Starts

@@ -1,8 +1,10 @@
 -- What there is to show of a word.
-use Rattle.std.specs.Prelude.{◌≡◌, ◌⊎◌, ℕ, List, true, Some, codes}
+use Rattle.std.specs.Prelude.{◌≡◌, ◌⊎◌, ℕ, List, Some, Ok}
 use Rattle.definitions.specs.Record.{Record}
 use Rattle.definitions.specs.Tree.{height}
-use Rattle.definitions.specs.After.{lacks_generation}
+use Rattle.reload_planner.specs.Codes.{plan_code}
+use Rattle.reload_planner.specs.declared.refusal.PlanRefusal.{PlanRefusal}
+use Rattle.plan_executor.specs.Refusals.{HasNoPlan}
 use Rattle.definitions.specs.Plans.{planned}
 use Rattle.vocabulary.specs.declared.targets.Target.{Target}
 use Rattle.rollback_plan.specs.declared.plan.Plan.{Plan}
@@ -18,7 +20,7 @@ use Rattle.word_runner.specs.declared.asking.Asked.{Asked}
 use Rattle.word_runner.specs.declared.asking.Asked.TheVariants as asks
 use Rattle.word_runner.specs.Asking.{asked_by, IsNoted}
 use Rattle.control_words.specs.declared.words.Word.{Word}
-use Rattle.prefork.specs.Starts.{first_record, silent_workers}
+use Rattle.prefork.specs.Starts.{first_record, record_at, silent_workers}
 use Rattle.prefork.specs.declared.start.Start.{Start}
 use Rattle.word_runner.specs.Status.{body_status}
 use Rattle.prefork.specs.declared.planning.Form.{Form}
@@ -42,10 +44,11 @@ pub record Shows (r : Record) (target : Target) (form : Form) (outlook : Outlook
   pub text : outlook.text.items ≡ shown form plan
   pub status : outlook.status ≡ 0
 
--- a number of the target's generation would pass its limit
+-- none, and the code of why there is none
 pub record IsUnplanned (r : Record) (target : Target) (outlook : Outlook) : Type 0 where
-  pub lacks : lacks_generation r target ≡ true
-  pub told : Tells (Refused (codes "P3")) outlook
+  pub refusal : PlanRefusal
+  pub due : HasNoPlan r target refusal
+  pub told : Tells (Refused (plan_code refusal)) outlook
 
 abbrev pub IsPlanned : Record → Target → Form → Outlook → Type 0
 IsPlanned r target form outlook = Shows r target form outlook ⊎ IsUnplanned r target outlook
@@ -68,4 +71,4 @@ IsOutlook (asks.Refused code) r workers form outlook = Tells (Refused code) outl
 abbrev pub IsForeseen : Start → Word → Form → Outlook → Type 0
 IsForeseen start word form outlook =
     let r = first_record start in
-    IsOutlook (asked_by word r (silent_workers r) (Some start.next)) r (silent_workers r) form outlook
+    (record_at start ≡ Ok r) × IsOutlook (asked_by word r (silent_workers r) (Some start.next)) r (silent_workers r) form outlook

@@ -1,12 +1,15 @@
 -- Words on a master that was started on the modelled kernel.
-use Rattle.std.specs.Prelude.{◌≡◌, ◌⊎◌, ℕ, List, [], Option, Some, None, Ok}
+use Rattle.std.specs.Prelude.{◌≡◌, ◌+◌, ◌⊎◌, ℕ, false, true, List, [], Option, Some, None, Result, Ok, Err}
 use Rattle.listener_set.specs.AddressText.{reading}
-use Rattle.definitions.specs.Table.{Table}
+use Rattle.listener_set.specs.declared.address.AddressRefusal.{AddressRefusal}
+use Rattle.definitions.specs.Table.{Table, is_held}
 use Rattle.definitions.specs.Record.{Record}
 use Rattle.definitions.specs.Path.{Entry}
 use Rattle.vocabulary.specs.declared.targets.Target.{Target}
 use Rattle.process_table.specs.Foreign.{with_foreign}
+use Rattle.process_table.specs.Room.{LacksNumbers}
 use Rattle.kernel_model.specs.State.{State}
+use Rattle.kernel_model.specs.declared.refusal.ForeignRefusal.TheVariants as foreign
 use Rattle.control_words.specs.declared.words.Word.{Word}
 use Rattle.word_runner.specs.declared.block.Block.{Block}
 use Rattle.word_runner.specs.Words.{Standing, standing, AreDone}
@@ -17,13 +20,28 @@ use Rattle.certifier.specs.Certified.{IsBeginning}
 use Rattle.certifier.specs.Explained.{IsNoBeginning}
 use Rattle.certifier.specs.declared.mismatch.Mismatch.{Mismatch}
 use Rattle.plan_executor.specs.Words.{Moments, EnactsAt, DeclinesAt}
+use Rattle.prefork.specs.declared.fault.Fault.{Fault}
+use Rattle.prefork.specs.declared.fault.Fault.TheVariants.{Address, Foreign, Memory}
 use Rattle.prefork.specs.declared.rehearsal.Rehearsal.{Rehearsal}
+
+-- nobody holds the address, and a number is left for who is to hold it
+pub record IsFree (address : List ℕ) (kernel : State) : Type 0 where
+  pub unheld : is_held address kernel.table.rows ≡ false
+  pub numbers : ¬ (LacksNumbers kernel.table (kernel.room + 1))
 
 -- the address of a text, which a foreign process now holds
 pub record Held (text : List ℕ) (old new : Rehearsal) : Type 0 where
   pub address : List ℕ
   pub is_read : reading text ≡ Ok address
+  pub is_free : IsFree address old.kernel
   pub kernel : new ≡ record old { kernel = record { table = with_foreign address old.kernel.table; room = old.kernel.room } }
+
+-- Why nobody can hold what a text is read as: it is no address, somebody holds it, no number is left, or else memory is wanted.
+abbrev pub IsOfHeld : Result (List ℕ) AddressRefusal → State → Fault → Type 0
+IsOfHeld (Err refusal) kernel fault = fault ≡ Address refusal
+IsOfHeld (Ok address) kernel (Foreign foreign.Held) = is_held address kernel.table.rows ≡ true
+IsOfHeld (Ok address) kernel (Foreign foreign.NoNumbers) = (is_held address kernel.table.rows ≡ false) × LacksNumbers kernel.table (kernel.room + 1)
+IsOfHeld (Ok address) kernel fault = (fault ≡ Memory) × IsFree address kernel
 
 abbrev pub standing_of : Rehearsal → Standing State
 standing_of it = standing it.kernel it.record it.workers

@@ -1,6 +1,6 @@
 //! `explain`: what the codes mean.
 use crate::fault::Fault;
-use explanations::{EXPLANATIONS, Explanation, explanation_of};
+use explanations::{Explanation, FAULTS, WORDS, explanation_of};
 use std::alloc::{AllocError, Global};
 
 /// The column at which meanings begin in the list of all codes.
@@ -11,16 +11,46 @@ pub fn explain(alloc: Global, code: Option<&str>) -> Result<Vec<u8>, Fault> {
     let Some(code) = code else {
         return Ok(list(alloc)?);
     };
-    match explanation_of(&EXPLANATIONS, code) {
+    match meaning_of(code) {
         Some(found) => Ok(page(alloc, &found)?),
         None => Err(Fault::Code),
     }
 }
 
+/// What is known of a code, where there is such a one.
+pub fn meaning_of(code: &str) -> Option<Explanation> {
+    match meaning_of_fault(code) {
+        Some(found) => Some(found),
+        None => meaning_of_word(code),
+    }
+}
+
+fn meaning_of_fault(code: &str) -> Option<Explanation> {
+    explanation_of(&FAULTS, code)
+}
+
+fn meaning_of_word(code: &str) -> Option<Explanation> {
+    explanation_of(&WORDS, code)
+}
+
 /// A line for each code.
 fn list(alloc: Global) -> Result<Vec<u8>, AllocError> {
     let mut text = Vec::new(alloc);
-    for explanation in &EXPLANATIONS {
+    put_faults(&mut text)?;
+    put_words(&mut text)?;
+    Ok(text)
+}
+
+fn put_faults(text: &mut Vec<u8>) -> Result<(), AllocError> {
+    put_lines(text, &FAULTS)
+}
+
+fn put_words(text: &mut Vec<u8>) -> Result<(), AllocError> {
+    put_lines(text, &WORDS)
+}
+
+fn put_lines(text: &mut Vec<u8>, explanations: &[Explanation]) -> Result<(), AllocError> {
+    for explanation in explanations {
         text.extend_from_slice(explanation.code.as_bytes())?;
         text.resize(
             text.len() + COLUMN.saturating_sub(explanation.code.len()),
@@ -29,7 +59,7 @@ fn list(alloc: Global) -> Result<Vec<u8>, AllocError> {
         text.extend_from_slice(explanation.meaning.as_bytes())?;
         text.extend_from_slice(b"\n")?;
     }
-    Ok(text)
+    Ok(())
 }
 
 fn page(alloc: Global, explanation: &Explanation) -> Result<Vec<u8>, AllocError> {

@@ -1,6 +1,7 @@
 //! Faults of the program: a line on standard error and a status.
 ghost use Rattle.std.specs.Prelude.{◌≡◌, Some};
-ghost use Rattle.prefork.specs.Faults.{command_fault, config_fault, boot_fault, foreign_fault, pattern_fault, transcript_fault, supervisor_fault, block_fault, fault_text, fault_status};
+ghost use Rattle.std.specs.IoError.{error_kind};
+ghost use Rattle.prefork.specs.Faults.{command_fault, config_fault, boot_fault, foreign_fault, pattern_fault, transcript_fault, supervisor_fault, block_fault, IsOfKind, fault_text, fault_status};
 ghost use Rattle.prefork.specs.declared.fault.Fault.TheVariants.{Memory};
 
 use call_text::TextRefusal;
@@ -184,6 +185,8 @@ impl From<SupervisorFault> for Fault {
 /// Every failed read, write and argument comes through here. Want of memory is asked for first,
 /// since it comes as an error of input or output too.
 impl From<io::Error> for Fault {
+    ghost from_gives = { λ error fault. IsOfKind (error_kind error) fault };
+
     fn from(error: io::Error) -> Fault {
         match error.kind() {
             ErrorKind::OutOfMemory => Fault::Memory,

@@ -1,7 +1,9 @@
 //! `plan`: what a control word would do.
-ghost use Rattle.std.specs.Prelude.{◌≡◌, IfOk};
+ghost use Rattle.std.specs.Prelude.{◌≡◌, IfOk, IfErr};
 ghost use Rattle.definitions.specs.Target.{IsTarget};
+ghost use Rattle.prefork.specs.Faults.{IsDue};
 ghost use Rattle.prefork.specs.Outlooks.{shown, Tells, IsPlanned, IsForeseen};
+ghost use Rattle.prefork.specs.Starts.{record_at};
 
 use crate::fault::Fault;
 use crate::start::{Start, silent_workers};
@@ -34,12 +36,13 @@ pub struct Outlook {
 /// The plan of a word for a master that has just started, `nothing`, or `refused` with its code.
 /// What the word asks is found out as when it is carried out.
 pub fn look_ahead(alloc: Global, start: &Start, word: Word, form: Form) -> Result<Outlook, Fault>
-    ensures { IfOk result (IsForeseen start.now word form) }
+    ensures ok { IfOk result (IsForeseen start.now word form) }
+    ensures err { IfErr result (IsDue (record_at start.now)) }
 {
     let record = start.record()?;
     let mut workers = silent_workers(alloc, &record)?;
     match asked_by(word, &record, &workers, Some(&start.next)) {
-        Asked::Act(target) => planned(alloc, &record, &target, form),
+        Asked::Act(target) => Ok(planned(alloc, &record, &target, form)?),
         Asked::Beat(heard) => Ok(told(alloc, &note(&mut workers, heard))?),
         Asked::Nothing => Ok(told(alloc, &Body::Nothing)?),
         Asked::Refused(code) => Ok(told(alloc, &Body::Refused(code))?),
@@ -58,7 +61,13 @@ fn told(alloc: Global, body: &Body) -> Result<Outlook, AllocError>
     })
 }
 
-fn planned(alloc: Global, state: &Record, target: &Target, form: Form) -> Result<Outlook, Fault>
+/// The plan of a target, or the code with which it is refused.
+fn planned(
+    alloc: Global,
+    state: &Record,
+    target: &Target,
+    form: Form,
+) -> Result<Outlook, AllocError>
     requires { IsTarget target.now }
     ensures { IfOk result (IsPlanned state.now target.now form) }
 {
@@ -67,10 +76,10 @@ fn planned(alloc: Global, state: &Record, target: &Target, form: Form) -> Result
             text: shown(alloc, &plan, form)?,
             status: 0,
         }),
-        Err(PlanRefusal::Memory) => Err(Fault::Memory),
+        Err(PlanRefusal::Memory) => Err(AllocError),
         Err(refusal) => {
             let code = CodeText::of(refusal.code(), "");
-            Ok(told(alloc, &Body::Refused(code))?)
+            told(alloc, &Body::Refused(code))
         }
     }
 }

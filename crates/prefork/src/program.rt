@@ -1,10 +1,11 @@
 //! The program over any reader and any two writers.
-ghost use Rattle.std.specs.Prelude.{◌≡◌, ◌++◌, ℕ, List, length, map, IfOk, IfSome, OnOk, Ok};
+ghost use Rattle.std.specs.Prelude.{◌≡◌, ◌++◌, ℕ, List, length, map, IfOk, IfErr, IfSome, OnOk, Ok};
 ghost use Rattle.kernel_model.specs.Pattern.{moment_at};
 ghost use Rattle.pattern_text.specs.PatternsText.{patterns_of};
 ghost use Rattle.std.specs.Io.KnownBytes.{Appends};
 ghost use Rattle.table_text.specs.TableText.{IsTextOf};
 ghost use Rattle.word_runner.specs.declared.block.Block.{Block as Done};
+ghost use Rattle.prefork.specs.Faults.{IsOfFile, IsOfPatterns};
 ghost use Rattle.prefork.specs.Output.{blocks_text, IsState};
 ghost use Rattle.prefork.specs.Rehearsals.{IsRehearsed};
 ghost use Rattle.word_runner.specs.Status.{gravest};
@@ -78,7 +79,8 @@ fn answer<R: AllocGlobal + Files + Processes + OwnNumber, I: Read, O: Write, E: 
 
 /// One write of a whole text, so that a reader never sees half of it unless the write fails.
 fn write<O: Write>(output: &mut O, text: &[u8]) -> Result<(), Fault>
-    ensures { OnOk result (Appends (O.contents output.old) (O.contents output.new) text.now) }
+    ensures ok { OnOk result (Appends (O.contents output.old) (O.contents output.new) text.now) }
+    ensures err { IfErr result IsOfFile }
 {
     output.write_all(text)?;
     output.flush()?;
@@ -111,11 +113,11 @@ fn enact<R: AllocGlobal + Files, I: Read, O: Write>(
     };
     write(output, text.as_slice())?;
     shown?;
-    done
+    Ok(done?)
 }
 
 /// Appends the table of processes, files and the service where it is asked for.
-fn show_state(rehearsal: &Rehearsal, is_wanted: bool, text: &mut Vec<u8>) -> Result<(), Fault>
+fn show_state(rehearsal: &Rehearsal, is_wanted: bool, text: &mut Vec<u8>) -> Result<(), AllocError>
     ensures { IfOk result (λ _. (state : List ℕ)
         × (text.new.items ≡ text.old.items ++ state)
         × IsState is_wanted rehearsal.now.kernel.table state) }
@@ -188,8 +190,9 @@ fn read_patterns<I: Read>(
     input: &mut I,
     given: &mut Vec<u8>,
 ) -> Result<Vec<Pattern>, Fault>
-    ensures { IfOk result (λ patterns. IfSome (I.remaining input.old)
+    ensures ok { IfOk result (λ patterns. IfSome (I.remaining input.old)
         (λ text. patterns_of text ≡ Ok (map moment_at patterns.items))) }
+    ensures err { IfErr result (IsOfPatterns (I.remaining input.old)) }
 {
     let mut text = Vec::new(alloc);
     input.read_to_end(&mut text)?;
@@ -206,7 +209,7 @@ fn rehearse(
     words: &[Word],
     patterns: &[Pattern],
     text: &mut Vec<u8>,
-) -> Result<u8, Fault>
+) -> Result<u8, AllocError>
     ensures { (blocks : List Done)
         × IsRehearsed patterns.now words.now rehearsal.old blocks rehearsal.new
         × IfOk result (λ status. (length blocks ≡ length words.now)

@@ -1,24 +1,27 @@
 //! A master on the modelled kernel, word by word.
-ghost use Rattle.std.specs.Prelude.{◌≡◌, ◌+◌, ◌++◌, ◌∷◌, [], ℕ, List, length, Some, OnOk, IfOk, IfErr};
+ghost use Rattle.std.specs.Prelude.{◌≡◌, ◌≤◌, ◌+◌, ◌++◌, ◌∷◌, [], ℕ, List, length, Some, OnOk, OnErr, IfOk, IfErr};
+ghost use Rattle.listener_set.specs.AddressText.{reading};
 ghost use Rattle.definitions.specs.Run.{Moment};
 ghost use Rattle.table_text.specs.TableText.{IsTextOf};
 ghost use Rattle.word_runner.specs.declared.block.Block.{Block as Done};
 ghost use Rattle.certifier.specs.Blocks.{AreTaken, StopsAtBlock};
-ghost use Rattle.prefork.specs.Starts.{IsStarted};
-ghost use Rattle.definitions.specs.Target.{IsTarget};
-ghost use Rattle.prefork.specs.Rehearsals.{Held, standing_of, IsRehearsed, IsShownOf, IsShownBy};
+ghost use Rattle.prefork.specs.Faults.{IsDue};
+ghost use Rattle.prefork.specs.Starts.{IsStarted, limits, record_at};
+ghost use Rattle.definitions.specs.Start.{booted};
 ghost use Rattle.prefork.specs.declared.fault.Fault.TheVariants.{Memory};
+ghost use Rattle.definitions.specs.Target.{IsTarget};
+ghost use Rattle.prefork.specs.Rehearsals.{Held, IsOfHeld, standing_of, IsRehearsed, IsShownOf, IsShownBy};
 
 use crate::fault::Fault;
 use crate::start::{Start, silent_workers};
 use certifier::{BlockMismatch, Mismatch, certify_beginning, certify_blocks};
 use control_words::Word;
 use kernel_model::{Kernel, Pattern};
-use listener_set::Address;
+use listener_set::{Address, WORKER_LIMIT};
 use plan_executor::run_words;
 use plan_runner::CallLog;
 use service_state::Record;
-use std::alloc::Global;
+use std::alloc::{AllocError, Global};
 use vocabulary::{Limits, Settings, Target};
 use word_runner::{Asked, Block, asked_by};
 use worker_table::WorkerTable;
@@ -39,20 +42,34 @@ pub struct Rehearsal {
     next: Settings,
 }
 
+/// The kernel of a start with some settings, where so many workers run.
+fn booted(alloc: Global, settings: &Settings, running: u32) -> Result<Kernel, Fault>
+    requires { running ≤ WORKER_LIMIT }
+    ensures ok { IfOk result (λ kernel. kernel ≡ record { table = booted settings.now.listeners settings.now.groups running settings.now.pid limits; room = 0 }) }
+    ensures err { IfErr result (λ fault. fault ≡ Memory) }
+{
+    // So the limits allow it.
+    let addresses = settings.listeners.len();
+    prove!(addresses <= 64);
+    let kernel = Kernel::boot(
+        alloc,
+        &settings.listeners,
+        &settings.groups,
+        running,
+        settings.pid,
+        LIMITS,
+    )?;
+    Ok(kernel)
+}
+
 impl Rehearsal {
     /// Boots a master with its ready workers.
     pub fn start(alloc: Global, start: &Start) -> Result<Rehearsal, Fault>
-        ensures { IfOk result (IsStarted start.now) }
+        ensures ok { IfOk result (IsStarted start.now) }
+        ensures err { IfErr result (IsDue (record_at start.now)) }
     {
         let record = start.record()?;
-        let settings = &start.settings;
-        let kernel = Kernel::boot(
-            alloc,
-            &settings.listeners,
-            start.running,
-            settings.pid,
-            LIMITS,
-        )?;
+        let kernel = booted(alloc, &start.settings, start.running)?;
         let workers = silent_workers(alloc, &record)?;
         Ok(Rehearsal {
             kernel,
@@ -64,7 +81,9 @@ impl Rehearsal {
 
     /// Lets a foreign process hold an address.
     pub fn hold(&mut self, address: &str) -> Result<(), Fault>
-        ensures { OnOk result (Held address.now self.old self.new) }
+        ensures ok { OnOk result (Held address.now self.old self.new) }
+        ensures err { IfErr result (IsOfHeld (reading address.now) self.old.kernel) }
+        ensures kept { OnErr result (self.new ≡ self.old) }
     {
         let address = Address::read(address.as_bytes()).map_err(Fault::Address)?;
         self.kernel.foreign(&address)?;
@@ -72,14 +91,14 @@ impl Rehearsal {
     }
 
     /// Carries words out one after another, the i-th under the i-th pattern, and puts the block of
-    /// each behind `blocks`. The only fault is want of memory: the words before it are done.
+    /// each behind `blocks`. Where memory is wanted, the words before are done.
     pub fn act(
         &mut self,
         alloc: Global,
         words: &[Word],
         patterns: &[Pattern],
         blocks: &mut Vec<Block>,
-    ) -> Result<(), Fault>
+    ) -> Result<(), AllocError>
         ensures done { (done : List Done)
             × (blocks.new.items ≡ blocks.old.items ++ done)
             × IsRehearsed patterns.now words.now self.old done self.new }
@@ -95,8 +114,7 @@ impl Rehearsal {
             patterns,
             Some(&next),
             blocks,
-        )?;
-        Ok(())
+        )
     }
 
     /// Compares blocks one after another, each from where the ones before it left things, and gives the patterns that
@@ -128,7 +146,7 @@ impl Rehearsal {
         alloc: Global,
         word: Word,
         begun: &CallLog,
-    ) -> Result<Option<Block>, Fault>
+    ) -> Result<Option<Block>, AllocError>
         ensures { IfOk result (λ found. (block : Done) × (pattern : List (ℕ × Moment))
             × (found ≡ Some block)
             × IsShownBy self.old word begun.now.entries pattern
@@ -140,11 +158,9 @@ impl Rehearsal {
         Ok(blocks.pop())
     }
 
-    /// The pattern that the first calls of a word show; a quiet one where they begin no run of the master. The only fault
-    /// is want of memory.
-    fn pattern_of(&self, alloc: Global, word: Word, begun: &CallLog) -> Result<Pattern, Fault>
-        ensures ok { IfOk result (IsShownBy self.now word begun.now.entries) }
-        ensures err { IfErr result (λ fault. fault ≡ Memory) }
+    /// The pattern that the first calls of a word show; a quiet one where they begin no run of the master.
+    fn pattern_of(&self, alloc: Global, word: Word, begun: &CallLog) -> Result<Pattern, AllocError>
+        ensures { IfOk result (IsShownBy self.now word begun.now.entries) }
     {
         let Some(record) = self.record else {
             return Ok(Pattern::new(alloc));
@@ -156,29 +172,27 @@ impl Rehearsal {
     }
 
     /// The table of processes, files and the service.
-    pub fn state(&self) -> Result<Vec<u8>, Fault>
+    pub fn state(&self) -> Result<Vec<u8>, AllocError>
         ensures { IfOk result (λ text. IsTextOf self.now.kernel.table text.items) }
     {
-        Ok(self.kernel.table_text()?)
+        self.kernel.table_text()
     }
 }
 
-/// The pattern that calls show which begin a run of a target; a quiet one where they begin none. The only fault is want of
-/// memory.
+/// The pattern that calls show which begin a run of a target; a quiet one where they begin none.
 fn shown_of(
     alloc: Global,
     kernel: &Kernel,
     state: &Record,
     target: &Target,
     begun: &CallLog,
-) -> Result<Pattern, Fault>
+) -> Result<Pattern, AllocError>
     requires { IsTarget target.now }
-    ensures ok { IfOk result (IsShownOf kernel.now.table state.now target.now begun.now.entries) }
-    ensures err { IfErr result (λ fault. fault ≡ Memory) }
+    ensures { IfOk result (IsShownOf kernel.now.table state.now target.now begun.now.entries) }
 {
     match certify_beginning(alloc, kernel, state, target, begun) {
         Ok(pattern) => Ok(pattern),
-        Err(Mismatch::Memory) => Err(Fault::Memory),
+        Err(Mismatch::Memory) => Err(AllocError),
         Err(Mismatch::Refused | Mismatch::Step(_) | Mismatch::Short | Mismatch::Report) => {
             Ok(Pattern::new(alloc))
         }

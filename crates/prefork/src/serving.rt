@@ -1,6 +1,7 @@
 //! `supervise`, `adopt` and `child`: masters and workers that run.
 ghost use Rattle.std.specs.Prelude.{◌≤◌, IfOk, option_map};
 ghost use Rattle.vocabulary.specs.Settings.{plain_settings};
+ghost use Rattle.prefork.specs.Refusals.{IsDeclined};
 ghost use Rattle.prefork.specs.Starts.{AreNamed};
 
 use crate::fault::Fault;
@@ -54,7 +55,9 @@ fn next_in<R: AllocGlobal + Files>(rt: &R, path: Option<&str>) -> Result<Setting
 }
 
 /// Why a configuration is not taken up: want of memory, or its code with what it is about.
-fn declined(alloc: Global, refusal: &ConfigRefusal) -> NextRefusal {
+fn declined(alloc: Global, refusal: &ConfigRefusal) -> NextRefusal
+    ensures { IsDeclined refusal.now result }
+{
     if matches!(refusal, ConfigRefusal::Memory) {
         return NextRefusal::Memory;
     }

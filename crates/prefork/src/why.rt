@@ -1,10 +1,11 @@
 //! `--why`: what is said of a fault behind its line, for people.
+use crate::explaining::meaning_of;
 use crate::fault::Fault;
 use crate::instead::line_instead;
 use call_text::TextRefusal;
 use certifier::Mismatch;
 use command_line::{Request, StartOptions, complaint};
-use explanations::{EXPLANATIONS, Explanation, explanation_of};
+use explanations::Explanation;
 use master_config::{ConfigRefusal, Key};
 use std::alloc::Global;
 use std::fs;
@@ -27,7 +28,7 @@ pub fn tell<R: AllocGlobal + Files, E: Write>(
     }
     if let Ok(text) = format!(in rt.alloc(); "{fault}") {
         for word in text.as_str().split(' ') {
-            if let Some(explanation) = explanation_of(&EXPLANATIONS, word) {
+            if let Some(explanation) = meaning_of(word) {
                 tell_meaning(&explanation, errors);
             }
         }
@@ -215,6 +216,7 @@ fn key_of(refusal: &ConfigRefusal) -> Option<Key> {
         }
         ConfigRefusal::BadPid => Some(Key::Pid),
         ConfigRefusal::BadCommand => Some(Key::Command),
+        ConfigRefusal::Mixed | ConfigRefusal::Group(..) => Some(Key::Groups),
         _ => None,
     }
 }

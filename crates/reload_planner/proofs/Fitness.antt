@@ -2,6 +2,7 @@
 use Rattle.std.proofs.Common.{◌≡◌, ℕ, Bool, true, false, List, [], Option, Some, None, reverse, refl}
 use Rattle.listener_set.specs.declared.generation.Generation.{Generation}
 use Rattle.definitions.specs.Table.{Address, FilePath}
+use Rattle.definitions.specs.Crew.{Crew}
 use Rattle.vocabulary.specs.declared.plans.Side.TheVariants.{Old, Target}
 use Rattle.vocabulary.specs.declared.plans.PidNote.{PidNote}
 use Rattle.vocabulary.specs.declared.plans.PidNote.TheVariants.{Left, NoFile}
@@ -11,18 +12,18 @@ use Rattle.definitions.specs.Plans.{settle, starts, census, census_edges, usr1s,
 use Rattle.reload_planner.specs.Changes.{change_tree, repair_tree, on_tree, back_tree, renewal_tree}
 use Rattle.plan_pieces.proofs.Fitness.{settle_fit, quits_fit, kills_fit, usr1s_fit, closes_fit, awaits_gone_fit, remove_fit, awaits_fit, forks_fit, starts_any_fit, opens_fit}
 
-starts_fit : (by : ℕ) (g : Generation) (ks : List ℕ) (ok : Tree) (bad : List ℕ → Tree) (short : Bool) → is_fit short ok ≡ true → ((forked : List ℕ) → is_fit short (bad forked) ≡ true) → is_fit short (starts by g ks ok bad) ≡ true
-starts_fit by g ks ok bad short h e = forks_fit by g ks [] _ _ short (λ forked. awaits_fit by g ks ok (bad forked) short h (e forked)) e
+starts_fit : (by : ℕ) (crew : Crew) (ks : List ℕ) (ok : Tree) (bad : List ℕ → Tree) (short : Bool) → is_fit short ok ≡ true → ((forked : List ℕ) → is_fit short (bad forked) ≡ true) → is_fit short (starts by crew ks ok bad) ≡ true
+starts_fit by crew ks ok bad short h e = forks_fit by crew ks [] _ _ short (λ forked. awaits_fit by crew.generation ks ok (bad forked) short h (e forked)) e
 
-pub change_fit : (by : ℕ) (g : Generation) (ready : List ℕ) (rounds : ℕ) (wanted fresh surplus : List ℕ) → is_fit false (change_tree by g ready rounds wanted fresh surplus) ≡ true
-change_fit by g ready rounds wanted fresh surplus =
-    starts_fit by g fresh _ _ false (quits_fit by g surplus _ false (settle_fit by g wanted Target rounds false)) (λ forked. quits_fit by g forked _ false (settle_fit by g ready Old rounds false))
+pub change_fit : (by : ℕ) (crew : Crew) (ready : List ℕ) (rounds : ℕ) (wanted fresh surplus : List ℕ) → is_fit false (change_tree by crew ready rounds wanted fresh surplus) ≡ true
+change_fit by crew ready rounds wanted fresh surplus =
+    starts_fit by crew fresh _ _ false (quits_fit by crew.generation surplus _ false (settle_fit by crew wanted Target rounds false)) (λ forked. quits_fit by crew.generation forked _ false (settle_fit by crew ready Old rounds false))
 
-pub repair_fit : (by : ℕ) (g : Generation) (rounds : ℕ) (wanted late fresh : List ℕ) → is_fit false (repair_tree by g rounds wanted late fresh) ≡ true
-repair_fit by g rounds wanted late fresh = kills_fit by g late _ false (starts_any_fit by g fresh _ false (settle_fit by g wanted Target rounds false))
+pub repair_fit : (by : ℕ) (crew : Crew) (rounds : ℕ) (wanted late fresh : List ℕ) → is_fit false (repair_tree by crew rounds wanted late fresh) ≡ true
+repair_fit by crew rounds wanted late fresh = kills_fit by crew.generation late _ false (starts_any_fit by crew fresh _ false (settle_fit by crew wanted Target rounds false))
 
-pub reopening_fit : (by : ℕ) (g : Generation) (told ready : List ℕ) (rounds : ℕ) → is_fit false (usr1s by g told (settle by g ready Target rounds)) ≡ true
-reopening_fit by g told ready rounds = usr1s_fit by g told _ false (settle_fit by g ready Target rounds false)
+pub reopening_fit : (by : ℕ) (crew : Crew) (told ready : List ℕ) (rounds : ℕ) → is_fit false (usr1s by crew.generation told (settle by crew ready Target rounds)) ≡ true
+reopening_fit by crew told ready rounds = usr1s_fit by crew.generation told _ false (settle_fit by crew ready Target rounds false)
 
 ---- A stop
 
@@ -43,16 +44,16 @@ stop_fit by g ready path note false = quits_fit by g (reverse ready) _ false (aw
 census_fit : (by : ℕ) (g : Generation) (set : List ℕ) (full short : Tree) → is_fit false full ≡ true → is_fit true short ≡ true → is_fit false (census by g set (census_edges full short)) ≡ true
 census_fit by g set full short h e = rw (h, e) refl
 
-back_fit : (by : ℕ) (g new : Generation) (ready : List ℕ) (rounds : ℕ) (opened : List Address) (forked : List ℕ) (short : Bool) → is_fit short (back_tree by g new ready rounds opened forked) ≡ true
-back_fit by g new ready rounds opened forked short = quits_fit by new forked _ short (closes_fit by opened _ short (settle_fit by g ready Old rounds short))
+back_fit : (by : ℕ) (old new : Crew) (ready : List ℕ) (rounds : ℕ) (opened : List Address) (forked : List ℕ) (short : Bool) → is_fit short (back_tree by old new ready rounds opened forked) ≡ true
+back_fit by old new ready rounds opened forked short = quits_fit by new.generation forked _ short (closes_fit by opened _ short (settle_fit by old ready Old rounds short))
 
-on_fit : (by : ℕ) (g new : Generation) (leaving : List ℕ) (rounds : ℕ) (dropped : List Address) (wanted : List ℕ) → is_fit false (on_tree by g new leaving rounds dropped wanted) ≡ true
-on_fit by g new leaving rounds dropped wanted = quits_fit by g (reverse leaving) _ false (closes_fit by dropped _ false (settle_fit by new wanted Target rounds false))
+on_fit : (by : ℕ) (old new : Crew) (leaving : List ℕ) (rounds : ℕ) (dropped : List Address) (wanted : List ℕ) → is_fit false (on_tree by old new leaving rounds dropped wanted) ≡ true
+on_fit by old new leaving rounds dropped wanted = quits_fit by old.generation (reverse leaving) _ false (closes_fit by dropped _ false (settle_fit by new wanted Target rounds false))
 
-pub renewal_fit : (by : ℕ) (g new : Generation) (ready leaving : List ℕ) (rounds : ℕ) (added dropped : List Address) (wanted fresh : List ℕ) → is_fit false (renewal_tree by g new ready leaving rounds added dropped wanted fresh) ≡ true
-renewal_fit by g new ready leaving rounds added dropped wanted fresh =
+pub renewal_fit : (by : ℕ) (old new : Crew) (ready leaving : List ℕ) (rounds : ℕ) (added dropped : List Address) (wanted fresh : List ℕ) → is_fit false (renewal_tree by old new ready leaving rounds added dropped wanted fresh) ≡ true
+renewal_fit by old new ready leaving rounds added dropped wanted fresh =
     opens_fit by added [] _ _ false
-    (λ opened. starts_fit by new fresh _ (back_tree by g new ready rounds opened) false
-    (census_fit by new wanted (on_tree by g new leaving rounds dropped wanted) (back_tree by g new ready rounds opened (reverse fresh)) (on_fit by g new leaving rounds dropped wanted) (back_fit by g new ready rounds opened (reverse fresh) true))
-    (λ forked. back_fit by g new ready rounds opened forked false))
-    (λ opened. closes_fit by opened _ false (settle_fit by g ready Old rounds false))
+    (λ opened. starts_fit by new fresh _ (back_tree by old new ready rounds opened) false
+    (census_fit by new.generation wanted (on_tree by old new leaving rounds dropped wanted) (back_tree by old new ready rounds opened (reverse fresh)) (on_fit by old new leaving rounds dropped wanted) (back_fit by old new ready rounds opened (reverse fresh) true))
+    (λ forked. back_fit by old new ready rounds opened forked false))
+    (λ opened. closes_fit by opened _ false (settle_fit by old ready Old rounds false))

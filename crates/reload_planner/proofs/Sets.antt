@@ -4,7 +4,7 @@ use Rattle.std.proofs.lemmas.Bool.{lt-ltb, le-ltb, eq-eqb, ne_eqb, cases_order, 
 use Rattle.std.proofs.lemmas.List.Folds.{list_any-append}
 use Rattle.std.specs.List.{AllByRecursion}
 use Rattle.listener_set.specs.Numbers.{numbers_below, is_in, lacks, RisesFrom, AreBelow, AreNumbers}
-use Rattle.listener_set.specs.declared.generation.Generation.{Generation}
+use Rattle.definitions.specs.Crew.{Crew}
 use Rattle.definitions.specs.Plans.{workers_tree, mend_tree}
 use Rattle.reload_planner.specs.Changes.{change_tree, repair_tree}
 
@@ -87,8 +87,8 @@ lacks_below : (n : ℕ) (ks : List ℕ) → lacks ks (numbers_below n) ≡ filte
 lacks_below n ks = filter_same (λ k. not (is_in (numbers_below n) k)) (λ k. not (nat_lt k n)) ks (λ k _. ap not (below_is n k))
 
 -- the change that brings n workers
-pub change_is : (by : ℕ) (g : Generation) (ready : List ℕ) (rounds n : ℕ) (all fresh surplus : List ℕ) → all ≡ numbers_below n → fresh ≡ lacks (numbers_below n) ready → surplus ≡ lacks ready (numbers_below n) → change_tree by g ready rounds all fresh (reverse surplus) ≡ workers_tree by g ready rounds n
-change_is by g ready rounds n all fresh surplus a f s = rw (a, f, s, lacks_below n ready) refl
+pub change_is : (by : ℕ) (crew : Crew) (ready : List ℕ) (rounds n : ℕ) (all fresh surplus : List ℕ) → all ≡ numbers_below n → fresh ≡ lacks (numbers_below n) ready → surplus ≡ lacks ready (numbers_below n) → change_tree by crew ready rounds all fresh (reverse surplus) ≡ workers_tree by crew ready rounds n
+change_is by crew ready rounds n all fresh surplus a f s = rw (a, f, s, lacks_below n ready) refl
 
 ---- A mending
 
@@ -112,9 +112,9 @@ lost_in n ready overdue =
     apart false b = refl
 
 -- the repair that mends
-pub repair_is : (by : ℕ) (g : Generation) (ready : List ℕ) (rounds : ℕ) (overdue : List ℕ) (n : ℕ) (all late fresh : List ℕ) → all ≡ numbers_below n → late ≡ lacks overdue (lacks overdue ready) → fresh ≡ lacks (numbers_below n) (lacks ready overdue)
-    → repair_tree by g rounds all late fresh ≡ mend_tree by g ready rounds overdue n
-repair_is by g ready rounds overdue n all late fresh a l f = rw (a, l, f, kept_in ready overdue, lost_in n ready overdue) refl
+pub repair_is : (by : ℕ) (crew : Crew) (ready : List ℕ) (rounds : ℕ) (overdue : List ℕ) (n : ℕ) (all late fresh : List ℕ) → all ≡ numbers_below n → late ≡ lacks overdue (lacks overdue ready) → fresh ≡ lacks (numbers_below n) (lacks ready overdue)
+    → repair_tree by crew rounds all late fresh ≡ mend_tree by crew ready rounds overdue n
+repair_is by crew ready rounds overdue n all late fresh a l f = rw (a, l, f, kept_in ready overdue, lost_in n ready overdue) refl
 
 -- there are no more of them than wanted numbers
 pub late_few : (n : ℕ) (ready overdue late : List ℕ) → AllByRecursion (λ k. k < n) ready → AreNumbers 1024 late → late ≡ lacks overdue (lacks overdue ready) → length late ≤ n

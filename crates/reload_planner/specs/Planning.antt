@@ -3,14 +3,14 @@ use Rattle.std.specs.Prelude.{ℕ, ◌+◌, ◌*◌, Bool, false, length, is_som
 use Rattle.definitions.specs.Record.{Record}
 use Rattle.vocabulary.specs.declared.targets.Target.{Target}
 use Rattle.vocabulary.specs.declared.targets.Target.TheVariants.{Workers, Mend, Reopen, Reload, Upgrade, Stop}
-use Rattle.definitions.specs.Target.{count_wanted, addresses_wanted}
+use Rattle.definitions.specs.Target.{numbers_wanted, addresses_wanted}
 use Rattle.definitions.specs.After.{next_image}
 
 -- how many steps a plan has at most, by the workers that are ready and those that are wanted, the addresses before and after,
 -- and the rounds of a settle
 abbrev pub most_steps : Record → Target → ℕ
 most_steps r t =
-    6 * (length r.ready + count_wanted r t) + 3 * (length r.listeners + length (addresses_wanted r t)) + 12 * r.retries + 40
+    6 * (length r.ready + length (numbers_wanted r t)) + 3 * (length r.listeners + length (addresses_wanted r t)) + 12 * r.retries + 40
 
 -- an upgrade that has a generation: it is planned apart
 abbrev pub is_apart : Record → Target → Bool

@@ -5,7 +5,7 @@ ghost use Rattle.definitions.specs.Plans.{mend_tree};
 ghost use Rattle.rollback_plan.specs.declared.draft.DraftRefusal.TheVariants.{TooLarge};
 ghost use Rattle.rollback_plan.specs.declared.draft.TheConstants.{MOST_STEPS};
 ghost use Rattle.rollback_plan.specs.Drafts.{trees_of, IsMade};
-ghost use Rattle.rollback_plan.specs.Plans.{tree_of, note_of, text_of, trees_in};
+ghost use Rattle.rollback_plan.specs.Plans.{tree_of, note_of, sides_told, text_of, trees_in};
 ghost use Rattle.reload_planner.specs.Changes.{repair_tree};
 
 use crate::{PlanRefusal, Scene};
@@ -24,14 +24,14 @@ fn add_mending(
     kills: &[u32],
     starts: &[u32],
 ) -> Result<Place, DraftRefusal>
-    ensures made { IfOk result (λ place. IsMade draft.new place (repair_tree scene.now.by scene.now.generation scene.now.rounds wanted.now kills.now starts.now)) }
+    ensures made { IfOk result (λ place. IsMade draft.new place (repair_tree scene.now.by scene.now.crew scene.now.rounds wanted.now kills.now starts.now)) }
     ensures count { OnOk result (length (trees_of draft.new) ≡ length (trees_of draft.old) + ((1 + 4 * scene.now.rounds) + 3 * length starts.now + length kills.now)) }
     ensures too_large { IsErrOf result TooLarge → MOST_STEPS < length (trees_of draft.old) + ((1 + 4 * scene.now.rounds) + 3 * length starts.now + length kills.now) }
 {
-    let (by, generation) = (scene.by, scene.generation);
-    let settled = draft.settle(by, generation, wanted, Side::Target, scene.rounds)?;
-    let starting = add_starts_any(draft, by, generation, starts, settled)?;
-    let overdue = Batch::Workers(Asked::Kill, generation, kills);
+    let (by, crew) = (scene.by, &scene.crew);
+    let settled = draft.settle(by, crew, wanted, Side::Target, scene.rounds)?;
+    let starting = add_starts_any(draft, by, crew, starts, settled)?;
+    let overdue = Batch::Workers(Asked::Kill, crew.generation, kills);
     add_each(draft, by, &overdue, starting)
 }
 
@@ -48,8 +48,9 @@ pub fn plan_mend(
     requires wanted { wanted ≤ WORKER_LIMIT }
     requires ready { AllByRecursion (λ k. k < wanted) scene.now.ready }
     requires rounds { scene.now.rounds ≤ 8 }
-    ensures tree { IfOk result (λ plan. tree_of plan ≡ mend_tree scene.now.by scene.now.generation scene.now.ready scene.now.rounds overdue.now wanted) }
+    ensures tree { IfOk result (λ plan. tree_of plan ≡ mend_tree scene.now.by scene.now.crew scene.now.ready scene.now.rounds overdue.now wanted) }
     ensures note { IfOk result (λ plan. note_of plan ≡ note) }
+    ensures sides { IfOk result (λ plan. sides_told plan ≡ scene.now.sides) }
     ensures text { IfOk result (λ plan. text_of plan ≡ []) }
     ensures few { IfOk result (λ plan. length (trees_in plan) ≤ 4 * wanted + (1 + 4 * scene.now.rounds)) }
     ensures memory { IsOkUnless result PlanRefusal.Memory }
@@ -59,5 +60,5 @@ pub fn plan_mend(
     let starts = listed(alloc, &all.minus(&scene.ready.minus(overdue)))?;
     let mut draft = Draft::new(alloc);
     let first = add_mending(&mut draft, scene, &all, &kills, &starts)?;
-    Ok(draft.finish(first, note, Vec::new(alloc))?)
+    Ok(draft.finish(first, note, &scene.sides, Vec::new(alloc))?)
 }

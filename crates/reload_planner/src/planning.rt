@@ -1,9 +1,9 @@
 //! The plan of a target.
 ghost use Rattle.std.specs.Prelude.{◌≡◌, ◌≤◌, ◌↔◌, [], Some, length, IfOk, IsErrOf, IsTrue};
-ghost use Rattle.definitions.specs.Target.{IsTarget};
+ghost use Rattle.definitions.specs.Target.{IsTarget, sides_of};
 ghost use Rattle.definitions.specs.After.{lacks_generation};
 ghost use Rattle.definitions.specs.Plans.{planned};
-ghost use Rattle.rollback_plan.specs.Plans.{tree_of, note_of, text_of, trees_in};
+ghost use Rattle.rollback_plan.specs.Plans.{tree_of, note_of, sides_told, text_of, trees_in};
 ghost use Rattle.reload_planner.specs.Planning.{most_steps, is_apart};
 
 use crate::{PlanRefusal, Scene, plan_mend, plan_reload, plan_reopen, plan_stop, plan_workers};
@@ -23,25 +23,29 @@ pub fn plan(alloc: Global, state: &Record, target: &Target) -> Result<Plan, Plan
     requires { IsTarget target.now }
     ensures tree { IfOk result (λ plan. planned state.now target.now ≡ Some (tree_of plan)) }
     ensures note { IfOk result (λ plan. note_of plan ≡ state.now.note) }
+    ensures sides { IfOk result (λ plan. sides_told plan ≡ sides_of state.now target.now) }
     ensures text { IfOk result (λ plan. text_of plan ≡ []) }
     ensures few { IfOk result (λ plan. length (trees_in plan) ≤ most_steps state.now target.now) }
     ensures unplanned { IsErrOf result PlanRefusal.Unplanned ↔ IsTrue (is_apart state.now target.now) }
     ensures numbered { IsErrOf result PlanRefusal.NoGeneration ↔ IsTrue (lacks_generation state.now target.now) }
+    ensures grouped { IsErrOf result PlanRefusal.Grouped → ⊥ }
     ensures not_large { IsErrOf result PlanRefusal.TooLarge → ⊥ }
 {
     let (note, wanted) = (state.note, state.wanted);
     let scene = Scene {
         by: Actor(state.generation.image),
-        generation: state.generation,
+        crew: state.crew(),
         ready: state.ready,
         rounds: state.retries,
+        sides: state.sides(target),
     };
     match target {
         Target::Workers(wanted) => plan_workers(alloc, &scene, *wanted, note),
         Target::Mend(overdue) => plan_mend(alloc, &scene, overdue, wanted, note),
         Target::Reopen => plan_reopen(alloc, &scene, note),
         Target::Reload(settings) => {
-            plan_reload(alloc, &scene, &state.listeners.addresses(), settings, note)
+            let (posts, old) = (state.posts_wanted(target), state.listeners.addresses());
+            plan_reload(alloc, &scene, &posts, &old, settings, note)
         }
         Target::Upgrade(_) => match next_image(state.generation) {
             None => Err(PlanRefusal::NoGeneration),

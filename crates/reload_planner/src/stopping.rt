@@ -6,7 +6,7 @@ ghost use Rattle.definitions.specs.Plans.{stop_tree, stopped, removes};
 ghost use Rattle.rollback_plan.specs.declared.draft.DraftRefusal.TheVariants.{TooLarge};
 ghost use Rattle.rollback_plan.specs.declared.draft.TheConstants.{MOST_STEPS};
 ghost use Rattle.rollback_plan.specs.Drafts.{trees_of, tree_at, IsMade, Grows, GrowsWithin};
-ghost use Rattle.rollback_plan.specs.Plans.{tree_of, note_of, text_of, trees_in};
+ghost use Rattle.rollback_plan.specs.Plans.{tree_of, note_of, sides_told, text_of, trees_in};
 ghost use Rattle.reload_planner.specs.Changes.{ends_tree};
 
 use crate::{PlanRefusal, Scene};
@@ -76,11 +76,11 @@ fn add_ends(
     rest: Place,
 ) -> Result<Place, DraftRefusal>
     requires { rest.0 < length (trees_of draft.old) }
-    ensures made { IfOk result (λ place. IsMade draft.new place (ends_tree scene.now.by scene.now.generation ready.now quick (tree_at draft.old rest))) }
+    ensures made { IfOk result (λ place. IsMade draft.new place (ends_tree scene.now.by scene.now.crew.generation ready.now quick (tree_at draft.old rest))) }
     ensures count { OnOk result (length (trees_of draft.new) ≤ length (trees_of draft.old) + 3 * length ready.now) }
     ensures too_large { IsErrOf result TooLarge → MOST_STEPS < length (trees_of draft.old) + 3 * length ready.now }
 {
-    let (by, generation) = (scene.by, scene.generation);
+    let (by, generation) = (scene.by, scene.crew.generation);
     if quick {
         let kills = Batch::Workers(Asked::Kill, generation, ready);
         return add_each(draft, by, &kills, rest);
@@ -101,7 +101,7 @@ fn add_stop(
     quick: bool,
 ) -> Result<Place, DraftRefusal>
     requires room { HasSuffixRoom path }
-    ensures made { IfOk result (λ place. IsMade draft.new place (stop_tree scene.now.by scene.now.generation ready.now path note quick)) }
+    ensures made { IfOk result (λ place. IsMade draft.new place (stop_tree scene.now.by scene.now.crew.generation ready.now path note quick)) }
     ensures count { OnOk result (length (trees_of draft.new) ≤ length (trees_of draft.old) + 3 * length ready.now + 3) }
     ensures too_large { IsErrOf result TooLarge → MOST_STEPS < length (trees_of draft.old) + 3 * length ready.now + 3 }
 {
@@ -121,8 +121,9 @@ pub fn plan_stop(
     quick: bool,
 ) -> Result<Plan, PlanRefusal>
     requires room { HasSuffixRoom path }
-    ensures tree { IfOk result (λ plan. tree_of plan ≡ stop_tree scene.now.by scene.now.generation scene.now.ready path note quick) }
+    ensures tree { IfOk result (λ plan. tree_of plan ≡ stop_tree scene.now.by scene.now.crew.generation scene.now.ready path note quick) }
     ensures note { IfOk result (λ plan. note_of plan ≡ note) }
+    ensures sides { IfOk result (λ plan. sides_told plan ≡ scene.now.sides) }
     ensures text { IfOk result (λ plan. text_of plan ≡ []) }
     ensures few { IfOk result (λ plan. length (trees_in plan) ≤ 3 * length scene.now.ready + 3) }
     ensures memory { IsOkUnless result PlanRefusal.Memory }
@@ -130,5 +131,5 @@ pub fn plan_stop(
     let ready = listed(alloc, &scene.ready)?;
     let mut draft = Draft::new(alloc);
     let first = add_stop(&mut draft, scene, &ready, path, note, quick)?;
-    Ok(draft.finish(first, note, Vec::new(alloc))?)
+    Ok(draft.finish(first, note, &scene.sides, Vec::new(alloc))?)
 }

@@ -4,7 +4,7 @@ ghost use Rattle.definitions.specs.Plans.{workers_tree};
 ghost use Rattle.rollback_plan.specs.declared.draft.DraftRefusal.TheVariants.{TooLarge};
 ghost use Rattle.rollback_plan.specs.declared.draft.TheConstants.{MOST_STEPS};
 ghost use Rattle.rollback_plan.specs.Drafts.{trees_of, IsMade};
-ghost use Rattle.rollback_plan.specs.Plans.{tree_of, note_of, text_of, trees_in};
+ghost use Rattle.rollback_plan.specs.Plans.{tree_of, note_of, sides_told, text_of, trees_in};
 ghost use Rattle.reload_planner.specs.Changes.{change_tree};
 
 use crate::{PlanRefusal, Scene};
@@ -22,21 +22,21 @@ fn add_workers(
     starts: &[u32],
     quits: &[u32],
 ) -> Result<Place, DraftRefusal>
-    ensures made { IfOk result (λ place. IsMade draft.new place (change_tree scene.now.by scene.now.generation scene.now.ready scene.now.rounds wanted.now starts.now (reverse quits.now))) }
+    ensures made { IfOk result (λ place. IsMade draft.new place (change_tree scene.now.by scene.now.crew scene.now.ready scene.now.rounds wanted.now starts.now (reverse quits.now))) }
     ensures count { OnOk result (length (trees_of draft.new) ≡ length (trees_of draft.old) + (2 * (1 + 4 * scene.now.rounds) + 4 * length starts.now + length quits.now)) }
     ensures too_large { IsErrOf result TooLarge → MOST_STEPS < length (trees_of draft.old) + (2 * (1 + 4 * scene.now.rounds) + 4 * length starts.now + length quits.now) }
 {
-    let (by, generation) = (scene.by, scene.generation);
-    let settled = draft.settle(by, generation, wanted, Side::Target, scene.rounds)?;
-    let surplus = Batch::Workers(Asked::Quit, generation, quits);
+    let (by, crew) = (scene.by, &scene.crew);
+    let settled = draft.settle(by, crew, wanted, Side::Target, scene.rounds)?;
+    let surplus = Batch::Workers(Asked::Quit, crew.generation, quits);
     let quitting = add_each(draft, by, &surplus, settled)?;
     let undone = Undone {
-        generation,
+        generation: crew.generation,
         forked: starts,
         opened: &[],
     };
-    let ways_back = draft.back(by, &undone, generation, &scene.ready, scene.rounds)?;
-    add_starts(draft, by, generation, starts, quitting, &ways_back.forked)
+    let ways_back = draft.back(by, &undone, crew, &scene.ready, scene.rounds)?;
+    add_starts(draft, by, crew, starts, quitting, &ways_back.forked)
 }
 
 /// The plan for so many workers: it starts those below that number that are not ready, then quits
@@ -50,8 +50,9 @@ pub fn plan_workers(
 ) -> Result<Plan, PlanRefusal>
     requires wanted { wanted ≤ WORKER_LIMIT }
     requires rounds { scene.now.rounds ≤ 8 }
-    ensures tree { IfOk result (λ plan. tree_of plan ≡ workers_tree scene.now.by scene.now.generation scene.now.ready scene.now.rounds wanted) }
+    ensures tree { IfOk result (λ plan. tree_of plan ≡ workers_tree scene.now.by scene.now.crew scene.now.ready scene.now.rounds wanted) }
     ensures note { IfOk result (λ plan. note_of plan ≡ note) }
+    ensures sides { IfOk result (λ plan. sides_told plan ≡ scene.now.sides) }
     ensures text { IfOk result (λ plan. text_of plan ≡ []) }
     ensures few { IfOk result (λ plan. length (trees_in plan) ≤ length scene.now.ready + 4 * wanted + 2 * (1 + 4 * scene.now.rounds)) }
     ensures memory { IsOkUnless result PlanRefusal.Memory }
@@ -61,5 +62,5 @@ pub fn plan_workers(
     let quits = listed(alloc, &scene.ready.minus(&all))?;
     let mut draft = Draft::new(alloc);
     let first = add_workers(&mut draft, scene, &all, &starts, &quits)?;
-    Ok(draft.finish(first, note, Vec::new(alloc))?)
+    Ok(draft.finish(first, note, &scene.sides, Vec::new(alloc))?)
 }

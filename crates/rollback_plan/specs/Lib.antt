@@ -1,4 +1,5 @@
 pub mod Batches
+pub mod WorkerCalls
 pub mod Compact
 pub mod Steps
 pub mod Drafts

@@ -2,6 +2,7 @@
 use Rattle.std.specs.Prelude.{ℕ, List}
 use Rattle.definitions.specs.Tree.{Tree}
 use Rattle.vocabulary.specs.declared.plans.PidNote.{PidNote}
+use Rattle.vocabulary.specs.declared.plans.Sides.{Sides}
 use Rattle.rollback_plan.specs.declared.plan.Plan.{Plan}
 use Rattle.rollback_plan.specs.declared.step.Step.{Step}
 use Rattle.rollback_plan.specs.Steps.{first_tree, trees_from}
@@ -17,6 +18,10 @@ tree_of p = first_tree p.steps.items
 -- the note of the record that it was planned for
 abbrev pub note_of : Plan → PidNote
 note_of p = p.note
+
+-- the groups of both sides
+abbrev pub sides_told : Plan → Sides
+sides_told p = p.sides
 
 -- the text for the new master
 abbrev pub text_of : Plan → List ℕ

@@ -1,14 +1,15 @@
 //! Calls of one kind.
 ghost use Rattle.std.specs.Prelude.{◌≡◌, ◌<◌, Some, length, slice_get};
+ghost use Rattle.definitions.specs.Crew.{fork_of};
 ghost use Rattle.rollback_plan.specs.Batches.{asked_call, calls_of, size_of};
 
+use crews::Crew;
 use listener_set::{Address, Generation};
 use vocabulary::Call;
 
-/// What is asked of a worker. One that is forked gets all descriptors of its master.
+/// What is asked of a worker that was forked.
 #[derive(Clone, Copy, Debug)]
 pub enum Asked {
-    Fork,
     AwaitReady,
     Quit,
     Kill,
@@ -22,7 +23,6 @@ impl Asked {
         ensures { result ≡ asked_call self generation number }
     {
         match self {
-            Asked::Fork => Call::Fork(generation, number, None),
             Asked::AwaitReady => Call::AwaitReady(generation, number),
             Asked::Quit => Call::Quit(generation, number),
             Asked::Kill => Call::Kill(generation, number),
@@ -32,9 +32,17 @@ impl Asked {
     }
 }
 
+/// The call that starts a worker of a crew: with the descriptors of its group, where there are several.
+pub(crate) fn fork_of(crew: &Crew, number: u32) -> Call
+    ensures { result ≡ fork_of crew.now number }
+{
+    Call::Fork(crew.generation, number, crew.posts.given(number))
+}
+
 /// Calls of one kind, one for each of a list.
 #[derive(Clone, Copy)]
 pub enum Batch<'a> {
+    Forks(&'a Crew, &'a [u32]),
     Workers(Asked, Generation, &'a [u32]),
     Opens(&'a [Address]),
     Closes(&'a [Address]),
@@ -46,7 +54,7 @@ impl Batch<'_> {
         ensures { result ≡ size_of self.now }
     {
         match self {
-            Batch::Workers(_, _, numbers) => numbers.len(),
+            Batch::Forks(_, numbers) | Batch::Workers(_, _, numbers) => numbers.len(),
             Batch::Opens(addresses) | Batch::Closes(addresses) => addresses.len(),
         }
     }
@@ -57,6 +65,7 @@ impl Batch<'_> {
         ensures { slice_get (calls_of self.now) place ≡ Some result }
     {
         match self {
+            Batch::Forks(crew, numbers) => fork_of(crew, at(numbers, place)),
             Batch::Workers(asked, generation, numbers) => asked.call(
                 *generation,
                 at(numbers, place),

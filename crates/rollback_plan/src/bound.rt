@@ -1,11 +1,12 @@
 //! The last census, which names the workers of a settle.
-ghost use Rattle.std.specs.Prelude.{◌≡◌, [], length, IsTrue};
+ghost use Rattle.std.specs.Prelude.{◌≡◌, [], IsTrue};
 ghost use Rattle.definitions.specs.Tree.{call_of};
 ghost use Rattle.definitions.specs.Tree as tree;
 ghost use Rattle.definitions.specs.Path.{ready_after, lacking_after};
 ghost use Rattle.rollback_plan.specs.Bounds.{can_name};
 
 use crate::Step;
+use crate::batch::fork_of;
 use listener_set::Numbers;
 use vocabulary::{Answer, Call, Order};
 
@@ -47,7 +48,7 @@ impl Bound {
     {
         match step.order() {
             Order::Make(call) => call,
-            Order::ForkLacking(generation) => Call::Fork(generation, self.lowest(), None),
+            Order::ForkLacking(crew) => fork_of(&crew, self.lowest()),
             Order::AwaitLacking(generation) => Call::AwaitReady(generation, self.lowest()),
             Order::KillLacking(generation) => Call::Kill(generation, self.lowest()),
         }
@@ -67,10 +68,10 @@ impl Bound {
         self.ready
     }
 
-    /// How many numbers the last census lacked.
-    pub fn short(&self) -> u32
-        ensures { result ≡ length self.now.lacking }
+    /// The numbers that the last census lacked.
+    pub fn lacking(&self) -> &Numbers
+        ensures { result.now ≡ self.now.lacking }
     {
-        self.lacking.len() as u32
+        &self.lacking
     }
 }

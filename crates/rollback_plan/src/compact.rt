@@ -1,16 +1,49 @@
-//! What a step asks for, in little room: an order of one worker stands in the step, and any other is
-//! boxed, since it may hold two paths.
+//! What a step asks for, in little room: an order of one worker stands in the step, a fork with descriptors is boxed, and
+//! so is any other order, which may hold two paths or a crew.
 ghost use Rattle.std.specs.Prelude.{◌≡◌, IfOk, IfSome};
+ghost use Rattle.rollback_plan.specs.Compact.{fork_order};
 
 use crate::WorkerCall;
-use listener_set::Numbers;
+use listener_set::{DescriptorSet, Generation, Numbers};
 use std::alloc::{AllocError, Global};
 use std::marker::Model;
-use vocabulary::Order;
+use vocabulary::{Call, Order};
+
+/// A fork with the descriptors that the worker gets, without the room that a call with two paths needs.
+#[derive(Clone, Copy, Debug)]
+struct GroupFork {
+    generation: Generation,
+    number: u32,
+    descriptors: DescriptorSet,
+}
+
+impl GroupFork {
+    /// The order as a fork with descriptors, if it is one.
+    fn of(order: &Order) -> Option<GroupFork>
+        ensures { IfSome result (λ fork. fork_order fork ≡ order.now) }
+    {
+        match order {
+            Order::Make(Call::Fork(generation, number, Some(descriptors))) => Some(GroupFork {
+                generation: *generation,
+                number: *number,
+                descriptors: *descriptors,
+            }),
+            _ => None,
+        }
+    }
+
+    /// The order itself.
+    fn order(&self) -> Order
+        ensures { result ≡ fork_order self.now }
+    {
+        Order::Make(Call::Fork(self.generation, self.number, Some(self.descriptors)))
+    }
+}
 
 #[derive(Debug, Drop)]
 enum Kept {
     Worker(WorkerCall),
+    Fork(Box<GroupFork>),
     Boxed(Box<Order>),
 }
 
@@ -40,13 +73,18 @@ fn worker_call(order: &Order) -> Option<WorkerCall>
 }
 
 impl CompactOrder {
-    /// The order, kept. Only one that names no worker takes memory.
+    /// The order, kept. Only one that names no worker, or descriptors beside it, takes memory.
     pub(crate) fn new(alloc: Global, order: &Order) -> Result<CompactOrder, AllocError>
         ensures { IfOk result (λ kept. kept ≡ order.now) }
     {
         if let Some(call) = worker_call(order) {
             return Ok(CompactOrder {
                 kept: Kept::Worker(call),
+            });
+        }
+        if let Some(fork) = GroupFork::of(order) {
+            return Ok(CompactOrder {
+                kept: Kept::Fork(Box::new(alloc, fork)?),
             });
         }
         Ok(CompactOrder {
@@ -60,6 +98,7 @@ impl CompactOrder {
     {
         let kept = match &self.kept {
             Kept::Worker(call) => Kept::Worker(call.copy()),
+            Kept::Fork(fork) => Kept::Fork(Box::new(alloc, **fork)?),
             Kept::Boxed(order) => Kept::Boxed(Box::new(alloc, **order)?),
         };
         Ok(CompactOrder { kept })
@@ -71,6 +110,7 @@ impl CompactOrder {
     {
         match &self.kept {
             Kept::Worker(call) => Order::Make(call.call()),
+            Kept::Fork(fork) => fork.order(),
             Kept::Boxed(order) => **order,
         }
     }

@@ -12,20 +12,27 @@ use crate::walking::walk;
 use crate::{Draft, Edge, Next, Place, Plan, Step};
 use std::alloc::{AllocError, Global};
 use std::mem;
-use vocabulary::PidNote;
+use vocabulary::{PidNote, Sides};
 
 impl Draft {
     ghost use Rattle.rollback_plan.specs.Drafts.{steps_in, trees_of, tree_at};
-    ghost use Rattle.rollback_plan.specs.Plans.{steps_of, tree_of, note_of, text_of, trees_in};
+    ghost use Rattle.rollback_plan.specs.Plans.{steps_of, tree_of, note_of, sides_told, text_of, trees_in};
 
     /// The plan that begins at a place. Steps that the first one doesn't lead to are not
     /// in it; the others are numbered from 1 by the greatest number of steps on a path to them, equal ones in
     /// the order in which a walk, first edge first, first meets them.
-    pub fn finish(self, first: Place, note: PidNote, text: Vec<u8>) -> Result<Plan, AllocError>
+    pub fn finish(
+        self,
+        first: Place,
+        note: PidNote,
+        sides: &Sides,
+        text: Vec<u8>,
+    ) -> Result<Plan, AllocError>
         requires made { first.0 < length (trees_of self) }
         requires fit { IsTrue (is_fit false (tree_at self first)) }
         ensures tree { IfOk result (λ plan. tree_of plan ≡ tree_at self first) }
         ensures note { IfOk result (λ plan. note_of plan ≡ note) }
+        ensures sides { IfOk result (λ plan. sides_told plan ≡ sides.now) }
         ensures text { IfOk result (λ plan. text_of plan ≡ text.items) }
         ensures few { IfOk result (λ plan. length (trees_in plan) ≤ length (trees_of self)) }
         ensures numbered { IfOk result (λ plan. IsNumbering (steps_in self) first.0 (steps_of plan)) }
@@ -39,6 +46,7 @@ impl Draft {
             steps: plan,
             longest: heights[first.0 as usize],
             note,
+            sides: *sides,
             text,
         })
     }

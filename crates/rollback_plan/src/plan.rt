@@ -5,7 +5,7 @@ ghost use Rattle.definitions.specs.Tree.{is_fit, height};
 ghost use Rattle.rollback_plan.specs.Steps.{all_lead_on, first_tree};
 
 use crate::Step;
-use vocabulary::PidNote;
+use vocabulary::{PidNote, Sides};
 
 /// Steps whose edges lead to later ones or to ends. Contracts see the tree of the first step.
 ///
@@ -16,6 +16,7 @@ pub struct Plan {
     pub(crate) steps: Vec<Step>,
     pub(crate) longest: u32,
     pub(crate) note: PidNote,
+    pub(crate) sides: Sides,
     pub(crate) text: Vec<u8>,
     ghost begins: { 0 < vec_len steps },
     ghost leads_on: { IsTrue (all_lead_on 1 steps.items) },
@@ -24,7 +25,7 @@ pub struct Plan {
 }
 
 impl Plan {
-    ghost use Rattle.rollback_plan.specs.Plans.{tree_of, trees_in, steps_of, note_of, text_of};
+    ghost use Rattle.rollback_plan.specs.Plans.{tree_of, trees_in, steps_of, note_of, sides_told, text_of};
 
     /// The step with a number, from 1.
     pub fn get(&self, number: u32) -> Option<&Step>
@@ -60,6 +61,13 @@ impl Plan {
         ensures { result ≡ note_of self.now }
     {
         self.note
+    }
+
+    /// The groups of both sides, by which a report says what one lacks.
+    pub fn sides(&self) -> &Sides
+        ensures { result.now ≡ sides_told self.now }
+    {
+        &self.sides
     }
 
     /// The handover text for a new master; empty where there is none.

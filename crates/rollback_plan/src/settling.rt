@@ -9,6 +9,7 @@ ghost use Rattle.rollback_plan.specs.Batches.{calls_of, size_of};
 ghost use Rattle.rollback_plan.specs.Back.{told_back, quits_back, closes_back, AreMade};
 
 use crate::{Asked, Batch, Draft, DraftRefusal, Edge, Next, Place};
+use crews::Crew;
 use listener_set::{Address, Generation, Numbers};
 use vocabulary::{Actor, Call, End, Order, Reply, Side};
 
@@ -63,19 +64,19 @@ impl Draft {
     pub fn settle(
         &mut self,
         by: Actor,
-        generation: Generation,
+        crew: &Crew,
         set: &Numbers,
         side: Side,
         rounds: u32,
     ) -> Result<Place, DraftRefusal>
-        ensures made { IfOk result (λ place. IsMade self.new place (plans.settle by generation set.now side rounds)) }
+        ensures made { IfOk result (λ place. IsMade self.new place (plans.settle by crew.now set.now side rounds)) }
         ensures count { OnOk result (length (trees_of self.new) ≡ length (trees_of self.old) + (1 + 4 * rounds)) }
         ensures keeps { Keeps self.old self.new }
         ensures err { OnErr result (trees_of self.new ≡ trees_of self.old) }
         ensures too_large { IsErrOf result DraftRefusal.TooLarge → MOST_STEPS < length (trees_of self.old) + (1 + 4 * rounds) }
     {
         let before = self.len();
-        let settled = self.add_settle(by, generation, set, side, rounds);
+        let settled = self.add_settle(by, crew, set, side, rounds);
         self.unless_refused(settled, before)
     }
 
@@ -99,19 +100,19 @@ impl Draft {
     fn add_settle(
         &mut self,
         by: Actor,
-        generation: Generation,
+        crew: &Crew,
         set: &Numbers,
         side: Side,
         rounds: u32,
     ) -> Result<Place, DraftRefusal>
-        ensures made { IfOk result (λ place. IsMade self.new place (plans.settle by generation set.now side rounds)) }
+        ensures made { IfOk result (λ place. IsMade self.new place (plans.settle by crew.now set.now side rounds)) }
         ensures grows { Grows self.old self.new result (1 + 4 * rounds) }
     {
         let short = Next::Over(short_end(side));
-        let mut place = self.census(by, generation, set, side, short)?;
+        let mut place = self.census(by, crew.generation, set, side, short)?;
         for _round in 0..rounds {
-            let start = self.round(by, generation, place)?;
-            place = self.census(by, generation, set, side, Next::To(start))?;
+            let start = self.round(by, crew, place)?;
+            place = self.census(by, crew.generation, set, side, Next::To(start))?;
         }
         Ok(place)
     }
@@ -142,26 +143,21 @@ impl Draft {
 
     /// Adds the start of the lowest number that the last census lacked, before the rest. A refused
     /// call may leave some steps of it.
-    fn round(
-        &mut self,
-        by: Actor,
-        generation: Generation,
-        rest: Place,
-    ) -> Result<Place, DraftRefusal>
+    fn round(&mut self, by: Actor, crew: &Crew, rest: Place) -> Result<Place, DraftRefusal>
         requires { rest.0 < length (trees_of self.old) }
-        ensures made { IfOk result (λ place. IsMade self.new place (plans.round by generation (tree_at self.old rest))) }
+        ensures made { IfOk result (λ place. IsMade self.new place (plans.round by crew.now (tree_at self.old rest))) }
         ensures grows { Grows self.old self.new result 3 }
     {
         let none = Numbers::none();
         let kill = self.add(
             by,
-            Order::KillLacking(generation),
+            Order::KillLacking(crew.generation),
             &none,
             &[Edge::to(&[Reply::Fine], rest)],
         )?;
         let wait = self.add(
             by,
-            Order::AwaitLacking(generation),
+            Order::AwaitLacking(crew.generation),
             &none,
             &[
                 Edge::to(&[Reply::IsReady, Reply::Gone], rest),
@@ -170,7 +166,7 @@ impl Draft {
         )?;
         self.add(
             by,
-            Order::ForkLacking(generation),
+            Order::ForkLacking(*crew),
             &none,
             &[
                 Edge::to(&[Reply::Forked], wait),
@@ -186,19 +182,19 @@ impl Draft {
         &mut self,
         by: Actor,
         undone: &Undone<'_>,
-        generation: Generation,
+        crew: &Crew,
         ready: &Numbers,
         rounds: u32,
     ) -> Result<WaysBack, DraftRefusal>
-        ensures opened { IfOk result (λ ways. AreMade self.new ways.opened.items (length undone.now.opened.now) (closes_back by undone.now.opened.now (plans.settle by generation ready.now Old rounds))) }
-        ensures forked { IfOk result (λ ways. AreMade self.new ways.forked.items (length undone.now.forked.now) (quits_back by undone.now.generation undone.now.forked.now (closes_back by undone.now.opened.now (plans.settle by generation ready.now Old rounds) (length undone.now.opened.now)))) }
+        ensures opened { IfOk result (λ ways. AreMade self.new ways.opened.items (length undone.now.opened.now) (closes_back by undone.now.opened.now (plans.settle by crew.now ready.now Old rounds))) }
+        ensures forked { IfOk result (λ ways. AreMade self.new ways.forked.items (length undone.now.forked.now) (quits_back by undone.now.generation undone.now.forked.now (closes_back by undone.now.opened.now (plans.settle by crew.now ready.now Old rounds) (length undone.now.opened.now)))) }
         ensures count { OnOk result (length (trees_of self.new) ≡ length (trees_of self.old) + steps_back undone.now rounds) }
         ensures keeps { Keeps self.old self.new }
         ensures err { OnErr result (trees_of self.new ≡ trees_of self.old) }
         ensures too_large { IsErrOf result DraftRefusal.TooLarge → MOST_STEPS < length (trees_of self.old) + steps_back undone.now rounds }
     {
         let before = self.len();
-        let ways = self.add_back(by, undone, generation, ready, rounds);
+        let ways = self.add_back(by, undone, crew, ready, rounds);
         self.unless_refused(ways, before)
     }
 
@@ -207,14 +203,14 @@ impl Draft {
         &mut self,
         by: Actor,
         undone: &Undone<'_>,
-        generation: Generation,
+        crew: &Crew,
         ready: &Numbers,
         rounds: u32,
     ) -> Result<WaysBack, DraftRefusal>
-        ensures made { IfOk result (λ ways. AreWaysBack self.new ways by undone.now (plans.settle by generation ready.now Old rounds)) }
+        ensures made { IfOk result (λ ways. AreWaysBack self.new ways by undone.now (plans.settle by crew.now ready.now Old rounds)) }
         ensures grows { Grows self.old self.new result (steps_back undone.now rounds) }
     {
-        let settled = self.add_settle(by, generation, ready, Side::Old, rounds)?;
+        let settled = self.add_settle(by, crew, ready, Side::Old, rounds)?;
         let opened = self.add_ways(by, &Batch::Closes(undone.opened), settled)?;
         let closed = opened[undone.opened.len()];
         let quits = Batch::Workers(Asked::Quit, undone.generation, undone.forked);

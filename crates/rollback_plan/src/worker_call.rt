@@ -1,27 +1,46 @@
 //! Calls that name a worker, in little room.
 ghost use Rattle.std.specs.Prelude.{◌≡◌};
-ghost use Rattle.rollback_plan.specs.Compact.{call_of_worker};
+ghost use Rattle.rollback_plan.specs.WorkerCalls.{kept_call, call_of_worker};
 
 use crate::Asked;
 use listener_set::Generation;
 use std::marker::Model;
 use vocabulary::Call;
 
+/// What is asked of a worker: to start with all descriptors of its master, or something of one that was started.
+#[derive(Clone, Copy, Debug)]
+enum Asking {
+    Fork,
+    Other(Asked),
+}
+
+impl Asking {
+    /// The call that asks it.
+    fn call(self, generation: Generation, number: u32) -> Call
+        ensures { result ≡ kept_call self generation number }
+    {
+        match self {
+            Asking::Fork => Call::Fork(generation, number, None),
+            Asking::Other(asked) => asked.call(generation, number),
+        }
+    }
+}
+
 /// A call that names a worker, without the room that a call with two paths or a set needs. Contracts see the call.
 #[derive(Debug, Drop)]
 pub struct WorkerCall {
-    asked: Asked,
+    asking: Asking,
     generation: Generation,
     number: u32,
 }
 
 impl Model for WorkerCall {
     ghost use Rattle.vocabulary.specs.declared.calls.Call.{Call};
-    ghost use Rattle.rollback_plan.specs.Batches.{asked_call};
+    ghost use Rattle.rollback_plan.specs.WorkerCalls.{kept_call};
 
     ghost Value = { Call };
 
-    ghost view = { λ w. asked_call w.asked w.generation w.number };
+    ghost view = { λ w. kept_call w.asking w.generation w.number };
 }
 
 impl WorkerCall {
@@ -29,17 +48,25 @@ impl WorkerCall {
     pub fn of(call: &Call) -> Option<WorkerCall>
         ensures { result ≡ call_of_worker call.now }
     {
-        let (asked, generation, number) = match call {
-            Call::Fork(generation, number, None) => (Asked::Fork, *generation, *number),
-            Call::AwaitReady(generation, number) => (Asked::AwaitReady, *generation, *number),
-            Call::Quit(generation, number) => (Asked::Quit, *generation, *number),
-            Call::Kill(generation, number) => (Asked::Kill, *generation, *number),
-            Call::AwaitGone(generation, number) => (Asked::AwaitGone, *generation, *number),
-            Call::Usr1(generation, number) => (Asked::Usr1, *generation, *number),
+        let (asking, generation, number) = match call {
+            Call::Fork(generation, number, None) => (Asking::Fork, *generation, *number),
+            Call::AwaitReady(generation, number) => (
+                Asking::Other(Asked::AwaitReady),
+                *generation,
+                *number,
+            ),
+            Call::Quit(generation, number) => (Asking::Other(Asked::Quit), *generation, *number),
+            Call::Kill(generation, number) => (Asking::Other(Asked::Kill), *generation, *number),
+            Call::AwaitGone(generation, number) => (
+                Asking::Other(Asked::AwaitGone),
+                *generation,
+                *number,
+            ),
+            Call::Usr1(generation, number) => (Asking::Other(Asked::Usr1), *generation, *number),
             _ => return None,
         };
         Some(WorkerCall {
-            asked,
+            asking,
             generation,
             number,
         })
@@ -50,7 +77,7 @@ impl WorkerCall {
         ensures { result ≡ self.now }
     {
         WorkerCall {
-            asked: self.asked,
+            asking: self.asking,
             generation: self.generation,
             number: self.number,
         }
@@ -60,6 +87,6 @@ impl WorkerCall {
     pub fn call(&self) -> Call
         ensures { result ≡ self.now }
     {
-        self.asked.call(self.generation, self.number)
+        self.asking.call(self.generation, self.number)
     }
 }

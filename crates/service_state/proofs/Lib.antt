@@ -1,2 +1,3 @@
+pub mod Grouped
 pub mod Rules
-pub mod Uniform
+pub mod Serving

@@ -1,6 +1,7 @@
 //! What a running master knows of itself, what a target wants of it, and what it knows after a plan has ended.
 #![tactic(auto)]
 
+mod posting;
 mod record;
 mod setup;
 mod wanting;

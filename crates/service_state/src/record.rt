@@ -6,6 +6,7 @@ ghost use Rattle.definitions.specs.Record.{started};
 ghost use Rattle.definitions.specs.After.{setup_of, target_setup, old_setup, setup_after, recorded, keeps_rules, record_from, record_after};
 
 use crate::setup::{Setup, next_config, next_image};
+use crews::Posts;
 use handover_text::Listeners;
 use listener_set::{FilePath, Generation, Numbers, WORKER_LIMIT};
 use std::marker::Model;
@@ -17,6 +18,8 @@ use vocabulary::{Outcome, PidNote, Report, Settings, Side, Target};
 pub struct Record {
     /// Where it listens.
     pub listeners: Listeners,
+    /// Where the workers of each group listen.
+    pub posts: Posts,
     /// What its workers run.
     pub generation: Generation,
     /// The numbers of its ready workers.
@@ -40,16 +43,16 @@ impl Model for Record {
 
     ghost Value = { Known };
 
-    ghost view = { λ r. record { listeners = r.listeners; generation = r.generation; ready = r.ready; wanted = r.wanted; retries = r.retries; timeout = r.timeout; pid_path = r.pid_path; note = r.note; pid = r.pid } };
+    ghost view = { λ r. record { listeners = r.listeners; posts = r.posts; generation = r.generation; ready = r.ready; wanted = r.wanted; retries = r.retries; timeout = r.timeout; pid_path = r.pid_path; note = r.note; pid = r.pid } };
 
-    ghost invariant = { λ r. IsRecord (record { listeners = r.listeners; generation = r.generation; ready = r.ready; wanted = r.wanted; retries = r.retries; timeout = r.timeout; pid_path = r.pid_path; note = r.note; pid = r.pid }) };
+    ghost invariant = { λ r. IsRecord (record { listeners = r.listeners; posts = r.posts; generation = r.generation; ready = r.ready; wanted = r.wanted; retries = r.retries; timeout = r.timeout; pid_path = r.pid_path; note = r.note; pid = r.pid }) };
 
-    ghost inverse = { λ v. record { listeners = v.listeners; generation = v.generation; ready = v.ready; wanted = v.wanted; retries = v.retries; timeout = v.timeout; pid_path = v.pid_path; note = v.note; pid = v.pid } };
+    ghost inverse = { λ v. record { listeners = v.listeners; posts = v.posts; generation = v.generation; ready = v.ready; wanted = v.wanted; retries = v.retries; timeout = v.timeout; pid_path = v.pid_path; note = v.note; pid = v.pid } };
 }
 
 impl Record {
     /// The record of a master that starts with these settings: generation 1.1, the addresses from descriptor 3 on in
-    /// their order, the pid file, if there is one, in its place.
+    /// their order, of which each group has the next so many, the pid file, if there is one, in its place.
     pub fn start(settings: &Settings, wanted: u32, ready: &Numbers, pid: u32) -> Self
         requires wanted { wanted ≤ 1024 }
         requires ready { AllByRecursion (λ k. k < wanted) ready.now }
@@ -58,6 +61,7 @@ impl Record {
     {
         Record {
             listeners: Listeners::from_set(&settings.listeners),
+            posts: Posts::first(&settings.groups),
             generation: Generation {
                 image: 1,
                 config: 1,
@@ -80,6 +84,7 @@ impl Record {
     {
         Setup {
             listeners: self.listeners,
+            posts: self.posts,
             generation: self.generation,
             wanted: self.wanted,
             retries: self.retries,
@@ -99,11 +104,13 @@ impl Record {
             Target::Mend(_) | Target::Reopen => Some(self.setup()),
             Target::Reload(settings) => Setup::renewed(
                 settings,
+                self.posts_wanted(target),
                 self.listeners.reloaded(&settings.listeners),
                 next_config(self.generation),
             ),
             Target::Upgrade(settings) => Setup::renewed(
                 settings,
+                self.posts_wanted(target),
                 self.listeners.upgraded(&settings.listeners),
                 next_image(self.generation),
             ),
@@ -140,11 +147,14 @@ impl Record {
     fn recorded(&self, setup: &Setup, report: &Report, pid: u32) -> Option<Self>
         ensures { result ≡ record_from (Some setup.now) self.now.pid_path report.now pid }
     {
+        // Only a reading of the posts tells that their groups are as groups have to be.
+        let _ = setup.posts.groups();
         if !keeps_rules(setup, report, pid) {
             return None;
         }
         Some(Record {
             listeners: setup.listeners,
+            posts: setup.posts,
             generation: setup.generation,
             ready: report.ready,
             wanted: setup.wanted,

@@ -2,15 +2,17 @@
 ghost use Rattle.std.specs.Prelude.{◌≡◌};
 ghost use Rattle.definitions.specs.After.{next_number, next_config, next_image, renewed};
 
+use crews::Posts;
 use handover_text::Listeners;
 use listener_set::Generation;
 use std::marker::Model;
 use vocabulary::Settings;
 
-/// What a service stands on: who listens where, in which generation, with how many workers.
+/// What a service stands on: who listens where, with which groups, in which generation, with how many workers.
 #[derive(Clone, Copy, Debug)]
 pub(crate) struct Setup {
     pub(crate) listeners: Listeners,
+    pub(crate) posts: Posts,
     pub(crate) generation: Generation,
     pub(crate) wanted: u32,
     pub(crate) retries: u32,
@@ -23,24 +25,26 @@ impl Model for Setup {
 
     ghost Value = { Basis };
 
-    ghost view = { λ s. record { listeners = s.listeners; generation = s.generation; wanted = s.wanted; retries = s.retries; timeout = s.timeout } };
+    ghost view = { λ s. record { listeners = s.listeners; posts = s.posts; generation = s.generation; wanted = s.wanted; retries = s.retries; timeout = s.timeout } };
 
-    ghost invariant = { λ s. IsSetup (record { listeners = s.listeners; generation = s.generation; wanted = s.wanted; retries = s.retries; timeout = s.timeout }) };
+    ghost invariant = { λ s. IsSetup (record { listeners = s.listeners; posts = s.posts; generation = s.generation; wanted = s.wanted; retries = s.retries; timeout = s.timeout }) };
 
-    ghost inverse = { λ v. record { listeners = v.listeners; generation = v.generation; wanted = v.wanted; retries = v.retries; timeout = v.timeout } };
+    ghost inverse = { λ v. record { listeners = v.listeners; posts = v.posts; generation = v.generation; wanted = v.wanted; retries = v.retries; timeout = v.timeout } };
 }
 
 impl Setup {
     /// The service of new settings.
     pub(crate) fn renewed(
         settings: &Settings,
+        posts: Posts,
         listeners: Option<Listeners>,
         generation: Option<Generation>,
     ) -> Option<Self>
-        ensures { result ≡ renewed settings.now listeners generation }
+        ensures { result ≡ renewed settings.now posts listeners generation }
     {
         Some(Setup {
             listeners: listeners?,
+            posts,
             generation: generation?,
             wanted: settings.workers,
             retries: settings.retries,

@@ -1,22 +1,26 @@
 //! The service that a target wants.
-ghost use Rattle.std.specs.Prelude.{◌≡◌, false, IfOk};
-ghost use Rattle.definitions.specs.Service.{uniform, IsSame};
-ghost use Rattle.definitions.specs.Target.{want, addresses_wanted, generation_wanted, count_wanted};
+ghost use Rattle.std.specs.Prelude.{◌≡◌, false, IfOk, count_by};
+ghost use Rattle.listener_set.specs.Numbers.{numbers_below};
+ghost use Rattle.definitions.specs.Service.{IsSame};
+ghost use Rattle.definitions.specs.Crew.{served};
+ghost use Rattle.definitions.specs.Record.{layout_of};
+ghost use Rattle.definitions.specs.Target.{want, addresses_wanted, wanted_at, layout_wanted};
 ghost use Rattle.definitions.specs.After.{lacks_generation};
 ghost use Rattle.service_counts.specs.Services.{at};
-ghost use Rattle.service_state.specs.Wanted.{kept_count};
+ghost use Rattle.service_state.specs.Wanted.{kept_count, is_counted};
 
+use crate::posting::addresses_of_group;
 use crate::record::Record;
-use crate::setup::{next_config, next_image};
 use listener_set::{Address, Generation, ListenerSet};
 use service_counts::Service;
 use std::alloc::{AllocError, Global};
 use vocabulary::Target;
 
-/// The service that a target wants of a running master: so many workers of one generation at each of its addresses.
+/// The service that a target wants of a running master: at each of its addresses so many workers of one generation as the
+/// groups have that listen there.
 ///
-/// A change of the number of workers, a mend and a reopening want the record's addresses and generation: the number
-/// that is asked for, the wanted one, and as many workers as are ready. A reload wants the addresses and the number of its
+/// A change of the number of workers, a mend and a reopening want the record's addresses, groups and generation: the number
+/// that is asked for, the wanted one, and the workers that are ready. A reload wants the addresses, groups and workers of its
 /// settings in the next configuration, an upgrade in the next image too, and a stop nothing. Where nobody is wanted an
 /// address is a key without a count. No number of the target's generation may pass 4,294,967,295. The only refusal is
 /// want of memory.
@@ -25,9 +29,14 @@ pub fn want(alloc: Global, state: &Record, target: &Target) -> Result<Service, A
     ensures { IfOk result (λ s. IsSame (at s) (want state.now target.now)) }
 {
     let addresses = addresses_wanted(state, target);
-    let generation = generation_wanted(state, target);
-    let workers = count_wanted(state, target);
-    uniform(alloc, addresses.as_slice(), generation, workers)
+    let generation = state.generation_wanted(target);
+    let mut service = Service::new(alloc);
+    let all = addresses.as_slice();
+    for address in all {
+        let workers = wanted_at(state, target, address);
+        service.add(address, kept_count(generation, workers))?;
+    }
+    Ok(service)
 }
 
 fn addresses_wanted(state: &Record, target: &Target) -> ListenerSet
@@ -40,27 +49,67 @@ fn addresses_wanted(state: &Record, target: &Target) -> ListenerSet
     }
 }
 
-fn generation_wanted(state: &Record, target: &Target) -> Generation
-    requires { lacks_generation state.now target.now ≡ false }
-    ensures { result ≡ generation_wanted state.now target.now }
-{
-    let next = match target {
-        Target::Reload(_) => next_config(state.generation),
-        Target::Upgrade(_) => next_image(state.generation),
-        _ => None,
-    };
-    next.unwrap_or(state.generation)
-}
-
-fn count_wanted(state: &Record, target: &Target) -> u32
-    ensures { result ≡ count_wanted state.now target.now }
+/// How many workers a target wants at an address.
+fn wanted_at(state: &Record, target: &Target, address: &Address) -> u32
+    ensures { result ≡ wanted_at state.now target.now address.now }
 {
     match target {
-        Target::Workers(wanted) => *wanted,
-        Target::Mend(_) => state.wanted,
-        Target::Reopen => state.ready.len() as u32,
-        Target::Reload(settings) | Target::Upgrade(settings) => settings.workers,
+        Target::Workers(wanted) => served_below(state, target, *wanted, address),
+        Target::Mend(_) => served_below(state, target, state.wanted, address),
+        Target::Reopen => served_ready(state, target, address),
+        Target::Reload(settings) | Target::Upgrade(settings) => {
+            served_below(state, target, settings.workers, address)
+        }
         Target::Stop { .. } => 0,
+    }
+}
+
+/// How many of the numbers below a bound are counted at an address.
+fn served_below(state: &Record, target: &Target, bound: u32, address: &Address) -> u32
+    ensures { result ≡ served (layout_wanted state.now target.now) (numbers_below bound) address.now }
+{
+    let mut served = 0;
+    for number in 0..bound {
+        if is_counted(state, target, number, address) {
+            served += 1;
+        }
+    }
+    served
+}
+
+/// How many of the ready numbers are counted at an address.
+fn served_ready(state: &Record, target: &Target, address: &Address) -> u32
+    ensures { result ≡ served (layout_wanted state.now target.now) state.now.ready address.now }
+{
+    let mut served = 0;
+    for number in state.ready.iter() {
+        if is_counted(state, target, number, address) {
+            served += 1;
+        }
+    }
+    served
+}
+
+/// Whether the group of a worker's number listens at an address.
+fn is_counted(state: &Record, target: &Target, number: u32, address: &Address) -> bool
+    ensures { result ≡ is_counted (layout_wanted state.now target.now) address.now number }
+{
+    match target {
+        Target::Reload(settings) | Target::Upgrade(settings) => {
+            let own = addresses_of_group(settings, settings.groups.group_of(number));
+            own.contains(address)
+        }
+        _ => is_counted_now(state, number, address),
+    }
+}
+
+/// The same, of the groups of the record.
+fn is_counted_now(state: &Record, number: u32, address: &Address) -> bool
+    ensures { result ≡ is_counted (layout_of state.now) address.now number }
+{
+    match state.posts.given(number) {
+        None => state.listeners.holds(address),
+        Some(set) => state.listeners.only(&set).holds(address),
     }
 }
 
@@ -73,21 +122,4 @@ fn kept_count(generation: Generation, workers: u32) -> Option<(Generation, u32)>
     } else {
         Some((generation, workers))
     }
-}
-
-/// So many workers of one generation at each of these addresses.
-fn uniform(
-    alloc: Global,
-    addresses: &[Address],
-    generation: Generation,
-    workers: u32,
-) -> Result<Service, AllocError>
-    ensures { IfOk result (λ s. IsSame (at s) (uniform addresses.now generation workers)) }
-{
-    let count = kept_count(generation, workers);
-    let mut service = Service::new(alloc);
-    for address in addresses {
-        service.add(address, count)?;
-    }
-    Ok(service)
 }

@@ -1,8 +1,8 @@
 //! Targets carried out on real children.
 ghost use Rattle.std.specs.Prelude.{◌≡◌, IfOk, IfErr, IsErrOf, OnErr};
 ghost use Rattle.definitions.specs.Plans.{plan_tree};
-ghost use Rattle.definitions.specs.Target.{IsTarget, text_handed};
-ghost use Rattle.rollback_plan.specs.Plans.{tree_of, note_of, text_of};
+ghost use Rattle.definitions.specs.Target.{IsTarget, sides_of, text_handed};
+ghost use Rattle.rollback_plan.specs.Plans.{tree_of, note_of, sides_told, text_of};
 ghost use Rattle.child_edge.specs.State.{state_of};
 ghost use Rattle.word_runner.specs.Enactors.{HasCode};
 ghost use Rattle.supervisor.specs.Carried.{HasPlan, IsUnplanned, IsCarriedOut};
@@ -87,6 +87,7 @@ fn plan_of(alloc: Global, state: &Record, target: &Target) -> Result<Plan, Targe
     ensures has_plan { IfOk result (λ _. HasPlan state.now target.now) }
     ensures tree { IfOk result (λ plan. tree_of plan ≡ plan_tree state.now target.now) }
     ensures note { IfOk result (λ plan. note_of plan ≡ state.now.note) }
+    ensures sides { IfOk result (λ plan. sides_told plan ≡ sides_of state.now target.now) }
     ensures text { IfOk result (λ plan. text_of plan ≡ text_handed state.now target.now) }
     ensures declined { IfErr result (HasCode (IsUnplanned state.now target.now)) }
     ensures memory { IsErrOf result TargetRefusal.Memory → HasPlan state.now target.now }

@@ -1,7 +1,9 @@
 //! A block in one line.
+use call_text::side_text;
 use control_words::Word;
+use crews::Shortfalls;
 use std::fmt;
-use vocabulary::{Outcome, Side};
+use vocabulary::Outcome;
 use word_runner::{Block, Body};
 
 /// A block in one line, as it is logged: the word and what it came to, of a run its outcome alone; or why the line is no
@@ -75,15 +77,49 @@ impl fmt::Display for OutcomeText {
         match self.0 {
             Outcome::Done => f.write_str("done"),
             Outcome::RolledBack => f.write_str("rolled-back"),
-            Outcome::Degraded {
-                side: Side::Old,
-                short,
-            } => write!(f, "degraded old {short}"),
-            Outcome::Degraded {
-                side: Side::Target,
-                short,
-            } => write!(f, "degraded target {short}"),
+            Outcome::Degraded { side, shortfalls } => write!(
+                f,
+                "degraded {} {}",
+                side_text(side),
+                ShortfallsText(shortfalls)
+            ),
             Outcome::Lost => f.write_str("lost"),
         }
+    }
+}
+
+/// Shortfalls, as a report says them.
+#[derive(Clone, Copy)]
+struct ShortfallsText(Shortfalls);
+
+impl fmt::Display for ShortfallsText {
+    ghost use Rattle.std.specs.Prelude.{Some};
+    ghost use Rattle.call_text.specs.ReportText.{shortfalls_text};
+
+    ghost output = { λ shortfalls. Some (shortfalls_text shortfalls.0) };
+
+    fn fmt<W: fmt::Write>(&self, f: &mut fmt::Formatter<W>) -> fmt::Result {
+        match self.0.as_slice() {
+            [first, others @ ..] => write!(f, "{first}{}", LaterText(others)),
+            [] => Ok(()),
+        }
+    }
+}
+
+/// Numbers, each behind a comma.
+#[derive(Clone, Copy)]
+struct LaterText<'a>(&'a [u32]);
+
+impl fmt::Display for LaterText<'_> {
+    ghost use Rattle.std.specs.Prelude.{Some};
+    ghost use Rattle.supervisor.specs.Summaries.{later_counts};
+
+    ghost output = { λ counts. Some (later_counts counts.0.now) };
+
+    fn fmt<W: fmt::Write>(&self, f: &mut fmt::Formatter<W>) -> fmt::Result {
+        for count in self.0 {
+            write!(f, ",{count}")?;
+        }
+        Ok(())
     }
 }

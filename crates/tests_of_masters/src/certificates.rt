@@ -20,7 +20,14 @@ fn booted(alloc: Global) -> Result<Kernel, Fail> {
         processes: 65_535,
         descriptors: 64,
     };
-    Ok(Kernel::boot(alloc, &settings.listeners, 2, settings.pid, limits)?)
+    Ok(Kernel::boot(
+        alloc,
+        &settings.listeners,
+        &settings.groups,
+        2,
+        settings.pid,
+        limits,
+    )?)
 }
 
 /// What a master with two workers and that process number knows.

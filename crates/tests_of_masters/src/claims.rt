@@ -1,6 +1,7 @@
 //! Claims of masters that are true of a kernel, and such as are not.
+use crews::{Crew, Posts};
 use kernel_model::{Kernel, Moment, Running};
-use listener_set::{Address, FilePath, Generation, ListenerSet, Numbers};
+use listener_set::{Address, FilePath, Generation, Group, Groups, ListenerSet, Numbers};
 use service_state::Record;
 use std::alloc::Global;
 use std::test::Fail;
@@ -16,19 +17,37 @@ const LIMITS: Limits = Limits {
     descriptors: 64,
 };
 
-fn started(alloc: Global, listeners: &[Listener], path: FilePath) -> Result<Kernel, Fail> {
+fn booted(
+    alloc: Global,
+    listeners: &[Listener],
+    groups: &Groups,
+    path: FilePath,
+) -> Result<Kernel, Fail> {
     let mut addresses = ListenerSet::new();
     for listener in listeners {
         addresses.add(&listener.address)?;
     }
-    Ok(Kernel::boot(alloc, &addresses, 2, Some(path), LIMITS)?)
+    Ok(Kernel::boot(alloc, &addresses, groups, 2, Some(path), LIMITS)?)
 }
 
-/// What a master with two workers says as it starts.
+/// A kernel whose master has two addresses, and workers of one group.
+fn started(alloc: Global, listeners: &[Listener], path: FilePath) -> Result<Kernel, Fail> {
+    booted(alloc, listeners, &Groups::one(2, 2), path)
+}
+
+/// The first workers of a service of these groups.
+fn first_crew(groups: &Groups) -> Crew {
+    Crew {
+        generation: FIRST,
+        posts: Posts::first(groups),
+    }
+}
+
+/// What a master with two workers of one group says as it starts.
 fn first<'a>(listeners: &'a [Listener], path: FilePath) -> Running<'a> {
     Running {
         listeners,
-        generation: FIRST,
+        crew: first_crew(&Groups::one(2, 2)),
         ready: Numbers::below(2),
         pid_path: Some(path),
         note: PidNote::InPlace,
@@ -85,7 +104,13 @@ fn a_kernel_agrees_with_its_start_and_no_other_workers_or_files(
         config: 2,
     };
     let ready = |ready| Running { ready, ..so };
-    let of = |generation| Running { generation, ..so };
+    let of = |generation| Running {
+        crew: Crew {
+            generation,
+            ..so.crew
+        },
+        ..so
+    };
     let note = |note| Running { note, ..so };
     let at = |pid_path| Running { pid_path, ..so };
     let wrong = [
@@ -139,18 +164,58 @@ fn a_kernel_agrees_with_its_own_listeners_and_settled_workers(rt: HostRuntime) -
 }
 
 #[test]
+fn a_kernel_agrees_with_the_groups_that_it_was_started_with(rt: HostRuntime) -> Result<(), Fail> {
+    let path = FilePath::read(b"/run/app.pid")?;
+    let listeners = both()?;
+    let mut groups = Groups::one(1, 1);
+    groups.add(Group {
+        addresses: 1,
+        workers: 1,
+    })?;
+    let kernel = booted(rt.alloc(), &listeners, &groups, path)?;
+    let of = |groups| Running {
+        crew: first_crew(groups),
+        ..first(&listeners, path)
+    };
+    assert!(rt; agrees(&kernel, &of(&groups)));
+    let mut second_alone = Groups::one(1, 0);
+    second_alone.add(Group {
+        addresses: 1,
+        workers: 2,
+    })?;
+    let wrong = [of(&Groups::one(2, 2)), of(&second_alone)];
+    assert!(rt; are_denied(&kernel, &wrong));
+    Ok(())
+}
+
+#[test]
 fn a_record_agrees_with_a_kernel_that_was_started_so(rt: HostRuntime) -> Result<(), Fail> {
     let mut settings = Settings::plain();
+    settings.groups = Groups::one(2, 1);
     settings.listeners.add(&Address::read(b"0.0.0.0:9090")?)?;
     settings.pid = Some(FilePath::read(b"/run/a.pid")?);
-    let kernel = Kernel::boot(rt.alloc(), &settings.listeners, 2, settings.pid, LIMITS)?;
+    let kernel = Kernel::boot(
+        rt.alloc(),
+        &settings.listeners,
+        &settings.groups,
+        2,
+        settings.pid,
+        LIMITS,
+    )?;
     let started = |ready, pid| Record::start(&settings, 2, &Numbers::below(ready), pid);
     assert!(rt; plan_executor::agrees(&started(2, 100), &kernel));
     assert!(rt; !plan_executor::agrees(&started(1, 100), &kernel));
     assert!(rt; !plan_executor::agrees(&started(2, 101), &kernel));
     let one = Record::start(&Settings::plain(), 2, &Numbers::below(2), 100);
     assert!(rt; !plan_executor::agrees(&one, &kernel));
-    let bare = Kernel::boot(rt.alloc(), &settings.listeners, 2, None, LIMITS)?;
+    let bare = Kernel::boot(
+        rt.alloc(),
+        &settings.listeners,
+        &settings.groups,
+        2,
+        None,
+        LIMITS,
+    )?;
     assert!(rt; !plan_executor::agrees(&started(2, 100), &bare));
     Ok(())
 }

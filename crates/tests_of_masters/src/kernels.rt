@@ -1,6 +1,6 @@
 //! Calls on a modelled kernel that a program makes no plan for, and what its table has afterwards.
 use kernel_model::{BootRefusal, Kernel, Moment, ReserveRefusal, Row};
-use listener_set::{Address, DescriptorSet, FilePath, Generation, ListenerSet, Numbers};
+use listener_set::{Address, DescriptorSet, FilePath, Generation, Groups, ListenerSet, Numbers};
 use std::alloc::Global;
 use std::test::Fail;
 use vocabulary::{Actor, Answer, Call, Fate, Limits, Name, Stance};
@@ -58,7 +58,14 @@ fn started(alloc: Global, workers: u32, processes: u32) -> Result<Kernel, Fail> 
         descriptors: 2,
     };
     let pid_file = FilePath::read(b"/run/app.pid")?;
-    Ok(Kernel::boot(alloc, &listeners, workers, Some(pid_file), limits)?)
+    Ok(Kernel::boot(
+        alloc,
+        &listeners,
+        &Groups::one(1, 1),
+        workers,
+        Some(pid_file),
+        limits,
+    )?)
 }
 
 fn worker(number: u32, generation: Generation, nr: u32, stance: Stance) -> Option<Row> {
@@ -106,7 +113,8 @@ fn a_start_has_a_master_and_ready_workers(rt: HostRuntime) -> Result<(), Fail> {
 
 #[test]
 fn limits_and_numbers_are_refused(rt: HostRuntime) -> Result<(), Fail> {
-    let listeners = ListenerSet::new();
+    let mut listeners = ListenerSet::new();
+    listeners.add(&Address::plain())?;
     for (workers, processes, descriptors) in [
         (2, 2, 64),
         (0, 65_536, 64),
@@ -117,12 +125,19 @@ fn limits_and_numbers_are_refused(rt: HostRuntime) -> Result<(), Fail> {
             processes,
             descriptors,
         };
-        let refused = Kernel::boot(rt.alloc(), &listeners, workers, None, limits);
+        let groups = Groups::one(1, 1);
+        let refused = Kernel::boot(rt.alloc(), &listeners, &groups, workers, None, limits);
         assert!(rt;
             matches!(&refused, Err(BootRefusal::BadLimits)),
             "{workers} workers"
         );
     }
+    let limits = Limits {
+        processes: 65_535,
+        descriptors: 64,
+    };
+    let apart = Kernel::boot(rt.alloc(), &listeners, &Groups::one(2, 2), 2, None, limits);
+    assert!(rt; matches!(&apart, Err(BootRefusal::BadLimits)));
     let mut kernel = started(rt.alloc(), 2, 3)?;
     assert_eq!(rt;
         kernel.reserve(4_294_967_295),

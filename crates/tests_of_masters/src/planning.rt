@@ -1,14 +1,15 @@
 //! How large plans are, and what no word of one master asks for.
 ghost use Rattle.definitions.specs.Target.{IsTarget};
 
-use crate::records::settings_of;
-use listener_set::{FilePath, Generation, Numbers};
+use crate::records::{in_two_groups, settings_of, with_workers};
+use crews::{Crew, Posts};
+use listener_set::{FilePath, Generation, Groups, Numbers};
 use reload_planner::{PlanRefusal, Scene, plan, plan_reopen, plan_stop, plan_workers};
 use rollback_plan::{Edge, MOST_STEPS, Next, Place, Plan, Step};
 use service_state::Record;
 use std::alloc::Global;
 use std::test::Fail;
-use vocabulary::{Actor, Call, Order, Outcome, PidNote, Reply, Report, Settings, Target};
+use vocabulary::{Actor, Call, Order, Outcome, PidNote, Reply, Report, Settings, Sides, Target};
 
 const GENERATION: Generation = Generation {
     image: 1,
@@ -17,18 +18,25 @@ const GENERATION: Generation = Generation {
 
 /// A master of image 1 and configuration 1 with so many ready workers, and no rounds of starts.
 fn scene(ready: u32) -> Scene {
+    let groups = Groups::one(1, ready.min(1024));
     Scene {
         by: Actor(1),
-        generation: GENERATION,
+        crew: Crew {
+            generation: GENERATION,
+            posts: Posts::first(&groups),
+        },
         ready: Numbers::below(ready.min(1024)),
         rounds: 0,
+        sides: Sides {
+            old: groups,
+            target: groups,
+        },
     }
 }
 
 /// Settings with these addresses and so many workers, with two rounds and a pid file.
 fn settings(addresses: &[&str], workers: u32) -> Result<Settings, Fail> {
-    let mut settings = settings_of(addresses)?;
-    settings.workers = workers.min(1024);
+    let mut settings = with_workers(&settings_of(addresses)?, workers.min(1024));
     settings.retries = 2;
     Ok(settings)
 }
@@ -180,8 +188,11 @@ fn an_upgrade_and_a_configuration_beyond_the_last_are_refused(rt: HostRuntime) -
 /// master is handed.
 #[test]
 fn an_upgrade_hands_a_text_over(rt: HostRuntime) -> Result<(), Fail> {
+    let grouped = in_two_groups(&settings(&["0.0.0.0:8080", "0.0.0.0:9090"], 2)?)?;
     let settings = settings(&["0.0.0.0:8080"], 2)?;
     let mut state = running(2, PidNote::InPlace)?;
+    let refused = upgrade_planner::plan(rt.alloc(), &state, &grouped).err();
+    assert_eq!(rt; refused, Some(PlanRefusal::Grouped));
     let plan = upgrade_planner::plan(rt.alloc(), &state, &settings)?;
     assert_eq!(rt; plan.len(), 46);
     let text =
@@ -190,6 +201,8 @@ fn an_upgrade_hands_a_text_over(rt: HostRuntime) -> Result<(), Fail> {
     state.generation.image = u32::MAX;
     let refused = upgrade_planner::plan(rt.alloc(), &state, &settings).err();
     assert_eq!(rt; refused, Some(PlanRefusal::NoGeneration));
+    let refused = upgrade_planner::plan(rt.alloc(), &state, &grouped).err();
+    assert_eq!(rt; refused, Some(PlanRefusal::Grouped));
     Ok(())
 }
 

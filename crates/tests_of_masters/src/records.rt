@@ -1,8 +1,39 @@
 //! What a master knows of itself after plans.
-use listener_set::{Address, FilePath, ListenerSet, Numbers};
+ghost use Rattle.std.specs.Prelude.{◌≤◌};
+
+use listener_set::{Address, FilePath, Group, Groups, ListenerSet, Numbers};
 use service_state::{Listeners, Record, want};
 use std::test::Fail;
 use vocabulary::{Outcome, PidNote, Report, Settings, Target};
+
+/// The settings with one group of so many workers.
+pub(crate) fn with_workers(settings: &Settings, workers: u32) -> Settings
+    requires { workers ≤ 1024 }
+{
+    Settings {
+        workers,
+        groups: Groups::one(settings.listeners.len() as u32, workers),
+        ..*settings
+    }
+}
+
+/// The settings with two groups of one worker each, the second of which has the last address.
+pub(crate) fn in_two_groups(settings: &Settings) -> Result<Settings, Fail> {
+    let addresses = settings.listeners.len() as u32;
+    if addresses < 2 {
+        return Err(Fail::from("two groups have two addresses"));
+    }
+    let mut groups = Groups::one(addresses - 1, 1);
+    groups.add(Group {
+        addresses: 1,
+        workers: 1,
+    })?;
+    Ok(Settings {
+        workers: 2,
+        groups,
+        ..*settings
+    })
+}
 
 /// Plain settings with these addresses, where there are any, and a pid file.
 pub(crate) fn settings_of(addresses: &[&str]) -> Result<Settings, Fail> {
@@ -12,6 +43,7 @@ pub(crate) fn settings_of(addresses: &[&str]) -> Result<Settings, Fail> {
     }
     let mut settings = Settings::plain();
     if listeners.len() >= 1 {
+        settings.groups = Groups::one(listeners.len() as u32, 1);
         settings.listeners = listeners;
     }
     settings.pid = Some(FilePath::read(b"/run/a.pid")?);
@@ -20,8 +52,7 @@ pub(crate) fn settings_of(addresses: &[&str]) -> Result<Settings, Fail> {
 
 /// The settings with these addresses, a pid file, two workers, and values of their own for the rest.
 fn settings(addresses: &[&str]) -> Result<Settings, Fail> {
-    let mut settings = settings_of(addresses)?;
-    settings.workers = 2;
+    let mut settings = with_workers(&settings_of(addresses)?, 2);
     settings.retries = 5;
     settings.timeout = 7;
     Ok(settings)
@@ -118,6 +149,22 @@ fn a_target_wants_its_count_at_each_address(rt: HostRuntime) -> Result<(), Fail>
     assert_eq!(rt; (bare.address(1), bare.entry(1, 0)), (Some(second), None));
     let stopped = want(rt.alloc(), &state, &Target::Stop { quick: true })?;
     assert_eq!(rt; stopped.address(0), None);
+    Ok(())
+}
+
+#[test]
+fn a_target_wants_the_workers_of_its_group_at_each_address(rt: HostRuntime) -> Result<(), Fail> {
+    let settings = in_two_groups(&settings(&["0.0.0.0:8080", "0.0.0.0:7070"])?)?;
+    let state = Record::start(&settings, 2, &Numbers::below(2), 100);
+    let three = want(rt.alloc(), &state, &Target::Workers(3))?;
+    assert_eq!(rt; three.entry(0, 0), Some((state.generation, 2)));
+    assert_eq!(rt; three.entry(1, 0), Some((state.generation, 1)));
+    let sole = running(&["0.0.0.0:8080", "0.0.0.0:7070"])?;
+    let target = Target::Reload(settings);
+    let sides = sole.sides(&target);
+    assert_eq!(rt; sides.old.as_slice().len(), 1);
+    assert_eq!(rt; sides.target, settings.groups);
+    assert_eq!(rt; sole.posts_wanted(&target), state.posts);
     Ok(())
 }
 

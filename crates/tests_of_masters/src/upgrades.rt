@@ -1,4 +1,5 @@
 //! Upgrades, carried out on the modelled kernel.
+use crate::records::with_workers;
 use kernel_model::{Kernel, Pattern};
 use listener_set::{FilePath, Numbers};
 use plan_executor::{EnactRefusal, enact};
@@ -10,14 +11,20 @@ use word_runner::Enacted;
 
 /// What comes of an upgrade of a master with two workers and a pid file, under a pattern.
 fn upgraded(alloc: Global, pattern: &Pattern) -> Result<Result<Enacted, EnactRefusal>, Fail> {
-    let mut settings = Settings::plain();
-    settings.workers = 2;
+    let mut settings = with_workers(&Settings::plain(), 2);
     settings.pid = Some(FilePath::read(b"/run/a.pid")?);
     let limits = Limits {
         processes: 65_535,
         descriptors: 64,
     };
-    let mut kernel = Kernel::boot(alloc, &settings.listeners, 2, settings.pid, limits)?;
+    let mut kernel = Kernel::boot(
+        alloc,
+        &settings.listeners,
+        &settings.groups,
+        2,
+        settings.pid,
+        limits,
+    )?;
     let state = Record::start(&settings, 2, &Numbers::below(2), 100);
     Ok(enact(
         alloc,

@@ -3,6 +3,8 @@
 #![tactic(auto)]
 
 #[cfg(test)]
+mod grouped;
+#[cfg(test)]
 mod new_masters;
 #[cfg(test)]
 mod piped;

@@ -1,7 +1,7 @@
 //! Control words of an input, carried out on children in memory.
 use certifier::certify_blocks;
 use kernel_model::Kernel;
-use listener_set::{FilePath, Numbers};
+use listener_set::{FilePath, Groups, Numbers};
 use log::sink::{Discard, Memory};
 use log::{LevelFilter, Logged};
 use service_state::Record;
@@ -334,7 +334,14 @@ fn are_certified(alloc: Global, blocks: &[Block]) -> Result<bool, Fail> {
         processes: 65_535,
         descriptors: 64,
     };
-    let mut kernel = Kernel::boot(alloc, &settings.listeners, 0, settings.pid, limits)?;
+    let mut kernel = Kernel::boot(
+        alloc,
+        &settings.listeners,
+        &settings.groups,
+        0,
+        settings.pid,
+        limits,
+    )?;
     let record = Record::start(&settings, settings.workers, &Numbers::none(), 100);
     let certified = certify_blocks(
         alloc,
@@ -402,6 +409,7 @@ fn writes_the_pid_file_first(rt: HostRuntime) -> Result<(), Fail> {
     let start = Start {
         settings: Settings {
             workers: 0,
+            groups: Groups::one(1, 0),
             pid: Some(path),
             ..Settings::plain()
         },

@@ -2,6 +2,7 @@
 use call_text::{
     read_answer, read_call, read_report, read_set, write_answer, write_call, write_report,
 };
+use crews::Shortfalls;
 use listener_set::{Address, DescriptorSet, FilePath, Generation, Numbers};
 use plain_text::Line;
 use std::test::Fail;
@@ -225,7 +226,7 @@ fn other_calls_answers_and_sets_are_refused(rt: HostRuntime) {
 }
 
 /// What a report says, but for its ready workers, and its text.
-const REPORTS: [(Outcome, Option<u32>, PidNote, &str); 5] = [
+const REPORTS: [(Outcome, Option<u32>, PidNote, &str); 4] = [
     (
         Outcome::Done,
         None,
@@ -237,15 +238,6 @@ const REPORTS: [(Outcome, Option<u32>, PidNote, &str); 5] = [
         Some(2),
         PidNote::AtOldbin,
         "rolled-back cause 2 pid at-oldbin",
-    ),
-    (
-        Outcome::Degraded {
-            side: Side::Target,
-            short: 3,
-        },
-        Some(9),
-        PidNote::OldbinLeft,
-        "degraded target 3 cause 9 pid oldbin-left",
     ),
     (
         Outcome::Lost,
@@ -279,7 +271,71 @@ fn reports_are_read_as_they_are_written(rt: HostRuntime) -> Result<(), Fail> {
             "{text}"
         );
     }
-    assert!(rt; read_report(b"degraded old 0 cause 1 pid left", &ready).is_none());
     assert!(rt; read_report(b"done cause none", &ready).is_none());
+    Ok(())
+}
+
+/// What each of some groups lacks.
+fn shortfalls(first: u32, others: &[u32]) -> Shortfalls {
+    let mut all = Shortfalls::one(first);
+    for count in others {
+        all.add(*count);
+    }
+    all
+}
+
+#[test]
+fn what_each_group_lacks_is_read_as_it_is_written(rt: HostRuntime) -> Result<(), Fail> {
+    let ready = set(&[1]);
+    let texts = [
+        (shortfalls(3, &[]), "3"),
+        (shortfalls(0, &[2]), "0,2"),
+        (shortfalls(1024, &[0, 0]), "1024,0,0"),
+        (shortfalls(1, &[1; 15]), "1,1,1,1,1,1,1,1,1,1,1,1,1,1,1,1"),
+    ];
+    for (shortfalls, counts) in texts {
+        let report = Report {
+            outcome: Outcome::Degraded {
+                side: Side::Target,
+                shortfalls,
+            },
+            cause: Some(9),
+            note: PidNote::OldbinLeft,
+            ready,
+        };
+        let text = format!(in rt.alloc(); "degraded target {counts} cause 9 pid oldbin-left")?;
+        let mut out = Vec::new(rt.alloc());
+        write_report(&mut out, &report)?;
+        assert!(rt; out.as_slice() == text.as_bytes(), "{text}");
+        assert!(rt;
+            read_report(text.as_bytes(), &ready) == Some(report),
+            "{text}"
+        );
+    }
+    Ok(())
+}
+
+const OTHER_SHORTFALLS: [&str; 10] = [
+    "0",
+    "0,0",
+    "none",
+    "",
+    "1,",
+    ",1",
+    "01",
+    "1, 2",
+    "1 2",
+    "1,1,1,1,1,1,1,1,1,1,1,1,1,1,1,1,1",
+];
+
+#[test]
+fn other_shortfalls_are_refused(rt: HostRuntime) -> Result<(), Fail> {
+    for counts in OTHER_SHORTFALLS {
+        let text = format!(in rt.alloc(); "degraded old {counts} cause 1 pid left")?;
+        assert!(rt;
+            read_report(text.as_bytes(), &Numbers::none()).is_none(),
+            "{counts}"
+        );
+    }
     Ok(())
 }

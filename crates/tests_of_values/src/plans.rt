@@ -1,15 +1,32 @@
 //! Plans that are drawn up by hand, as they are numbered, written and drawn.
-use listener_set::{Generation, Numbers};
+use crews::{Crew, Posts};
+use listener_set::{Generation, Group, Groups, Numbers};
 use plan_text::{write_graph, write_plan};
 use rollback_plan::{Draft, DraftRefusal, Edge, MOST_STEPS, Next, Plan};
 use std::alloc::Global;
 use std::test::Fail;
-use vocabulary::{Actor, Call, End, Order, PidNote, Reply, Side};
+use vocabulary::{Actor, Call, End, Order, PidNote, Reply, Side, Sides};
 
 const FIRST: Generation = Generation {
     image: 1,
     config: 1,
 };
+
+/// The workers of a service of one group.
+fn first_crew() -> Crew {
+    Crew {
+        generation: FIRST,
+        posts: Posts::first(&Groups::one(1, 2)),
+    }
+}
+
+/// One group on either side.
+fn sole_sides() -> Sides {
+    Sides {
+        old: Groups::one(1, 2),
+        target: Groups::one(1, 3),
+    }
+}
 
 /// One worker more: a fork, the wait for it, and the count at the end.
 fn one_worker_more(alloc: Global) -> Result<Plan, Fail> {
@@ -43,7 +60,7 @@ fn one_worker_more(alloc: Global) -> Result<Plan, Fail> {
             Edge::over(&[Reply::Again], End::RolledBack),
         ],
     )?;
-    Ok(draft.finish(forked, PidNote::NoFile, Vec::new(alloc))?)
+    Ok(draft.finish(forked, PidNote::NoFile, &sole_sides(), Vec::new(alloc))?)
 }
 
 /// A count, and where it is short a kill of the missing worker, which sets the pid note.
@@ -68,15 +85,16 @@ fn a_settle(alloc: Global) -> Result<Plan, Fail> {
             Edge::to(&[Reply::Short], killed),
         ],
     )?;
-    Ok(draft.finish(counted, PidNote::InPlace, Vec::new(alloc))?)
+    Ok(draft.finish(counted, PidNote::InPlace, &sole_sides(), Vec::new(alloc))?)
 }
 
 /// A fork whose worker quits again, a count that two paths lead to, and one that none leads to.
 fn two_ways(alloc: Global) -> Result<Plan, Fail> {
     let none = Numbers::none();
+    let crew = first_crew();
     let mut draft = Draft::new(alloc);
-    let end = draft.settle(Actor(1), FIRST, &none, Side::Old, 0)?;
-    let _unused = draft.settle(Actor(1), FIRST, &none, Side::Target, 0)?;
+    let _unused = draft.settle(Actor(1), &crew, &none, Side::Target, 0)?;
+    let end = draft.settle(Actor(1), &crew, &none, Side::Old, 0)?;
     let quit = draft.call(Actor(1), Call::Quit(FIRST, 7), end)?;
     let first = draft.add(
         Actor(1),
@@ -87,7 +105,43 @@ fn two_ways(alloc: Global) -> Result<Plan, Fail> {
             Edge::to(&[Reply::Forked], quit),
         ],
     )?;
-    Ok(draft.finish(first, PidNote::InPlace, Vec::new(alloc))?)
+    Ok(draft.finish(first, PidNote::InPlace, &sole_sides(), Vec::new(alloc))?)
+}
+
+/// The workers of two groups: 0 and 1 at one address, and 2 at two others.
+fn two_crews() -> Result<Crew, Fail> {
+    let mut groups = Groups::one(1, 2);
+    groups.add(Group {
+        addresses: 2,
+        workers: 1,
+    })?;
+    Ok(Crew {
+        generation: FIRST,
+        posts: Posts::first(&groups),
+    })
+}
+
+/// The worker of the second group, and a settle with one round of starts.
+fn one_more_of_two_groups(alloc: Global) -> Result<Plan, Fail> {
+    let crew = two_crews()?;
+    let groups = *crew.posts.groups();
+    let sides = Sides {
+        old: groups,
+        target: groups,
+    };
+    let by = Actor(1);
+    let mut draft = Draft::new(alloc);
+    let settled = draft.settle(by, &crew, &Numbers::below(3), Side::Target, 1)?;
+    let forked = draft.add(
+        by,
+        Order::Make(Call::Fork(FIRST, 2, crew.posts.given(2))),
+        &Numbers::none(),
+        &[
+            Edge::to(&[Reply::Forked], settled),
+            Edge::over(&[Reply::Again, Reply::NoMemory], End::RolledBack),
+        ],
+    )?;
+    Ok(draft.finish(forked, PidNote::NoFile, &sides, Vec::new(alloc))?)
 }
 
 /// Replies that lead to one place are joined, in the order of the table of calls.
@@ -107,6 +161,15 @@ const TWO_WAYS: &[u8] = b"plan steps 3 longest 3\n\
     2 m1 quit 1.1 7 | ok 3\n\
     3 m1 census 1.1 set none | full rolled-back | short degraded-old\n";
 
+/// A fork names the descriptors of its worker's group; that of a settle says that it will.
+const TWO_GROUPS: &[u8] = b"plan steps 6 longest 6\n\
+    1 m1 fork 1.1 2 fds 4-5 | forked 2 | again no-memory rolled-back\n\
+    2 m1 census 1.1 set 0-2 | full done | short 3\n\
+    3 m1 fork 1.1 missing fds group | forked 4 | again no-memory 6\n\
+    4 m1 await-ready 1.1 missing | ready gone 6 | late 5\n\
+    5 m1 kill 1.1 missing | ok 6\n\
+    6 m1 census 1.1 set 0-2 | full done | short degraded-target\n";
+
 #[test]
 fn plans_are_numbered_and_written(rt: HostRuntime) -> Result<(), Fail> {
     let more = one_worker_more(rt.alloc())?;
@@ -115,6 +178,8 @@ fn plans_are_numbered_and_written(rt: HostRuntime) -> Result<(), Fail> {
     assert!(rt; write_plan(rt.alloc(), &settle)?.as_slice() == A_SETTLE);
     let ways = two_ways(rt.alloc())?;
     assert!(rt; write_plan(rt.alloc(), &ways)?.as_slice() == TWO_WAYS);
+    let grouped = one_more_of_two_groups(rt.alloc())?;
+    assert!(rt; write_plan(rt.alloc(), &grouped)?.as_slice() == TWO_GROUPS);
     Ok(())
 }
 
@@ -157,15 +222,19 @@ fn a_full_draft_stays_as_it_is(rt: HostRuntime) -> Result<(), Fail> {
     let mut draft = Draft::new(rt.alloc());
     let set = Numbers::none();
     for _step in 0..MOST_STEPS - 4 {
-        draft.settle(Actor(1), FIRST, &set, Side::Old, 0)?;
+        draft.settle(Actor(1), &first_crew(), &set, Side::Old, 0)?;
     }
-    let refused = draft.settle(Actor(1), FIRST, &set, Side::Old, 1).err();
+    let refused = draft
+        .settle(Actor(1), &first_crew(), &set, Side::Old, 1)
+        .err();
     assert_eq!(rt; refused, Some(DraftRefusal::TooLarge));
     assert_eq!(rt; draft.len(), MOST_STEPS - 4);
     for _step in 0..4 {
-        draft.settle(Actor(1), FIRST, &set, Side::Old, 0)?;
+        draft.settle(Actor(1), &first_crew(), &set, Side::Old, 0)?;
     }
-    let refused = draft.settle(Actor(1), FIRST, &set, Side::Old, 0).err();
+    let refused = draft
+        .settle(Actor(1), &first_crew(), &set, Side::Old, 0)
+        .err();
     assert_eq!(rt; refused, Some(DraftRefusal::TooLarge));
     assert_eq!(rt; draft.len(), MOST_STEPS);
     Ok(())

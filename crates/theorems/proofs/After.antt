@@ -8,9 +8,10 @@ use Rattle.vocabulary.specs.declared.table.Stance.TheVariants.{Starting, Ready, 
 use Rattle.listener_set.specs.declared.generation.Generation.{Generation}
 use Rattle.definitions.specs.Calls.{is_exited_of, drop_where, census_of}
 use Rattle.listener_set.specs.Numbers.{is_in}
-use Rattle.definitions.specs.Record.{Record, Agrees, FilesAre, IsRunning, listener_of}
+use Rattle.definitions.specs.Crew.{Crew}
+use Rattle.definitions.specs.Record.{Record, Agrees, FilesAre, IsRunning, crew_of, listener_of}
 use Rattle.theorems.proofs.Rows.{one, weigh-same, every-more, count-weigh}
-use Rattle.theorems.proofs.Views.{HoldsAll, View, Fine, Row, Looks, masters, master_of, finds, eqb-refl}
+use Rattle.theorems.proofs.Views.{HoldsShare, View, Fine, Row, Looks, masters, master_of, finds, eqb-refl}
 use Rattle.theorems.proofs.Effects.{idle}
 use Rattle.theorems.proofs.Counts.{census-in, census-all, ready-row}
 use Rattle.theorems.proofs.Services.{Sole, sole-fine}
@@ -54,30 +55,30 @@ census-exact v g rows bound looks k =
         beyond : nat_lt k 1024 ≡ false → is_in (census_of v.number g rows) k ≡ false
         beyond off = census-all v.number g rows k ∙ ap (λ z. z && list_any (is_worker is_ready v.number g k) rows) off
 
-running-row : (v : View) (g : Generation) → HoldsAll v g → ((h : Generation) (k : ℕ) → v.ready h k ≡ true → h ≡ g) → (p : Process) → Fine (idle v) p → IsRunning v.number g v.holds p
-running-row v g same only (Master n q i live hs) h = tt
-running-row v g same only (Worker n q g' k Starting hs) h = absurd (cc (h.1.0))
-running-row v g same only (Worker n q g' k Ready hs) h = λ e. let is = only g' k h.1.0 in (is, h.1.1 ∙ ap (λ f. v.held f k) is ∙ same k)
-running-row v g same only (Worker n q g' k Draining hs) h = tt
-running-row v g same only (Worker n q g' k Exited hs) h = tt
-running-row v g same only (Foreign n hs) h = tt
+running-row : (v : View) (crew : Crew) → HoldsShare v crew → ((h : Generation) (k : ℕ) → v.ready h k ≡ true → h ≡ crew.generation) → (p : Process) → Fine (idle v) p → IsRunning v.number crew v.holds p
+running-row v crew same only (Master n q i live hs) h = tt
+running-row v crew same only (Worker n q g' k Starting hs) h = absurd (cc (h.1.0))
+running-row v crew same only (Worker n q g' k Ready hs) h = λ e. let is = only g' k h.1.0 in (is, h.1.1 ∙ ap (λ f. v.held f k) is ∙ same k)
+running-row v crew same only (Worker n q g' k Draining hs) h = tt
+running-row v crew same only (Worker n q g' k Exited hs) h = tt
+running-row v crew same only (Foreign n hs) h = tt
 
 one-row : (v : View) (p : Process) → Fine v p → masters p ≡ master_of v.number p
 one-row v (Master n q i live hs) h = sym (ap one (eqb-refl n v.number h.0))
 one-row v (Worker n q g k s hs) h = refl
 one-row v (Foreign n hs) h = refl
 
--- a table without Starting workers, whose Ready ones are of one generation and are what the census gave
-pub agrees-after : (v : View) (g : Generation) (t : Table) (r : Record) → Sole v → HoldsAll v g → ((h : Generation) (k : ℕ) → v.ready h k ≡ true → h ≡ g) → Looks (idle v) t.rows → ((k : ℕ) → list_any (is_worker is_ready v.number g k) t.rows ≡ is_in r.ready k) → r.generation ≡ g → v.image ≡ g.image → r.pid ≡ v.number → map listener_of v.holds ≡ r.listeners → FilesAre r.note r.pid_path r.pid t.files → Agrees t r
-agrees-after v g t r sole same only looks exact is_g is_image is_pid listeners files =
+-- a table without Starting workers, whose Ready ones are of one crew and are what the census gave
+pub agrees-after : (v : View) (crew : Crew) (t : Table) (r : Record) → Sole v → HoldsShare v crew → ((h : Generation) (k : ℕ) → v.ready h k ≡ true → h ≡ crew.generation) → Looks (idle v) t.rows → ((k : ℕ) → list_any (is_worker is_ready v.number crew.generation k) t.rows ≡ is_in r.ready k) → crew_of r ≡ crew → v.image ≡ crew.generation.image → r.pid ≡ v.number → map listener_of v.holds ≡ r.listeners → FilesAre r.note r.pid_path r.pid t.files → Agrees t r
+agrees-after v crew t r sole same only looks exact is_crew is_image is_pid listeners files =
     let fine = sole-fine (idle v) sole t.rows looks.fine in
     record {
       holds = v.holds;
-      lives = subst (λ i. live i r.pid) (is_image ∙ sym (ap (λ (x : Generation). x.image) is_g)) (subst (λ n. live v.image n) (sym is_pid) (finds (idle v) t.rows looks));
+      lives = subst (λ i. live i r.pid) (is_image ∙ sym (ap (λ (x : Crew). x.generation.image) is_crew)) (subst (λ n. live v.image n) (sym is_pid) (finds (idle v) t.rows looks));
       alone = count-weigh is_master t.rows ∙ weigh-same (Fine (idle v)) masters (master_of v.number) (one-row (idle v)) t.rows fine ∙ looks.alone;
       listeners = listeners;
-      running = subst (λ n. AllByRecursion (IsRunning n r.generation v.holds) t.rows) (sym is_pid) (subst (λ h. AllByRecursion (IsRunning v.number h v.holds) t.rows) (sym is_g) (every-more (Fine (idle v)) (IsRunning v.number g v.holds) (running-row v g same only) t.rows fine));
-      ready = λ k. subst (λ n. list_any (is_worker is_ready n r.generation k) t.rows ≡ is_in r.ready k) (sym is_pid) (subst (λ h. list_any (is_worker is_ready v.number h k) t.rows ≡ is_in r.ready k) (sym is_g) (exact k));
+      running = subst (λ n. AllByRecursion (IsRunning n (crew_of r) v.holds) t.rows) (sym is_pid) (subst (λ c. AllByRecursion (IsRunning v.number c v.holds) t.rows) (sym is_crew) (every-more (Fine (idle v)) (IsRunning v.number crew v.holds) (running-row v crew same only) t.rows fine));
+      ready = λ k. subst (λ n. list_any (is_worker is_ready n r.generation k) t.rows ≡ is_in r.ready k) (sym is_pid) (subst (λ (c : Crew). list_any (is_worker is_ready v.number c.generation k) t.rows ≡ is_in r.ready k) (sym is_crew) (exact k));
       files = files;
     }
   where

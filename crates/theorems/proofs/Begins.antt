@@ -5,7 +5,8 @@ use Rattle.std.specs.List.{AllByRecursion, list_any}
 use Rattle.definitions.specs.Table.{same_generation, Hold, Process, Master, Worker, Foreign, Table, Caller, live_master, caller_if, is_ready, is_active, is_worker, is_live_master, is_master}
 use Rattle.vocabulary.specs.declared.table.Stance.TheVariants.{Starting, Ready, Draining, Exited}
 use Rattle.listener_set.specs.Numbers.{is_in, lacks, IsRising, RisesFrom}
-use Rattle.definitions.specs.Record.{Record, IsRunning}
+use Rattle.definitions.specs.Crew.{share}
+use Rattle.definitions.specs.Record.{Record, IsRunning, crew_of}
 use Rattle.definitions.specs.Claims.{IsStart}
 use Rattle.definitions.specs.Formed.{IsQuiet, HasParent}
 use Rattle.theorems.proofs.Rows.{one, weigh, every-more, every-both, count-weigh, and-right, both-true}
@@ -63,9 +64,9 @@ the-row image c (Foreign n hs ∷ rows) all = omega (arith, the-row image c rows
 
 -- the view of a record
 abbrev pub first_view : Record → List Hold → View
-first_view r holds = record { number = r.pid; others = λ n. false; image = r.generation.image; holds = holds; starting = none; ready = λ h k. same_generation h r.generation && is_in r.ready k; held = λ h k. holds }
+first_view r holds = record { number = r.pid; others = λ n. false; image = r.generation.image; holds = holds; starting = none; ready = λ h k. same_generation h r.generation && is_in r.ready k; held = λ h k. share r.posts k holds }
 
-begin-row : (r : Record) (holds : List Hold) (rows : List Process) → AllByRecursion (IsThe r.generation.image (record { number = r.pid; holds = holds })) rows → (p : Process) → IsThe r.generation.image (record { number = r.pid; holds = holds }) p × HasParent rows p → IsRunning r.pid r.generation holds p × IsQuiet p → ((k : ℕ) → is_worker is_ready r.pid r.generation k p ≡ true → is_in r.ready k ≡ true) → Fine (first_view r holds) p
+begin-row : (r : Record) (holds : List Hold) (rows : List Process) → AllByRecursion (IsThe r.generation.image (record { number = r.pid; holds = holds })) rows → (p : Process) → IsThe r.generation.image (record { number = r.pid; holds = holds }) p × HasParent rows p → IsRunning r.pid (crew_of r) holds p × IsQuiet p → ((k : ℕ) → is_worker is_ready r.pid r.generation k p ≡ true → is_in r.ready k ≡ true) → Fine (first_view r holds) p
 begin-row r holds rows all (Master n q i live hs) a b c = a.0
 begin-row r holds rows all (Worker n q g k Starting hs) a b c = absurd (b.0 (the-parent _ _ q rows all a.1))
 begin-row r holds rows all (Worker n q g k Ready hs) a b c =
@@ -83,7 +84,7 @@ begin t r s =
     let alone : weigh masters t.rows ≡ 1 = sym (count-weigh is_master t.rows) ∙ a.alone in
     let all = the-master r.generation.image (record { number = r.pid; holds = a.holds }) t.rows alone a.lives in
     record {
-      fine = every-more (λ p. ((IsThe r.generation.image (record { number = r.pid; holds = a.holds }) p × HasParent t.rows p) × (IsRunning r.pid r.generation a.holds p × IsQuiet p)) × ((k : ℕ) → is_worker is_ready r.pid r.generation k p ≡ true → list_any (is_worker is_ready r.pid r.generation k) t.rows ≡ true)) (Row (first_view r a.holds))
+      fine = every-more (λ p. ((IsThe r.generation.image (record { number = r.pid; holds = a.holds }) p × HasParent t.rows p) × (IsRunning r.pid (crew_of r) a.holds p × IsQuiet p)) × ((k : ℕ) → is_worker is_ready r.pid r.generation k p ≡ true → list_any (is_worker is_ready r.pid r.generation k) t.rows ≡ true)) (Row (first_view r a.holds))
           (λ p h. inl (begin-row r a.holds t.rows all p h.0.0 h.0.1 (λ k e. sym (a.ready k) ∙ h.1 k e))) t.rows
           (every-both _ _ t.rows (every-both _ _ t.rows (every-both _ _ t.rows all s.formed.parents) (every-both _ _ t.rows a.running s.formed.quiet)) (every-any_of (λ k. is_worker is_ready r.pid r.generation k) t.rows));
       alone = the-row r.generation.image (record { number = r.pid; holds = a.holds }) t.rows all ∙ alone;
@@ -106,7 +107,7 @@ rising-from bound (x ∷ ks) rises = (rising-off x (x + 1) ks (omega arith) rise
 pub rising-distinct : (ks : List ℕ) → IsRising ks → Distinct ks
 rising-distinct ks rises = rising-from 0 ks rises
 
-none-lack : (l ks : List ℕ) → ((k : ℕ) → is_in l k ≡ true → is_in ks k ≡ true) → lacks l ks ≡ []
+pub none-lack : (l ks : List ℕ) → ((k : ℕ) → is_in l k ≡ true → is_in ks k ≡ true) → lacks l ks ≡ []
 none-lack [] ks h = refl
 none-lack (x ∷ l) ks h = go (is_in ks x) (h x (in-here x x l refl)) (none-lack l ks (λ k e. h k (in-there x k l e)))
   where
@@ -114,7 +115,7 @@ none-lack (x ∷ l) ks h = go (is_in ks x) (h x (in-here x x l refl)) (none-lack
     go true e ih = ih
     go false e ih = absurd (cc)
 
-every-all : (P : ℕ → Type 0) (ks : List ℕ) → ((k : ℕ) → P k) → AllByRecursion P ks
+pub every-all : (P : ℕ → Type 0) (ks : List ℕ) → ((k : ℕ) → P k) → AllByRecursion P ks
 every-all P [] h = tt
 every-all P (x ∷ ks) h = (h x, every-all P ks h)
 

@@ -1,5 +1,5 @@
 -- The pieces of plans as trees whose calls are gentle to a light fact.
-use Rattle.std.proofs.Common.{◌≡◌, ℕ, zero, suc, true, false, List, [], ◌∷◌, None, refl, subst, ⊎_elim, inl, inr}
+use Rattle.std.proofs.Common.{◌≡◌, ℕ, zero, suc, true, false, List, [], ◌∷◌, refl, subst, ⊎_elim, inl, inr}
 use Rattle.std.specs.Prelude.{⊤}
 use Rattle.listener_set.specs.Numbers.{is_in}
 use Rattle.listener_set.specs.declared.generation.Generation.{Generation}
@@ -10,6 +10,7 @@ use Rattle.vocabulary.specs.declared.plans.End.{End}
 use Rattle.vocabulary.specs.declared.plans.Side.{Side}
 use Rattle.definitions.specs.Tree.{Tree, Branches, Ends, Does, Nothing, Branch, among}
 use Rattle.definitions.specs.Plans.{settle, forks, awaits, starts, quits, kills, forks_any, awaits_any, starts_any, usr1s, opens, closes, census, census_edges, full_end, short_end}
+use Rattle.definitions.specs.Crew.{Crew, fds_of}
 use Rattle.definitions.specs.Run.{Progress, Ending, At, Lost, noted}
 use Rattle.theorems.proofs.Sets.{in-here, in-there, in-cases}
 use Rattle.theorems.proofs.Logic.{Exiting, Asked, Unasked, Course, course_after, Along, Behind}
@@ -24,8 +25,8 @@ module _ (image : ℕ) (mild : Exiting) (due : Asked) (light : Light image mild 
   by-itself (Ends end) h = tt
   by-itself (Does by order set bs) h = inr h
 
-  pub calm-settle : (side : Side) (g : Generation) (S : List ℕ) (rounds : ℕ) → light.Fits g S → IsCalm (settle image g S side rounds)
-  calm-settle side g S rounds fits = by-itself (settle image g S side rounds) (λ p holds. settle-along image mild due light post ends co acts side g S rounds p fits holds)
+  pub calm-settle : (side : Side) (crew : Crew) (S : List ℕ) (rounds : ℕ) → light.Fits crew.generation S → IsCalm (settle image crew S side rounds)
+  calm-settle side crew S rounds fits = by-itself (settle image crew S side rounds) (λ p holds. settle-along image mild due light post ends co acts side crew S rounds p fits holds)
 
   pub calm-quits : (g : Generation) (ks : List ℕ) (rest : Tree) → ((k : ℕ) → is_in ks k ≡ true → light.Gentle (Quit g k)) → IsCalm rest → IsCalm (quits image g ks rest)
   calm-quits g [] rest gentle calm = calm
@@ -48,23 +49,23 @@ module _ (image : ℕ) (mild : Exiting) (due : Asked) (light : Light image mild 
   calm-opens (a ∷ more) done ok bad gentle on_ok on_bad = inl (refl, (gentle a, refl), (calm-opens more (a ∷ done) ok bad gentle on_ok on_bad, (on_bad done, tt)))
 
   -- The forked numbers are among those of the list.
-  calm-forks : (g : Generation) (all ks done : List ℕ) (ok bad : List ℕ → Tree) → ((k : ℕ) → is_in ks k ≡ true → is_in all k ≡ true) → ((k : ℕ) → is_in done k ≡ true → is_in all k ≡ true) → ((done : List ℕ) → ((k : ℕ) → is_in done k ≡ true → is_in all k ≡ true) → IsCalm (ok done)) → ((done : List ℕ) → ((k : ℕ) → is_in done k ≡ true → is_in all k ≡ true) → IsCalm (bad done)) → IsCalm (forks image g ks done ok bad)
-  calm-forks g all [] done ok bad left within on_ok on_bad = on_ok done within
-  calm-forks g all (x ∷ ks) done ok bad left within on_ok on_bad =
+  calm-forks : (crew : Crew) (all ks done : List ℕ) (ok bad : List ℕ → Tree) → ((k : ℕ) → is_in ks k ≡ true → is_in all k ≡ true) → ((k : ℕ) → is_in done k ≡ true → is_in all k ≡ true) → ((done : List ℕ) → ((k : ℕ) → is_in done k ≡ true → is_in all k ≡ true) → IsCalm (ok done)) → ((done : List ℕ) → ((k : ℕ) → is_in done k ≡ true → is_in all k ≡ true) → IsCalm (bad done)) → IsCalm (forks image crew ks done ok bad)
+  calm-forks crew all [] done ok bad left within on_ok on_bad = on_ok done within
+  calm-forks crew all (x ∷ ks) done ok bad left within on_ok on_bad =
       let within' = λ (k : ℕ) (e : is_in (x ∷ done) k ≡ true). ⊎_elim (λ same. subst (λ y. is_in all y ≡ true) same (left x (in-here x x ks refl))) (λ a. within k a) (in-cases x k done e) in
-      inl (refl, (light.forks g x None, refl), (calm-forks g all ks (x ∷ done) ok bad (λ k e. left k (in-there x k ks e)) within' on_ok on_bad, (on_bad done within, tt)))
+      inl (refl, (light.forks crew.generation x (fds_of crew.posts x), refl), (calm-forks crew all ks (x ∷ done) ok bad (λ k e. left k (in-there x k ks e)) within' on_ok on_bad, (on_bad done within, tt)))
 
   calm-awaits : (g : Generation) (ks : List ℕ) (ok bad : Tree) → ((k : ℕ) → is_in ks k ≡ true → light.Gentle (Kill g k)) → IsCalm ok → IsCalm bad → IsCalm (awaits image g ks ok bad)
   calm-awaits g [] ok bad gentle on_ok on_bad = on_ok
   calm-awaits g (x ∷ ks) ok bad gentle on_ok on_bad =
       inl (refl, (light.waits g x, refl), (calm-awaits g ks ok bad (λ k e. gentle k (in-there x k ks e)) on_ok on_bad, (on_bad, (inl (refl, (gentle x (in-here x x ks refl), refl), (on_bad, tt)), tt))))
 
-  pub calm-starts : (g : Generation) (ks : List ℕ) (ok : Tree) (bad : List ℕ → Tree) → ((k : ℕ) → is_in ks k ≡ true → light.Gentle (Kill g k)) → IsCalm ok → ((forked : List ℕ) → ((k : ℕ) → is_in forked k ≡ true → is_in ks k ≡ true) → IsCalm (bad forked)) → IsCalm (starts image g ks ok bad)
-  calm-starts g ks ok bad gentle on_ok on_bad = calm-forks g ks ks [] (λ forked. awaits image g ks ok (bad forked)) bad (λ k e. e) (λ k e. absurd (cc e)) (λ forked within. calm-awaits g ks ok (bad forked) gentle on_ok (on_bad forked within)) on_bad
+  pub calm-starts : (crew : Crew) (ks : List ℕ) (ok : Tree) (bad : List ℕ → Tree) → ((k : ℕ) → is_in ks k ≡ true → light.Gentle (Kill crew.generation k)) → IsCalm ok → ((forked : List ℕ) → ((k : ℕ) → is_in forked k ≡ true → is_in ks k ≡ true) → IsCalm (bad forked)) → IsCalm (starts image crew ks ok bad)
+  calm-starts crew ks ok bad gentle on_ok on_bad = calm-forks crew ks ks [] (λ forked. awaits image crew.generation ks ok (bad forked)) bad (λ k e. e) (λ k e. absurd (cc e)) (λ forked within. calm-awaits crew.generation ks ok (bad forked) gentle on_ok (on_bad forked within)) on_bad
 
-  calm-forks-any : (g : Generation) (ks : List ℕ) (rest : Tree) → IsCalm rest → IsCalm (forks_any image g ks rest)
-  calm-forks-any g [] rest calm = calm
-  calm-forks-any g (x ∷ ks) rest calm = inl (refl, (light.forks g x None, refl), (calm-forks-any g ks rest calm, tt))
+  calm-forks-any : (crew : Crew) (ks : List ℕ) (rest : Tree) → IsCalm rest → IsCalm (forks_any image crew ks rest)
+  calm-forks-any crew [] rest calm = calm
+  calm-forks-any crew (x ∷ ks) rest calm = inl (refl, (light.forks crew.generation x (fds_of crew.posts x), refl), (calm-forks-any crew ks rest calm, tt))
 
   calm-awaits-any : (g : Generation) (ks : List ℕ) (rest : Tree) → ((k : ℕ) → is_in ks k ≡ true → light.Gentle (Kill g k)) → IsCalm rest → IsCalm (awaits_any image g ks rest)
   calm-awaits-any g [] rest gentle calm = calm
@@ -72,8 +73,8 @@ module _ (image : ℕ) (mild : Exiting) (due : Asked) (light : Light image mild 
       let more = calm-awaits-any g ks rest (λ k e. gentle k (in-there x k ks e)) calm in
       inl (refl, (light.waits g x, refl), (more, (inl (refl, (gentle x (in-here x x ks refl), refl), (more, tt)), tt)))
 
-  pub calm-starts-any : (g : Generation) (ks : List ℕ) (rest : Tree) → ((k : ℕ) → is_in ks k ≡ true → light.Gentle (Kill g k)) → IsCalm rest → IsCalm (starts_any image g ks rest)
-  calm-starts-any g ks rest gentle calm = calm-forks-any g ks (awaits_any image g ks rest) (calm-awaits-any g ks rest gentle calm)
+  pub calm-starts-any : (crew : Crew) (ks : List ℕ) (rest : Tree) → ((k : ℕ) → is_in ks k ≡ true → light.Gentle (Kill crew.generation k)) → IsCalm rest → IsCalm (starts_any image crew ks rest)
+  calm-starts-any crew ks rest gentle calm = calm-forks-any crew ks (awaits_any image crew.generation ks rest) (calm-awaits-any crew.generation ks rest gentle calm)
 
   pub calm-census : (g : Generation) (S : List ℕ) (full short : Tree) → IsCalm full → IsCalm short → IsCalm (census image g S (census_edges full short))
   calm-census g S full short on_full on_short = inl (refl, (light.censuses g, refl), (on_full, (on_short, tt)))
@@ -106,10 +107,10 @@ mutual
         | false ↦ there
       ]
 
-pub ends-settle : (Q : End → Type 0) (by : ℕ) (g : Generation) (S : List ℕ) (side : Side) (rounds : ℕ) → Q (full_end side) → Q (short_end side) → AllEnds Q (settle by g S side rounds)
-ends-settle Q by g S side zero full short = (full, (short, tt))
-ends-settle Q by g S side (suc rounds) full short =
-    let rest = ends-settle Q by g S side rounds full short in
+pub ends-settle : (Q : End → Type 0) (by : ℕ) (crew : Crew) (S : List ℕ) (side : Side) (rounds : ℕ) → Q (full_end side) → Q (short_end side) → AllEnds Q (settle by crew S side rounds)
+ends-settle Q by crew S side zero full short = (full, (short, tt))
+ends-settle Q by crew S side (suc rounds) full short =
+    let rest = ends-settle Q by crew S side rounds full short in
     (full, (((rest, ((rest, tt), tt)), (rest, tt)), tt))
 
 pub ends-quits : (Q : End → Type 0) (by : ℕ) (g : Generation) (ks : List ℕ) (rest : Tree) → AllEnds Q rest → AllEnds Q (quits by g ks rest)

@@ -154,6 +154,33 @@ abbrev pub Distinct : List ℕ → Type 0
 Distinct [] = ⊤
 Distinct (k ∷ ks) = (is_in ks k ≡ false) × Distinct ks
 
+-- a part of a set
+pub filter-distinct : (t : ℕ → Bool) (S : List ℕ) → Distinct S → Distinct (filter t S)
+filter-distinct t [] d = tt
+filter-distinct t (x ∷ S) d = go (t x) (filter-distinct t S d.1)
+  where
+    go : (b : Bool) → Distinct (filter t S) → Distinct (cond b (x ∷ filter t S) (filter t S))
+    go true e = (in-filter t S x ∙ ap (λ b. b && t x) d.0, e)
+    go false e = e
+
+pub filter-every : {X : Type 0} (t : X → Bool) (P : X → Type 0) (xs : List X) → AllByRecursion P xs → AllByRecursion P (filter t xs)
+filter-every t P [] all = tt
+filter-every t P (x ∷ xs) all = go (t x) (filter-every t P xs all.1)
+  where
+    go : (b : Bool) → AllByRecursion P (filter t xs) → AllByRecursion P (cond b (x ∷ filter t xs) (filter t xs))
+    go true e = (all.0, e)
+    go false e = e
+
+pub filter-swap : {X : Type 0} (f g : X → Bool) (xs : List X) → filter f (filter g xs) ≡ filter g (filter f xs)
+filter-swap f g [] = refl
+filter-swap f g (x ∷ xs) = go (f x) refl (g x) refl (filter-swap f g xs)
+  where
+    go : (b : Bool) → f x ≡ b → (c : Bool) → g x ≡ c → filter f (filter g xs) ≡ filter g (filter f xs) → filter f (cond c (x ∷ filter g xs) (filter g xs)) ≡ filter g (cond b (x ∷ filter f xs) (filter f xs))
+    go true e true d ih = rw (e, d) (ap (λ l. x ∷ l) ih)
+    go true e false d ih = rw d ih
+    go false e true d ih = rw e ih
+    go false e false d ih = ih
+
 eqb-sym : (x k : ℕ) → (x == k) ≡ (k == x)
 eqb-sym x k = grind (arith, nat_tests)
 
@@ -217,3 +244,27 @@ count-set v g rows cs looks (k ∷ S) d all =
     go : (b : Bool) → is_in cs k ≡ b → list_any (is_worker is_ready v.number g k) rows ≡ is_in cs k → weigh (ready_in v.number (named g (is_in (k ∷ S)))) rows ≡ weigh (λ p. one (is_worker is_ready v.number g k p) + ready_in v.number (named g (is_in S)) p) rows → weigh (λ p. one (is_worker is_ready v.number g k p) + ready_in v.number (named g (is_in S)) p) rows ≡ weigh (λ p. one (is_worker is_ready v.number g k p)) rows + weigh (ready_in v.number (named g (is_in S))) rows → weigh (ready_in v.number (named g (is_in S))) rows + length (lacks S cs) ≡ length S → weigh (λ p. one (is_worker is_ready v.number g k p)) rows ≤ weigh (live_named v.number g k) rows → weigh (live_named v.number g k) rows ≤ 1 → weigh (ready_in v.number (named g (is_in (k ∷ S)))) rows + length (lacks (k ∷ S) cs) ≡ suc (length S)
     go true is a sum add ih le once = omega (arith, any-some (is_worker is_ready v.number g k) rows (a ∙ is), lacks-more k S cs true is, sum, add, ih, le, once)
     go false is a sum add ih le once = omega (arith, any-none (is_worker is_ready v.number g k) rows (a ∙ is), lacks-more k S cs false is, sum, add, ih, le, once)
+
+-- What a count says of a set: of each part of it those that are Ready and those that are lacking are all.
+abbrev pub Counted : ℕ → Generation → List ℕ → List ℕ → List Process → Type 0
+Counted m g S lacking rows = (part : ℕ → Bool) → weigh (ready_in m (named g (is_in (filter part S)))) rows + length (filter part lacking) ≡ length (filter part S)
+
+pub counted : (v : View) (g : Generation) (rows : List Process) (cs : List ℕ) → Looks v rows → (S : List ℕ) → Distinct S → AllByRecursion (λ k. list_any (is_worker is_ready v.number g k) rows ≡ is_in cs k) S → Counted v.number g S (lacks S cs) rows
+counted v g rows cs looks S d all part =
+    let some = count-set v g rows cs looks (filter part S) (filter-distinct part S d) (filter-every part (λ k. list_any (is_worker is_ready v.number g k) rows ≡ is_in cs k) S all) in
+    ap (λ l. weigh (ready_in v.number (named g (is_in (filter part S)))) rows + length l) (filter-swap part (λ k. not (is_in cs k)) S) ∙ some
+
+pub filter-all : {X : Type 0} (xs : List X) → filter (λ x. true) xs ≡ xs
+filter-all [] = refl
+filter-all (x ∷ xs) = ap (λ l. x ∷ l) (filter-all xs)
+
+-- of the whole set
+pub counted-all : (m : ℕ) (g : Generation) (S lacking : List ℕ) (rows : List Process) → Counted m g S lacking rows → weigh (ready_in m (named g (is_in S))) rows + length lacking ≡ length S
+counted-all m g S lacking rows counts =
+    omega (
+      arith,
+      counts (λ k. true),
+      ap (λ l. weigh (ready_in m (named g (is_in l))) rows) (filter-all S),
+      ap length (filter-all lacking),
+      ap length (filter-all S),
+    )

@@ -1,63 +1,98 @@
 -- What the last census says of the service, and of the record that is left.
 use Rattle.std.proofs.Common.{◌≡◌, ℕ, ◌+◌, ◌<◌, ◌≤◌, Bool, true, false, List, [], ◌∷◌, length, Some, None, ⊎_elim, refl, sym, ap, ◌∙◌, subst, arith, nat_lt}
-use Rattle.std.specs.Prelude.{nat_le, is_some, option_map, option_and_then, map, ◌&&◌, ◌||◌, ◌==◌, if◌then◌else◌, bytes_eq, count_by, Option}
+use Rattle.std.specs.Prelude.{nat_le, is_some, option_map, option_and_then, map, filter, ◌&&◌, ◌==◌, if◌then◌else◌, count_by, Option}
 use Rattle.std.specs.List.{AllByRecursion, list_any}
 use Rattle.std.proofs.lemmas.Bool.Decides.{nat_tests}
-use Rattle.listener_set.specs.Numbers.{is_in, first_from}
+use Rattle.std.proofs.lemmas.List.Sums.{length-filter}
+use Rattle.listener_set.specs.Groups.{AreGroups, group_of}
+use Rattle.listener_set.specs.Numbers.{is_in, lacks, first_from}
 use Rattle.listener_set.specs.declared.generation.Generation.{Generation}
 use Rattle.vocabulary.specs.declared.table.Limits.{Limits}
-use Rattle.definitions.specs.Table.{Address, Caller, same_generation, Hold, Process, Master, Worker, Foreign, Table, File, FilePath, is_worker, is_ready, has_address}
-use Rattle.definitions.specs.Service.{is_live_with, is_serving, service, uniform, IsSame}
+use Rattle.definitions.specs.Table.{Address, Caller, same_generation, Process, Master, Worker, Foreign, Table, File, FilePath, is_worker, is_ready, has_address}
+use Rattle.definitions.specs.Service.{is_live_with, is_serving, service, serving, IsSame}
 use Rattle.vocabulary.specs.declared.table.Stance.TheVariants.{Starting, Ready, Draining, Exited}
 use Rattle.vocabulary.specs.declared.plans.PidNote.{PidNote}
 use Rattle.vocabulary.specs.declared.table.Listener.{Listener}
-use Rattle.definitions.specs.Record.{Record, IsRecord, Agrees, FilesAre, addresses_of}
+use Rattle.definitions.specs.Crew.{share, Layout, layout_at, served, short_at, shortfalls_of}
+use Rattle.definitions.specs.Record.{Record, IsRecord, Agrees, FilesAre, addresses_of, layout_of}
 use Rattle.vocabulary.specs.declared.targets.Target.{Target}
 use Rattle.listener_set.specs.AddressList.{has}
 use Rattle.definitions.specs.Target.{reload_generation, upgrade_generation}
 use Rattle.definitions.specs.After.{next_config, next_image, numbered, Setup, setup_after, recorded, record_from, record_if, record_after, keeps_rules, master_of, reigning}
 use Rattle.definitions.specs.Run.{Ending, Progress, outcome_of}
+use Rattle.definitions.specs.Path.{Sides}
 use Rattle.vocabulary.specs.declared.reports.Report.{Report}
-use Rattle.definitions.specs.Claims.{IsStart, IsFewer, AgreesAfter, is_ready_with, ready_with}
-use Rattle.theorems.proofs.Rows.{one, one-le, weigh, weigh-le, count-weigh, both-true, and-left, and-right}
-use Rattle.theorems.proofs.Views.{HoldsAll, Names, named, View, Fine, Looks, ready_in, eqb-refl}
-use Rattle.theorems.proofs.Effects.{none, same-is, bears-is}
-use Rattle.theorems.proofs.Sets.{in-here, in-there}
-use Rattle.theorems.proofs.Services.{Sole, live-with, sole-fine, service-is, served-uniform, served-fewer, fewer-same}
-use Rattle.theorems.proofs.Begins.{first_view, begin, begin-count}
-use Rattle.theorems.proofs.Small.{map-addresses, or-elim}
+use Rattle.definitions.specs.Claims.{IsStart, FallsShort, AgreesAfter, is_ready_with, ready_with}
+use Rattle.theorems.proofs.Rows.{one, weigh-le, count-weigh, both-true, and-left, and-right}
+use Rattle.theorems.proofs.Views.{Names, named, View, Fine, Looks, ready_in, eqb-refl}
+use Rattle.theorems.proofs.Effects.{none, same-is, same-refl, bears-is}
+use Rattle.theorems.proofs.Counts.{Counted, counted}
+use Rattle.theorems.proofs.Sets.{in-here, in-there, in-filter-on, weigh-set}
+use Rattle.theorems.proofs.Shares.{held-listeners, share-by-holds, shortfalls-length, shortfalls-sum, shortfalls-at}
+use Rattle.theorems.proofs.Services.{Sole, live-with, sole-fine, holders, held_at, service-by, serving-same, serving-fewer, fewer-same}
+use Rattle.theorems.proofs.Begins.{first_view, begin, rising-distinct, every-all, none-lack}
+use Rattle.theorems.proofs.Small.{or-elim}
 use Rattle.theorems.proofs.Rules.{view, Only, Still}
 
 ---- The service
 
--- Of a master alone, whose Ready workers are of one generation and a set and hold what it holds.
-module _ (v : View) (sole : Sole v) (g : Generation) (S : List ℕ) (addresses : List Address) (same : HoldsAll v g) (keys : (a : Address) → has_address a v.holds ≡ has addresses a) where
-  -- So many of the set are Ready.
-  pub service-of : (r : Names) (n : ℕ) (t : Table) → Only g S r → Looks (view v none r) t.rows → weigh (ready_in v.number (named g (is_in S))) t.rows ≡ n → IsSame (service t) (uniform addresses g n)
-  service-of r n t only looks count a = service-is (view v none r) sole g S n t same only looks count a ∙ served-uniform v.holds addresses g n keys a
+-- its workers of the generation hold an address of the master where their group listens
+abbrev pub ListensBy : View → Generation → Layout → Type 0
+ListensBy v g layout = (k : ℕ) (a : Address) → has_address a v.holds ≡ true → has_address a (v.held g k) ≡ layout.listens (group_of layout.groups k) a
 
-  -- So many are lacking of all.
-  pub service-short : (r : Names) (n m : ℕ) (t : Table) → Only g S r → Looks (view v none r) t.rows → weigh (ready_in v.number (named g (is_in S))) t.rows + m ≡ n → IsFewer m (uniform addresses g n) (service t)
-  service-short r n m t only looks count =
-      let k : ℕ = weigh (ready_in v.number (named g (is_in S))) t.rows in
-      fewer-same m _ _ _ _ (served-uniform v.holds addresses g n keys) (λ a. sym (service-is (view v none r) sole g S k t same only looks refl a)) (served-fewer v.holds g n k m (sym count))
+-- Of a master alone, whose Ready workers are of one generation and a set, and listen as they are laid out.
+module _ (v : View) (sole : Sole v) (g : Generation) (S : List ℕ) (addresses : List Address) (layout : Layout) (listens : ListensBy v g layout) (keys : (a : Address) → has_address a v.holds ≡ has addresses a) where
+  -- at each address those that are Ready and those that are lacking are all that it counts
+  at-address : (t : Table) (lacking : List ℕ) → Counted v.number g S lacking t.rows → (a : Address) → has addresses a ≡ true → served layout S a ≡ held_at v g S t a + count_by (λ k. layout.listens (group_of layout.groups k) a) lacking
+  at-address t lacking counts a key =
+      let part : ℕ → Bool = λ k. has_address a (v.held g k) in
+      let same : part ≡ (λ k. layout.listens (group_of layout.groups k) a) = λ i k. listens k a (keys a ∙ key) i in
+      let full : length (filter part S) ≡ served layout S a = length-filter part S ∙ ap (λ p. count_by p S) same in
+      let less : length (filter part lacking) ≡ count_by (λ k. layout.listens (group_of layout.groups k) a) lacking = length-filter part lacking ∙ ap (λ p. count_by p lacking) same in
+      omega (arith, counts part, full, less)
+
+  -- All of the set are Ready.
+  pub service-of : (r : Names) (t : Table) (lacking : List ℕ) → Only g S r → Looks (view v none r) t.rows → lacking ≡ [] → Counted v.number g S lacking t.rows → IsSame (service t) (serving addresses g (served layout S))
+  service-of r t lacking only looks empty counts a =
+      service-by (view v none r) sole g S addresses keys t only looks a
+      ∙ serving-same addresses g (held_at v g S t) (served layout S)
+      (λ b key. let all = at-address t lacking counts b key in omega (arith, all, ap (count_by (λ k. layout.listens (group_of layout.groups k) b)) empty)) a
+
+  -- Some are lacking.
+  pub service-short : (r : Names) (t : Table) (lacking : List ℕ) → Only g S r → Looks (view v none r) t.rows → 1 ≤ length layout.groups → 1 ≤ length lacking → Counted v.number g S lacking t.rows → FallsShort layout (shortfalls_of layout.groups lacking) (serving addresses g (served layout S)) (service t)
+  service-short r t lacking only looks some short counts =
+      let shortfalls = shortfalls_of layout.groups lacking in (
+        shortfalls-length layout.groups lacking,
+        omega (arith, short, shortfalls-sum layout.groups lacking some),
+        fewer-same (short_at layout shortfalls) _ _ _ _ (λ a. refl) (λ a. sym (service-by (view v none r) sole g S addresses keys t only looks a))
+            (serving-fewer addresses g (served layout S) (held_at v g S t) (short_at layout shortfalls) (λ a key. omega (arith, at-address t lacking counts a key, shortfalls-at layout lacking a some))),
+      )
 
 ---- The first table
 
-held-map : (a : Address) (hs : List Hold) → has_address a hs ≡ has (map (λ h. h.address) hs) a
-held-map a [] = refl
-held-map a (h ∷ hs) = ap (λ b. bytes_eq h.address a || b) (held-map a hs)
-
 pub first-keys : (t : Table) (r : Record) (s : IsStart t r) → (a : Address) → has_address a s.agrees.holds ≡ has (addresses_of r) a
-first-keys t r s a = held-map a s.agrees.holds ∙ ap (λ l. has l a) (sym (map-addresses s.agrees.holds) ∙ ap (map (λ (l : Listener). l.address)) s.agrees.listeners)
+first-keys t r s a = held-listeners a s.agrees.holds ∙ ap (λ ls. has (map (λ (l : Listener). l.address) ls) a) s.agrees.listeners
 
 first-only : (t : Table) (r : Record) (s : IsStart t r) → Only r.generation r.ready (first_view r s.agrees.holds).ready
 first-only t r s h k e = (same-is h r.generation (and-left _ _ e), and-right (same_generation h r.generation) _ e)
 
-pub first-service : (t : Table) (r : Record) (s : IsStart t r) → IsSame (service t) (uniform (addresses_of r) r.generation (length r.ready))
+-- A worker holds an address where its group listens.
+pub first-listens : (t : Table) (r : Record) (s : IsStart t r) (k : ℕ) (a : Address) → has_address a (share r.posts k s.agrees.holds) ≡ (layout_of r).listens (group_of r.posts.groups k) a
+first-listens t r s k a = share-by-holds r.posts k s.agrees.holds a ∙ ap (λ ls. (layout_at r.posts ls).listens (group_of r.posts.groups k) a) s.agrees.listeners
+
+-- So many of some numbers hold an address then as it counts.
+pub first-served : (t : Table) (r : Record) (s : IsStart t r) (S : List ℕ) (a : Address) → length (filter (λ k. has_address a (share r.posts k s.agrees.holds)) S) ≡ served (layout_of r) S a
+first-served t r s S a =
+    let holds : ℕ → Bool = λ k. has_address a (share r.posts k s.agrees.holds) in
+    let same : holds ≡ (λ k. (layout_of r).listens (group_of r.posts.groups k) a) = λ i k. first-listens t r s k a i in
+    length-filter holds S ∙ ap (λ (p : ℕ → Bool). count_by p S) same
+
+pub first-service : (t : Table) (r : Record) (s : IsStart t r) → IsSame (service t) (serving (addresses_of r) r.generation (served (layout_of r) r.ready))
 first-service t r s =
     let u = first_view r s.agrees.holds in
-    service-of u (λ n. refl) r.generation r.ready (addresses_of r) (λ k. refl) (first-keys t r s) u.ready (length r.ready) t (first-only t r s) (begin t r s) (begin-count t r s)
+    let looks = begin t r s in
+    let all = counted u r.generation t.rows r.ready looks r.ready (rising-distinct r.ready s.rising) (every-all (λ k. list_any (is_worker is_ready r.pid r.generation k) t.rows ≡ is_in r.ready k) r.ready s.agrees.ready) in
+    service-of u (λ n. refl) r.generation r.ready (addresses_of r) (layout_of r) (λ k a on. first-listens t r s k a) (first-keys t r s) u.ready t (lacks r.ready r.ready) (first-only t r s) looks (none-lack r.ready r.ready (λ k e. e)) all
 
 -- The keys of its service are what the master holds.
 pub first-held : (t : Table) (r : Record) (s : IsStart t r) (a : Address) → is_some (service t a) ≡ true → has_address a s.agrees.holds ≡ true
@@ -67,24 +102,38 @@ first-held t r s a e = sym (live-with (first_view r s.agrees.holds) (λ n. refl)
     go true e = refl
     go false e = e
 
-few-row : (v : View) (g : Generation) (S : List ℕ) (a : Address) → Only g S v.ready → (p : Process) → Fine v p → one (is_ready_with a p) ≤ ready_in v.number (named g (is_in S)) p
+few-row : (v : View) (g : Generation) (S : List ℕ) (a : Address) → Only g S v.ready → (p : Process) → Fine v p → one (is_ready_with a p) ≤ ready_in v.number (named g (is_in (holders v g S a))) p
 few-row v g S a only (Master n q i live hs) h = omega arith
 few-row v g S a only (Worker n q g' k Starting hs) h = omega arith
-few-row v g S a only (Worker n q g' k Ready hs) h =
-    let o = only g' k h.1.0 in
-    let same : same_generation g' g ≡ true = subst (λ f. same_generation f g ≡ true) (sym o.0) (both-true (g.image == g.image) (g.config == g.config) (eqb-refl _ _ refl) (eqb-refl _ _ refl)) in
-    let all : one ((q == v.number) && (same_generation g' g && is_in S k)) ≡ 1 = ap one (both-true (q == v.number) (same_generation g' g && is_in S k) (eqb-refl q v.number h.0) (both-true (same_generation g' g) (is_in S k) same o.1)) in
-    omega (arith, all, one-le (has_address a hs))
+few-row v g S a only (Worker n q g' k Ready hs) h = go (has_address a hs) refl
+  where
+    o : (g' ≡ g) × (is_in S k ≡ true)
+    o = only g' k h.1.0
+
+    go : (b : Bool) → has_address a hs ≡ b → one b ≤ one ((q == v.number) && (same_generation g' g && is_in (holders v g S a) k))
+    go true e =
+        let same : same_generation g' g ≡ true = subst (λ f. same_generation f g ≡ true) (sym o.0) (same-refl g) in
+        let held : has_address a (v.held g k) ≡ true = ap (λ f. has_address a (v.held f k)) (sym o.0) ∙ ap (has_address a) (sym h.1.1) ∙ e in
+        let in_it : is_in (holders v g S a) k ≡ true = in-filter-on (λ j. has_address a (v.held g j)) S k o.1 held in
+        omega (arith, ap one (both-true (q == v.number) (same_generation g' g && is_in (holders v g S a) k) (eqb-refl q v.number h.0) (both-true (same_generation g' g) (is_in (holders v g S a) k) same in_it)))
+    go false e = omega arith
 few-row v g S a only (Worker n q g' k Draining hs) h = omega arith
 few-row v g S a only (Worker n q g' k Exited hs) h = omega arith
 few-row v g S a only (Foreign n hs) h = omega arith
 
--- No address has more Ready workers at first than the record has ready numbers.
-pub first-few : (t : Table) (r : Record) (s : IsStart t r) (a : Address) → ready_with a t ≤ length r.ready
+-- No address has more Ready workers at first than ready numbers of its group.
+pub first-few : (t : Table) (r : Record) (s : IsStart t r) (a : Address) → ready_with a t ≤ served (layout_of r) r.ready a
 first-few t r s a =
     let u = first_view r s.agrees.holds in
+    let g = r.generation in
     let looks = begin t r s in
-    omega (arith, count-weigh (is_ready_with a) t.rows, begin-count t r s, weigh-le (Fine u) (λ p. one (is_ready_with a p)) (ready_in u.number (named r.generation (is_in r.ready))) (few-row u r.generation r.ready a (first-only t r s)) t.rows (sole-fine u (λ n. refl) t.rows looks.fine))
+    omega (
+      arith,
+      count-weigh (is_ready_with a) t.rows,
+      weigh-le (Fine u) (λ p. one (is_ready_with a p)) (ready_in u.number (named g (is_in (holders u g r.ready a)))) (few-row u g r.ready a (first-only t r s)) t.rows (sole-fine u (λ n. refl) t.rows looks.fine),
+      weigh-set u.number g t.rows looks.once (holders u g r.ready a),
+      first-served t r s r.ready a,
+    )
 
 ---- The record that is left
 
@@ -119,7 +168,7 @@ all-below wanted (x ∷ ks) h =
 
 -- A service with that many workers, and all else as it was.
 abbrev pub resized : Record → ℕ → Setup
-resized r wanted = record { listeners = r.listeners; generation = r.generation; wanted = wanted; retries = r.retries; timeout = r.timeout }
+resized r wanted = record { listeners = r.listeners; posts = r.posts; generation = r.generation; wanted = wanted; retries = r.retries; timeout = r.timeout }
 
 keeps : (r : Record) → 1 ≤ length r.listeners → r.wanted ≤ 1024 → first_from r.wanted r.ready ≡ None → 1 ≤ r.pid → keeps_rules r ≡ true
 keeps r listens most none_above pid =
@@ -129,8 +178,8 @@ keeps r listens most none_above pid =
     rw (a, b, c, none_above)
 
 -- A record that moves to another setup, run by the master of a process number.
-pub moved-after : (r : Record) (target : Target) (report : Report) (t : Table) (setup : Setup) (pid : ℕ) → setup_after report.outcome r target ≡ Some setup → 1 ≤ length setup.listeners → setup.wanted ≤ 1024 → setup.retries ≤ 8 → 1 ≤ setup.timeout → setup.timeout ≤ 86400 → IsRecord r → 1 ≤ pid → (setup.generation.image ≡ r.generation.image → pid ≡ r.pid) → ((k : ℕ) → is_in report.ready k ≡ true → k < setup.wanted) → Agrees t (recorded setup r.pid_path report pid) → AgreesAfter r target report t
-moved-after r target report t setup pid is listens most retries least longest range some same below agrees =
+pub moved-after : (r : Record) (target : Target) (report : Report) (t : Table) (setup : Setup) (pid : ℕ) → setup_after report.outcome r target ≡ Some setup → 1 ≤ length setup.listeners → AreGroups setup.posts.groups → setup.wanted ≤ 1024 → setup.retries ≤ 8 → 1 ≤ setup.timeout → setup.timeout ≤ 86400 → IsRecord r → 1 ≤ pid → (setup.generation.image ≡ r.generation.image → pid ≡ r.pid) → ((k : ℕ) → is_in report.ready k ≡ true → k < setup.wanted) → Agrees t (recorded setup r.pid_path report pid) → AgreesAfter r target report t
+moved-after r target report t setup pid is listens groups most retries least longest range some same below agrees =
     let all = all-below setup.wanted report.ready below in
     let next = recorded setup r.pid_path report pid in
     let reigns : reigning r target report.outcome t ≡ Some pid = ap (λ o. master_of o t) is ∙ ap (option_map (λ (c : Caller). c.number)) agrees.lives in
@@ -138,13 +187,13 @@ moved-after r target report t setup pid is listens most retries least longest ra
       record_then = next;
       is = ap (option_and_then (record_after r target report)) reigns ∙ (ap (λ o. record_from o r.pid_path report pid) is ∙ ap (λ b. record_if b next) (keeps next listens most all.0 some));
       agrees = agrees;
-      record_in_range = record { listens = listens; wanted = most; ready = all.1; retries = retries; timeout_least = least; timeout_most = longest; pid_path = range.pid_path; pid = some };
+      record_in_range = record { listens = listens; groups = groups; wanted = most; ready = all.1; retries = retries; timeout_least = least; timeout_most = longest; pid_path = range.pid_path; pid = some };
       same_master = same;
     }
 
 -- A record that keeps all but its count, its ready numbers and its note.
 pub kept-after : (r : Record) (target : Target) (report : Report) (t : Table) (wanted : ℕ) → setup_after report.outcome r target ≡ Some (resized r wanted) → IsRecord r → wanted ≤ 1024 → ((k : ℕ) → is_in report.ready k ≡ true → k < wanted) → Agrees t (recorded (resized r wanted) r.pid_path report r.pid) → AgreesAfter r target report t
-kept-after r target report t wanted is range most below agrees = moved-after r target report t (resized r wanted) r.pid is range.listens most range.retries range.timeout_least range.timeout_most range range.pid (λ e. refl) below agrees
+kept-after r target report t wanted is range most below agrees = moved-after r target report t (resized r wanted) r.pid is range.listens range.groups most range.retries range.timeout_least range.timeout_most range range.pid (λ e. refl) below agrees
 
 -- The next configuration, where there is one.
 pub next-is : (g : Generation) → is_some (next_config g) ≡ true → next_config g ≡ Some (reload_generation g)
@@ -165,5 +214,5 @@ next-image-is g e = go (nat_lt g.image 4294967295) (nat_lt g.config 4294967295) 
     go false false e = absurd (cc)
 
 -- What is reported where a run ends so.
-abbrev pub report_at : Ending → Progress → Report
-report_at e q = record { outcome = outcome_of e q.lacking; cause = q.cause; note = q.note; ready = q.ready }
+abbrev pub report_at : Sides → Ending → Progress → Report
+report_at sides e q = record { outcome = outcome_of sides e q.lacking; cause = q.cause; note = q.note; ready = q.ready }

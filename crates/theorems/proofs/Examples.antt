@@ -10,7 +10,7 @@ use Rattle.vocabulary.specs.declared.plans.PidNote.{PidNote}
 use Rattle.vocabulary.specs.declared.plans.PidNote.TheVariants.{InPlace, AtOldbin}
 use Rattle.listener_set.specs.Numbers.{is_in}
 use Rattle.definitions.specs.Formed.{IsFormed}
-use Rattle.definitions.specs.Record.{FilesAre}
+use Rattle.definitions.specs.Record.{FilesAre, crew_of}
 use Rattle.definitions.specs.Settling.{HasSide}
 use Rattle.definitions.specs.Claims.{IsStart}
 use Rattle.theorems.specs.Examples.{table_with, own_rows, pid_files, two_ready, two_workers, two_with_stale_file, two_masters, record_with, pid_file, first, holds, HasStart}
@@ -50,6 +50,7 @@ start_with files note files_are = record {
   };
   record_in_range = record {
     listens = omega arith;
+    groups = record { some = omega arith; most = omega arith; listening = (omega arith, tt); addresses = omega arith; workers = omega arith };
     wanted = omega arith;
     ready = (omega arith, (omega arith, tt));
     retries = omega arith;
@@ -83,7 +84,7 @@ formed_beside = record {
 within_two : (k : ℕ) → list_any (is_worker is_ready 100 first k) two_masters.rows ≡ true → is_in (0 ∷ 1 ∷ []) k ≡ true
 within_two k e = e
 
-has_side : HasSide two_masters 1 100 holds first (0 ∷ 1 ∷ [])
+has_side : HasSide two_masters 1 100 holds (crew_of (two_ready 3)) (0 ∷ 1 ∷ [])
 has_side = record {
   lives = refl;
   only = ((λ e. refl), (tt, (tt, ((λ e. absurd (omega (arith, e))), tt))));

@@ -5,6 +5,7 @@ pub mod Effects
 pub mod Counts
 pub mod Sets
 pub mod Small
+pub mod Shares
 pub mod Services
 pub mod Begins
 pub mod After
@@ -28,6 +29,7 @@ pub mod UpgradeWalk
 pub mod UpgradeManner
 pub mod Workers
 pub mod Examples
+pub mod GroupRuns
 pub mod WorkedRuns
 pub mod WrongTables
 pub mod Same
@@ -35,6 +37,8 @@ pub mod Mend
 pub mod Reopen
 pub mod Addresses
 pub mod Listeners
+pub mod Layouts
+pub mod LaidOut
 pub mod Reload
 pub mod Settling
 pub mod StopFiles

@@ -20,6 +20,7 @@ use Rattle.definitions.specs.Path.{lacking_after, went_wrong, first_cause}
 use Rattle.definitions.specs.Tree.{Tree, Branches, Ends, Does, Nothing, Branch, among, reply_of, full_or_short, call_of, lowest}
 use Rattle.definitions.specs.Plans.{settle, round, full_end, short_end, fork_edges, await_any_edges, then_edge, census_edges, census}
 use Rattle.definitions.specs.Manner.{is_leave_call}
+use Rattle.definitions.specs.Crew.{Crew, fds_of, fork_of}
 use Rattle.definitions.specs.Run.{Progress, Ending, At, Lost, noted, after_call, after_moment, answered}
 use Rattle.definitions.specs.Claims.{names_any}
 use Rattle.theorems.proofs.Refusals.{is_leave}
@@ -124,43 +125,43 @@ module _ (image : ℕ) (mild : Exiting) (due : Asked) (light : Light image mild 
   wait-lacking g x fate t None l = refl
   wait-lacking g x fate t (Some c) l = await-cases co.text image c g x fate t (λ st. lacking_after [] st.answer l ≡ l) refl (λ on. refl) (λ off. refl)
 
-  round-along : (rest : Tree) (g : Generation) (x : ℕ) (xs : List ℕ) (p : Progress) → ((q : Progress) → light.Holds q.table → Goes rest q) → Both g x p.table → p.lacking ≡ x ∷ xs → Goes (round image g rest) p
-  round-along rest g x xs p next both is =
-      let killed = Does image (KillLacking g) [] (then_edge rest) in
-      let wait = Does image (AwaitLacking g) [] (await_any_edges rest killed) in
-      light-step (ForkLacking g) [] (fork_edges wait rest) p (Both g x) refl (both-exits g x p.table) both
-      (λ q b e. light.idles (Fork g (lowest q.lacking) None) q.table (light.forks g (lowest q.lacking) None) b.0)
+  round-along : (rest : Tree) (crew : Crew) (x : ℕ) (xs : List ℕ) (p : Progress) → ((q : Progress) → light.Holds q.table → Goes rest q) → Both crew.generation x p.table → p.lacking ≡ x ∷ xs → Goes (round image crew rest) p
+  round-along rest crew x xs p next both is =
+      let killed = Does image (KillLacking crew.generation) [] (then_edge rest) in
+      let wait = Does image (AwaitLacking crew.generation) [] (await_any_edges rest killed) in
+      light-step (ForkLacking crew) [] (fork_edges wait rest) p (Both crew.generation x) refl (both-exits crew.generation x p.table) both
+      (λ q b e. light.idles (fork_of crew (lowest q.lacking)) q.table (light.forks crew.generation (lowest q.lacking) (fds_of crew.posts (lowest q.lacking))) b.0)
       (λ q fate b e.
-      let call = Fork g (lowest q.lacking) None in
+      let call = fork_of crew (lowest q.lacking) in
       let st = step_with co.text image call fate q.table in
-      let p' = after_call (ForkLacking g) [] st q in
-      let h = light.steps co.text call fate q.table (light.forks g (lowest q.lacking) None) b.0 in
-      let m = light.may_steps co.text call fate q.table g x (light.forks g (lowest q.lacking) None) b.0 b.1 in
-      let is' : p'.lacking ≡ x ∷ xs = fork-lacking g (lowest q.lacking) None fate q.table (live_master image q.table.rows) q.lacking ∙ e ∙ is in
+      let p' = after_call (ForkLacking crew) [] st q in
+      let h = light.steps co.text call fate q.table (light.forks crew.generation (lowest q.lacking) (fds_of crew.posts (lowest q.lacking))) b.0 in
+      let m = light.may_steps co.text call fate q.table crew.generation x (light.forks crew.generation (lowest q.lacking) (fds_of crew.posts (lowest q.lacking))) b.0 b.1 in
+      let is' : p'.lacking ≡ x ∷ xs = fork-lacking crew.generation (lowest q.lacking) (fds_of crew.posts (lowest q.lacking)) fate q.table (live_master image q.table.rows) q.lacking ∙ e ∙ is in
       all-go (fork_edges wait rest) (reply_of [] st.answer) p' h (wait-along p' (h, m) is', (next p' h, tt)))
     where
-      kill-along : (p : Progress) → Both g x p.table → p.lacking ≡ x ∷ xs → Goes (Does image (KillLacking g) [] (then_edge rest)) p
+      kill-along : (p : Progress) → Both crew.generation x p.table → p.lacking ≡ x ∷ xs → Goes (Does image (KillLacking crew.generation) [] (then_edge rest)) p
       kill-along p both is =
-          light-step (KillLacking g) [] (then_edge rest) p (Both g x) refl (both-exits g x p.table) both
-          (λ q b e. subst (λ (l : List ℕ). due (Kill g (lowest l)) q.table) (sym (e ∙ is)) (light.kill_due g x q.table b.0 b.1))
+          light-step (KillLacking crew.generation) [] (then_edge rest) p (Both crew.generation x) refl (both-exits crew.generation x p.table) both
+          (λ q b e. subst (λ (l : List ℕ). due (Kill crew.generation (lowest l)) q.table) (sym (e ∙ is)) (light.kill_due crew.generation x q.table b.0 b.1))
           (λ q fate b e.
-          let h = subst (λ (l : List ℕ). light.Holds (step_with co.text image (Kill g (lowest l)) fate q.table).table) (sym (e ∙ is)) (light.kills co.text g x fate q.table b.0 b.1) in
-          let st = step_with co.text image (Kill g (lowest q.lacking)) fate q.table in
-          let p' = after_call (KillLacking g) [] st q in
+          let h = subst (λ (l : List ℕ). light.Holds (step_with co.text image (Kill crew.generation (lowest l)) fate q.table).table) (sym (e ∙ is)) (light.kills co.text crew.generation x fate q.table b.0 b.1) in
+          let st = step_with co.text image (Kill crew.generation (lowest q.lacking)) fate q.table in
+          let p' = after_call (KillLacking crew.generation) [] st q in
           all-go (then_edge rest) (reply_of [] st.answer) p' h (next p' h, tt))
 
-      wait-along : (p : Progress) → Both g x p.table → p.lacking ≡ x ∷ xs → Goes (Does image (AwaitLacking g) [] (await_any_edges rest (Does image (KillLacking g) [] (then_edge rest)))) p
+      wait-along : (p : Progress) → Both crew.generation x p.table → p.lacking ≡ x ∷ xs → Goes (Does image (AwaitLacking crew.generation) [] (await_any_edges rest (Does image (KillLacking crew.generation) [] (then_edge rest)))) p
       wait-along p both is =
-          light-step (AwaitLacking g) [] (await_any_edges rest (Does image (KillLacking g) [] (then_edge rest))) p (Both g x) refl (both-exits g x p.table) both
-          (λ q b e. light.idles (AwaitReady g (lowest q.lacking)) q.table (light.waits g (lowest q.lacking)) b.0)
+          light-step (AwaitLacking crew.generation) [] (await_any_edges rest (Does image (KillLacking crew.generation) [] (then_edge rest))) p (Both crew.generation x) refl (both-exits crew.generation x p.table) both
+          (λ q b e. light.idles (AwaitReady crew.generation (lowest q.lacking)) q.table (light.waits crew.generation (lowest q.lacking)) b.0)
           (λ q fate b e.
-          let call = AwaitReady g (lowest q.lacking) in
+          let call = AwaitReady crew.generation (lowest q.lacking) in
           let st = step_with co.text image call fate q.table in
-          let p' = after_call (AwaitLacking g) [] st q in
-          let h = light.steps co.text call fate q.table (light.waits g (lowest q.lacking)) b.0 in
-          let m = light.may_steps co.text call fate q.table g x (light.waits g (lowest q.lacking)) b.0 b.1 in
-          let is' : p'.lacking ≡ x ∷ xs = wait-lacking g (lowest q.lacking) fate q.table (live_master image q.table.rows) q.lacking ∙ e ∙ is in
-          all-go (await_any_edges rest (Does image (KillLacking g) [] (then_edge rest))) (reply_of [] st.answer) p' h (next p' h, (kill-along p' (h, m) is', tt)))
+          let p' = after_call (AwaitLacking crew.generation) [] st q in
+          let h = light.steps co.text call fate q.table (light.waits crew.generation (lowest q.lacking)) b.0 in
+          let m = light.may_steps co.text call fate q.table crew.generation x (light.waits crew.generation (lowest q.lacking)) b.0 b.1 in
+          let is' : p'.lacking ≡ x ∷ xs = wait-lacking crew.generation (lowest q.lacking) fate q.table (live_master image q.table.rows) q.lacking ∙ e ∙ is in
+          all-go (await_any_edges rest (Does image (KillLacking crew.generation) [] (then_edge rest))) (reply_of [] st.answer) p' h (next p' h, (kill-along p' (h, m) is', tt)))
 
   -- A census, and what follows where it is full or short.
   census-along : (ok short : Tree) (g : Generation) (S : List ℕ) (p : Progress) → light.Fits g S → light.Holds p.table → ((q : Progress) → light.Holds q.table → Goes ok q) → ((x : ℕ) (xs : List ℕ) (q : Progress) → Both g x q.table → q.lacking ≡ x ∷ xs → Goes short q) → Goes (census image g S (census_edges ok short)) p
@@ -182,18 +183,18 @@ module _ (image : ℕ) (mild : Exiting) (due : Asked) (light : Light image mild 
             on_short x xs (after (x ∷ xs)) (h', light.lacking g S q.table x fits h out.0 out.1) e'
       ] refl))
 
-  pub settle-along : (side : Side) (g : Generation) (S : List ℕ) (rounds : ℕ) (p : Progress) → light.Fits g S → light.Holds p.table → Goes (settle image g S side rounds) p
-  settle-along side g S zero p fits holds =
-      census-along (Ends (full_end side)) (Ends (short_end side)) g S p fits holds (λ q h. (tt, ends (At (full_end side)) q h)) (λ x xs q b e. (tt, ends (At (short_end side)) q b.0))
-  settle-along side g S (suc rounds) p fits holds =
-      census-along (Ends (full_end side)) (round image g (settle image g S side rounds)) g S p fits holds (λ q h. (tt, ends (At (full_end side)) q h))
-      (λ x xs q b e. round-along (settle image g S side rounds) g x xs q (λ q' h'. settle-along side g S rounds q' fits h') b e)
+  pub settle-along : (side : Side) (crew : Crew) (S : List ℕ) (rounds : ℕ) (p : Progress) → light.Fits crew.generation S → light.Holds p.table → Goes (settle image crew S side rounds) p
+  settle-along side crew S zero p fits holds =
+      census-along (Ends (full_end side)) (Ends (short_end side)) crew.generation S p fits holds (λ q h. (tt, ends (At (full_end side)) q h)) (λ x xs q b e. (tt, ends (At (short_end side)) q b.0))
+  settle-along side crew S (suc rounds) p fits holds =
+      census-along (Ends (full_end side)) (round image crew (settle image crew S side rounds)) crew.generation S p fits holds (λ q h. (tt, ends (At (full_end side)) q h))
+      (λ x xs q b e. round-along (settle image crew S side rounds) crew x xs q (λ q' h'. settle-along side crew S rounds q' fits h') b e)
 
   ---- Trees whose calls are gentle
 
   abbrev pub GentleOrder : Order → Type 0
   GentleOrder (Make call) = light.Gentle call × (is_leave_call call ≡ false)
-  GentleOrder (ForkLacking g) = ⊥
+  GentleOrder (ForkLacking crew) = ⊥
   GentleOrder (AwaitLacking g) = ⊥
   GentleOrder (KillLacking g) = ⊥
 
@@ -216,7 +217,7 @@ module _ (image : ℕ) (mild : Exiting) (due : Asked) (light : Light image mild 
       (light-step (Make call) set bs p light.Holds gentle.1 (λ es sp calm h. light.exits es p.table sp calm h) holds
       (λ q h e. light.idles call q.table gentle.0 h)
       (λ q fate h e. behind (reply_of set (step_with co.text image call fate q.table).answer) (after_call (Make call) set (step_with co.text image call fate q.table) q) (light.steps co.text call fate q.table gentle.0 h)))
-  calm-does by (ForkLacking g) set bs same gentle behind p holds = absurd gentle
+  calm-does by (ForkLacking crew) set bs same gentle behind p holds = absurd gentle
   calm-does by (AwaitLacking g) set bs same gentle behind p holds = absurd gentle
   calm-does by (KillLacking g) set bs same gentle behind p holds = absurd gentle
 

@@ -13,6 +13,7 @@ use Rattle.definitions.specs.Record.{listener_of}
 use Rattle.definitions.specs.Target.{only_in}
 use Rattle.definitions.specs.After.{listens_on, listener_at, opened_from, all_opened, added, still_wanted}
 use Rattle.theorems.proofs.Rows.{pick, or-right, every-more}
+use Rattle.theorems.proofs.Counts.{filter-all}
 use Rattle.theorems.proofs.Addresses.{has-lacks, same-address, address-sym, address-refl, stands-filter}
 use Rattle.theorems.proofs.Views.{eqb-is, eqb-off}
 
@@ -40,10 +41,10 @@ none-at b c (x ∷ hs) lt rises =
     rw off (none-at b (x.fd + 1) hs (omega (arith, rises.0)) rises.1)
 
 -- A hold that is put at the lowest free descriptor is a listener that opens there.
-abbrev Put : ℕ → Hold → List Hold → Type 0
+abbrev pub Put : ℕ → Hold → List Hold → Type 0
 Put b h hs = (map listener_of (put_hold h hs) ≡ opened_from b h.address (map listener_of hs)) × RisesFrom b (fds (put_hold h hs))
 
-put-from : (b : ℕ) (h : Hold) (hs : List Hold) → RisesFrom b (fds hs) → h.fd ≡ free_from (length hs) b hs → Put b h hs
+pub put-from : (b : ℕ) (h : Hold) (hs : List Hold) → RisesFrom b (fds hs) → h.fd ≡ free_from (length hs) b hs → Put b h hs
 put-from b h [] rises is = (ap (λ fd. listener_at fd h.address ∷ []) is, (omega (arith, is), tt))
 put-from b h (x ∷ hs) rises is = go (x.fd == b) refl (λ r e. put-from (b + 1) h hs r e)
   where
@@ -95,10 +96,6 @@ filter-same : (f g : Hold → Bool) → ((h : Hold) → f h ≡ g h) → (hs : L
 filter-same f g e [] = refl
 filter-same f g e (x ∷ hs) = ap (λ b. cond b (x ∷ filter f hs) (filter f hs)) (e x) ∙ ap (λ l. cond (g x) (x ∷ l) l) (filter-same f g e hs)
 
-filter-all : (hs : List Hold) → filter (λ h. true) hs ≡ hs
-filter-all [] = refl
-filter-all (x ∷ hs) = ap (λ l. x ∷ l) (filter-all hs)
-
 pub all-closed-is : (dropped : List Address) (hs : List Hold) → all_closed dropped hs ≡ filter (λ h. not (has dropped h.address)) hs
 all-closed-is [] hs = sym (filter-all hs)
 all-closed-is (a ∷ more) hs =
@@ -109,7 +106,7 @@ all-closed-is (a ∷ more) hs =
     both true y = refl
     both false y = refl
 
-kept-is : (f : Hold → Bool) (wanted : List Address) (hs : List Hold) → AllByRecursion (λ h. f h ≡ has wanted h.address) hs → map listener_of (filter f hs) ≡ still_wanted wanted (map listener_of hs)
+pub kept-is : (f : Hold → Bool) (wanted : List Address) (hs : List Hold) → AllByRecursion (λ h. f h ≡ has wanted h.address) hs → map listener_of (filter f hs) ≡ still_wanted wanted (map listener_of hs)
 kept-is f wanted [] all = refl
 kept-is f wanted (x ∷ hs) all = go (f x) (has wanted x.address) all.0 (kept-is f wanted hs all.1)
   where
@@ -204,7 +201,7 @@ rises-later : (b b' : ℕ) (ks : List ℕ) → b ≤ b' → RisesFrom b' ks → 
 rises-later b b' [] le rises = tt
 rises-later b b' (k ∷ ks) le rises = (omega (arith, rises.0), rises.1)
 
-rises-filter : (b : ℕ) (test : Hold → Bool) (hs : List Hold) → RisesFrom b (fds hs) → RisesFrom b (fds (filter test hs))
+pub rises-filter : (b : ℕ) (test : Hold → Bool) (hs : List Hold) → RisesFrom b (fds hs) → RisesFrom b (fds (filter test hs))
 rises-filter b test [] rises = tt
 rises-filter b test (x ∷ hs) rises = go (test x) (rises-filter (x.fd + 1) test hs rises.1)
   where

@@ -2,16 +2,17 @@
 use Rattle.theorems.proofs.Rows.{and-left, and-right}
 use Rattle.theorems.proofs.Begins.{rising-distinct}
 use Rattle.theorems.proofs.Effects.{none, same-is}
-use Rattle.theorems.proofs.Small.{every-is_in, off-from, true-false, filter-distinct, not-is}
-use Rattle.theorems.proofs.Counts.{Distinct, in-filter}
-use Rattle.theorems.proofs.Sets.{below-length, below-of, in-filter-of, in-filter-on, below-distinct, below-on, weigh-part}
+use Rattle.theorems.proofs.Small.{every-is_in, off-from, true-false, not-is}
+use Rattle.theorems.proofs.Counts.{Distinct, filter-distinct, in-filter}
+use Rattle.theorems.proofs.Sets.{below-of, in-filter-of, in-filter-on, below-distinct, below-on, weigh-part}
 use Rattle.theorems.proofs.Views.{Names, View, named}
 use Rattle.std.proofs.Common.{◌≡◌, ℕ, ◌+◌, ◌<◌, ◌≤◌, Bool, true, false, not, List, [], ◌∷◌, length, refl, sym, ap, ◌∙◌, arith, ◌⊎◌, inl, inr, ⊎_elim}
 use Rattle.std.specs.Prelude.{◌&&◌, filter, ◌||◌}
 use Rattle.listener_set.specs.Numbers.{numbers_below, is_in}
 use Rattle.listener_set.specs.declared.generation.Generation.{Generation}
 use Rattle.definitions.specs.Table.{same_generation, Table, bears}
-use Rattle.definitions.specs.Record.{Record}
+use Rattle.definitions.specs.Crew.{Crew}
+use Rattle.definitions.specs.Record.{Record, crew_of}
 use Rattle.vocabulary.specs.declared.targets.Target.TheVariants.{Mend}
 use Rattle.vocabulary.specs.declared.plans.Side.TheVariants.{Target}
 use Rattle.definitions.specs.Tree.{Tree}
@@ -36,11 +37,10 @@ one-more-any g R n x ks done r t count s =
 -- The target wants all numbers below the wanted count.
 abbrev like_mend : (rec : Record) (overdue : List ℕ) → rec.wanted ≤ 1024 → Like rec (Mend overdue)
 like_mend rec overdue low = record {
-  count = rec.wanted;
   set = numbers_below rec.wanted;
   wanted = rec.wanted;
-  floor = 0;
-  sized = below-length rec.wanted;
+  floor = λ a. 0;
+  layout = refl;
   wants = refl;
   below = λ k e. below-of rec.wanted k e;
   most = low;
@@ -54,6 +54,9 @@ like_mend rec overdue low = record {
 module _ (t : Table) (rec : Record) (overdue : List ℕ) (pattern : Pattern) (s : IsStart t rec) where
   abbrev g : Generation
   g = rec.generation
+
+  abbrev crew : Crew
+  crew = crew_of rec
 
   abbrev n : ℕ
   n = rec.wanted
@@ -97,14 +100,14 @@ module _ (t : Table) (rec : Record) (overdue : List ℕ) (pattern : Pattern) (s 
   kept-low k e = every-is_in (λ k. k < n) R s.record_in_range.ready k (in-filter-of (λ j. not (is_in overdue j)) R k e).0
 
   abbrev ending : Tree
-  ending = settle g.image g (numbers_below n) Target rec.retries
+  ending = settle g.image crew (numbers_below n) Target rec.retries
 
   -- when all was tried
   on : (done : List ℕ) (r names : Names) (count : ℕ) (w : Bool) (q : Progress) → Started g K n [] done r names count → Band u sc none r names count 0 w [] q → Goes t rec (Mend overdue) pattern s like ending q
   on done r names count w q st b =
       let within = all-within g K n done r names count st in
-      let b1 = band-part u sc G none r names (named g (is_in (numbers_below n))) count (length (numbers_below n)) 0 w [] q (started-part (view u none r) g K n done r names count [] (numbers_below n) st (below-distinct n) within) (omega arith) b in
-      rule-settle u sc G Target g (numbers_below n) (λ k. refl) (below-distinct n) (λ k e. omega (arith, below-of n k e, low)) rec.retries false (new-full t rec (Mend overdue) pattern s like false) (new-short t rec (Mend overdue) pattern s like) rec.retries 0 (omega arith) w (λ e. absurd (cc e)) r [] q
+      let b1 = band-part u sc G none r names (named g (is_in (numbers_below n))) count (length (numbers_below n)) 0 w [] q (started-part (view u none r) g K n done r names count [] (numbers_below n) st (below-distinct n) within) (λ a e. absurd (omega (arith, e))) b in
+      rule-settle u sc G Target crew (numbers_below n) (λ k. refl) (below-distinct n) (λ k e. omega (arith, below-of n k e, low)) rec.retries false (new-full t rec (Mend overdue) pattern s like false) (new-short t rec (Mend overdue) pattern s like) rec.retries 0 (omega arith) w (λ e. absurd (cc e)) r [] q
       (λ h k e. let o = st.only h k e in (o.0, below-on n k (⊎_elim (λ a. kept-low k a) (λ a. (st.started k a).1) o.1)))
       b1
 
@@ -150,14 +153,14 @@ module _ (t : Table) (rec : Record) (overdue : List ℕ) (pattern : Pattern) (s 
       go true b e = e
       go false b e = refl
 
-  goes : Goes t rec (Mend overdue) pattern s like (mend_tree g.image g R rec.retries overdue n) (start_at t rec.note)
+  goes : Goes t rec (Mend overdue) pattern s like (mend_tree g.image crew R rec.retries overdue n) (start_at t rec.note)
   goes =
-      let b0 = start-band t rec (Mend overdue) pattern s like (omega arith) in
-      let b1 = band-part u sc G none u.ready (named g (is_in R)) (named g (is_in K)) (length R) (length K) 0 false [] (start_at t rec.note) (λ rows looks. weigh-part (view u none u.ready) g rows looks R K dK (λ k e. (in-filter-of (λ j. not (is_in overdue j)) R k e).0)) (omega arith) b0 in
-      rule-kills u sc G (forks_any g.image g missing (awaits_any g.image g missing ending)) g dead none u.ready (named g (is_in K)) (length K) 0 false [] (start_at t rec.note)
+      let b0 = start-band t rec (Mend overdue) pattern s like (λ a. omega arith) in
+      let b1 = band-part u sc G none u.ready (named g (is_in R)) (named g (is_in K)) (length R) (length K) 0 false [] (start_at t rec.note) (λ rows looks. weigh-part u.number g rows looks.once R K dK (λ k e. (in-filter-of (λ j. not (is_in overdue j)) R k e).0)) (λ a e. absurd (omega (arith, e))) b0 in
+      rule-kills u sc G (forks_any g.image crew missing (awaits_any g.image g missing ending)) g dead none u.ready (named g (is_in K)) (length K) 0 false [] (start_at t rec.note)
       (λ k e. off-name k (not-kept k e))
-      (λ s1 r1 q1 less_s less b2. rule-forks-any u sc G (awaits_any g.image g missing ending) g (λ k. refl) missing none r1 (named g (is_in K)) (length K) 0 false [] q1
-      (λ s2 c2 w2 q2 within up b3. rule-awaits-any u sc G (Started g K n) ending g refl (one-more-any g K n) [] 0 missing [] s2 r1 (named g (is_in K)) (length K) w2 q2
+      (λ s1 r1 q1 less_s less b2. rule-forks-any u sc G (awaits_any g.image g missing ending) crew (λ k. refl) missing none r1 (named g (is_in K)) (length K) 0 false [] q1
+      (λ s2 c2 w2 q2 within up b3. rule-awaits-any u sc G (Started g K n) ending g (λ a. refl) (one-more-any g K n) [] 0 missing [] s2 r1 (named g (is_in K)) (length K) w2 q2
       (λ done s3 r3 t3 n3 w3 q3 st less3 up3 b4. on done r3 t3 n3 w3 q3 st (band-still u sc G s3 none r3 t3 n3 0 w3 [] q3
       (λ h k e. let l = less3 h k e in ⊎_elim (λ a. a) (λ a. absurd (true-false (is_in missing k) a.1 (l.1 a.0))) (within h k l.0)) b4))
       (begun r1 less) (band-anew u sc G s2 r1 (named g (is_in K)) (length K) c2 w2 [] q2 b3))

@@ -13,7 +13,8 @@ use Rattle.vocabulary.specs.declared.calls.Reply.TheVariants as reply
 use Rattle.vocabulary.specs.declared.calls.Answer.TheVariants as answer
 use Rattle.definitions.specs.Table.{Process, Table, Caller, number_of, bears, is_worker, is_any}
 use Rattle.definitions.specs.Calls.{gives, each_row, drop_where, step_by, step_with}
-use Rattle.definitions.specs.Record.{Record}
+use Rattle.definitions.specs.Crew.{Crew}
+use Rattle.definitions.specs.Record.{Record, crew_of}
 use Rattle.definitions.specs.Tree.{Tree, reply_of, among, Nothing}
 use Rattle.definitions.specs.Plans.{plan_tree, mend_tree, kills, starts_any, settle, then_edge}
 use Rattle.definitions.specs.Run.{Pattern, Progress, Ending, At, Lost, noted, after_call, start_at}
@@ -41,6 +42,9 @@ module _ (t : Table) (r : Record) (overdue : List ℕ) (pattern : Pattern) (s : 
   abbrev g : Generation
   g = r.generation
 
+  abbrev crew : Crew
+  crew = crew_of r
+
   abbrev low : k < 1024
   low = first-low t r s p k on
 
@@ -54,7 +58,7 @@ module _ (t : Table) (r : Record) (overdue : List ℕ) (pattern : Pattern) (s : 
   missing = filter (λ j. not (is_in r.ready j) || is_in overdue j) (numbers_below r.wanted)
 
   abbrev rest : Tree
-  rest = starts_any g.image g missing (settle g.image g (numbers_below r.wanted) Target r.retries)
+  rest = starts_any g.image crew missing (settle g.image crew (numbers_below r.wanted) Target r.retries)
 
   abbrev post : Ending → Progress → Type 0
   post e q = ⊤ → Stands r.pid g.image p g k low q.table
@@ -73,12 +77,12 @@ module _ (t : Table) (r : Record) (overdue : List ℕ) (pattern : Pattern) (s : 
       let o = (in-filter-of (λ j. not (is_in r.ready j) || is_in overdue j) (numbers_below r.wanted) x e).1 in
       free-number g x k (λ same. ⊎_elim (λ a. true-false (is_in r.ready x) (subst (λ z. is_in r.ready z ≡ true) same (first-in t r s p k on)) (not-is (is_in r.ready x) a)) (λ a. true-false (is_in overdue x) a (subst (λ z. is_in overdue z ≡ false) same off)) (or-elim (not (is_in r.ready x)) (is_in overdue x) o))
 
-  stays-along : is_in overdue k ≡ false → Along no_claim post (Unlost p) Unasked co (mend_tree g.image g r.ready r.retries overdue r.wanted) (start_at t r.note)
+  stays-along : is_in overdue k ≡ false → Along no_claim post (Unlost p) Unasked co (mend_tree g.image crew r.ready r.retries overdue r.wanted) (start_at t r.note)
   stays-along off =
-      calm-along g.image (Unlost p) Unasked light post ends co (own-acts r pattern) (mend_tree g.image g r.ready r.retries overdue r.wanted)
+      calm-along g.image (Unlost p) Unasked light post ends co (own-acts r pattern) (mend_tree g.image crew r.ready r.retries overdue r.wanted)
       (calm-kills g.image (Unlost p) Unasked light post ends co (own-acts r pattern) g dead rest (λ x e. (tt, free-dead off x e))
-      (calm-starts-any g.image (Unlost p) Unasked light post ends co (own-acts r pattern) g missing (settle g.image g (numbers_below r.wanted) Target r.retries) (λ x e. (tt, free-missing off x e))
-      (calm-settle g.image (Unlost p) Unasked light post ends co (own-acts r pattern) Target g (numbers_below r.wanted) r.retries tt)))
+      (calm-starts-any g.image (Unlost p) Unasked light post ends co (own-acts r pattern) crew missing (settle g.image crew (numbers_below r.wanted) Target r.retries) (λ x e. (tt, free-missing off x e))
+      (calm-settle g.image (Unlost p) Unasked light post ends co (own-acts r pattern) Target crew (numbers_below r.wanted) r.retries tt)))
       (start_at t r.note) (first-stands t r s p k on)
 
   ---- A process that is overdue
@@ -139,8 +143,8 @@ module _ (t : Table) (r : Record) (overdue : List ℕ) (pattern : Pattern) (s : 
 
   rest-calm : RestCalm
   rest-calm =
-      calm-starts-any g.image Anyhow Unasked gone goes_away gone-ends co (own-acts r pattern) g missing (settle g.image g (numbers_below r.wanted) Target r.retries) (λ x e. tt)
-      (calm-settle g.image Anyhow Unasked gone goes_away gone-ends co (own-acts r pattern) Target g (numbers_below r.wanted) r.retries tt)
+      calm-starts-any g.image Anyhow Unasked gone goes_away gone-ends co (own-acts r pattern) crew missing (settle g.image crew (numbers_below r.wanted) Target r.retries) (λ x e. tt)
+      (calm-settle g.image Anyhow Unasked gone goes_away gone-ends co (own-acts r pattern) Target crew (numbers_below r.wanted) r.retries tt)
 
   going : (ks : List ℕ) → is_in ks k ≡ true → (q : Progress) → Named q.table → Along no_claim goes_away Anyhow Unasked co (kills g.image g ks rest) q
   going [] e q named = absurd (cc e)
@@ -165,7 +169,7 @@ module _ (t : Table) (r : Record) (overdue : List ℕ) (pattern : Pattern) (s : 
       ])
       (in-cases x k ks e))
 
-  away : is_in overdue k ≡ true → Along no_claim goes_away Anyhow Unasked co (mend_tree g.image g r.ready r.retries overdue r.wanted) (start_at t r.note)
+  away : is_in overdue k ≡ true → Along no_claim goes_away Anyhow Unasked co (mend_tree g.image crew r.ready r.retries overdue r.wanted) (start_at t r.note)
   away overdue_it = going dead (in-filter-on (is_in r.ready) overdue k overdue_it (first-in t r s p k on)) (start_at t r.note) (loosens r.pid g.image p g k low t (first-untouched t r s p k on))
 
 no-process : (p : ℕ) (rows : List Process) → AllByRecursion (IsOther p) rows → list_any (λ row. number_of row == p) rows ≡ false
@@ -188,5 +192,5 @@ mend_manner overdue t r pattern a =
       λ p k on over.
           let post = goes_away t r overdue pattern a.start p k on in
           let all = from-along no_claim post Anyhow Unasked co tree at (away t r overdue pattern a.start p k on over) a.spared (are-mild-anyhow co tree at) in
-          ended t r overdue pattern a.start p k on ran.ending ran.last (not-lost t r _ _ ran.ending ran.last keeps.says) all.last,
+          ended t r overdue pattern a.start p k on ran.ending ran.last (not-lost r (Mend overdue) t ran.ending ran.last keeps.says) all.last,
     )

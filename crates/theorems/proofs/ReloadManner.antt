@@ -7,8 +7,10 @@ use Rattle.vocabulary.specs.declared.targets.Target.TheVariants.{Reload}
 use Rattle.vocabulary.specs.declared.plans.Side.TheVariants.{Old, Target}
 use Rattle.vocabulary.specs.Settings.{Settings}
 use Rattle.definitions.specs.Table.{Address, Table, bears, same_generation}
-use Rattle.definitions.specs.Record.{Record, addresses_of}
-use Rattle.definitions.specs.Target.{only_in, reload_generation}
+use Rattle.definitions.specs.Crew.{Crew}
+use Rattle.definitions.specs.Record.{Record, addresses_of, crew_of}
+use Rattle.definitions.specs.Target.{only_in, reload_generation, sides_of}
+use Rattle.definitions.specs.After.{crew_wanted}
 use Rattle.definitions.specs.Tree.{Tree}
 use Rattle.definitions.specs.Plans.{plan_tree, reload_tree, reload_on, reload_back, closes, settle}
 use Rattle.definitions.specs.Run.{Pattern, Progress, Ending, At, start_at, outcome_of}
@@ -30,6 +32,12 @@ module _ (t : Table) (r : Record) (st : Settings) (pattern : Pattern) (s : IsSta
 
   abbrev new : Generation
   new = reload_generation r.generation
+
+  abbrev old : Crew
+  old = crew_of r
+
+  abbrev next : Crew
+  next = crew_wanted r (Reload st)
 
   abbrev R : List ℕ
   R = r.ready
@@ -55,12 +63,12 @@ module _ (t : Table) (r : Record) (st : Settings) (pattern : Pattern) (s : IsSta
       go false b e = refl
 
   abbrev way_on : Tree
-  way_on = reload_on g.image g R r.retries (only_in A0 st.listeners) n
+  way_on = reload_on g.image old next R r.retries (only_in A0 st.listeners) n
 
   ---- It stays
 
   abbrev post : Ending → Progress → Type 0
-  post e q = is_old_side (outcome_of e q.lacking) ≡ true → Stands r.pid g.image p g k low q.table
+  post e q = is_old_side (outcome_of (sides_of r (Reload st)) e q.lacking) ≡ true → Stands r.pid g.image p g k low q.table
 
   abbrev light : Light g.image (Unlost p) Unasked
   light = standing r.pid g.image p g k low
@@ -74,23 +82,23 @@ module _ (t : Table) (r : Record) (st : Settings) (pattern : Pattern) (s : IsSta
       (λ q st'. free-along (Unlost p) post co (λ q need. absurd (cc)) way_on q
       (ends-quits (λ e. (q : Progress) → post (At e) q) g.image g (reverse R) _
       (ends-closes (λ e. (q : Progress) → post (At e) q) g.image (only_in A0 st.listeners) _
-      (ends-settle (λ e. (q : Progress) → post (At e) q) g.image new (numbers_below n) Target r.retries (λ q need. absurd (cc)) (λ q need. absurd (cc))))))
+      (ends-settle (λ e. (q : Progress) → post (At e) q) g.image next (numbers_below n) Target r.retries (λ q need. absurd (cc)) (λ q need. absurd (cc))))))
 
-  back-calm : (opened : List Address) (forked : List ℕ) → IsCalm g.image (Unlost p) Unasked light post ends co (own-acts r pattern) (reload_back g.image g R r.retries opened forked)
+  back-calm : (opened : List Address) (forked : List ℕ) → IsCalm g.image (Unlost p) Unasked light post ends co (own-acts r pattern) (reload_back g.image old next R r.retries opened forked)
   back-calm opened forked =
-      calm-quits g.image (Unlost p) Unasked light post ends co (own-acts r pattern) new forked (closes g.image opened (settle g.image g R Old r.retries)) (λ x e. (free-new x, tt))
-      (calm-closes g.image (Unlost p) Unasked light post ends co (own-acts r pattern) opened (settle g.image g R Old r.retries) (λ a. (tt, tt))
-      (calm-settle g.image (Unlost p) Unasked light post ends co (own-acts r pattern) Old g R r.retries tt))
+      calm-quits g.image (Unlost p) Unasked light post ends co (own-acts r pattern) new forked (closes g.image opened (settle g.image old R Old r.retries)) (λ x e. (free-new x, tt))
+      (calm-closes g.image (Unlost p) Unasked light post ends co (own-acts r pattern) opened (settle g.image old R Old r.retries) (λ a. (tt, tt))
+      (calm-settle g.image (Unlost p) Unasked light post ends co (own-acts r pattern) Old old R r.retries tt))
 
-  stays-along : Along no_claim post (Unlost p) Unasked co (reload_tree g.image g R r.retries A0 st.listeners n) (start_at t r.note)
+  stays-along : Along no_claim post (Unlost p) Unasked co (reload_tree g.image old next R r.retries A0 st.listeners n) (start_at t r.note)
   stays-along =
-      calm-along g.image (Unlost p) Unasked light post ends co (own-acts r pattern) (reload_tree g.image g R r.retries A0 st.listeners n)
+      calm-along g.image (Unlost p) Unasked light post ends co (own-acts r pattern) (reload_tree g.image old next R r.retries A0 st.listeners n)
       (calm-opens g.image (Unlost p) Unasked light post ends co (own-acts r pattern) (only_in st.listeners A0) [] _ _ (λ a. (tt, tt))
-      (λ opened. calm-starts g.image (Unlost p) Unasked light post ends co (own-acts r pattern) new (numbers_below n) _ _ (λ x e. (tt, free-new x))
-      (calm-census g.image (Unlost p) Unasked light post ends co (own-acts r pattern) new (numbers_below n) way_on (reload_back g.image g R r.retries opened (reverse (numbers_below n))) on-calm (back-calm opened (reverse (numbers_below n))))
+      (λ opened. calm-starts g.image (Unlost p) Unasked light post ends co (own-acts r pattern) next (numbers_below n) _ _ (λ x e. (tt, free-new x))
+      (calm-census g.image (Unlost p) Unasked light post ends co (own-acts r pattern) new (numbers_below n) way_on (reload_back g.image old next R r.retries opened (reverse (numbers_below n))) on-calm (back-calm opened (reverse (numbers_below n))))
       (λ forked within. back-calm opened forked))
-      (λ opened. calm-closes g.image (Unlost p) Unasked light post ends co (own-acts r pattern) opened (settle g.image g R Old r.retries) (λ a. (tt, tt))
-      (calm-settle g.image (Unlost p) Unasked light post ends co (own-acts r pattern) Old g R r.retries tt)))
+      (λ opened. calm-closes g.image (Unlost p) Unasked light post ends co (own-acts r pattern) opened (settle g.image old R Old r.retries) (λ a. (tt, tt))
+      (calm-settle g.image (Unlost p) Unasked light post ends co (own-acts r pattern) Old old R r.retries tt)))
       (start_at t r.note) (first-stands t r s p k on)
 
   ---- No kill takes it
@@ -107,28 +115,28 @@ module _ (t : Table) (r : Record) (st : Settings) (pattern : Pattern) (s : IsSta
       (λ q close. calm-along g.image Anyhow (NotTaken p) loosely any_end (λ e q h. tt) co (own-acts r pattern) way_on
       (calm-quits g.image Anyhow (NotTaken p) loosely any_end (λ e q h. tt) co (own-acts r pattern) g (reverse R) _ (λ x in_it. (tt, tt))
       (calm-closes g.image Anyhow (NotTaken p) loosely any_end (λ e q h. tt) co (own-acts r pattern) (only_in A0 st.listeners) _ (λ a. (tt, tt))
-      (calm-settle g.image Anyhow (NotTaken p) loosely any_end (λ e q h. tt) co (own-acts r pattern) Target new (numbers_below n) r.retries (λ x in_it. free-new x))))
+      (calm-settle g.image Anyhow (NotTaken p) loosely any_end (λ e q h. tt) co (own-acts r pattern) Target next (numbers_below n) r.retries (λ x in_it. free-new x))))
       q (loosens r.pid g.image p g k low q.table close))
 
-  back-untaken : (opened : List Address) (forked : List ℕ) → IsCalm g.image Anyhow (NotTaken p) closely any_end (λ e q h. tt) co (own-acts r pattern) (reload_back g.image g R r.retries opened forked)
+  back-untaken : (opened : List Address) (forked : List ℕ) → IsCalm g.image Anyhow (NotTaken p) closely any_end (λ e q h. tt) co (own-acts r pattern) (reload_back g.image old next R r.retries opened forked)
   back-untaken opened forked =
-      calm-quits g.image Anyhow (NotTaken p) closely any_end (λ e q h. tt) co (own-acts r pattern) new forked (closes g.image opened (settle g.image g R Old r.retries)) (λ x e. (free-new x, tt))
-      (calm-closes g.image Anyhow (NotTaken p) closely any_end (λ e q h. tt) co (own-acts r pattern) opened (settle g.image g R Old r.retries) (λ a. (tt, tt))
-      (calm-settle g.image Anyhow (NotTaken p) closely any_end (λ e q h. tt) co (own-acts r pattern) Old g R r.retries tt))
+      calm-quits g.image Anyhow (NotTaken p) closely any_end (λ e q h. tt) co (own-acts r pattern) new forked (closes g.image opened (settle g.image old R Old r.retries)) (λ x e. (free-new x, tt))
+      (calm-closes g.image Anyhow (NotTaken p) closely any_end (λ e q h. tt) co (own-acts r pattern) opened (settle g.image old R Old r.retries) (λ a. (tt, tt))
+      (calm-settle g.image Anyhow (NotTaken p) closely any_end (λ e q h. tt) co (own-acts r pattern) Old old R r.retries tt))
 
-  untaken-along : Along no_claim any_end Anyhow (NotTaken p) co (reload_tree g.image g R r.retries A0 st.listeners n) (start_at t r.note)
+  untaken-along : Along no_claim any_end Anyhow (NotTaken p) co (reload_tree g.image old next R r.retries A0 st.listeners n) (start_at t r.note)
   untaken-along =
-      calm-along g.image Anyhow (NotTaken p) closely any_end (λ e q h. tt) co (own-acts r pattern) (reload_tree g.image g R r.retries A0 st.listeners n)
+      calm-along g.image Anyhow (NotTaken p) closely any_end (λ e q h. tt) co (own-acts r pattern) (reload_tree g.image old next R r.retries A0 st.listeners n)
       (calm-opens g.image Anyhow (NotTaken p) closely any_end (λ e q h. tt) co (own-acts r pattern) (only_in st.listeners A0) [] _ _ (λ a. (tt, tt))
-      (λ opened. calm-starts g.image Anyhow (NotTaken p) closely any_end (λ e q h. tt) co (own-acts r pattern) new (numbers_below n) _ _ (λ x e. (tt, free-new x))
-      (calm-census g.image Anyhow (NotTaken p) closely any_end (λ e q h. tt) co (own-acts r pattern) new (numbers_below n) way_on (reload_back g.image g R r.retries opened (reverse (numbers_below n))) on-untaken (back-untaken opened (reverse (numbers_below n))))
+      (λ opened. calm-starts g.image Anyhow (NotTaken p) closely any_end (λ e q h. tt) co (own-acts r pattern) next (numbers_below n) _ _ (λ x e. (tt, free-new x))
+      (calm-census g.image Anyhow (NotTaken p) closely any_end (λ e q h. tt) co (own-acts r pattern) new (numbers_below n) way_on (reload_back g.image old next R r.retries opened (reverse (numbers_below n))) on-untaken (back-untaken opened (reverse (numbers_below n))))
       (λ forked within. back-untaken opened forked))
-      (λ opened. calm-closes g.image Anyhow (NotTaken p) closely any_end (λ e q h. tt) co (own-acts r pattern) opened (settle g.image g R Old r.retries) (λ a. (tt, tt))
-      (calm-settle g.image Anyhow (NotTaken p) closely any_end (λ e q h. tt) co (own-acts r pattern) Old g R r.retries tt)))
+      (λ opened. calm-closes g.image Anyhow (NotTaken p) closely any_end (λ e q h. tt) co (own-acts r pattern) opened (settle g.image old R Old r.retries) (λ a. (tt, tt))
+      (calm-settle g.image Anyhow (NotTaken p) closely any_end (λ e q h. tt) co (own-acts r pattern) Old old R r.retries tt)))
       (start_at t r.note) (first-untouched t r s p k on)
 
 pub reload_manner : (st : Settings) → InManner (Reload st)
 reload_manner st t r pattern a = (
-  λ back p k on need. stays-from t r a.start p k on (own_course r pattern) (plan_tree r (Reload st)) (λ e q. is_old_side (outcome_of e q.lacking) ≡ true) (stays-along t r st pattern a.start p k on) a.spared back,
+  λ back p k on need. stays-from t r a.start p k on (own_course r pattern) (plan_tree r (Reload st)) (λ e q. is_old_side (outcome_of (sides_of r (Reload st)) e q.lacking) ≡ true) (stays-along t r st pattern a.start p k on) a.spared back,
   kills-from t r (own_course r pattern) (plan_tree r (Reload st)) (λ e q. ⊤) a.spared (λ p k on. untaken-along t r st pattern a.start p k on),
 )

@@ -3,14 +3,16 @@ use Rattle.std.proofs.Common.{◌≡◌, ℕ, ◌+◌, ◌<◌, Bool, true, fals
 use Rattle.std.specs.Prelude.{⊤, ◌||◌}
 use Rattle.std.specs.List.{AllByRecursion, list_any}
 use Rattle.listener_set.specs.declared.generation.Generation.{Generation}
+use Rattle.vocabulary.specs.declared.targets.Target.{Target as Wanted}
 use Rattle.vocabulary.specs.declared.targets.Target.TheVariants.{Reopen}
 use Rattle.vocabulary.specs.declared.plans.Side.TheVariants.{Target}
 use Rattle.vocabulary.specs.declared.plans.Order.TheVariants.{Make}
 use Rattle.vocabulary.specs.declared.calls.Call.TheVariants.{Usr1}
 use Rattle.vocabulary.specs.declared.calls.Reply.TheVariants as reply
 use Rattle.definitions.specs.Table.{Table}
-use Rattle.definitions.specs.Service.{Service}
-use Rattle.definitions.specs.Record.{Record}
+use Rattle.definitions.specs.Crew.{Crew}
+use Rattle.definitions.specs.Record.{Record, crew_of}
+use Rattle.definitions.specs.Target.{sides_of}
 use Rattle.definitions.specs.Tree.{Tree, Nothing, reply_of, among}
 use Rattle.definitions.specs.Plans.{plan_tree, reopen_tree, usr1s, settle}
 use Rattle.definitions.specs.Run.{Pattern, Progress, Ending, At, Lost, Ran, run_with, goes_with, noted, after_call, after_moment, answered, start_at, outcome_of}
@@ -32,6 +34,9 @@ module _ (t : Table) (r : Record) (pattern : Pattern) (s : IsStart t r) (p k : �
   abbrev g : Generation
   g = r.generation
 
+  abbrev crew : Crew
+  crew = crew_of r
+
   abbrev low : k < 1024
   low = first-low t r s p k on
 
@@ -50,21 +55,21 @@ module _ (t : Table) (r : Record) (pattern : Pattern) (s : IsStart t r) (p k : �
   ends : (e : Ending) (q : Progress) → light.Holds q.table → post e q
   ends e q st need = st
 
-  stays-along : Along no_claim post (Unlost p) Unasked co (reopen_tree g.image g r.ready r.retries) (start_at t r.note)
+  stays-along : Along no_claim post (Unlost p) Unasked co (reopen_tree g.image crew r.ready r.retries) (start_at t r.note)
   stays-along =
-      calm-along g.image (Unlost p) Unasked light post ends co (own-acts r pattern) (reopen_tree g.image g r.ready r.retries)
-      (calm-usr1s g.image (Unlost p) Unasked light post ends co (own-acts r pattern) g r.ready (settle g.image g r.ready Target r.retries) (λ x. (tt, tt))
-      (calm-settle g.image (Unlost p) Unasked light post ends co (own-acts r pattern) Target g r.ready r.retries tt))
+      calm-along g.image (Unlost p) Unasked light post ends co (own-acts r pattern) (reopen_tree g.image crew r.ready r.retries)
+      (calm-usr1s g.image (Unlost p) Unasked light post ends co (own-acts r pattern) g r.ready (settle g.image crew r.ready Target r.retries) (λ x. (tt, tt))
+      (calm-settle g.image (Unlost p) Unasked light post ends co (own-acts r pattern) Target crew r.ready r.retries tt))
       (start_at t r.note) (first-stands t r s p k on)
 
   abbrev closely : Light g.image Anyhow (NotTaken p)
   closely = untouched r.pid g.image p g k low
 
-  untaken-along : Along no_claim any_end Anyhow (NotTaken p) co (reopen_tree g.image g r.ready r.retries) (start_at t r.note)
+  untaken-along : Along no_claim any_end Anyhow (NotTaken p) co (reopen_tree g.image crew r.ready r.retries) (start_at t r.note)
   untaken-along =
-      calm-along g.image Anyhow (NotTaken p) closely any_end (λ e q h. tt) co (own-acts r pattern) (reopen_tree g.image g r.ready r.retries)
-      (calm-usr1s g.image Anyhow (NotTaken p) closely any_end (λ e q h. tt) co (own-acts r pattern) g r.ready (settle g.image g r.ready Target r.retries) (λ x. (tt, tt))
-      (calm-settle g.image Anyhow (NotTaken p) closely any_end (λ e q h. tt) co (own-acts r pattern) Target g r.ready r.retries tt))
+      calm-along g.image Anyhow (NotTaken p) closely any_end (λ e q h. tt) co (own-acts r pattern) (reopen_tree g.image crew r.ready r.retries)
+      (calm-usr1s g.image Anyhow (NotTaken p) closely any_end (λ e q h. tt) co (own-acts r pattern) g r.ready (settle g.image crew r.ready Target r.retries) (λ x. (tt, tt))
+      (calm-settle g.image Anyhow (NotTaken p) closely any_end (λ e q h. tt) co (own-acts r pattern) Target crew r.ready r.retries tt))
       (start_at t r.note) (first-untouched t r s p k on)
 
 ---- Each is told
@@ -94,15 +99,15 @@ told by g (x ∷ ks) rest pattern p h =
     later true b e = refl
     later false b e = e
 
-pub not-lost : (t : Table) (r : Record) (old target : Service) (e : Ending) (q : Progress) → Says (outcome_of e q.lacking) old target q.table → e ≡ Lost → ⊥
-not-lost t r old target (At end) q says same = cc same
-not-lost t r old target Lost q says same = says
+pub not-lost : (r : Record) (target : Wanted) (first : Table) (e : Ending) (q : Progress) → Says r target (outcome_of (sides_of r target) e q.lacking) first q.table → e ≡ Lost → ⊥
+not-lost r target first (At end) q says same = cc same
+not-lost r target first Lost q says same = says
 
 pub reopen_manner : InManner Reopen
 reopen_manner t r pattern a =
     let ran = run_of r Reopen pattern t in
     let keeps = reopen_headline t r pattern a in (
       λ p k on need. stays-from t r a.start p k on (own_course r pattern) (plan_tree r Reopen) (λ e q. ⊤) (stays-along t r pattern a.start p k on) a.spared tt,
-      told r.generation.image r.generation r.ready (settle r.generation.image r.generation r.ready Target r.retries) pattern (start_at t r.note) (not-lost t r _ _ ran.ending ran.last keeps.says),
+      told r.generation.image r.generation r.ready (settle r.generation.image (crew_of r) r.ready Target r.retries) pattern (start_at t r.note) (not-lost r Reopen t ran.ending ran.last keeps.says),
       kills-from t r (own_course r pattern) (plan_tree r Reopen) (λ e q. ⊤) a.spared (λ p k on. untaken-along t r pattern a.start p k on),
     )

@@ -1,9 +1,9 @@
 -- A rule for each piece of a plan of one master.
 use Rattle.std.proofs.Common.{◌≡◌, ℕ, zero, suc, ◌+◌, ◌<◌, ◌≤◌, Bool, true, false, cond, not, List, [], ◌∷◌, ◌++◌, length, Option, Some, None, refl, sym, ap, ◌∙◌, subst, arith, ◌⊎◌, inl, inr, ⊎_elim, nat_lt}
 use Rattle.std.specs.List.{filter_map, list_any}
-use Rattle.std.specs.Prelude.{if◌then◌else◌, filter, ◌&&◌, ◌||◌, ◌==◌, ⊤, is_some}
+use Rattle.std.specs.Prelude.{if◌then◌else◌, count_by, filter, ◌&&◌, ◌||◌, ◌==◌, ⊤, is_some}
 use Rattle.vocabulary.specs.declared.table.Limits.{Limits}
-use Rattle.definitions.specs.Table.{same_generation, Hold, Process, Master, Worker, Foreign, File, Table, bears, Caller, with_rows, is_worker, is_active, is_ready, is_starting, is_exited, is_any, Address, is_at}
+use Rattle.definitions.specs.Table.{same_generation, has_address, Hold, Process, Master, Worker, Foreign, File, Table, bears, Caller, with_rows, is_worker, is_active, is_ready, is_starting, is_exited, is_any, Address, is_at}
 use Rattle.vocabulary.specs.declared.table.Stance.TheVariants.{Starting}
 use Rattle.listener_set.specs.declared.generation.Generation.{Generation}
 use Rattle.definitions.specs.Calls.{Stepped, gives, step_by, own_step, with_new_row, shared, each_row, is_exited_of, drop_where, made_ready, made_draining, census_of, is_of, with_holds, lacks_address, lowest_free, with_new_socket, is_row, put_hold}
@@ -21,17 +21,20 @@ use Rattle.vocabulary.specs.declared.plans.Order.{Order}
 use Rattle.vocabulary.specs.declared.plans.Order.TheVariants.{Make, ForkLacking, AwaitLacking, KillLacking}
 use Rattle.vocabulary.specs.declared.calls.Reply.{Reply}
 use Rattle.vocabulary.specs.declared.plans.PidNote.{PidNote}
-use Rattle.definitions.specs.Claims.{names_any}
+use Rattle.definitions.specs.Claims.{names_any, is_ready_with}
+use Rattle.definitions.specs.Crew.{Crew, fds_of, fork_of}
 use Rattle.theorems.proofs.Refusals.{is_leave}
 use Rattle.vocabulary.specs.declared.calls.Reply.TheVariants as reply
 use Rattle.definitions.specs.Run.{Progress, after_moment, after_call, Ending, At, answered}
 use Rattle.definitions.specs.Path.{went_wrong, first_cause}
 use Rattle.theorems.proofs.Rows.{one, weigh, weigh-le-all, count-weigh, and-left, and-right, both-true, or-left, or-right}
-use Rattle.theorems.proofs.Views.{HoldsAll, Names, named, View, Looks, live_any, ready_in, finds, eqb-is}
+use Rattle.theorems.proofs.Views.{HoldsShare, Names, named, View, Once, Looks, live_any, ready_in, finds, eqb-is}
 use Rattle.theorems.proofs.Exits.{Spares, spares-each, shrinks}
-use Rattle.theorems.proofs.Effects.{Allows, Mine, mine-worker, mine-exited, StaysOther, ready-stays, draining-stays, none, looks-allows, fork-looks, fork-weigh, await-looks, await-gains, gone-looks, gone-weigh, kill-looks, kill-weigh, quit-looks, quit-weigh, bears-is, bears-refl, same-refl, cut-weigh, after_close, cut-looks, after_open, close-weigh, close-looks, mine-of, holds-stay, open-weigh, unheld, open-looks, mine-row}
-use Rattle.theorems.proofs.Counts.{census-looks, census-weigh, census-in, count-set, Distinct}
-use Rattle.theorems.proofs.Sets.{in-here, in-there, in-cases, every-in}
+use Rattle.theorems.proofs.Effects.{same-is, Allows, Mine, mine-worker, mine-exited, StaysOther, ready-stays, draining-stays, none, looks-allows, fork-looks, fork-weigh, await-looks, await-gains, gone-looks, gone-weigh, kill-looks, kill-weigh, quit-looks, quit-weigh, bears-is, bears-refl, same-refl, cut-weigh, after_close, cut-looks, after_open, close-weigh, close-looks, mine-of, holds-stay, open-weigh, unheld, open-looks, mine-row}
+use Rattle.theorems.proofs.Counts.{census-looks, census-weigh, census-in, Counted, counted, counted-all, Distinct, filter-distinct}
+use Rattle.theorems.proofs.Sets.{in-here, in-there, in-cases, in-filter-of, every-in, weigh-either, weigh-set, weigh-part}
+use Rattle.theorems.proofs.Small.{or-elim}
+use Rattle.theorems.proofs.Services.{ready-floor}
 use Rattle.theorems.proofs.After.{census-exact}
 use Rattle.theorems.proofs.Logic.{Unasked, Unfailing, Exiting, Anyhow, Course, course_after, Along, Behind, fork-cases, await-cases, unfailing, open-cases, gone-cases}
 
@@ -83,6 +86,49 @@ Less g r ks r' = (h : Generation) (k : ℕ) → r' h k ≡ true → (r h k ≡ t
 abbrev pub also : Generation → ℕ → Names → Names
 also g x t h k = t h k || bears g x h k
 
+---- The floor
+
+-- Of `n` names in t some serve, no fewer than the least; and no more of them are not Ready than of those in t.
+pub record Covers (m least : ℕ) (serves t : Names) (n : ℕ) : Type 0 where
+  pub names : Names
+  pub many : ℕ
+  pub serve : Sub names serves
+  pub part : (rows : List Process) → Once m rows → weigh (ready_in m t) rows + many ≤ weigh (ready_in m names) rows + n
+  pub enough : least ≤ many
+
+-- so at each address that has a floor
+abbrev pub Enough : ℕ → (Address → ℕ) → (Address → Names) → Names → ℕ → Type 0
+Enough m floor serves t n = (a : Address) → 1 ≤ floor a → Covers m (floor a) (serves a) t n
+
+pub enough-also : (m : ℕ) (floor : Address → ℕ) (serves : Address → Names) (t : Names) (n : ℕ) (g : Generation) (x : ℕ) → Enough m floor serves t n → Enough m floor serves (also g x t) (n + 1)
+enough-also m floor serves t n g x enough a e =
+    let c = enough a e in
+    let one_more = named g (is_in (x ∷ [])) in
+    let joins : (h : Generation) (k : ℕ) → also g x t h k ≡ true → (t h k ≡ true) ⊎ (one_more h k ≡ true) =
+    λ h k on. ⊎_elim (λ is. inl is) (λ is. inr (both-true (same_generation h g) (is_in (x ∷ []) k) (and-left _ _ is) (in-here x k [] (sym (bears-is g x h k is).1)))) (or-elim (t h k) (bears g x h k) on) in
+    record {
+      names = c.names;
+      many = c.many;
+      serve = c.serve;
+      part = λ rows once. omega (arith, c.part rows once, weigh-either m (also g x t) t one_more joins rows, weigh-set m g rows once (x ∷ []));
+      enough = c.enough;
+    }
+
+-- A set of one generation, of which those that pass a test serve.
+pub covers-part : (m least : ℕ) (serves : Names) (g : Generation) (S : List ℕ) (test : ℕ → Bool) → Distinct S → ((k : ℕ) → test k ≡ true → serves g k ≡ true) → least ≤ length (filter test S) → Covers m least serves (named g (is_in S)) (length S)
+covers-part m least serves g S test d serve enough = record {
+  names = named g (is_in (filter test S));
+  many = length (filter test S);
+  serve = λ h k e. subst (λ f. serves f k ≡ true) (sym (same-is h g (and-left _ _ e))) (serve k (in-filter-of test S k (and-right (same_generation h g) _ e)).1);
+  part = λ rows once. weigh-part m g rows once S (filter test S) (filter-distinct test S d) (λ k e. (in-filter-of test S k e).0);
+  enough = enough;
+}
+
+-- Those that serve hold the address, and those of t that are not Ready were lost: so many hold it, losses aside.
+pub level-by : (v : View) (least : ℕ) (serves t : Names) (n : ℕ) (a : Address) (rows : List Process) (losses : ℕ) → ((h : Generation) (k : ℕ) → serves h k ≡ true → has_address a (v.held h k) ≡ true) → Covers v.number least serves t n → Looks v rows → n ≤ weigh (ready_in v.number t) rows + losses → least ≤ count_by (is_ready_with a) rows + losses
+level-by v least serves t n a rows losses holds c looks secured =
+    omega (arith, c.enough, c.part rows looks.once, secured, ready-floor v c.names a rows (λ h k e. holds h k (c.serve h k e)) looks)
+
 -- a floor of none is kept
 pub floor-by : (f x : ℕ) → (1 ≤ f → f ≤ x) → f ≤ x
 floor-by zero x h = omega arith
@@ -115,10 +161,11 @@ marks-wrong w faults faults' losses n cause le m = record { clean = λ e. let on
 
 ---- What is kept beside
 
--- What a plan's steps are proved against: the floor that is kept, the files and the note, which stay, what is known of the
+-- What a plan's steps are proved against: the floor that is kept at each address and the names that serve there, the files and the note, which stay, what is known of the
 -- exits, and a fact on the rows, the losses and the faults that the calls of one master, and all mild exits, keep.
 pub record Scene (m image : ℕ) : Type 1 where
-  pub floor : ℕ
+  pub floor : Address → ℕ
+  pub serves : Address → Names
   pub files : List File
   pub note : PidNote
   pub limits : Limits
@@ -131,9 +178,10 @@ pub record Scene (m image : ℕ) : Type 1 where
   pub fails : (rows : List Process) (losses faults : ℕ) → Holds rows losses faults → Holds rows losses (faults + 1)
 
 -- Nothing is kept beside.
-abbrev pub plain_scene : (m image floor : ℕ) → List File → PidNote → Limits → Scene m image
-plain_scene m image floor files note limits = record {
+abbrev pub plain_scene : (m image : ℕ) → (Address → ℕ) → (Address → Names) → List File → PidNote → Limits → Scene m image
+plain_scene m image floor serves files note limits = record {
   floor = floor;
+  serves = serves;
   files = files;
   note = note;
   limits = limits;
@@ -155,9 +203,9 @@ pub record Still (files : List File) (note : PidNote) (limits : Limits) (files_n
 -- What is known between two steps. Of `n` names in `t`, all that are not Ready were lost; and `c` more than those that are not Ready were lost or failed.
 pub record Band (u : View) (sc : Scene u.number u.image) (s r t : Names) (n c : ℕ) (w : Bool) (ls : List ℕ) (p : Progress) : Type 0 where
   pub looks : Looks (view u s r) p.table.rows
-  pub enough : sc.floor ≤ n
+  pub enough : Enough u.number sc.floor sc.serves t n
   -- asked only where there is a floor
-  pub secured : 1 ≤ sc.floor → n ≤ ready_of u t p + p.losses
+  pub secured : (a : Address) → 1 ≤ sc.floor a → n ≤ ready_of u t p + p.losses
   pub budget : n + c ≤ ready_of u t p + p.losses + p.faults
   pub lacking : p.lacking ≡ ls
   pub marks : Marks w p.faults p.losses p.cause
@@ -186,7 +234,7 @@ band-exits u sc s r t n c w ls es p sp mild b =
     record {
       looks = sh.looks;
       enough = b.enough;
-      secured = λ e. omega (arith, b.secured e, falls, lost);
+      secured = λ a e. omega (arith, b.secured a e, falls, lost);
       budget = omega (arith, b.budget, falls, lost);
       lacking = b.lacking;
       still = b.still;
@@ -197,7 +245,7 @@ band-exits u sc s r t n c w ls es p sp mild b =
 -- What is known between two steps gives what holds at each moment.
 abbrev pub IsGood : (u : View) → Scene u.number u.image → (Progress → Type 0) → Type 0
 IsGood u sc inv =
-    (t : Names) (n : ℕ) (w : Bool) (q : Progress) → sc.floor ≤ n → Looks (view u any any) q.table.rows → (1 ≤ sc.floor → n ≤ ready_of u t q + q.losses)
+    (t : Names) (n : ℕ) (w : Bool) (q : Progress) → Enough u.number sc.floor sc.serves t n → Looks (view u any any) q.table.rows → ((a : Address) → 1 ≤ sc.floor a → n ≤ ready_of u t q + q.losses)
     → Marks w q.faults q.losses q.cause → sc.Holds q.table.rows q.losses q.faults → inv q
 
 -- What the rules rest on: what holds at each moment and at an end, the course, and that the master is one of those that act.
@@ -283,7 +331,7 @@ module _ (u : View) (sc : Scene u.number u.image) (gr : Ground u sc) where
   band-moved v s s' r r' t n c w ls after q looks same still beside b = record {
     looks = looks;
     enough = b.enough;
-    secured = λ e. omega (arith, b.secured e, same);
+    secured = λ a e. omega (arith, b.secured a e, same);
     budget = omega (arith, b.budget, same);
     lacking = b.lacking;
     still = still;
@@ -348,7 +396,7 @@ module _ (u : View) (sc : Scene u.number u.image) (gr : Ground u sc) where
     pub sub : Sub t t'
     pub more : n' ≤ n + 1
     pub count : n' + c' ≤ n + c + 1
-    pub enough : sc.floor ≤ n'
+    pub enough : Enough u.number sc.floor sc.serves t' n'
 
   pub rule-await : (bs : Branches) (g : Generation) (x : ℕ) (s r t t' : Names) (n n' c c' : ℕ) (w : Bool) (ls : List ℕ) (p : Progress) → r g x ≡ false → Joins g x t t' n n' c c' → ((q : Progress) → Band u sc (minus s g x) (plus r g x) t' n' c' w ls q → Edge bs reply.IsReady q) → ((q : Progress) → Band u sc s r t n (c + 1) true ls q → Edge bs reply.Late q) → ((q : Progress) → Band u sc (minus s g x) r t n (c + 1) true ls q → Edge bs reply.Gone q) → Band u sc s r t n c w ls p → Runs (does u.image (AwaitReady g x) bs) p
   rule-await bs g x s r t t' n n' c c' w ls p off j on_ok on_late on_bad b =
@@ -362,7 +410,7 @@ module _ (u : View) (sc : Scene u.number u.image) (gr : Ground u sc) where
       on_ok (after_call order [] (gives IsReady (each_row (change (is_worker is_starting u.number g x) made_ready) q.table)) q) (record {
         looks = await-looks (view u s r) g x q.table.rows b'.looks;
         enough = j.enough;
-        secured = λ e. omega (arith, b'.secured e, gain, sub, j.more);
+        secured = λ a e. omega (arith, b'.secured a e, gain, sub, j.more);
         budget = omega (arith, b'.budget, gain, sub, j.count);
         lacking = b'.lacking;
         still = b'.still;
@@ -374,7 +422,7 @@ module _ (u : View) (sc : Scene u.number u.image) (gr : Ground u sc) where
       on_bad (after_call order [] (gives Gone (each_row (drop_where (is_worker is_exited u.number g x)) q.table)) q) (record {
         looks = gone-looks (view u s r) g x q.table.rows gone b'.looks;
         enough = b'.enough;
-        secured = λ e. omega (arith, b'.secured e, same);
+        secured = λ a e. omega (arith, b'.secured a e, same);
         budget = omega (arith, b'.budget, same);
         lacking = b'.lacking;
         still = b'.still;
@@ -419,7 +467,7 @@ module _ (u : View) (sc : Scene u.number u.image) (gr : Ground u sc) where
 
   -- what a count of a set saw
   abbrev pub Saw : Generation → List ℕ → Progress → Type 0
-  Saw g T q = weigh (ready_in u.number (named g (is_in T))) q.table.rows + length q.lacking ≡ length T
+  Saw g T q = Counted u.number g T q.lacking q.table.rows
 
   -- the count is exactly what is Ready
   abbrev pub Exact : Generation → Progress → Type 0
@@ -437,18 +485,17 @@ module _ (u : View) (sc : Scene u.number u.image) (gr : Ground u sc) where
       let cs = census_of u.number g q.table.rows in
       let rows' = filter_map (drop_where (is_exited_of u.number)) q.table.rows in
       let same = census-weigh u.number u.number t q.table.rows in
-      let seen_now = count-set (view u none r) g q.table.rows cs b'.looks T dT (every-in (λ k. list_any (is_worker is_ready u.number g k) q.table.rows ≡ is_in cs k) T (λ k e. sym (census-in u.number g q.table.rows k (below_T k e)))) in
-      let same' = census-weigh u.number u.number (named g (is_in T)) q.table.rows in
-      let saw : weigh (ready_in u.number (named g (is_in T))) rows' + length (lacks T cs) ≡ length T = omega (arith, seen_now, same') in
+      let seen_now = counted (view u none r) g q.table.rows cs b'.looks T dT (every-in (λ k. list_any (is_worker is_ready u.number g k) q.table.rows ≡ is_in cs k) T (λ k e. sym (census-in u.number g q.table.rows k (below_T k e)))) in
+      let saw : Counted u.number g T (lacks T cs) rows' = λ some. omega (arith, seen_now some, census-weigh u.number u.number (named g (is_in (filter some T))) q.table.rows) in
       let looks' = census-looks (view u none r) g q.table.rows below_r b'.looks in
       let exact : (k : ℕ) → list_any (is_worker is_ready u.number g k) rows' ≡ is_in cs k = census-exact (view u none r) g q.table.rows below_r b'.looks in
       let lost = part q.table.rows b'.looks in
-      let before : (l : List ℕ) → lacks T cs ≡ l → length l ≤ q.faults + q.losses = λ l e. omega (arith, lost, b'.budget, seen_now, ap length e) in
+      let before : (l : List ℕ) → lacks T cs ≡ l → length l ≤ q.faults + q.losses = λ l e. omega (arith, lost, b'.budget, counted-all u.number g T (lacks T cs) q.table.rows seen_now, ap length e) in
       let after : List ℕ → Progress = λ l. record { table = with_rows q.table rows'; calls = q.calls + 1; ready = cs; lacking = lacks T cs; faults = q.faults; losses = q.losses; cause = first_cause q.cause (went_wrong (Census g) (full_or_short l)) (q.calls + 1); note = q.note } in
       subst (λ st. Answers order T bs q st) (sym (unfailing co.text u.image me (Census g) fate q.table tt))
       (elim (lacks T cs) as (λ l. lacks T cs ≡ l → Edge bs (full_or_short l) (after l)) [
-        | [] ↦ λ e. on_full cs (after []) e (record { looks = looks'; enough = b'.enough; secured = λ e. omega (arith, b'.secured e, same); budget = omega (arith, b'.budget, same); lacking = e; still = b'.still; marks = marks-plain w q.faults q.losses (q.calls + 1) q.cause b'.marks; beside = sc.drops (is_exited_of u.number) q.table.rows q.losses q.faults (mine-exited u.number, λ z zs. refl) b'.beside }) saw exact
-        | x ∷ xs ↦ λ e. on_short cs x xs (after (x ∷ xs)) e (record { looks = looks'; enough = b'.enough; secured = λ e. omega (arith, b'.secured e, same); budget = omega (arith, b'.budget, same); lacking = e; still = b'.still; marks = marks-wrong w q.faults q.faults q.losses (q.calls + 1) q.cause (omega (arith, before (x ∷ xs) e)) b'.marks; beside = sc.drops (is_exited_of u.number) q.table.rows q.losses q.faults (mine-exited u.number, λ z zs. refl) b'.beside }) saw exact
+        | [] ↦ λ e. on_full cs (after []) e (record { looks = looks'; enough = b'.enough; secured = λ a e. omega (arith, b'.secured a e, same); budget = omega (arith, b'.budget, same); lacking = e; still = b'.still; marks = marks-plain w q.faults q.losses (q.calls + 1) q.cause b'.marks; beside = sc.drops (is_exited_of u.number) q.table.rows q.losses q.faults (mine-exited u.number, λ z zs. refl) b'.beside }) saw exact
+        | x ∷ xs ↦ λ e. on_short cs x xs (after (x ∷ xs)) e (record { looks = looks'; enough = b'.enough; secured = λ a e. omega (arith, b'.secured a e, same); budget = omega (arith, b'.budget, same); lacking = e; still = b'.still; marks = marks-wrong w q.faults q.faults q.losses (q.calls + 1) q.cause (omega (arith, before (x ∷ xs) e)) b'.marks; beside = sc.drops (is_exited_of u.number) q.table.rows q.losses q.faults (mine-exited u.number, λ z zs. refl) b'.beside }) saw exact
       ] refl))
 
   ---- Settle
@@ -476,10 +523,6 @@ module _ (u : View) (sc : Scene u.number u.image) (gr : Ground u sc) where
   unseen true false false e f = cc
   unseen false b c e f = refl
 
-  or-elim : (a b : Bool) → (a || b) ≡ true → (a ≡ true) ⊎ (b ≡ true)
-  or-elim true b e = inl refl
-  or-elim false b e = inr e
-
   only-plus : (g : Generation) (S : List ℕ) (r : Names) (x : ℕ) → is_in S x ≡ true → Only g S r → Only g S (plus r g x)
   only-plus g S r x in_x only h k e =
       ⊎_elim (λ a. only h k a) (λ b. let is = bears-is g x h k b in (is.0, subst (λ y. is_in S y ≡ true) (sym is.1) in_x)) (or-elim (r h k) (bears g x h k) e)
@@ -488,8 +531,8 @@ module _ (u : View) (sc : Scene u.number u.image) (gr : Ground u sc) where
   only-seen g S cs r only h k e = only h k (and-left (r h k) _ e)
 
   -- a step that names its worker when it runs
-  to-fork : (g : Generation) (bs : Branches) (q : Progress) (x : ℕ) (xs : List ℕ) → q.lacking ≡ x ∷ xs → Runs (does u.image (Fork g x None) bs) q → Runs (Does u.image (ForkLacking g) [] bs) q
-  to-fork g bs q x xs e h = subst (λ (l : List ℕ). Runs (does u.image (Fork g (lowest l) None) bs) q) (sym e) h
+  to-fork : (crew : Crew) (bs : Branches) (q : Progress) (x : ℕ) (xs : List ℕ) → q.lacking ≡ x ∷ xs → Runs (does u.image (fork_of crew x) bs) q → Runs (Does u.image (ForkLacking crew) [] bs) q
+  to-fork crew bs q x xs e h = subst (λ (l : List ℕ). Runs (does u.image (fork_of crew (lowest l)) bs) q) (sym e) h
 
   to-await : (g : Generation) (bs : Branches) (q : Progress) (x : ℕ) (xs : List ℕ) → q.lacking ≡ x ∷ xs → Runs (does u.image (AwaitReady g x) bs) q → Runs (Does u.image (AwaitLacking g) [] bs) q
   to-await g bs q x xs e h = subst (λ (l : List ℕ). Runs (does u.image (AwaitReady g (lowest l)) bs) q) (sym e) h
@@ -505,47 +548,47 @@ module _ (u : View) (sc : Scene u.number u.image) (gr : Ground u sc) where
       go true e = e
       go false e = e
 
-  pub rule-round : (rest : Tree) (g : Generation) (x : ℕ) (xs : List ℕ) (r : Names) (S : List ℕ) (n c : ℕ) (p : Progress) → HoldsAll u g → r g x ≡ false → is_in S x ≡ true → Only g S r → ((r' : Names) (q : Progress) → Only g S r' → Band u sc none r' (named g (is_in S)) n (c + 1) true (x ∷ xs) q → Runs rest q) → Band u sc none r (named g (is_in S)) n c true (x ∷ xs) p → Runs (round u.image g rest) p
-  rule-round rest g x xs r S n c p same off in_x only next b =
-      let t = named g (is_in S) in
-      let joins : Joins g x t t n n c (c + 1) = record { has = both-true (same_generation g g) (is_in S x) (same-refl g) in_x; sub = λ h k e. e; more = omega arith; count = omega arith; enough = b.enough } in
-      let s = plus none g x in
-      let bad = λ (q : Progress) (b' : Band u sc (minus s g x) r t n (c + 1) true (x ∷ xs) q). next r q only (band-still (minus s g x) none r t n (c + 1) true (x ∷ xs) q (over g x) b') in
-      let killed = Does u.image (KillLacking g) [] (then_edge rest) in
-      to-fork g (fork_edges (Does u.image (AwaitLacking g) [] (await_any_edges rest killed)) rest) p x xs b.lacking
-      (rule-fork (Does u.image (AwaitLacking g) [] (await_any_edges rest killed)) rest g x None none r t n c true (x ∷ xs) p (same x)
-      (λ q b'. to-await g (await_any_edges rest killed) q x xs b'.lacking
-      (rule-await (await_any_edges rest killed) g x s r t t n n c (c + 1) true (x ∷ xs) q off joins
-      (λ q' b''. next (plus r g x) q' (only-plus g S r x in_x only) (band-still (minus s g x) none (plus r g x) t n (c + 1) true (x ∷ xs) q' (over g x) b''))
-      (λ q' b''. to-kill g (then_edge rest) q' x xs b''.lacking (rule-kill rest g x s r t n (c + 1) true (x ∷ xs) q' off bad b''))
+  pub rule-round : (rest : Tree) (crew : Crew) (x : ℕ) (xs : List ℕ) (r : Names) (S : List ℕ) (n c : ℕ) (p : Progress) → HoldsShare u crew → r crew.generation x ≡ false → is_in S x ≡ true → Only crew.generation S r → ((r' : Names) (q : Progress) → Only crew.generation S r' → Band u sc none r' (named crew.generation (is_in S)) n (c + 1) true (x ∷ xs) q → Runs rest q) → Band u sc none r (named crew.generation (is_in S)) n c true (x ∷ xs) p → Runs (round u.image crew rest) p
+  rule-round rest crew x xs r S n c p same off in_x only next b =
+      let t = named crew.generation (is_in S) in
+      let joins : Joins crew.generation x t t n n c (c + 1) = record { has = both-true (same_generation crew.generation crew.generation) (is_in S x) (same-refl crew.generation) in_x; sub = λ h k e. e; more = omega arith; count = omega arith; enough = b.enough } in
+      let s = plus none crew.generation x in
+      let bad = λ (q : Progress) (b' : Band u sc (minus s crew.generation x) r t n (c + 1) true (x ∷ xs) q). next r q only (band-still (minus s crew.generation x) none r t n (c + 1) true (x ∷ xs) q (over crew.generation x) b') in
+      let killed = Does u.image (KillLacking crew.generation) [] (then_edge rest) in
+      to-fork crew (fork_edges (Does u.image (AwaitLacking crew.generation) [] (await_any_edges rest killed)) rest) p x xs b.lacking
+      (rule-fork (Does u.image (AwaitLacking crew.generation) [] (await_any_edges rest killed)) rest crew.generation x (fds_of crew.posts x) none r t n c true (x ∷ xs) p (same x)
+      (λ q b'. to-await crew.generation (await_any_edges rest killed) q x xs b'.lacking
+      (rule-await (await_any_edges rest killed) crew.generation x s r t t n n c (c + 1) true (x ∷ xs) q off joins
+      (λ q' b''. next (plus r crew.generation x) q' (only-plus crew.generation S r x in_x only) (band-still (minus s crew.generation x) none (plus r crew.generation x) t n (c + 1) true (x ∷ xs) q' (over crew.generation x) b''))
+      (λ q' b''. to-kill crew.generation (then_edge rest) q' x xs b''.lacking (rule-kill rest crew.generation x s r t n (c + 1) true (x ∷ xs) q' off bad b''))
       bad b'))
       (λ q b'. next r q only b') b)
 
-  pub rule-settle : (side : Side) (g : Generation) (S : List ℕ) → HoldsAll u g → Distinct S → ((k : ℕ) → is_in S k ≡ true → k < 1024) → (d : ℕ) (w : Bool) → ((r : Names) (q : Progress) (c : ℕ) (w' : Bool) → (w ≡ true → w' ≡ true) → Only g S r → Band u sc none r (named g (is_in S)) (length S) c w' [] q → Saw g S q → Exact g q → post (At (full_end side)) q) → ((r : Names) (q : Progress) (x : ℕ) (xs : List ℕ) → Only g S r → Band u sc none r (named g (is_in S)) (length S) d true (x ∷ xs) q → Saw g S q → Exact g q → post (At (short_end side)) q) → (rounds c : ℕ) → c + rounds ≡ d → (w' : Bool) → (w ≡ true → w' ≡ true) → (r : Names) (ls : List ℕ) (p : Progress) → Only g S r → Band u sc none r (named g (is_in S)) (length S) c w' ls p → Runs (settle u.image g S side rounds) p
-  rule-settle side g S same dS below_S d w full short zero c sum w' up r ls p only b =
-      rule-count (Ends (full_end side)) (Ends (short_end side)) g S r (named g (is_in S)) (length S) c w' ls p dS below_S (λ k e. below_S k (only g k e).1) (λ rows looks. omega arith)
-      (λ cs q e b' saw exact. (band-inv none (seen r g cs) (named g (is_in S)) (length S) c w' [] q b', full (seen r g cs) q c w' up (only-seen g S cs r only) b' saw exact))
-      (λ cs x xs q e b' saw exact. (band-inv none (seen r g cs) (named g (is_in S)) (length S) c true (x ∷ xs) q b', short (seen r g cs) q x xs (only-seen g S cs r only) (recount (omega arith) b') saw exact))
+  pub rule-settle : (side : Side) (crew : Crew) (S : List ℕ) → HoldsShare u crew → Distinct S → ((k : ℕ) → is_in S k ≡ true → k < 1024) → (d : ℕ) (w : Bool) → ((r : Names) (q : Progress) (c : ℕ) (w' : Bool) → (w ≡ true → w' ≡ true) → Only crew.generation S r → Band u sc none r (named crew.generation (is_in S)) (length S) c w' [] q → Saw crew.generation S q → Exact crew.generation q → post (At (full_end side)) q) → ((r : Names) (q : Progress) (x : ℕ) (xs : List ℕ) → Only crew.generation S r → Band u sc none r (named crew.generation (is_in S)) (length S) d true (x ∷ xs) q → Saw crew.generation S q → Exact crew.generation q → post (At (short_end side)) q) → (rounds c : ℕ) → c + rounds ≡ d → (w' : Bool) → (w ≡ true → w' ≡ true) → (r : Names) (ls : List ℕ) (p : Progress) → Only crew.generation S r → Band u sc none r (named crew.generation (is_in S)) (length S) c w' ls p → Runs (settle u.image crew S side rounds) p
+  rule-settle side crew S same dS below_S d w full short zero c sum w' up r ls p only b =
+      rule-count (Ends (full_end side)) (Ends (short_end side)) crew.generation S r (named crew.generation (is_in S)) (length S) c w' ls p dS below_S (λ k e. below_S k (only crew.generation k e).1) (λ rows looks. omega arith)
+      (λ cs q e b' saw exact. (band-inv none (seen r crew.generation cs) (named crew.generation (is_in S)) (length S) c w' [] q b', full (seen r crew.generation cs) q c w' up (only-seen crew.generation S cs r only) b' saw exact))
+      (λ cs x xs q e b' saw exact. (band-inv none (seen r crew.generation cs) (named crew.generation (is_in S)) (length S) c true (x ∷ xs) q b', short (seen r crew.generation cs) q x xs (only-seen crew.generation S cs r only) (recount (omega arith) b') saw exact))
       b
     where
-      recount : {r : Names} {ls : List ℕ} {q : Progress} → c ≡ d → Band u sc none r (named g (is_in S)) (length S) c true ls q → Band u sc none r (named g (is_in S)) (length S) d true ls q
+      recount : {r : Names} {ls : List ℕ} {q : Progress} → c ≡ d → Band u sc none r (named crew.generation (is_in S)) (length S) c true ls q → Band u sc none r (named crew.generation (is_in S)) (length S) d true ls q
       recount e b = record { looks = b.looks; enough = b.enough; secured = b.secured; budget = omega (arith, b.budget); lacking = b.lacking; still = b.still; marks = b.marks; beside = b.beside }
-  rule-settle side g S same dS below_S d w full short (suc rounds) c sum w' up r ls p only b =
-      rule-count (Ends (full_end side)) (round u.image g (settle u.image g S side rounds)) g S r (named g (is_in S)) (length S) c w' ls p dS below_S (λ k e. below_S k (only g k e).1) (λ rows looks. omega arith)
-      (λ cs q e b' saw exact. (band-inv none (seen r g cs) (named g (is_in S)) (length S) c w' [] q b', full (seen r g cs) q c w' up (only-seen g S cs r only) b' saw exact))
+  rule-settle side crew S same dS below_S d w full short (suc rounds) c sum w' up r ls p only b =
+      rule-count (Ends (full_end side)) (round u.image crew (settle u.image crew S side rounds)) crew.generation S r (named crew.generation (is_in S)) (length S) c w' ls p dS below_S (λ k e. below_S k (only crew.generation k e).1) (λ rows looks. omega arith)
+      (λ cs q e b' saw exact. (band-inv none (seen r crew.generation cs) (named crew.generation (is_in S)) (length S) c w' [] q b', full (seen r crew.generation cs) q c w' up (only-seen crew.generation S cs r only) b' saw exact))
       (λ cs x xs q e b' saw exact.
       let lack = in-filter (λ k. not (is_in cs k)) S x xs e in
-      let off : seen r g cs g x ≡ false = unseen (r g x) (is_in cs x) (same_generation g g) (not-true (is_in cs x) lack.1) (same-refl g) in
-      rule-round (settle u.image g S side rounds) g x xs (seen r g cs) S (length S) c q same off lack.0 (only-seen g S cs r only)
-      (λ r' q' only' b''. rule-settle side g S same dS below_S d w full short rounds (c + 1) (omega arith) true (λ e. refl) r' (x ∷ xs) q' only' b'') b')
+      let off : seen r crew.generation cs crew.generation x ≡ false = unseen (r crew.generation x) (is_in cs x) (same_generation crew.generation crew.generation) (not-true (is_in cs x) lack.1) (same-refl crew.generation) in
+      rule-round (settle u.image crew S side rounds) crew x xs (seen r crew.generation cs) S (length S) c q same off lack.0 (only-seen crew.generation S cs r only)
+      (λ r' q' only' b''. rule-settle side crew S same dS below_S d w full short rounds (c + 1) (omega arith) true (λ e. refl) r' (x ∷ xs) q' only' b'') b')
       b
 
   ---- Several quits, several starts, and fewer names
 
-  pub band-part : (s r t t' : Names) (n n' c : ℕ) (w : Bool) (ls : List ℕ) (p : Progress) → ((rows : List Process) → Looks (view u s r) rows → weigh (ready_in u.number t) rows + n' ≤ weigh (ready_in u.number t') rows + n) → sc.floor ≤ n' → Band u sc s r t n c w ls p → Band u sc s r t' n' c w ls p
+  pub band-part : (s r t t' : Names) (n n' c : ℕ) (w : Bool) (ls : List ℕ) (p : Progress) → ((rows : List Process) → Looks (view u s r) rows → weigh (ready_in u.number t) rows + n' ≤ weigh (ready_in u.number t') rows + n) → Enough u.number sc.floor sc.serves t' n' → Band u sc s r t n c w ls p → Band u sc s r t' n' c w ls p
   band-part s r t t' n n' c w ls p part le b =
       let lost = part p.table.rows b.looks in
-      record { looks = b.looks; enough = le; secured = λ e. omega (arith, b.secured e, lost); budget = omega (arith, b.budget, lost); lacking = b.lacking; still = b.still; marks = b.marks; beside = b.beside }
+      record { looks = b.looks; enough = le; secured = λ a e. omega (arith, b.secured a e, lost); budget = omega (arith, b.budget, lost); lacking = b.lacking; still = b.still; marks = b.marks; beside = b.beside }
 
   pub band-anew : (s r t : Names) (n c : ℕ) (w : Bool) (ls : List ℕ) (p : Progress) → Band u sc s r t n c w ls p → Band u sc s r t n 0 w ls p
   band-anew s r t n c w ls p b = record { looks = b.looks; enough = b.enough; secured = b.secured; budget = omega (arith, b.budget); lacking = b.lacking; still = b.still; marks = b.marks; beside = b.beside }
@@ -591,11 +634,11 @@ module _ (u : View) (sc : Scene u.number u.image) (gr : Ground u sc) where
   }
 
   -- Fork all: nothing is counted until the waits.
-  pub rule-forks : (ok bad : List ℕ → Tree) (g : Generation) (all : List ℕ) → HoldsAll u g → (r t : Names) (n : ℕ) (w : Bool) (ls : List ℕ) (c : ℕ) → ((done : List ℕ) (s : Names) (q : Progress) → Forking g all [] done s → Band u sc s r t n c w ls q → Runs (ok done) q) → ((ks done : List ℕ) (s : Names) (q : Progress) → Forking g all ks done s → Band u sc s r t n (c + 1) true ls q → Runs (bad done) q) → (ks done : List ℕ) (s : Names) (p : Progress) → Forking g all ks done s → Band u sc s r t n c w ls p → Runs (forks u.image g ks done ok bad) p
-  rule-forks ok bad g all same r t n w ls c on_ok on_bad [] done s p h b = on_ok done s p h b
-  rule-forks ok bad g all same r t n w ls c on_ok on_bad (x ∷ ks) done s p h b =
-      rule-fork (forks u.image g ks (x ∷ done) ok bad) (bad done) g x None s r t n c w ls p (same x)
-      (λ q b'. rule-forks ok bad g all same r t n w ls c on_ok on_bad ks (x ∷ done) (plus s g x) q (forking-next g all x ks done s h) b')
+  pub rule-forks : (ok bad : List ℕ → Tree) (crew : Crew) (all : List ℕ) → HoldsShare u crew → (r t : Names) (n : ℕ) (w : Bool) (ls : List ℕ) (c : ℕ) → ((done : List ℕ) (s : Names) (q : Progress) → Forking crew.generation all [] done s → Band u sc s r t n c w ls q → Runs (ok done) q) → ((ks done : List ℕ) (s : Names) (q : Progress) → Forking crew.generation all ks done s → Band u sc s r t n (c + 1) true ls q → Runs (bad done) q) → (ks done : List ℕ) (s : Names) (p : Progress) → Forking crew.generation all ks done s → Band u sc s r t n c w ls p → Runs (forks u.image crew ks done ok bad) p
+  rule-forks ok bad crew all same r t n w ls c on_ok on_bad [] done s p h b = on_ok done s p h b
+  rule-forks ok bad crew all same r t n w ls c on_ok on_bad (x ∷ ks) done s p h b =
+      rule-fork (forks u.image crew ks (x ∷ done) ok bad) (bad done) crew.generation x (fds_of crew.posts x) s r t n c w ls p (same x)
+      (λ q b'. rule-forks ok bad crew all same r t n w ls c on_ok on_bad ks (x ∷ done) (plus s crew.generation x) q (forking-next crew.generation all x ks done s h) b')
       (λ q b'. on_bad (x ∷ ks) done s q h b') b
 
   -- what is known before the rest of the waits: what is left, what became Ready, what may be Ready, and the names
@@ -610,7 +653,7 @@ module _ (u : View) (sc : Scene u.number u.image) (gr : Ground u sc) where
   rule-awaits Q ok bad g more ls w c [] done s r t n p on_ok on_bad h b = on_ok done s r t n p h (λ j k e. (e, λ is. refl)) b
   rule-awaits Q ok bad g more ls w c (x ∷ ks) done s r t n p on_ok on_bad h b =
       let next = more x ks done r t n h in
-      let joins : Joins g x t (also g x t) n (n + 1) c c = record { has = or-right (t g x) (bears g x g x) (bears-refl g x); sub = λ h k e. or-left (t h k) (bears g x h k) e; more = omega arith; count = omega arith; enough = omega (arith, b.enough) } in
+      let joins : Joins g x t (also g x t) n (n + 1) c c = record { has = or-right (t g x) (bears g x g x) (bears-refl g x); sub = λ h k e. or-left (t h k) (bears g x h k) e; more = omega arith; count = omega arith; enough = enough-also u.number sc.floor sc.serves t n g x b.enough } in
       let failed = λ (q : Progress) (b' : Band u sc (minus s g x) r t n (c + 1) true ls q). on_bad (x ∷ ks) done (minus s g x) r t n q h (sub-minus s g x) b' in
       rule-await (await_edges (awaits u.image g ks ok bad) bad (does u.image (Kill g x) (then_edge bad))) g x s r t (also g x t) n (n + 1) c c w ls p next.0 joins
       (λ q b'. rule-awaits Q ok bad g more ls w c ks (x ∷ done) (minus s g x) (plus r g x) (also g x t) (n + 1) q
@@ -621,17 +664,17 @@ module _ (u : View) (sc : Scene u.number u.image) (gr : Ground u sc) where
       failed b
 
   -- Fork all, then wait for all. On the way on no number is Starting; on the way back at most those that were forked.
-  pub rule-starts : (Q : Known) (ok : Tree) (bad : List ℕ → Tree) (g : Generation) → HoldsAll u g → ((x : ℕ) (ks done : List ℕ) (r t : Names) (n : ℕ) → Q (x ∷ ks) done r t n → (r g x ≡ false) × Q ks (x ∷ done) (plus r g x) (also g x t) (n + 1)) → (ls : List ℕ) (w : Bool) (c : ℕ) (all : List ℕ) (r t : Names) (n : ℕ) → ((done : List ℕ) (r' t' : Names) (n' : ℕ) (q : Progress) → Q [] done r' t' n' → Band u sc none r' t' n' c w ls q → Runs ok q) → ((forked ks done : List ℕ) (s r' t' : Names) (n' : ℕ) (q : Progress) → ((k : ℕ) → is_in forked k ≡ true → is_in all k ≡ true) → Only g forked s → Q ks done r' t' n' → ((ks ≡ all) × (done ≡ [])) ⊎ ((k : ℕ) → is_in all k ≡ true → is_in forked k ≡ true) → Band u sc s r' t' n' (c + 1) true ls q → Runs (bad forked) q) → (p : Progress) → Q all [] r t n → Band u sc none r t n c w ls p → Runs (starts u.image g all ok bad) p
-  rule-starts Q ok bad g same more ls w c all r t n on_ok on_bad p h b =
-      rule-forks (λ forked. awaits u.image g all ok (bad forked)) bad g all same r t n w ls c
-      (λ forked s q fk b'. rule-awaits Q ok (bad forked) g more ls w c all [] s r t n q
+  pub rule-starts : (Q : Known) (ok : Tree) (bad : List ℕ → Tree) (crew : Crew) → HoldsShare u crew → ((x : ℕ) (ks done : List ℕ) (r t : Names) (n : ℕ) → Q (x ∷ ks) done r t n → (r crew.generation x ≡ false) × Q ks (x ∷ done) (plus r crew.generation x) (also crew.generation x t) (n + 1)) → (ls : List ℕ) (w : Bool) (c : ℕ) (all : List ℕ) (r t : Names) (n : ℕ) → ((done : List ℕ) (r' t' : Names) (n' : ℕ) (q : Progress) → Q [] done r' t' n' → Band u sc none r' t' n' c w ls q → Runs ok q) → ((forked ks done : List ℕ) (s r' t' : Names) (n' : ℕ) (q : Progress) → ((k : ℕ) → is_in forked k ≡ true → is_in all k ≡ true) → Only crew.generation forked s → Q ks done r' t' n' → ((ks ≡ all) × (done ≡ [])) ⊎ ((k : ℕ) → is_in all k ≡ true → is_in forked k ≡ true) → Band u sc s r' t' n' (c + 1) true ls q → Runs (bad forked) q) → (p : Progress) → Q all [] r t n → Band u sc none r t n c w ls p → Runs (starts u.image crew all ok bad) p
+  rule-starts Q ok bad crew same more ls w c all r t n on_ok on_bad p h b =
+      rule-forks (λ forked. awaits u.image crew.generation all ok (bad forked)) bad crew all same r t n w ls c
+      (λ forked s q fk b'. rule-awaits Q ok (bad forked) crew.generation more ls w c all [] s r t n q
       (λ done s' r' t' n' q' h' less b''. on_ok done r' t' n' q' h' (band-still s' none r' t' n' c w ls q'
       (λ j k e. let l = less j k e in let o = fk.only j k l.0 in let off = l.1 o.0 in let in_it = fk.within k o.1 in absurd (cc)) b''))
       (λ ks done s' r' t' n' q' h' sub b''. on_bad forked ks done s' r' t' n' q' fk.within (λ j k e. fk.only j k (sub j k e)) h'
       (inr (λ k e. ⊎_elim (λ a. absurd (cc)) (λ a. a) (fk.covers k e))) b'')
       h b')
       (λ ks done s q fk b'. on_bad done all [] s r t n q fk.within fk.only h (inl (refl, refl)) b')
-      all [] none p (forking-first g all) b
+      all [] none p (forking-first crew.generation all) b
 
   ---- Usr1
 
@@ -684,29 +727,29 @@ module _ (u : View) (sc : Scene u.number u.image) (gr : Ground u sc) where
   abbrev pub Within_or : Generation → List ℕ → Names → Names → Type 0
   Within_or g ks s s' = (h : Generation) (k : ℕ) → s' h k ≡ true → (s h k ≡ true) ⊎ ((h ≡ g) × (is_in ks k ≡ true))
 
-  pub rule-forks-any : (rest : Tree) (g : Generation) → HoldsAll u g → (ks : List ℕ) (s r t : Names) (n c : ℕ) (w : Bool) (ls : List ℕ) (p : Progress) → ((s' : Names) (c' : ℕ) (w' : Bool) (q : Progress) → Within_or g ks s s' → (w ≡ true → w' ≡ true) → Band u sc s' r t n c' w' ls q → Runs rest q) → Band u sc s r t n c w ls p → Runs (forks_any u.image g ks rest) p
-  rule-forks-any rest g same [] s r t n c w ls p next b = next s c w p (λ h k e. inl e) (λ e. e) b
-  rule-forks-any rest g same (x ∷ ks) s r t n c w ls p next b =
-      rule-fork-on (fork_any_edges (forks_any u.image g ks rest)) g x None s r t n c w ls p (same x)
-      (λ q b'. rule-forks-any rest g same ks (plus s g x) r t n c w ls q
-      (λ s' c' w' q' within up b''. next s' c' w' q' (λ h k e. ⊎_elim (λ a. ⊎_elim (λ z. inl z) (λ z. let is = bears-is g x h k z in inr (is.0, in-here x k ks (sym is.1))) (or-elim (s h k) (bears g x h k) a)) (λ a. inr (a.0, in-there x k ks a.1)) (within h k e)) up b'') b')
+  pub rule-forks-any : (rest : Tree) (crew : Crew) → HoldsShare u crew → (ks : List ℕ) (s r t : Names) (n c : ℕ) (w : Bool) (ls : List ℕ) (p : Progress) → ((s' : Names) (c' : ℕ) (w' : Bool) (q : Progress) → Within_or crew.generation ks s s' → (w ≡ true → w' ≡ true) → Band u sc s' r t n c' w' ls q → Runs rest q) → Band u sc s r t n c w ls p → Runs (forks_any u.image crew ks rest) p
+  rule-forks-any rest crew same [] s r t n c w ls p next b = next s c w p (λ h k e. inl e) (λ e. e) b
+  rule-forks-any rest crew same (x ∷ ks) s r t n c w ls p next b =
+      rule-fork-on (fork_any_edges (forks_any u.image crew ks rest)) crew.generation x (fds_of crew.posts x) s r t n c w ls p (same x)
+      (λ q b'. rule-forks-any rest crew same ks (plus s crew.generation x) r t n c w ls q
+      (λ s' c' w' q' within up b''. next s' c' w' q' (λ h k e. ⊎_elim (λ a. ⊎_elim (λ z. inl z) (λ z. let is = bears-is crew.generation x h k z in inr (is.0, in-here x k ks (sym is.1))) (or-elim (s h k) (bears crew.generation x h k) a)) (λ a. inr (a.0, in-there x k ks a.1)) (within h k e)) up b'') b')
       (λ q b'.
-      let h = rule-forks-any rest g same ks s r t n (c + 1) true ls q
+      let h = rule-forks-any rest crew same ks s r t n (c + 1) true ls q
       (λ s' c' w' q' within up b''. next s' c' w' q' (λ h k e. ⊎_elim (λ a. inl a) (λ a. inr (a.0, in-there x k ks a.1)) (within h k e)) (λ e. up refl) b'') b' in
       (h, h)) b
 
   -- a name that failed joins the names too, since its fault pays for it. There is no floor
-  band-owed : (g : Generation) (x : ℕ) (s r t : Names) (n c : ℕ) (w : Bool) (ls : List ℕ) (p : Progress) → sc.floor ≡ 0 → Band u sc s r t n (c + 1) w ls p → Band u sc s r (also g x t) (n + 1) c w ls p
+  band-owed : (g : Generation) (x : ℕ) (s r t : Names) (n c : ℕ) (w : Bool) (ls : List ℕ) (p : Progress) → ((a : Address) → sc.floor a ≡ 0) → Band u sc s r t n (c + 1) w ls p → Band u sc s r (also g x t) (n + 1) c w ls p
   band-owed g x s r t n c w ls p zero_f b =
       let sub = weigh-sub u.number t (also g x t) (λ h k e. or-left (t h k) (bears g x h k) e) p.table.rows in
-      record { looks = b.looks; enough = omega (arith, zero_f); secured = λ e. absurd (omega (arith, zero_f, e)); budget = omega (arith, b.budget, sub); lacking = b.lacking; still = b.still; marks = b.marks; beside = b.beside }
+      record { looks = b.looks; enough = enough-also u.number sc.floor sc.serves t n g x b.enough; secured = λ a e. absurd (omega (arith, zero_f a, e)); budget = omega (arith, b.budget, sub); lacking = b.lacking; still = b.still; marks = b.marks; beside = b.beside }
 
-  pub rule-awaits-any : (Q : Known) (rest : Tree) (g : Generation) → sc.floor ≡ 0 → ((x : ℕ) (ks done : List ℕ) (r t : Names) (n : ℕ) → Q (x ∷ ks) done r t n → (r g x ≡ false) × Q ks (x ∷ done) (plus r g x) (also g x t) (n + 1) × Q ks (x ∷ done) r (also g x t) (n + 1)) → (ls : List ℕ) (c : ℕ) (ks done : List ℕ) (s r t : Names) (n : ℕ) (w : Bool) (p : Progress) → ((done' : List ℕ) (s' r' t' : Names) (n' : ℕ) (w' : Bool) (q : Progress) → Q [] done' r' t' n' → Less g s ks s' → (w ≡ true → w' ≡ true) → Band u sc s' r' t' n' c w' ls q → Runs rest q) → Q ks done r t n → Band u sc s r t n c w ls p → Runs (awaits_any u.image g ks rest) p
+  pub rule-awaits-any : (Q : Known) (rest : Tree) (g : Generation) → ((a : Address) → sc.floor a ≡ 0) → ((x : ℕ) (ks done : List ℕ) (r t : Names) (n : ℕ) → Q (x ∷ ks) done r t n → (r g x ≡ false) × Q ks (x ∷ done) (plus r g x) (also g x t) (n + 1) × Q ks (x ∷ done) r (also g x t) (n + 1)) → (ls : List ℕ) (c : ℕ) (ks done : List ℕ) (s r t : Names) (n : ℕ) (w : Bool) (p : Progress) → ((done' : List ℕ) (s' r' t' : Names) (n' : ℕ) (w' : Bool) (q : Progress) → Q [] done' r' t' n' → Less g s ks s' → (w ≡ true → w' ≡ true) → Band u sc s' r' t' n' c w' ls q → Runs rest q) → Q ks done r t n → Band u sc s r t n c w ls p → Runs (awaits_any u.image g ks rest) p
   rule-awaits-any Q rest g zero_f more ls c [] done s r t n w p next h b = next done s r t n w p h (λ j k e. (e, λ is. refl)) (λ e. e) b
   rule-awaits-any Q rest g zero_f more ls c (x ∷ ks) done s r t n w p next h b =
       let after = more x ks done r t n h in
       let tree = awaits_any u.image g ks rest in
-      let joins : Joins g x t (also g x t) n (n + 1) c c = record { has = or-right (t g x) (bears g x g x) (bears-refl g x); sub = λ h k e. or-left (t h k) (bears g x h k) e; more = omega arith; count = omega arith; enough = omega (arith, b.enough) } in
+      let joins : Joins g x t (also g x t) n (n + 1) c c = record { has = or-right (t g x) (bears g x g x) (bears-refl g x); sub = λ h k e. or-left (t h k) (bears g x h k) e; more = omega arith; count = omega arith; enough = enough-also u.number sc.floor sc.serves t n g x b.enough } in
       let failed = λ (q : Progress) (b' : Band u sc (minus s g x) r t n (c + 1) true ls q).
       rule-awaits-any Q rest g zero_f more ls c ks (x ∷ done) (minus s g x) r (also g x t) (n + 1) true q
       (λ done' s' r' t' n' w' q' h' less up b''. next done' s' r' t' n' w' q' h' (less-cons g s s' x ks less) (λ e. up refl) b'')

@@ -1,47 +1,50 @@
 -- Plans of one master that keep its addresses and its generation: what they start from, what they keep, and their ends.
-use Rattle.std.proofs.Common.{◌≡◌, ℕ, ◌+◌, ◌<◌, ◌≤◌, Bool, true, false, List, [], ◌∷◌, length, Some, None, refl, sym, ap, ◌∙◌, arith}
+use Rattle.std.proofs.Common.{◌≡◌, ℕ, ◌+◌, ◌<◌, ◌≤◌, Bool, true, false, List, [], ◌∷◌, length, Some, None, refl, sym, ap, ◌∙◌, subst, arith}
+use Rattle.std.specs.Prelude.{sum}
 use Rattle.std.specs.List.{AllByRecursion, list_any}
 use Rattle.listener_set.specs.Numbers.{is_in}
 use Rattle.listener_set.specs.declared.generation.Generation.{Generation}
-use Rattle.definitions.specs.Table.{Address, Table, is_worker, is_ready}
-use Rattle.definitions.specs.Service.{Service, service, uniform}
-use Rattle.definitions.specs.Record.{Record, Agrees, addresses_of}
+use Rattle.definitions.specs.Table.{Address, Table, is_worker, is_ready, has_address}
+use Rattle.definitions.specs.Service.{Service, service, serving}
+use Rattle.definitions.specs.Crew.{share, Layout, served, shortfalls_of, Crew}
+use Rattle.definitions.specs.Record.{Record, Agrees, addresses_of, crew_of, layout_of}
 use Rattle.vocabulary.specs.declared.targets.Target.{Target}
-use Rattle.definitions.specs.Target.{want}
+use Rattle.definitions.specs.Target.{want, layout_wanted, sides_of, Sides}
 use Rattle.vocabulary.specs.declared.reports.Outcome.TheVariants as outcome
 use Rattle.vocabulary.specs.declared.plans.Side.TheVariants.{Old, Target as New}
 use Rattle.vocabulary.specs.declared.plans.End.TheVariants.{Done, RolledBack, ShortOld, ShortTarget}
 use Rattle.definitions.specs.Tree.{Tree}
 use Rattle.definitions.specs.After.{setup_after, recorded}
 use Rattle.definitions.specs.Run.{Pattern, Progress, Ending, At, Ran, start_at, outcome_of, report_of}
-use Rattle.definitions.specs.Claims.{IsStart, Says, Kept, IsBlamed, HasCause, IsPaid, IsCommon, has_socket, ready_with, AgreesAfter, IsSucceeded, EndsAsReported}
+use Rattle.definitions.specs.Claims.{IsStart, FallsShort, Says, Kept, IsBlamed, HasCause, IsPaid, IsCommon, has_socket, ready_with, AgreesAfter, IsSucceeded, EndsAsReported}
 use Rattle.theorems.proofs.Rows.{every-more}
 use Rattle.theorems.proofs.Views.{Names, named, View, Looks}
 use Rattle.theorems.proofs.Effects.{none}
 use Rattle.theorems.proofs.Sets.{in-here}
-use Rattle.theorems.proofs.Services.{live-with, live-with-on, fewer-same, ready-floor}
-use Rattle.theorems.proofs.Begins.{first_view, begin, begin-count}
+use Rattle.theorems.proofs.Services.{live-with, live-with-on, falls-same}
+use Rattle.theorems.proofs.Counts.{Counted, counted-all, Distinct}
+use Rattle.theorems.proofs.Shares.{shortfalls-sum}
+use Rattle.theorems.proofs.Begins.{first_view, begin, begin-count, rising-distinct}
 use Rattle.theorems.proofs.Small.{every-is_in}
 use Rattle.theorems.proofs.After.{agrees-after}
-use Rattle.theorems.proofs.Ends.{resized, report_at, service-of, service-short, first-keys, first-service, first-held, census-within, files-still, kept-after}
+use Rattle.theorems.proofs.Ends.{resized, report_at, ListensBy, service-of, service-short, first-keys, first-listens, first-served, first-service, census-within, files-still, kept-after}
 use Rattle.theorems.proofs.Logic.{Unasked, Anyhow, Along, Course, from-along, are-mild-anyhow, refused_in, run_in}
-use Rattle.theorems.proofs.Rules.{IsGood, Ground, Scene, plain_scene, Still, Band, Only, view, any, ready_of, floor-by}
+use Rattle.theorems.proofs.Rules.{Enough, covers-part, level-by, IsGood, Ground, Scene, plain_scene, Still, Band, Only, view, any, floor-by}
 
--- A target that wants `n` workers at the record's addresses, those of a set, and its floor.
+-- A target that wants the workers of a set at the record's addresses, as the record lays them out, and its floor at each.
 pub record Like (rec : Record) (target : Target) : Type 0 where
-  pub count : ℕ
   pub set : List ℕ
   pub wanted : ℕ
-  pub floor : ℕ
-  pub sized : length set ≡ count
-  pub wants : want rec target ≡ uniform (addresses_of rec) rec.generation count
+  pub floor : Address → ℕ
+  pub layout : layout_wanted rec target ≡ layout_of rec
+  pub wants : want rec target ≡ serving (addresses_of rec) rec.generation (served (layout_of rec) set)
   pub below : (k : ℕ) → is_in set k ≡ true → k < wanted
   pub most : wanted ≤ 1024
   pub done : setup_after outcome.Done rec target ≡ Some (resized rec wanted)
-  pub short : (m : ℕ) → setup_after (outcome.Degraded New m) rec target ≡ Some (resized rec wanted)
+  pub short : (shortfalls : List ℕ) → setup_after (outcome.Degraded New shortfalls) rec target ≡ Some (resized rec wanted)
   pub rolled_back : setup_after outcome.RolledBack rec target ≡ Some (resized rec rec.wanted)
-  pub short_old : (m : ℕ) → setup_after (outcome.Degraded Old m) rec target ≡ Some (resized rec rec.wanted)
-  pub leaves : (ran : Ran) → AgreesAfter rec target (report_of ran) ran.last.table → IsSucceeded rec target ran
+  pub short_old : (shortfalls : List ℕ) → setup_after (outcome.Degraded Old shortfalls) rec target ≡ Some (resized rec rec.wanted)
+  pub leaves : (ran : Ran) → AgreesAfter rec target (report_of (sides_of rec target) ran) ran.last.table → IsSucceeded rec target ran
 
 module _ (t : Table) (rec : Record) (target : Target) (pattern : Pattern) (s : IsStart t rec) (like : Like rec target) where
   abbrev g : Generation
@@ -53,8 +56,21 @@ module _ (t : Table) (rec : Record) (target : Target) (pattern : Pattern) (s : I
   abbrev R : List ℕ
   R = rec.ready
 
+  abbrev crew : Crew
+  crew = crew_of rec
+
+  abbrev layout : Layout
+  layout = layout_of rec
+
+  abbrev sides : Sides
+  sides = sides_of rec target
+
+  -- the names whose workers hold an address
+  abbrev serves : Address → Names
+  serves a h k = has_address a (first.held h k)
+
   abbrev pub scene : Scene rec.pid rec.generation.image
-  scene = plain_scene rec.pid rec.generation.image like.floor t.files rec.note t.limits
+  scene = plain_scene rec.pid rec.generation.image like.floor serves t.files rec.note t.limits
 
   abbrev pub course : Course
   course = record { text = []; pattern = pattern; executing = rec.generation.image ∷ []; heirs = [] }
@@ -64,13 +80,13 @@ module _ (t : Table) (rec : Record) (target : Target) (pattern : Pattern) (s : I
 
   -- at each address of both services so many Ready workers, losses aside
   abbrev pub Level : Progress → Type 0
-  Level q = (a : Address) → IsCommon (service t) (want rec target) a → like.floor ≤ ready_with a q.table + q.losses
+  Level q = (a : Address) → IsCommon (service t) (want rec target) a → like.floor a ≤ ready_with a q.table + q.losses
 
   abbrev pub inv : Progress → Type 0
   inv q = Kept (service t) (want rec target) t q.table × Level q × IsBlamed q
 
   abbrev pub post : Ending → Progress → Type 0
-  post e q = Says (outcome_of e q.lacking) (service t) (want rec target) q.table × IsPaid rec.retries (outcome_of e q.lacking) q × HasCause (outcome_of e q.lacking) q.cause × AgreesAfter rec target (report_at e q) q.table
+  post e q = Says rec target (outcome_of sides e q.lacking) t q.table × IsPaid rec.retries (outcome_of sides e q.lacking) q × HasCause (outcome_of sides e q.lacking) q.cause × AgreesAfter rec target (report_at sides e q) q.table
 
   abbrev pub Goes : Tree → Progress → Type 0
   Goes tree q = Along inv post Anyhow Unasked course tree q
@@ -82,7 +98,7 @@ module _ (t : Table) (rec : Record) (target : Target) (pattern : Pattern) (s : I
   pub good : IsGood first scene inv
   good names count w q enough looks secured marks beside = (
     λ a socket common on. live-with-on (view first any any) (has_socket a socket) q.table.rows looks (sym (live-with first (λ n. refl) (has_socket a socket) t.rows looks0) ∙ on),
-    λ a common. floor-by like.floor (ready_with a q.table + q.losses) (λ e. omega (arith, enough, secured e, ready-floor (view first any any) names a q.table.rows (λ h k. first-held t rec s a common.0) looks)),
+    λ a common. floor-by (like.floor a) (ready_with a q.table + q.losses) (λ e. level-by (view first any any) (like.floor a) (serves a) names count a q.table.rows q.losses (λ h k on. on) (enough a e) looks (secured a e)),
     (marks.clean, marks.blamed),
   )
 
@@ -91,66 +107,71 @@ module _ (t : Table) (rec : Record) (target : Target) (pattern : Pattern) (s : I
 
   ---- The ends
 
+  -- each worker listens where its group does
+  listens : ListensBy first g layout
+  listens k a on = first-listens t rec s k a
+
+  some : 1 ≤ length rec.posts.groups
+  some = s.record_in_range.groups.some
+
   abbrev pub Exactly : Progress → Type 0
   Exactly q = (k : ℕ) → list_any (is_worker is_ready rec.pid g k) q.table.rows ≡ is_in q.ready k
 
   -- What a last census says of the record that is left.
-  agrees-then : (S : List ℕ) (r : Names) (q : Progress) (wanted : ℕ) → Only g S r → Looks (view first none r) q.table.rows → Exactly q → Still t.files rec.note t.limits q.table.files q.note q.table.limits → (e : Ending) → Agrees q.table (recorded (resized rec wanted) rec.pid_path (report_at e q) rec.pid)
-  agrees-then S r q wanted only looks exact still e = agrees-after (view first none r) g q.table _ (λ n. refl) (λ k. refl) (λ h k on. (only h k on).0) looks exact refl refl refl s.agrees.listeners (files-still rec.note q.note rec.pid_path rec.pid t.files q.table.files t.limits q.table.limits s.agrees.files still)
+  agrees-then : (S : List ℕ) (r : Names) (q : Progress) (wanted : ℕ) → Only g S r → Looks (view first none r) q.table.rows → Exactly q → Still t.files rec.note t.limits q.table.files q.note q.table.limits → (e : Ending) → Agrees q.table (recorded (resized rec wanted) rec.pid_path (report_at sides e q) rec.pid)
+  agrees-then S r q wanted only looks exact still e = agrees-after (view first none r) crew q.table _ (λ n. refl) (λ k. refl) (λ h k on. (only h k on).0) looks exact refl refl refl s.agrees.listeners (files-still rec.note q.note rec.pid_path rec.pid t.files q.table.files t.limits q.table.limits s.agrees.files still)
 
   within-old : (r : Names) (q : Progress) → Only g R r → Looks (view first none r) q.table.rows → Exactly q → (k : ℕ) → is_in q.ready k ≡ true → k < rec.wanted
   within-old r q only looks exact k e = every-is_in (λ j. j < rec.wanted) R s.record_in_range.ready k (census-within first (λ n. refl) g R r q.table.rows q.ready only looks exact k e)
 
-  pub old-full : (r : Names) (q : Progress) (c : ℕ) (w : Bool) → (true ≡ true → w ≡ true) → Only g R r → Band first scene none r (named g (is_in R)) (length R) c w [] q → ready_of first (named g (is_in R)) q + length q.lacking ≡ length R → Exactly q → post (At RolledBack) q
+  pub old-full : (r : Names) (q : Progress) (c : ℕ) (w : Bool) → (true ≡ true → w ≡ true) → Only g R r → Band first scene none r (named g (is_in R)) (length R) c w [] q → Counted rec.pid g R q.lacking q.table.rows → Exactly q → post (At RolledBack) q
   old-full r q c w up only b saw exact = (
-    λ a. service-of first (λ n. refl) g R (addresses_of rec) (λ k. refl) (first-keys t rec s) r (length R) q.table only b.looks (omega (arith, saw, ap length b.lacking)) a ∙ sym (first-service t rec s a),
+    λ a. service-of first (λ n. refl) g R (addresses_of rec) layout listens (first-keys t rec s) r q.table q.lacking only b.looks b.lacking saw a ∙ sym (first-service t rec s a),
     tt,
     b.marks.caused (up refl),
-    kept-after rec target (report_at (At RolledBack) q) q.table rec.wanted like.rolled_back s.record_in_range s.record_in_range.wanted (within-old r q only b.looks exact) (agrees-then R r q rec.wanted only b.looks exact b.still (At RolledBack)),
+    kept-after rec target (report_at sides (At RolledBack) q) q.table rec.wanted like.rolled_back s.record_in_range s.record_in_range.wanted (within-old r q only b.looks exact) (agrees-then R r q rec.wanted only b.looks exact b.still (At RolledBack)),
   )
 
-  pub old-short : (r : Names) (q : Progress) (x : ℕ) (xs : List ℕ) → Only g R r → Band first scene none r (named g (is_in R)) (length R) rec.retries true (x ∷ xs) q → ready_of first (named g (is_in R)) q + length q.lacking ≡ length R → Exactly q → post (At ShortOld) q
+  pub old-short : (r : Names) (q : Progress) (x : ℕ) (xs : List ℕ) → Only g R r → Band first scene none r (named g (is_in R)) (length R) rec.retries true (x ∷ xs) q → Counted rec.pid g R q.lacking q.table.rows → Exactly q → post (At ShortOld) q
   old-short r q x xs only b saw exact = (
-    (
-      omega (arith, ap length b.lacking),
-      fewer-same (length q.lacking) _ _ _ _ (λ a. sym (first-service t rec s a)) (λ a. refl) (service-short first (λ n. refl) g R (addresses_of rec) (λ k. refl) (first-keys t rec s) r (length R) (length q.lacking) q.table only b.looks saw),
-    ),
-    omega (arith, b.budget, saw),
+    falls-same layout (shortfalls_of rec.posts.groups q.lacking) _ _ _ (λ a. sym (first-service t rec s a))
+        (service-short first (λ n. refl) g R (addresses_of rec) layout listens (first-keys t rec s) r q.table q.lacking only b.looks some (omega (arith, ap length b.lacking)) saw),
+    omega (arith, b.budget, counted-all rec.pid g R q.lacking q.table.rows saw, shortfalls-sum rec.posts.groups q.lacking some),
     b.marks.caused refl,
-    kept-after rec target (report_at (At ShortOld) q) q.table rec.wanted (like.short_old (length q.lacking)) s.record_in_range s.record_in_range.wanted (within-old r q only b.looks exact) (agrees-then R r q rec.wanted only b.looks exact b.still (At ShortOld)),
+    kept-after rec target (report_at sides (At ShortOld) q) q.table rec.wanted (like.short_old (shortfalls_of rec.posts.groups q.lacking)) s.record_in_range s.record_in_range.wanted (within-old r q only b.looks exact) (agrees-then R r q rec.wanted only b.looks exact b.still (At ShortOld)),
   )
 
   within-new : (r : Names) (q : Progress) → Only g like.set r → Looks (view first none r) q.table.rows → Exactly q → (k : ℕ) → is_in q.ready k ≡ true → k < like.wanted
   within-new r q only looks exact k e = like.below k (census-within first (λ n. refl) g like.set r q.table.rows q.ready only looks exact k e)
 
-  abbrev served_fully : Service
-  served_fully = uniform (addresses_of rec) g like.count
-
-  pub new-full : (v : Bool) (r : Names) (q : Progress) (c : ℕ) (w : Bool) → (v ≡ true → w ≡ true) → Only g like.set r → Band first scene none r (named g (is_in like.set)) (length like.set) c w [] q → ready_of first (named g (is_in like.set)) q + length q.lacking ≡ length like.set → Exactly q → post (At Done) q
+  pub new-full : (v : Bool) (r : Names) (q : Progress) (c : ℕ) (w : Bool) → (v ≡ true → w ≡ true) → Only g like.set r → Band first scene none r (named g (is_in like.set)) (length like.set) c w [] q → Counted rec.pid g like.set q.lacking q.table.rows → Exactly q → post (At Done) q
   new-full v r q c w up only b saw exact = (
-    λ a. service-of first (λ n. refl) g like.set (addresses_of rec) (λ k. refl) (first-keys t rec s) r like.count q.table only b.looks (omega (arith, saw, ap length b.lacking, like.sized)) a ∙ ap (λ (f : Service). f a) (sym like.wants),
+    λ a. service-of first (λ n. refl) g like.set (addresses_of rec) layout listens (first-keys t rec s) r q.table q.lacking only b.looks b.lacking saw a ∙ ap (λ (f : Service). f a) (sym like.wants),
     tt,
     tt,
-    kept-after rec target (report_at (At Done) q) q.table like.wanted like.done s.record_in_range like.most (within-new r q only b.looks exact) (agrees-then like.set r q like.wanted only b.looks exact b.still (At Done)),
+    kept-after rec target (report_at sides (At Done) q) q.table like.wanted like.done s.record_in_range like.most (within-new r q only b.looks exact) (agrees-then like.set r q like.wanted only b.looks exact b.still (At Done)),
   )
 
-  pub new-short : (r : Names) (q : Progress) (x : ℕ) (xs : List ℕ) → Only g like.set r → Band first scene none r (named g (is_in like.set)) (length like.set) rec.retries true (x ∷ xs) q → ready_of first (named g (is_in like.set)) q + length q.lacking ≡ length like.set → Exactly q → post (At ShortTarget) q
+  pub new-short : (r : Names) (q : Progress) (x : ℕ) (xs : List ℕ) → Only g like.set r → Band first scene none r (named g (is_in like.set)) (length like.set) rec.retries true (x ∷ xs) q → Counted rec.pid g like.set q.lacking q.table.rows → Exactly q → post (At ShortTarget) q
   new-short r q x xs only b saw exact = (
-    (
-      omega (arith, ap length b.lacking),
-      fewer-same (length q.lacking) served_fully _ _ _ (λ a. ap (λ (f : Service). f a) (sym like.wants)) (λ a. refl) (service-short first (λ n. refl) g like.set (addresses_of rec) (λ k. refl) (first-keys t rec s) r like.count (length q.lacking) q.table only b.looks (omega (arith, saw, like.sized))),
-    ),
-    omega (arith, b.budget, saw),
+    subst (λ (l : Layout). FallsShort l (shortfalls_of l.groups q.lacking) (want rec target) (service q.table)) (sym like.layout)
+        (falls-same layout (shortfalls_of rec.posts.groups q.lacking) _ _ _ (λ a. ap (λ (f : Service). f a) (sym like.wants))
+        (service-short first (λ n. refl) g like.set (addresses_of rec) layout listens (first-keys t rec s) r q.table q.lacking only b.looks some (omega (arith, ap length b.lacking)) saw)),
+    omega (arith, b.budget, counted-all rec.pid g like.set q.lacking q.table.rows saw, shortfalls-sum rec.posts.groups q.lacking some, ap (λ (l : Layout). sum (shortfalls_of l.groups q.lacking)) like.layout),
     b.marks.caused refl,
-    kept-after rec target (report_at (At ShortTarget) q) q.table like.wanted (like.short (length q.lacking)) s.record_in_range like.most (within-new r q only b.looks exact) (agrees-then like.set r q like.wanted only b.looks exact b.still (At ShortTarget)),
+    kept-after rec target (report_at sides (At ShortTarget) q) q.table like.wanted (like.short (shortfalls_of sides.target q.lacking)) s.record_in_range like.most (within-new r q only b.looks exact) (agrees-then like.set r q like.wanted only b.looks exact b.still (At ShortTarget)),
   )
 
   ---- The start, and the whole run
 
-  pub start-band : like.floor ≤ length R → Band first scene none first.ready (named g (is_in R)) (length R) 0 false [] (start_at t rec.note)
+  -- where the numbers of a set that an address counts are no fewer than its floor
+  pub covers : (S : List ℕ) → Distinct S → ((a : Address) → like.floor a ≤ served layout S a) → Enough rec.pid like.floor serves (named g (is_in S)) (length S)
+  covers S d le a e = covers-part rec.pid (like.floor a) (serves a) g S (λ k. has_address a (share rec.posts k s.agrees.holds)) d (λ k on. on) (omega (arith, le a, first-served t rec s S a))
+
+  pub start-band : ((a : Address) → like.floor a ≤ served layout R a) → Band first scene none first.ready (named g (is_in R)) (length R) 0 false [] (start_at t rec.note)
   start-band enough =
       let count = begin-count t rec s in
-      record { looks = looks0; enough = enough; secured = λ e. omega (arith, count); budget = omega (arith, count); lacking = refl; marks = record { clean = λ e. refl; blamed = λ e. absurd (cc e); caused = λ e. absurd (cc e) }; still = record { files_stay = refl; note_stays = refl; limits_stay = refl }; beside = tt }
+      record { looks = looks0; enough = covers R (rising-distinct R s.rising) enough; secured = λ a e. omega (arith, count); budget = omega (arith, count); lacking = refl; marks = record { clean = λ e. refl; blamed = λ e. absurd (cc e); caused = λ e. absurd (cc e) }; still = record { files_stay = refl; note_stays = refl; limits_stay = refl }; beside = tt }
 
   pub whole : (tree : Tree) → Goes tree (start_at t rec.note) → refused_in course tree (start_at t rec.note) ≡ None →
       let ran = run_in course tree (start_at t rec.note) in

@@ -1,15 +1,17 @@
 -- What a view says of the service of a table.
 use Rattle.definitions.specs.Table.{is_ready, Address, same_generation, Hold, Process, Master, Worker, Foreign, Table, has_address}
 use Rattle.std.proofs.Common.{⊎_elim, ◌≡◌, ℕ, ◌+◌, ◌≤◌, Bool, true, false, List, [], ◌∷◌, Some, None, refl, sym, ap, ◌∙◌, subst, arith}
-use Rattle.std.specs.Prelude.{◌||◌, count_by, filter, ◌&&◌, ◌==◌, if◌then◌else◌, bytes_eq}
+use Rattle.std.specs.Prelude.{◌||◌, count_by, filter, Option, ◌&&◌, ◌==◌, if◌then◌else◌}
 use Rattle.std.specs.List.{AllByRecursion, list_any}
 use Rattle.vocabulary.specs.declared.table.Stance.TheVariants.{Starting, Ready, Draining, Exited}
 use Rattle.listener_set.specs.declared.generation.Generation.{Generation}
+use Rattle.listener_set.specs.AddressList.{has}
 use Rattle.listener_set.specs.Numbers.{is_in}
-use Rattle.definitions.specs.Service.{Service, is_live_with, is_serving, service, uniform, IsSame}
-use Rattle.definitions.specs.Claims.{IsFewerAt, IsFewer, is_ready_with}
+use Rattle.definitions.specs.Service.{Service, is_live_with, is_serving, service, serving, IsSame}
+use Rattle.definitions.specs.Claims.{IsFewerAt, IsFewer, FallsShort, is_ready_with}
+use Rattle.definitions.specs.Crew.{Layout, short_at}
 use Rattle.theorems.proofs.Rows.{every-more, one, one-le, weigh, weigh-same, weigh-le, count-weigh}
-use Rattle.theorems.proofs.Views.{eqb-off, Row, Other, master_of, Names, named, View, HoldsAll, Fine, Looks, ready_in, eqb-refl}
+use Rattle.theorems.proofs.Views.{eqb-off, Row, Other, master_of, Names, named, View, Fine, Looks, ready_in, eqb-refl}
 use Rattle.theorems.proofs.Effects.{same-is, same-refl}
 use Rattle.theorems.proofs.Counts.{in-filter}
 
@@ -101,23 +103,12 @@ weigh-zero : (u : Process → ℕ) (P : Process → Type 0) → ((p : Process) �
 weigh-zero u P h [] all = refl
 weigh-zero u P h (p ∷ rows) all = omega (arith, h p all.0, weigh-zero u P h rows all.1)
 
--- the service of workers of one generation, so many at each address that the master holds
-abbrev pub served_by : List Hold → Generation → (Address → ℕ) → Service
-served_by holds g n a =
-    if has_address a holds
-    then Some (λ h. if same_generation h g then n a else 0)
-    else None
-
--- as many at each
-abbrev pub served : List Hold → Generation → ℕ → Service
-served holds g n = served_by holds g (λ a. n)
-
 -- how many of some numbers are Ready and hold an address
 abbrev pub held_at : View → Generation → List ℕ → Table → Address → ℕ
 held_at v g S t a = weigh (ready_in v.number (named g (is_in (holders v g S a)))) t.rows
 
-pub service-by : (v : View) → Sole v → (g : Generation) (S : List ℕ) (t : Table) → ((h : Generation) (k : ℕ) → v.ready h k ≡ true → (h ≡ g) × (is_in S k ≡ true)) → Looks v t.rows → IsSame (service t) (served_by v.holds g (held_at v g S t))
-service-by v sole g S t only looks a = go (has_address a v.holds) refl
+pub service-by : (v : View) → Sole v → (g : Generation) (S : List ℕ) (addresses : List Address) → ((a : Address) → has_address a v.holds ≡ has addresses a) → (t : Table) → ((h : Generation) (k : ℕ) → v.ready h k ≡ true → (h ≡ g) × (is_in S k ≡ true)) → Looks v t.rows → IsSame (service t) (serving addresses g (held_at v g S t))
+service-by v sole g S addresses keys t only looks a = go (has addresses a) refl
   where
     counts : (h : Generation) → count_by (is_serving a h) t.rows ≡ (if same_generation h g then held_at v g S t a else 0)
     counts h = count-weigh (is_serving a h) t.rows ∙ at (same_generation h g) refl
@@ -126,50 +117,47 @@ service-by v sole g S t only looks a = go (has_address a v.holds) refl
         at true e = subst (λ f. weigh (λ p. one (is_serving a f p)) t.rows ≡ held_at v g S t a) (sym (same-is h g e)) (weigh-same (Fine v) (λ p. one (is_serving a g p)) (ready_in v.number (named g (is_in (holders v g S a)))) (serving-on v g S a only) t.rows (sole-fine v sole t.rows looks.fine))
         at false e = weigh-zero (λ p. one (is_serving a h p)) (Fine v) (serving-other v g h S a e only) t.rows (sole-fine v sole t.rows looks.fine)
 
-    go : (b : Bool) → has_address a v.holds ≡ b → service t a ≡ served_by v.holds g (held_at v g S t) a
+    go : (b : Bool) → has addresses a ≡ b → service t a ≡ serving addresses g (held_at v g S t) a
     go true e =
-        let left : list_any (is_live_with (has_address a)) t.rows ≡ true = live-with v sole (has_address a) t.rows looks ∙ e in
+        let left : list_any (is_live_with (has_address a)) t.rows ≡ true = live-with v sole (has_address a) t.rows looks ∙ keys a ∙ e in
         rw (left, e) (λ i. Some (λ h. counts h i))
     go false e =
-        let left : list_any (is_live_with (has_address a)) t.rows ≡ false = live-with v sole (has_address a) t.rows looks ∙ e in
+        let left : list_any (is_live_with (has_address a)) t.rows ≡ false = live-with v sole (has_address a) t.rows looks ∙ keys a ∙ e in
         rw (left, e)
 
--- where each holds what the master holds, all are holders
-all-holders : (v : View) (g : Generation) (S : List ℕ) (a : Address) → ((k : ℕ) → has_address a (v.held g k) ≡ true) → holders v g S a ≡ S
-all-holders v g [] a on = refl
-all-holders v g (k ∷ S) a on = rw (on k) (ap (λ ks. k ∷ ks) (all-holders v g S a on))
-
-pub service-is : (v : View) → Sole v → (g : Generation) (S : List ℕ) (n : ℕ) (t : Table) → HoldsAll v g → ((h : Generation) (k : ℕ) → v.ready h k ≡ true → (h ≡ g) × (is_in S k ≡ true)) → Looks v t.rows → weigh (ready_in v.number (named g (is_in S))) t.rows ≡ n → IsSame (service t) (served v.holds g n)
-service-is v sole g S n t same only looks count a = service-by v sole g S t only looks a ∙ go (has_address a v.holds) refl
+-- as many at each address
+pub serving-same : (addresses : List Address) (g : Generation) (n k : Address → ℕ) → ((a : Address) → has addresses a ≡ true → n a ≡ k a) → IsSame (serving addresses g n) (serving addresses g k)
+serving-same addresses g n k same a = go (has addresses a) (same a)
   where
-    go : (b : Bool) → has_address a v.holds ≡ b → served_by v.holds g (held_at v g S t) a ≡ served v.holds g n a
-    go true e =
-        let all : holders v g S a ≡ S = all-holders v g S a (λ k. ap (has_address a) (same k) ∙ e) in
-        let many : held_at v g S t a ≡ n = ap (λ ks. weigh (ready_in v.number (named g (is_in ks))) t.rows) all ∙ count in
-        ap (λ m. if has_address a v.holds then Some (λ h. if same_generation h g then m else 0) else None) many
-    go false e = rw e refl
+    at : Bool → ℕ → Option (Generation → ℕ)
+    at b m = if b then Some (λ h. if same_generation h g then m else 0) else None
 
-pub served-uniform : (holds : List Hold) (addresses : List Address) (g : Generation) (n : ℕ) → ((a : Address) → has_address a holds ≡ list_any (λ b. bytes_eq b a) addresses) → IsSame (served holds g n) (uniform addresses g n)
-served-uniform holds addresses g n e a = ap (λ b. if b then Some (λ h. if same_generation h g then n else 0) else None) (e a)
+    go : (b : Bool) → (b ≡ true → n a ≡ k a) → at b (n a) ≡ at b (k a)
+    go true e = ap (at true) (e refl)
+    go false e = refl
 
 -- fewer of one generation
-pub served-fewer : (holds : List Hold) (g : Generation) (n k m : ℕ) → n ≡ k + m → IsFewer m (served holds g n) (served holds g k)
-served-fewer holds g n k m e a = go (has_address a holds)
+pub serving-fewer : (addresses : List Address) (g : Generation) (n k m : Address → ℕ) → ((a : Address) → has addresses a ≡ true → n a ≡ k a + m a) → IsFewer m (serving addresses g n) (serving addresses g k)
+serving-fewer addresses g n k m more a = go (has addresses a) (more a)
   where
-    on : (b : Bool) → b ≡ true → (if b then n else 0) ≡ (if b then k else 0) + m
-    on true f = e
-    on false f = cc
+    on : (b : Bool) → b ≡ true → n a ≡ k a + m a → (if b then n a else 0) ≡ (if b then k a else 0) + m a
+    on true f e = e
+    on false f e = cc
 
-    off : (b : Bool) → b ≡ false → (if b then n else 0) ≡ (if b then k else 0)
+    off : (b : Bool) → b ≡ false → (if b then n a else 0) ≡ (if b then k a else 0)
     off true f = cc
     off false f = refl
 
-    go : (b : Bool) → IsFewerAt m (if b then Some (λ h. if same_generation h g then n else 0) else None) (if b then Some (λ h. if same_generation h g then k else 0) else None)
-    go true = (g, on (same_generation g g) (same-refl g), λ h f. off (same_generation h g) f)
-    go false = tt
+    go : (b : Bool) → (b ≡ true → n a ≡ k a + m a) → IsFewerAt (m a) (if b then Some (λ h. if same_generation h g then n a else 0) else None) (if b then Some (λ h. if same_generation h g then k a else 0) else None)
+    go true e = (g, on (same_generation g g) (same-refl g) (e refl), λ h f. off (same_generation h g) f)
+    go false e = tt
 
-pub fewer-same : (m : ℕ) (s s' t t' : Service) → IsSame s s' → IsSame t t' → IsFewer m s t → IsFewer m s' t'
-fewer-same m s s' t t' e f h a = subst (λ x. IsFewerAt m x (t' a)) (e a) (subst (λ x. IsFewerAt m (s a) x) (f a) (h a))
+pub fewer-same : (m : Address → ℕ) (s s' t t' : Service) → IsSame s s' → IsSame t t' → IsFewer m s t → IsFewer m s' t'
+fewer-same m s s' t t' e f h a = subst (λ x. IsFewerAt (m a) x (t' a)) (e a) (subst (λ x. IsFewerAt (m a) (s a) x) (f a) (h a))
+
+-- what falls short of a service falls short of the same service
+pub falls-same : (layout : Layout) (shortfalls : List ℕ) (s s' t : Service) → IsSame s s' → FallsShort layout shortfalls s t → FallsShort layout shortfalls s' t
+falls-same layout shortfalls s s' t e f = (f.0, f.1, fewer-same (short_at layout shortfalls) s s' t t e (λ a. refl) f.2)
 
 -- another master's worker is none of ours
 pub other-unready : (v : View) (t : Names) (p : Process) → Other v p → ready_in v.number t p ≡ 0
@@ -182,19 +170,27 @@ other-unready v t (Worker n q g k s hs) o = go (is_ready s) (q == v.number) (eqb
     go false b e = refl
 other-unready v t (Foreign n hs) o = refl
 
--- a floor: the Ready workers that hold an address are at least those of some names
-ready-row : (v : View) (t : Names) (a : Address) → ((g : Generation) (k : ℕ) → has_address a (v.held g k) ≡ true) → (p : Process) → Fine v p → ready_in v.number t p ≤ one (is_ready_with a p)
+-- a floor: the Ready workers that hold an address are at least those of some names, which hold it
+ready-row : (v : View) (t : Names) (a : Address) → ((g : Generation) (k : ℕ) → t g k ≡ true → has_address a (v.held g k) ≡ true) → (p : Process) → Fine v p → ready_in v.number t p ≤ one (is_ready_with a p)
 ready-row v t a on (Master n q i live hs) h = omega arith
 ready-row v t a on (Worker n q g k Starting hs) h = omega arith
-ready-row v t a on (Worker n q g k Ready hs) h =
-    let held : has_address a hs ≡ true = subst (λ l. has_address a l ≡ true) (sym h.1.1) (on g k) in
-    omega (arith, ap one held, one-le ((q == v.number) && t g k))
+ready-row v t a on (Worker n q g k Ready hs) h = go (t g k) refl
+  where
+    go : (b : Bool) → t g k ≡ b → one ((q == v.number) && b) ≤ one (has_address a hs)
+    go true e =
+        let held : has_address a hs ≡ true = subst (λ l. has_address a l ≡ true) (sym h.1.1) (on g k e) in
+        omega (arith, ap one held, one-le ((q == v.number) && true))
+    go false e = omega (arith, ap one (and-off (q == v.number)))
+      where
+        and-off : (b : Bool) → (b && false) ≡ false
+        and-off true = refl
+        and-off false = refl
 ready-row v t a on (Worker n q g k Draining hs) h = omega arith
 ready-row v t a on (Worker n q g k Exited hs) h = omega arith
 ready-row v t a on (Foreign n hs) h = omega arith
 
-ready-any : (v : View) (t : Names) (a : Address) → ((g : Generation) (k : ℕ) → has_address a (v.held g k) ≡ true) → (p : Process) → Row v p → ready_in v.number t p ≤ one (is_ready_with a p)
+ready-any : (v : View) (t : Names) (a : Address) → ((g : Generation) (k : ℕ) → t g k ≡ true → has_address a (v.held g k) ≡ true) → (p : Process) → Row v p → ready_in v.number t p ≤ one (is_ready_with a p)
 ready-any v t a on p h = ⊎_elim (λ f. ready-row v t a on p f) (λ o. omega (arith, other-unready v t p o)) h
 
-pub ready-floor : (v : View) (t : Names) (a : Address) (rows : List Process) → ((g : Generation) (k : ℕ) → has_address a (v.held g k) ≡ true) → Looks v rows → weigh (ready_in v.number t) rows ≤ count_by (is_ready_with a) rows
+pub ready-floor : (v : View) (t : Names) (a : Address) (rows : List Process) → ((g : Generation) (k : ℕ) → t g k ≡ true → has_address a (v.held g k) ≡ true) → Looks v rows → weigh (ready_in v.number t) rows ≤ count_by (is_ready_with a) rows
 ready-floor v t a rows on looks = omega (arith, count-weigh (is_ready_with a) rows, weigh-le (Row v) (ready_in v.number t) (λ p. one (is_ready_with a p)) (ready-any v t a on) rows looks.fine)

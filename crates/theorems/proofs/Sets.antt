@@ -8,7 +8,7 @@ use Rattle.definitions.specs.Table.{Process, Master, Worker, Foreign, same_gener
 use Rattle.listener_set.specs.declared.generation.Generation.{Generation}
 use Rattle.listener_set.specs.Numbers.{numbers_below, is_in}
 use Rattle.theorems.proofs.Rows.{one, weigh, weigh-add, weigh-le-all}
-use Rattle.theorems.proofs.Views.{Names, named, View, Looks, ready_in, live_named, eqb-refl, eqb-off, eqb-is}
+use Rattle.theorems.proofs.Views.{Names, named, Once, ready_in, live_named, eqb-refl, eqb-off, eqb-is}
 use Rattle.theorems.proofs.Counts.{Distinct, below-in, is_in-append}
 
 abbrev pub Within : List ℕ → List ℕ → Type 0
@@ -52,7 +52,7 @@ in-filter-of t (x ∷ S) k e = go (t x) refl e (in-filter-of t S k)
     go true is e ih = ⊎_elim (λ same. (in-here x k S same, subst (λ z. t z ≡ true) same is)) (λ rest. let r = ih rest in (in-there x k S r.0, r.1)) (in-cases x k (filter t S) e)
     go false is e ih = let r = ih e in (in-there x k S r.0, r.1)
 
-filter-le : (t : ℕ → Bool) (S : List ℕ) → length (filter t S) ≤ length S
+pub filter-le : (t : ℕ → Bool) (S : List ℕ) → length (filter t S) ≤ length S
 filter-le t [] = omega arith
 filter-le t (x ∷ S) = go (t x) (filter-le t S)
   where
@@ -136,15 +136,15 @@ weigh-zero : (u : Process → ℕ) → ((p : Process) → u p ≤ 0) → (rows :
 weigh-zero u h [] = omega arith
 weigh-zero u h (p ∷ rows) = omega (arith, h p, weigh-zero u h rows)
 
-pub weigh-set : (v : View) (g : Generation) (rows : List Process) → Looks v rows → (S : List ℕ) → weigh (ready_in v.number (named g (is_in S))) rows ≤ length S
-weigh-set v g rows looks [] = weigh-zero (ready_in v.number (named g (is_in []))) (none-row v.number g) rows
-weigh-set v g rows looks (x ∷ S) =
+pub weigh-set : (m : ℕ) (g : Generation) (rows : List Process) → Once m rows → (S : List ℕ) → weigh (ready_in m (named g (is_in S))) rows ≤ length S
+weigh-set m g rows once [] = weigh-zero (ready_in m (named g (is_in []))) (none-row m g) rows
+weigh-set m g rows once (x ∷ S) =
     omega (
       arith,
-      weigh-or v.number g (is_in (x ∷ S)) (λ k. k == x) (is_in S) (λ k e. ⊎_elim (λ same. inl (eqb-refl k x (sym same))) (λ rest. inr rest) (in-cases x k S e)) rows,
-      weigh-le-all (ready_in v.number (named g (λ k. k == x))) (live_named v.number g x) (only-row v.number g x) rows,
-      looks.once g x,
-      weigh-set v g rows looks S,
+      weigh-or m g (is_in (x ∷ S)) (λ k. k == x) (is_in S) (λ k e. ⊎_elim (λ same. inl (eqb-refl k x (sym same))) (λ rest. inr rest) (in-cases x k S e)) rows,
+      weigh-le-all (ready_in m (named g (λ k. k == x))) (live_named m g x) (only-row m g x) rows,
+      once g x,
+      weigh-set m g rows once S,
     )
 
 pub filter-both : (t : ℕ → Bool) (S : List ℕ) → length (filter t S) + length (filter (λ k. not (t k)) S) ≡ length S
@@ -160,11 +160,11 @@ not-in true = inl refl
 not-in false = inr refl
 
 -- what a set has not Ready is at least what a part of it has not Ready
-pub weigh-part : (v : View) (g : Generation) (rows : List Process) → Looks v rows → (S T : List ℕ) → Distinct T → Within T S → weigh (ready_in v.number (named g (is_in S))) rows + length T ≤ weigh (ready_in v.number (named g (is_in T))) rows + length S
-weigh-part v g rows looks S T d w =
+pub weigh-part : (m : ℕ) (g : Generation) (rows : List Process) → Once m rows → (S T : List ℕ) → Distinct T → Within T S → weigh (ready_in m (named g (is_in S))) rows + length T ≤ weigh (ready_in m (named g (is_in T))) rows + length S
+weigh-part m g rows once S T d w =
     let rest = filter (λ k. not (is_in T k)) S in
-    let split = weigh-or v.number g (is_in S) (is_in T) (is_in rest) (λ k e. ⊎_elim (λ on. inl on) (λ off. inr (in-filter-on (λ j. not (is_in T j)) S k e off)) (not-in (is_in T k))) rows in
-    let few = weigh-set v g rows looks rest in
+    let split = weigh-or m g (is_in S) (is_in T) (is_in rest) (λ k e. ⊎_elim (λ on. inl on) (λ off. inr (in-filter-on (λ j. not (is_in T j)) S k e off)) (not-in (is_in T k))) rows in
+    let few = weigh-set m g rows once rest in
     let both = filter-both (is_in T) S in
     let short = shorter T (filter (is_in T) S) d (λ k e. in-filter-on (is_in T) S k (w k e) e) in
     omega (arith, split, few, both, short)

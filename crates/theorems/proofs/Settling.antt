@@ -13,6 +13,7 @@ use Rattle.vocabulary.specs.declared.plans.PidNote.{PidNote}
 use Rattle.vocabulary.specs.declared.calls.Reply.{Reply}
 use Rattle.definitions.specs.Table.{Address, has_address, Hold, Process, Master, Worker, Foreign, Table, Caller, live_master, caller_if, is_worker, is_active, is_ready, same_generation}
 use Rattle.definitions.specs.Formed.{IsFormed, IsQuiet, IsAscending}
+use Rattle.definitions.specs.Crew.{Crew, share}
 use Rattle.definitions.specs.Record.{IsRunning}
 use Rattle.vocabulary.specs.declared.reports.Entry.{Entry}
 use Rattle.definitions.specs.Tree.{Tree, Branches, Ends, Does, Nothing, Branch, among, reply_of, full_or_short, call_of}
@@ -28,13 +29,14 @@ use Rattle.definitions.specs.Settling.{PlansGoBack, IsOnly, HasSide, missing, Se
 use Rattle.theorems.proofs.Rows.{one, weigh, every-more, every-both, count-weigh, and-left, and-right, both-true, or-left, or-right}
 use Rattle.theorems.proofs.Views.{Row, Fine, FineLive, Other, Names, master_of, named, View, Looks, ready_in, finds, eqb-refl, eqb-off, eqb-is}
 use Rattle.theorems.proofs.Effects.{none, same-is, bears-is, same-refl, after_close}
-use Rattle.theorems.proofs.Counts.{Distinct, count-set, every-any_of, in-filter}
+use Rattle.theorems.proofs.Counts.{Distinct, Counted, counted-all, count-set, every-any_of, in-filter}
 use Rattle.theorems.proofs.Sets.{in-here, every-in}
 use Rattle.theorems.proofs.Small.{every-is_in, or-elim, true-false}
 use Rattle.theorems.proofs.Begins.{rising-distinct}
 use Rattle.theorems.proofs.Logic.{Course, Anyhow, Unasked, Along, from-along, are-mild-anyhow}
 use Rattle.theorems.proofs.Rules.{Scene, plain_scene, Band, band-holds, seen_as, Only, Less, view, rule-settle, rule-close, rule-quits, grounded}
-use Rattle.theorems.proofs.Addresses.{same-address, address-refl, lacks-none}
+use Rattle.theorems.proofs.Layouts.{share-lacks-none}
+use Rattle.theorems.proofs.Addresses.{same-address, address-refl}
 use Rattle.theorems.proofs.Listeners.{all_closed, all-closed-is}
 use Rattle.definitions.specs.Calls.{gives, lacks_address}
 use Rattle.listener_set.specs.AddressList.{has}
@@ -232,18 +234,18 @@ module _ (text : List ℕ) (pattern : Pattern) (set : List ℕ) where
           ]
       go _ t middle = λ end is. absurd (cc is)
 
-  round-named : (by : ℕ) (g : Generation) (rest : Tree) → AlwaysNamed rest → AlwaysNamed (round by g rest)
-  round-named by g rest named =
-      let killed = Does by (KillLacking g) [] (then_edge rest) in
-      let waited = does-named by (AwaitLacking g) [] (await_any_edges rest killed) (named, (does-named by (KillLacking g) [] (then_edge rest) (named, tt), tt)) in
-      does-named by (ForkLacking g) [] (fork_edges (Does by (AwaitLacking g) [] (await_any_edges rest killed)) rest) (waited, (named, tt))
+  round-named : (by : ℕ) (crew : Crew) (rest : Tree) → AlwaysNamed rest → AlwaysNamed (round by crew rest)
+  round-named by crew rest named =
+      let killed = Does by (KillLacking crew.generation) [] (then_edge rest) in
+      let waited = does-named by (AwaitLacking crew.generation) [] (await_any_edges rest killed) (named, (does-named by (KillLacking crew.generation) [] (then_edge rest) (named, tt), tt)) in
+      does-named by (ForkLacking crew) [] (fork_edges (Does by (AwaitLacking crew.generation) [] (await_any_edges rest killed)) rest) (waited, (named, tt))
 
-  settle-named : (by : ℕ) (g : Generation) (side : Side) (rounds : ℕ) → AlwaysNamed (settle by g set side rounds)
-  settle-named by g side zero = census-named by g (Ends (full_end side)) (Ends (short_end side)) (end-named (full_end side)) (end-named (short_end side))
-  settle-named by g side (suc rounds) =
-      let rest = settle by g set side rounds in
-      let more = round-named by g rest (settle-named by g side rounds) in
-      census-named by g (Ends (full_end side)) (round by g rest) (end-named (full_end side)) (λ q is. more q)
+  settle-named : (by : ℕ) (crew : Crew) (side : Side) (rounds : ℕ) → AlwaysNamed (settle by crew set side rounds)
+  settle-named by crew side zero = census-named by crew.generation (Ends (full_end side)) (Ends (short_end side)) (end-named (full_end side)) (end-named (short_end side))
+  settle-named by crew side (suc rounds) =
+      let rest = settle by crew set side rounds in
+      let more = round-named by crew rest (settle-named by crew side rounds) in
+      census-named by crew.generation (Ends (full_end side)) (round by crew rest) (end-named (full_end side)) (λ q is. more q)
 
   quits-named : (by : ℕ) (g : Generation) (ks : List ℕ) (rest : Tree) → AlwaysNamed rest → AlwaysNamed (quits by g ks rest)
   quits-named by g [] rest named = named
@@ -271,16 +273,19 @@ master-row v n q i live hs known ours =
     own-or-other v (Master n q i live hs) n (λ is. let o = ours.0 is in (is, o.0, o.1, o.2))
     (λ off. (off, known, ⊎_elim (λ a. inl a) (λ a. inr (λ x. off (a x))) ours.1))
 
-module _ (image pid : ℕ) (holds : List Hold) (g : Generation) (S : List ℕ) where
+module _ (image pid : ℕ) (holds : List Hold) (crew : Crew) (S : List ℕ) where
+  abbrev g : Generation
+  g = crew.generation
+
   abbrev u : View
-  u = record { number = pid; others = λ n. true; image = image; holds = holds; starting = none; ready = named g (is_in S); held = λ h k. holds }
+  u = record { number = pid; others = λ n. true; image = image; holds = holds; starting = none; ready = named g (is_in S); held = λ h k. share crew.posts k holds }
 
   abbrev me : Caller
   me = record { number = pid; holds = holds }
 
   -- what is known of a row of the first table
   abbrev Known : Process → Type 0
-  Known p = Ours image me p × IsRunning pid g holds p × IsQuiet p × ((k : ℕ) → is_worker is_ready pid g k p ≡ true → is_in S k ≡ true)
+  Known p = Ours image me p × IsRunning pid crew holds p × IsQuiet p × ((k : ℕ) → is_worker is_ready pid g k p ≡ true → is_in S k ≡ true)
 
   first-row : (p : Process) → Known p → Row u p
   first-row (Master n q i live hs) h = master-row u n q i live hs refl h.0
@@ -297,11 +302,11 @@ module _ (image pid : ℕ) (holds : List Hold) (g : Generation) (S : List ℕ) w
       on e Exited h = h.2
   first-row (Foreign n hs) h = inl tt
 
-  first-looks : (t : Table) → IsFormed t → HasSide t image pid holds g S → Looks u t.rows
+  first-looks : (t : Table) → IsFormed t → HasSide t image pid holds crew S → Looks u t.rows
   first-looks t formed has =
       let own = ours image me 0 t.rows t.next_process formed.ascending has.lives has.only in
       record {
-        fine = every-more (λ p. (Ours image me p × IsRunning pid g holds p) × (IsQuiet p × ((k : ℕ) → is_worker is_ready pid g k p ≡ true → list_any (is_worker is_ready pid g k) t.rows ≡ true))) (Row u) (λ p h. first-row p (h.0.0, h.0.1, h.1.0, λ k e. has.within k (h.1.1 k e))) t.rows
+        fine = every-more (λ p. (Ours image me p × IsRunning pid crew holds p) × (IsQuiet p × ((k : ℕ) → is_worker is_ready pid g k p ≡ true → list_any (is_worker is_ready pid g k) t.rows ≡ true))) (Row u) (λ p h. first-row p (h.0.0, h.0.1, h.1.0, λ k e. has.within k (h.1.1 k e))) t.rows
             (every-both _ _ t.rows (every-both _ _ t.rows own.0 has.running) (every-both _ _ t.rows formed.quiet (every-any_of (λ k. is_worker is_ready pid g k) t.rows)));
         alone = own.1;
         once = λ h k. subst (λ n. n ≤ 1) (count-weigh (is_worker is_active pid h k) t.rows) (formed.once pid h k);
@@ -315,7 +320,7 @@ module _ (image pid : ℕ) (holds : List Hold) (g : Generation) (S : List ℕ) w
   only-row r (Worker n q g' k st hs) h = tt
   only-row r (Foreign n hs) h = tt
 
-  running-row : (r : Names) → Only g S r → (p : Process) → Row (view u none r) p → IsRunning pid g holds p
+  running-row : (r : Names) → Only g S r → (p : Process) → Row (view u none r) p → IsRunning pid crew holds p
   running-row r only (Master n q i live hs) h = tt
   running-row r only (Worker n q g' k Starting hs) h = λ e. ⊎_elim (λ f. absurd (cc (f.1.0))) (λ o. o.0 e) h
   running-row r only (Worker n q g' k Ready hs) h = λ e. ⊎_elim (λ f. ((only g' k f.1.0).0, f.1.1)) (λ o. absurd (o.0 e)) h
@@ -338,11 +343,11 @@ module _ (image pid : ℕ) (holds : List Hold) (g : Generation) (S : List ℕ) w
   within-rows r only k (p ∷ rows) all e =
       ⊎_elim (λ a. within-row r only k p all.0 a) (λ a. within-rows r only k rows all.1 a) (or-elim (is_worker is_ready pid g k p) (list_any (is_worker is_ready pid g k) rows) e)
 
-  side-of : (r : Names) (t : Table) → Only g S r → Looks (view u none r) t.rows → HasSide t image pid holds g S
+  side-of : (r : Names) (t : Table) → Only g S r → Looks (view u none r) t.rows → HasSide t image pid holds crew S
   side-of r t only looks = record {
     lives = finds (view u none r) t.rows looks;
     only = every-more (Row (view u none r)) (IsOnly image pid) (only-row r) t.rows looks.fine;
-    running = every-more (Row (view u none r)) (IsRunning pid g holds) (running-row r only) t.rows looks.fine;
+    running = every-more (Row (view u none r)) (IsRunning pid crew holds) (running-row r only) t.rows looks.fine;
     within = λ k e. within-rows r only k t.rows looks.fine e;
   }
 
@@ -353,7 +358,7 @@ module _ (image pid : ℕ) (holds : List Hold) (g : Generation) (S : List ℕ) w
     co = record { text = text; pattern = pattern; executing = image ∷ []; heirs = [] }
 
     abbrev sc : Scene pid image
-    sc = plain_scene pid image 0 p.table.files p.note p.table.limits
+    sc = plain_scene pid image (λ a. 0) (λ a h k. false) p.table.files p.note p.table.limits
 
     abbrev inv : Progress → Type 0
     inv q = ⊤
@@ -368,7 +373,7 @@ module _ (image pid : ℕ) (holds : List Hold) (g : Generation) (S : List ℕ) w
         ⊎ ((e ≡ At (short_end side)) × (1 ≤ length q.lacking) × (length q.lacking + rounds + (p.faults + p.losses) + 1 ≤ q.faults + q.losses))
 
     abbrev post : Ending → Progress → Type 0
-    post e q = EndsSo e q × Exactly q × HasSide q.table image pid holds g S × (q.table.files ≡ p.table.files) × (q.note ≡ p.note)
+    post e q = EndsSo e q × Exactly q × HasSide q.table image pid holds crew S × (q.table.files ≡ p.table.files) × (q.note ≡ p.note)
 
     abbrev owed : ℕ
     owed = p.faults + p.losses + 1
@@ -376,15 +381,15 @@ module _ (image pid : ℕ) (holds : List Hold) (g : Generation) (S : List ℕ) w
     count-of : (r : Names) (q : Progress) → Looks (view u none r) q.table.rows → Exactly q → weigh (ready_in pid (named g (is_in S))) q.table.rows + length (missing pid g S q.table) ≡ length S
     count-of r q looks exact = missing-count (view u none r) g q.table S q.ready looks dS (every-in (λ k. list_any (is_worker is_ready pid g k) q.table.rows ≡ is_in q.ready k) S (λ k e. exact k))
 
-    full : (r : Names) (q : Progress) (c : ℕ) (w : Bool) → (false ≡ true → w ≡ true) → Only g S r → Band u sc none r (named g (is_in S)) (length S) c w [] q → weigh (ready_in pid (named g (is_in S))) q.table.rows + length q.lacking ≡ length S → Exactly q → post (At (full_end side)) q
+    full : (r : Names) (q : Progress) (c : ℕ) (w : Bool) → (false ≡ true → w ≡ true) → Only g S r → Band u sc none r (named g (is_in S)) (length S) c w [] q → Counted pid g S q.lacking q.table.rows → Exactly q → post (At (full_end side)) q
     full r q c w up only b saw exact =
-        let none_missing = no-length (missing pid g S q.table) (omega (arith, saw, ap length b.lacking, count-of r q b.looks exact)) in
+        let none_missing = no-length (missing pid g S q.table) (omega (arith, counted-all pid g S q.lacking q.table.rows saw, ap length b.lacking, count-of r q b.looks exact)) in
         (inl (refl, none_missing), exact, side-of r q.table only b.looks, b.still.files_stay, b.still.note_stays)
 
-    short : (r : Names) (q : Progress) (x : ℕ) (xs : List ℕ) → Only g S r → Band u sc none r (named g (is_in S)) (length S) (owed + rounds) true (x ∷ xs) q → weigh (ready_in pid (named g (is_in S))) q.table.rows + length q.lacking ≡ length S → Exactly q → post (At (short_end side)) q
+    short : (r : Names) (q : Progress) (x : ℕ) (xs : List ℕ) → Only g S r → Band u sc none r (named g (is_in S)) (length S) (owed + rounds) true (x ∷ xs) q → Counted pid g S q.lacking q.table.rows → Exactly q → post (At (short_end side)) q
     short r q x xs only b saw exact =
         let some : 1 ≤ length q.lacking = omega (arith, ap length b.lacking) in
-        let paid : length q.lacking + rounds + (p.faults + p.losses) + 1 ≤ q.faults + q.losses = omega (arith, b.budget, saw) in
+        let paid : length q.lacking + rounds + (p.faults + p.losses) + 1 ≤ q.faults + q.losses = omega (arith, b.budget, counted-all pid g S q.lacking q.table.rows saw) in
         (inr (refl, some, paid), exact, side-of r q.table only b.looks, b.still.files_stay, b.still.note_stays)
 
     abbrev more : ℕ
@@ -399,8 +404,8 @@ module _ (image pid : ℕ) (holds : List Hold) (g : Generation) (S : List ℕ) w
         let count = missing-count (view (seen_as u v) s r) g p.table S _ looks dS (ready-among pid g p.table.rows S) in
         record {
           looks = looks;
-          enough = omega arith;
-          secured = λ e. absurd (omega (arith, e));
+          enough = λ a e. absurd (omega (arith, e));
+          secured = λ a e. absurd (omega (arith, e));
           budget = omega (arith, count);
           lacking = refl;
           marks = record { clean = λ e. absurd (cc e); blamed = λ e. omega arith; caused = λ e. absurd (cc e) };
@@ -418,11 +423,11 @@ module _ (image pid : ℕ) (holds : List Hold) (g : Generation) (S : List ℕ) w
     acts = in-here image image [] refl
 
     -- from what is known before it
-    settle-goes : ((k : ℕ) → is_in S k ≡ true → k < 1024) → (r : Names) (w : Bool) (ls : List ℕ) (q : Progress) → Only g S r → Band u sc none r (named g (is_in S)) (length S) owed w ls q → Goes (settle image g S side rounds) q
-    settle-goes below r w ls q only b = rule-settle u sc (grounded inv post co acts (λ t n w q a b c d e. tt)) side g S (λ k. refl) dS below (owed + rounds) false full short rounds owed refl w (λ e. absurd (cc e)) r ls q only b
+    settle-goes : ((k : ℕ) → is_in S k ≡ true → k < 1024) → (r : Names) (w : Bool) (ls : List ℕ) (q : Progress) → Only g S r → Band u sc none r (named g (is_in S)) (length S) owed w ls q → Goes (settle image crew S side rounds) q
+    settle-goes below r w ls q only b = rule-settle u sc (grounded inv post co acts (λ t n w q a b c d e. tt)) side crew S (λ k. refl) dS below (owed + rounds) false full short rounds owed refl w (λ e. absurd (cc e)) r ls q only b
 
     -- what goes along a tree from there is so of its run
-    settles-by : (tree : Tree) → AlwaysNamed text pattern S tree → Goes tree begun → refused_among (image ∷ []) [] pattern p.calls (run_with text tree pattern p).entries ≡ None → Settles image pid holds g S side rounds p (run_with text tree pattern p)
+    settles-by : (tree : Tree) → AlwaysNamed text pattern S tree → Goes tree begun → refused_among (image ∷ []) [] pattern p.calls (run_with text tree pattern p).entries ≡ None → Settles image pid holds crew S side rounds p (run_with text tree pattern p)
     settles-by tree always goes spared =
         let ran = run_with text tree pattern p in
         let ran' = run_with text tree pattern begun in
@@ -440,13 +445,13 @@ module _ (image pid : ℕ) (holds : List Hold) (g : Generation) (S : List ℕ) w
         }
 
 pub settles_always : SettlesAlways
-settles_always text image pid holds g set side rounds pattern first formed has rising below spared =
+settles_always text image pid holds crew set side rounds pattern first formed has rising below spared =
     let dS = rising-distinct set rising in
     let below_set = every-is_in (λ k. k < 1024) set below in
-    let looks = first-looks image pid holds g set first.table formed has in
-    settles-by image pid holds g set text side rounds pattern first dS (settle image g set side rounds) (settle-named text pattern set image g side rounds)
-    (settle-goes image pid holds g set text side rounds pattern first dS below_set (named g (is_in set)) false first.lacking (begun image pid holds g set text side rounds pattern first dS)
-    (λ h k e. (same-is h g (and-left _ _ e), and-right (same_generation h g) _ e)) (first-band image pid holds g set text side rounds pattern first dS looks)) spared
+    let looks = first-looks image pid holds crew set first.table formed has in
+    settles-by image pid holds crew set text side rounds pattern first dS (settle image crew set side rounds) (settle-named text pattern set image crew side rounds)
+    (settle-goes image pid holds crew set text side rounds pattern first dS below_set (named crew.generation (is_in set)) false first.lacking (begun image pid holds crew set text side rounds pattern first dS)
+    (λ h k e. (same-is h crew.generation (and-left _ _ e), and-right (same_generation h crew.generation) _ e)) (first-band image pid holds crew set text side rounds pattern first dS looks)) spared
 
 ---- The way back
 
@@ -467,35 +472,42 @@ all-has : (l big : List Address) → ((a : Address) → has l a ≡ true → has
 all-has [] big h = tt
 all-has (x ∷ l) big h = (h x (rw (address-refl x) refl), all-has l big (λ a e. h a (or-right (bytes_eq x a) (has l a) e)))
 
-module _ (image pid : ℕ) (holds : List Hold) (opened : List Address) (g : Generation) (S : List ℕ) (new : Generation) (forked : List ℕ) (apart : new ≡ g → (opened ≡ []) × ((k : ℕ) → is_in forked k ≡ true → is_in S k ≡ false)) where
+module _ (image pid : ℕ) (holds : List Hold) (opened : List Address) (crew : Crew) (S : List ℕ) (new_crew : Crew) (forked : List ℕ) (apart : new_crew.generation ≡ crew.generation → (opened ≡ []) × ((k : ℕ) → is_in forked k ≡ true → is_in S k ≡ false)) where
+  abbrev old : Generation
+  old = crew.generation
+
+  abbrev new : Generation
+  new = new_crew.generation
+
   abbrev kept : List Hold
   kept = without opened holds
 
-  abbrev held_by : Generation → List Hold
-  held_by h = if same_generation h g then kept else holds
+  -- the old workers by their names, and all others
+  abbrev held_by : Generation → ℕ → List Hold
+  held_by h k = if named old (is_in S) h k then share crew.posts k kept else share new_crew.posts k holds
 
   abbrev either : Names
-  either h k = named g (is_in S) h k || named new (is_in forked) h k
+  either h k = named old (is_in S) h k || named new (is_in forked) h k
 
   -- both the old workers and those that were started
   abbrev wide : View
-  wide = record { number = pid; others = λ n. true; image = image; holds = holds; starting = named new (is_in forked); ready = either; held = λ h k. held_by h }
+  wide = record { number = pid; others = λ n. true; image = image; holds = holds; starting = named new (is_in forked); ready = either; held = held_by }
 
-  held-old : held_by g ≡ kept
-  held-old = rw (same-refl g) refl
+  held-old : (h : Generation) (k : ℕ) → named old (is_in S) h k ≡ true → held_by h k ≡ share crew.posts k kept
+  held-old h k e = rw e refl
 
-  held-new : held_by new ≡ holds
-  held-new = go (same_generation new g) refl
+  held-new : (h : Generation) (k : ℕ) → h ≡ new → is_in forked k ≡ true → held_by h k ≡ share new_crew.posts k holds
+  held-new h k is e = go (same_generation h old) refl
     where
-      go : (b : Bool) → same_generation new g ≡ b → (if b then kept else holds) ≡ holds
-      go true e = ap (λ l. without l holds) (apart (same-is new g e)).0 ∙ filter-none holds
-      go false e = refl
+      go : (b : Bool) → same_generation h old ≡ b → (if b && is_in S k then share crew.posts k kept else share new_crew.posts k holds) ≡ share new_crew.posts k holds
+      go true same = rw ((apart (sym is ∙ same-is h old same)).1 k e) refl
+      go false same = refl
 
   named-on : (h : Generation) (T : List ℕ) (f : Generation) (k : ℕ) → f ≡ h → is_in T k ≡ true → named h (is_in T) f k ≡ true
   named-on h T f k e in_it = both-true (same_generation f h) (is_in T k) (subst (λ x. same_generation x h ≡ true) (sym e) (same-refl h)) in_it
 
   abbrev Found : Process → Type 0
-  Found p = Ours image (record { number = pid; holds = holds }) p × IsReturning pid holds opened g S new forked p × IsQuiet p
+  Found p = Ours image (record { number = pid; holds = holds }) p × IsReturning pid holds opened crew S new_crew forked p × IsQuiet p
 
   back-row : (p : Process) → Found p → Row wide p
   back-row (Master n q i live hs) h = master-row wide n q i live hs refl h.0
@@ -504,19 +516,19 @@ module _ (image pid : ℕ) (holds : List Hold) (opened : List Address) (g : Gene
       on : (e : q ≡ pid) (st : Stance) → Found (Worker n q f k st hs) → FineLive wide st f k hs
       on e Starting h =
           let c = h.1 e in
-          (named-on new forked f k c.0 c.1, c.2 ∙ sym (ap held_by c.0 ∙ held-new))
+          (named-on new forked f k c.0 c.1, c.2 ∙ sym (held-new f k c.0 c.1))
       on e Ready h =
-          ⊎_elim (λ c. (or-left (named g (is_in S) f k) (named new (is_in forked) f k) (named-on g S f k c.0 c.1), c.2 ∙ sym (ap held_by c.0 ∙ held-old)))
-          (λ c. (or-right (named g (is_in S) f k) (named new (is_in forked) f k) (named-on new forked f k c.0 c.1), c.2 ∙ sym (ap held_by c.0 ∙ held-new))) (h.1 e)
+          ⊎_elim (λ c. (or-left (named old (is_in S) f k) (named new (is_in forked) f k) (named-on old S f k c.0 c.1), c.2 ∙ sym (held-old f k (named-on old S f k c.0 c.1))))
+          (λ c. (or-right (named old (is_in S) f k) (named new (is_in forked) f k) (named-on new forked f k c.0 c.1), c.2 ∙ sym (held-new f k c.0 c.1))) (h.1 e)
       on e Draining h = h.2
       on e Exited h = h.2
   back-row (Foreign n hs) h = inl tt
 
-  back-looks : (t : Table) → IsFormed t → live_master image t.rows ≡ Some (record { number = pid; holds = holds }) → AllByRecursion (IsOnly image pid) t.rows → AllByRecursion (IsReturning pid holds opened g S new forked) t.rows → Looks wide t.rows
+  back-looks : (t : Table) → IsFormed t → live_master image t.rows ≡ Some (record { number = pid; holds = holds }) → AllByRecursion (IsOnly image pid) t.rows → AllByRecursion (IsReturning pid holds opened crew S new_crew forked) t.rows → Looks wide t.rows
   back-looks t formed lives only returning =
       let own = ours image (record { number = pid; holds = holds }) 0 t.rows t.next_process formed.ascending lives only in
       record {
-        fine = every-more (λ p. (Ours image (record { number = pid; holds = holds }) p × IsReturning pid holds opened g S new forked p) × IsQuiet p) (Row wide) (λ p h. back-row p (h.0.0, h.0.1, h.1)) t.rows
+        fine = every-more (λ p. (Ours image (record { number = pid; holds = holds }) p × IsReturning pid holds opened crew S new_crew forked p) × IsQuiet p) (Row wide) (λ p h. back-row p (h.0.0, h.0.1, h.1)) t.rows
             (every-both _ _ t.rows (every-both _ _ t.rows own.0 returning) formed.quiet);
         alone = own.1;
         once = λ h k. subst (λ n. n ≤ 1) (count-weigh (is_worker is_active pid h k) t.rows) (formed.once pid h k);
@@ -524,75 +536,75 @@ module _ (image pid : ℕ) (holds : List Hold) (opened : List Address) (g : Gene
 
   module _ (text : List ℕ) (rounds : ℕ) (pattern : Pattern) (p : Progress) (dS : Distinct S) (below : (k : ℕ) → is_in S k ≡ true → k < 1024) where
     abbrev inv' : Progress → Type 0
-    inv' = inv image pid kept g S text Old rounds pattern p dS
+    inv' = inv image pid kept crew S text Old rounds pattern p dS
 
     abbrev post' : Ending → Progress → Type 0
-    post' = post image pid kept g S text Old rounds pattern p dS
+    post' = post image pid kept crew S text Old rounds pattern p dS
 
     abbrev co' : Course
-    co' = co image pid kept g S text Old rounds pattern p dS
+    co' = co image pid kept crew S text Old rounds pattern p dS
 
     abbrev sc' : Scene pid image
-    sc' = sc image pid kept g S text Old rounds pattern p dS
+    sc' = sc image pid kept crew S text Old rounds pattern p dS
 
     abbrev paid : ℕ
-    paid = owed image pid kept g S text Old rounds pattern p dS
+    paid = owed image pid kept crew S text Old rounds pattern p dS
 
     abbrev Runs' : Tree → Progress → Type 0
     Runs' tree q = Along inv' post' Anyhow Unasked co' tree q
 
     abbrev t : Names
-    t = named g (is_in S)
+    t = named old (is_in S)
 
     abbrev acts' : is_in (image ∷ []) image ≡ true
     acts' = in-here image image [] refl
 
     -- the old workers, while the master still holds more
     abbrev narrow : List Hold → View
-    narrow hs = record { number = pid; others = λ n. true; image = image; holds = hs; starting = none; ready = named g (is_in S); held = λ h k. kept }
+    narrow hs = record { number = pid; others = λ n. true; image = image; holds = hs; starting = none; ready = named old (is_in S); held = λ h k. share crew.posts k kept }
 
-    close-all : (l : List Address) (hs : List Hold) → all_closed l hs ≡ kept → AllByRecursion (λ a. has_address a kept ≡ false) l → (r : Names) (ls : List ℕ) (q : Progress) → Only g S r → Band (narrow hs) sc' none r t (length S) paid false ls q → Runs' (closes image l (settle image g S Old rounds)) q
+    close-all : (l : List Address) (hs : List Hold) → all_closed l hs ≡ kept → AllByRecursion (λ a. has_address a kept ≡ false) l → (r : Names) (ls : List ℕ) (q : Progress) → Only old S r → Band (narrow hs) sc' none r t (length S) paid false ls q → Runs' (closes image l (settle image crew S Old rounds)) q
     close-all [] hs is off r ls q only b =
-        settle-goes image pid kept g S text Old rounds pattern p dS below r false ls q only (subst (λ x. Band (narrow x) sc' none r t (length S) paid false ls q) is b)
+        settle-goes image pid kept crew S text Old rounds pattern p dS below r false ls q only (subst (λ x. Band (narrow x) sc' none r t (length S) paid false ls q) is b)
     close-all (a ∷ l) hs is off r ls q only b =
-        rule-close (narrow hs) sc' (grounded inv' post' co' acts' (λ t n w q a b c d e. tt)) (closes image l (settle image g S Old rounds)) a r t (length S) paid false ls q
-        (λ q' b'. close-all l (lacks_address a hs) is off.1 r ls q' only (band-holds (after_close a (narrow hs)) (narrow (lacks_address a hs)) sc' none r t (length S) paid false ls q' refl (λ h k e. cc e) (λ h k e. lacks-none a kept off.0) b')) b
+        rule-close (narrow hs) sc' (grounded inv' post' co' acts' (λ t n w q a b c d e. tt)) (closes image l (settle image crew S Old rounds)) a r t (length S) paid false ls q
+        (λ q' b'. close-all l (lacks_address a hs) is off.1 r ls q' only (band-holds (after_close a (narrow hs)) (narrow (lacks_address a hs)) sc' none r t (length S) paid false ls q' refl (λ h k e. cc e) (λ h k e. share-lacks-none crew.posts k a kept off.0) b')) b
 
     off-old : (k : ℕ) → is_in forked k ≡ true → t new k ≡ false
-    off-old k e = go (same_generation new g) refl
+    off-old k e = go (same_generation new old) refl
       where
-        go : (b : Bool) → same_generation new g ≡ b → (b && is_in S k) ≡ false
-        go true is = (apart (same-is new g is)).1 k e
+        go : (b : Bool) → same_generation new old ≡ b → (b && is_in S k) ≡ false
+        go true is = (apart (same-is new old is)).1 k e
         go false is = refl
 
     -- who is left once those that were started have quit
-    left-over : (r : Names) → Less new either forked r → Only g S r
+    left-over : (r : Names) → Less new either forked r → Only old S r
     left-over r less h k e =
         let l = less h k e in
-        ⊎_elim (λ a. (same-is h g (and-left _ _ a), and-right (same_generation h g) _ a))
-        (λ a. absurd (true-false (is_in forked k) (and-right (same_generation h new) _ a) (l.1 (same-is h new (and-left _ _ a))))) (or-elim (named g (is_in S) h k) (named new (is_in forked) h k) l.0)
+        ⊎_elim (λ a. (same-is h old (and-left _ _ a), and-right (same_generation h old) _ a))
+        (λ a. absurd (true-false (is_in forked k) (and-right (same_generation h new) _ a) (l.1 (same-is h new (and-left _ _ a))))) (or-elim (named old (is_in S) h k) (named new (is_in forked) h k) l.0)
 
     none-starts : (s : Names) → Less new (named new (is_in forked)) forked s → (h : Generation) (k : ℕ) → s h k ≡ true → ⊥
     none-starts s less h k e =
         let l = less h k e in
         true-false (is_in forked k) (and-right (same_generation h new) _ l.0) (l.1 (same-is h new (and-left _ _ l.0)))
 
-    back-goes : Looks wide p.table.rows → Runs' (back image new forked opened g S rounds) (begun image pid kept g S text Old rounds pattern p dS)
+    back-goes : Looks wide p.table.rows → Runs' (back image new forked opened crew S rounds) (begun image pid kept crew S text Old rounds pattern p dS)
     back-goes looks =
-        let q0 = begun image pid kept g S text Old rounds pattern p dS in
-        let rest = closes image opened (settle image g S Old rounds) in
+        let q0 = begun image pid kept crew S text Old rounds pattern p dS in
+        let rest = closes image opened (settle image crew S Old rounds) in
         let gone : AllByRecursion (λ a. has_address a kept ≡ false) opened = every-more (λ a. has opened a ≡ true) (λ a. has_address a kept ≡ false) (λ a e. without-off opened a holds e) opened (all-has opened opened (λ a e. e)) in
         rule-quits wide sc' (grounded inv' post' co' acts' (λ t n w q a b c d e. tt)) rest new forked (named new (is_in forked)) either t (length S) paid false p.lacking q0 off-old
-        (λ s' r' q less_s less b. close-all opened holds (all-closed-is opened holds) gone r' p.lacking q (left-over r' less) (band-holds wide (narrow holds) sc' s' r' t (length S) paid false p.lacking q refl (none-starts s' less_s) (λ h k e. ap held_by (left-over r' less h k e).0 ∙ held-old) b))
-        (begun-band image pid kept g S text Old rounds pattern p dS wide (named new (is_in forked)) either looks)
+        (λ s' r' q less_s less b. close-all opened holds (all-closed-is opened holds) gone r' p.lacking q (left-over r' less) (band-holds wide (narrow holds) sc' s' r' t (length S) paid false p.lacking q refl (none-starts s' less_s) (λ h k e. let o = left-over r' less h k e in held-old h k (named-on old S h k o.0 o.1)) b))
+        (begun-band image pid kept crew S text Old rounds pattern p dS wide (named new (is_in forked)) either looks)
 
 pub returns_always : ReturnsAlways
-returns_always text image pid holds opened g set new forked rounds pattern first formed on rising below spared =
+returns_always text image pid holds opened crew set new forked rounds pattern first formed on rising below spared =
     let dS = rising-distinct set rising in
-    let looks = back-looks image pid holds opened g set new forked on.apart first.table formed on.lives on.only on.returning in
-    settles-by image pid (without opened holds) g set text Old rounds pattern first dS (back image new forked opened g set rounds)
-    (quits-named text pattern set image new forked (closes image opened (settle image g set Old rounds)) (closes-named text pattern set image opened (settle image g set Old rounds) (settle-named text pattern set image g Old rounds)))
-    (back-goes image pid holds opened g set new forked on.apart text rounds pattern first dS (every-is_in (λ k. k < 1024) set below) looks) spared
+    let looks = back-looks image pid holds opened crew set new forked on.apart first.table formed on.lives on.only on.returning in
+    settles-by image pid (without opened holds) crew set text Old rounds pattern first dS (back image new.generation forked opened crew set rounds)
+    (quits-named text pattern set image new.generation forked (closes image opened (settle image crew set Old rounds)) (closes-named text pattern set image opened (settle image crew set Old rounds) (settle-named text pattern set image crew Old rounds)))
+    (back-goes image pid holds opened crew set new forked on.apart text rounds pattern first dS (every-is_in (λ k. k < 1024) set below) looks) spared
 
 pub plans_go_back : PlansGoBack
-plans_go_back = record { workers = λ by g ready retries n. refl; reload = λ by g ready retries opened forked. refl }
+plans_go_back = record { workers = λ by crew ready retries n. refl; reload = λ by old new ready retries opened forked. refl }

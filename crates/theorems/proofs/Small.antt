@@ -1,14 +1,14 @@
 -- Small facts about lists and tests.
-use Rattle.std.proofs.Common.{◌≡◌, ℕ, Bool, true, false, cond, not, List, [], ◌∷◌, refl, sym, ap, ◌∙◌, subst, ◌⊎◌, inl, inr, ⊎_elim}
-use Rattle.std.specs.Prelude.{filter, map, reverse, ◌||◌}
+use Rattle.std.proofs.Common.{◌≡◌, ℕ, Bool, true, false, not, List, [], ◌∷◌, refl, sym, ap, ◌∙◌, subst, ◌⊎◌, inl, inr, ⊎_elim}
+use Rattle.std.specs.Prelude.{map, reverse, ◌||◌}
 use Rattle.std.specs.List.{AllByRecursion}
 use Rattle.std.proofs.lemmas.List.{reverse-append}
 use Rattle.definitions.specs.Table.{Hold}
 use Rattle.listener_set.specs.Numbers.{is_in}
 use Rattle.definitions.specs.Record.{listener_of}
 use Rattle.vocabulary.specs.declared.table.Listener.{Listener}
-use Rattle.theorems.proofs.Counts.{Distinct, is_in-append}
-use Rattle.theorems.proofs.Sets.{in-cases, in-filter-of}
+use Rattle.theorems.proofs.Counts.{is_in-append}
+use Rattle.theorems.proofs.Sets.{in-cases}
 
 pub or-swap : (a b : Bool) → (a || b) ≡ (b || a)
 or-swap true true = refl
@@ -36,14 +36,6 @@ off-from S k h = go (is_in S k) h
     go : (b : Bool) → (b ≡ true → ⊥) → b ≡ false
     go true h = absurd (h refl)
     go false h = refl
-
-pub filter-distinct : (t : ℕ → Bool) (S : List ℕ) → Distinct S → Distinct (filter t S)
-filter-distinct t [] d = tt
-filter-distinct t (x ∷ S) d = go (t x) (filter-distinct t S d.1)
-  where
-    go : (b : Bool) → Distinct (filter t S) → Distinct (cond b (x ∷ filter t S) (filter t S))
-    go true e = (off-from (filter t S) x (λ on. let a = (in-filter-of t S x on).0 in let f = d.0 in absurd (cc)), e)
-    go false e = e
 
 pub map-addresses : (holds : List Hold) → map (λ (l : Listener). l.address) (map listener_of holds) ≡ map (λ h. h.address) holds
 map-addresses [] = refl

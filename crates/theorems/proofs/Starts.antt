@@ -5,6 +5,8 @@ use Rattle.std.proofs.lemmas.List.Sums.{sum_by-cons}
 use Rattle.listener_set.specs.Numbers.{numbers_below, is_in}
 use Rattle.vocabulary.specs.declared.table.Listener.{Listener}
 use Rattle.definitions.specs.Table.{Address, FilePath, Hold, Process, Master, is_master, is_ready, is_worker}
+use Rattle.crews.specs.Crews.{first_posts}
+use Rattle.definitions.specs.Crew.{Group, Posts}
 use Rattle.definitions.specs.Record.{FilesAre, IsRunning, first_generation, first_note, listener_of, listeners_from}
 use Rattle.definitions.specs.Start.{StartsAgree, first_files, first_worker, holds_from}
 use Rattle.theorems.proofs.Addresses.{address-refl}
@@ -18,25 +20,28 @@ first-files : (pid : Option FilePath) → FilesAre (first_note pid) pid 100 (fir
 first-files None = tt
 first-files (Some path) = (rw (address-refl path) refl, rw (other-oldbin path) refl)
 
-module _ (holds : List Hold) where
-  all-running : (ns : List ℕ) → AllByRecursion (IsRunning 100 first_generation holds) (map (first_worker holds) ns)
+module _ (groups : List Group) (holds : List Hold) where
+  abbrev posts : Posts
+  posts = first_posts groups
+
+  all-running : (ns : List ℕ) → AllByRecursion (IsRunning 100 (record { generation = first_generation; posts = posts }) holds) (map (first_worker posts holds) ns)
   all-running [] = tt
   all-running (n ∷ ns) = ((λ e. (refl, refl)), all-running ns)
 
-  no-masters : (ns : List ℕ) → count_by is_master (map (first_worker holds) ns) ≡ 0
+  no-masters : (ns : List ℕ) → count_by is_master (map (first_worker posts holds) ns) ≡ 0
   no-masters [] = refl
   no-masters (n ∷ ns) =
-      let more = sum_by-cons (λ (p : Process). cond (is_master p) 1 0) (first_worker holds n) (map (first_worker holds) ns) in
+      let more = sum_by-cons (λ (p : Process). cond (is_master p) 1 0) (first_worker posts holds n) (map (first_worker posts holds) ns) in
       let rest = no-masters ns in
       omega (arith, more, rest)
 
-  one-master : (ns : List ℕ) → count_by is_master (Master 100 1 1 true holds ∷ map (first_worker holds) ns) ≡ 1
+  one-master : (ns : List ℕ) → count_by is_master (Master 100 1 1 true holds ∷ map (first_worker posts holds) ns) ≡ 1
   one-master ns =
-      let more = sum_by-cons (λ (p : Process). cond (is_master p) 1 0) (Master 100 1 1 true holds) (map (first_worker holds) ns) in
+      let more = sum_by-cons (λ (p : Process). cond (is_master p) 1 0) (Master 100 1 1 true holds) (map (first_worker posts holds) ns) in
       let rest = no-masters ns in
       omega (arith, more, rest)
 
-  ready-numbers : (k : ℕ) (ns : List ℕ) → list_any (is_worker is_ready 100 first_generation k) (map (first_worker holds) ns) ≡ is_in ns k
+  ready-numbers : (k : ℕ) (ns : List ℕ) → list_any (is_worker is_ready 100 first_generation k) (map (first_worker posts holds) ns) ≡ is_in ns k
   ready-numbers k [] = refl
   ready-numbers k (n ∷ ns) = ap (λ b. nat_eq n k || b) (ready-numbers k ns)
 
@@ -46,9 +51,9 @@ starts-agree s wanted workers limits =
     record {
       holds = holds;
       lives = refl;
-      alone = one-master holds (numbers_below workers);
+      alone = one-master s.groups holds (numbers_below workers);
       listeners = first-listeners 3 1 s.listeners;
-      running = (tt, all-running holds (numbers_below workers));
-      ready = λ k. ready-numbers holds k (numbers_below workers);
+      running = (tt, all-running s.groups holds (numbers_below workers));
+      ready = λ k. ready-numbers s.groups holds k (numbers_below workers);
       files = first-files s.pid;
     }

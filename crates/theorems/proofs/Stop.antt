@@ -1,5 +1,5 @@
 -- The headline for a stop.
-use Rattle.std.proofs.Common.{◌≡◌, ℕ, ◌+◌, ◌≤◌, Bool, true, false, not, List, [], ◌∷◌, Option, Some, None, refl, sym, ap, ◌∙◌, subst, arith, ⊎_elim}
+use Rattle.std.proofs.Common.{◌≡◌, ℕ, ◌+◌, Bool, true, false, not, List, [], ◌∷◌, Option, Some, None, refl, sym, ap, ◌∙◌, subst, arith, ⊎_elim}
 use Rattle.std.specs.Prelude.{filter_map, reverse, unwrap_or, ⊤, ◌==◌, bytes_eq, if◌then◌else◌}
 use Rattle.std.specs.List.{AllByRecursion, list_any, cons_option}
 use Rattle.listener_set.specs.Numbers.{is_in}
@@ -15,7 +15,7 @@ use Rattle.definitions.specs.Table.{is_own, FilePath, File, Process, Master, Wor
 use Rattle.definitions.specs.Calls.{Stepped, gives, step_by, each_row, with_files, without_file, without_master}
 use Rattle.definitions.specs.Service.{is_live_with, service, IsSame}
 use Rattle.definitions.specs.Record.{Record, FilesAre, oldbin}
-use Rattle.definitions.specs.Target.{want}
+use Rattle.definitions.specs.Target.{want, sides_of}
 use Rattle.definitions.specs.Tree.{Tree, Ends, reply_of}
 use Rattle.definitions.specs.Plans.{plan_tree, stop_tree, quits, kills, awaits_gone, then_edge, note_edges, removes, remove_oldbin_too, has_oldbin, stopped, does}
 use Rattle.definitions.specs.Run.{outcome_of, Pattern, Progress, Ending, At, Lost, Ran, start_at, noted, after_call, after_moment, answered}
@@ -25,7 +25,7 @@ use Rattle.listener_set.specs.AddressList.{has}
 use Rattle.theorems.proofs.Addresses.{address-refl}
 use Rattle.theorems.proofs.Files.{gone-file, other-oldbin}
 use Rattle.theorems.proofs.StopFiles.{Ended, files-removed}
-use Rattle.theorems.proofs.Views.{Names, View, Looks, Fine, finds, eqb-refl}
+use Rattle.theorems.proofs.Views.{Names, View, Fine, finds, eqb-refl}
 use Rattle.theorems.proofs.Exits.{spares-each}
 use Rattle.theorems.proofs.Effects.{none, looks-allows}
 use Rattle.theorems.proofs.Sets.{in-here}
@@ -36,7 +36,7 @@ use Rattle.definitions.specs.After.{next_record}
 use Rattle.vocabulary.specs.declared.calls.Reply.{Reply}
 use Rattle.theorems.proofs.Begins.{first_view, begin}
 use Rattle.theorems.proofs.Logic.{Unasked, course_after, Behind, Course, Anyhow, Along, from-along, are-mild-anyhow, remove-cases, unfailing}
-use Rattle.theorems.proofs.Rules.{Ground, rule-waits, band-anew, Scene, plain_scene, Marks, Band, view, any, ready_of, Answers, marks-plain, marks-wrong, rule-step, rule-quits, rule-kills, band-exits, band-inv}
+use Rattle.theorems.proofs.Rules.{IsGood, Ground, rule-waits, band-anew, Scene, plain_scene, Band, view, any, Answers, marks-plain, marks-wrong, rule-step, rule-quits, rule-kills, band-exits, band-inv}
 
 ---- Files
 
@@ -103,7 +103,7 @@ module _ (t : Table) (rec : Record) (quick : Bool) (pattern : Pattern) (s : IsSt
   u = first_view rec s.agrees.holds
 
   abbrev sc : List File → PidNote → Scene rec.pid rec.generation.image
-  sc files note = plain_scene rec.pid rec.generation.image 0 files note t.limits
+  sc files note = plain_scene rec.pid rec.generation.image (λ a. 0) (λ a. none) files note t.limits
 
   abbrev co : Course
   co = record { text = []; pattern = pattern; executing = rec.generation.image ∷ []; heirs = [] }
@@ -124,11 +124,11 @@ module _ (t : Table) (rec : Record) (quick : Bool) (pattern : Pattern) (s : IsSt
   abbrev Goes : Tree → Progress → Type 0
   Goes tree q = Along inv post Anyhow Unasked co tree q
 
-  good : (names : Names) (count : ℕ) (w : Bool) (q : Progress) → 0 ≤ count → Looks (view u any any) q.table.rows → (1 ≤ 0 → count ≤ ready_of u names q + q.losses) → Marks w q.faults q.losses q.cause → ⊤ → inv q
-  good names count w q enough looks secured marks beside = (λ a socket common on. absurd (cc (common.1)), (marks.clean, marks.blamed))
+  good : (files : List File) (note : PidNote) → IsGood u (sc files note) inv
+  good files note names count w q enough looks secured marks beside = (λ a socket common on. absurd (cc (common.1)), (marks.clean, marks.blamed))
 
   abbrev ground : (files : List File) (note : PidNote) → Ground u (sc files note)
-  ground files note = record { inv = inv; post = post; co = co; acts = acts; good = good }
+  ground files note = record { inv = inv; post = post; co = co; acts = acts; good = good files note }
 
   -- what is known: the master is alone, and of its workers nothing is counted
   abbrev Holds : List File → PidNote → Bool → Progress → Type 0
@@ -138,7 +138,7 @@ module _ (t : Table) (rec : Record) (quick : Bool) (pattern : Pattern) (s : IsSt
   widen files note st r w q b = record {
     looks = looks-allows (view u st r) (view u any any) (record { number = refl; others = λ n e. e; image = refl; holds = refl; starting = λ h k e. refl; ready = λ h k e. refl; held_starting = λ h k e. refl; held = λ h k e. refl }) q.table.rows b.looks;
     enough = b.enough;
-    secured = λ e. absurd (omega (arith, e));
+    secured = λ a e. absurd (omega (arith, e));
     budget = omega arith;
     lacking = b.lacking;
     still = b.still;
@@ -147,7 +147,7 @@ module _ (t : Table) (rec : Record) (quick : Bool) (pattern : Pattern) (s : IsSt
   }
 
   forget : (files : List File) (note : PidNote) (w : Bool) (q : Progress) → Holds files note w q → Holds files note false q
-  forget files note w q b = record { looks = b.looks; enough = b.enough; secured = λ e. absurd (omega (arith, e)); budget = omega arith; lacking = b.lacking; still = b.still; marks = record { clean = b.marks.clean; blamed = b.marks.blamed; caused = λ e. absurd (cc e) }; beside = tt }
+  forget files note w q b = record { looks = b.looks; enough = b.enough; secured = λ a e. absurd (omega (arith, e)); budget = omega arith; lacking = b.lacking; still = b.still; marks = record { clean = b.marks.clean; blamed = b.marks.blamed; caused = λ e. absurd (cc e) }; beside = tt }
 
   ---- The steps
 
@@ -166,7 +166,7 @@ module _ (t : Table) (rec : Record) (quick : Bool) (pattern : Pattern) (s : IsSt
 
   said-so : (said : Option PidNote) (files : List File) (note : PidNote) (w : Bool) (q : Progress) → Holds files note w q → Holds files (unwrap_or said note) w (noted said q)
   said-so None files note w q b = b
-  said-so (Some x) files note w q b = record { looks = b.looks; enough = b.enough; secured = λ e. absurd (omega (arith, e)); budget = omega arith; lacking = b.lacking; still = record { files_stay = b.still.files_stay; note_stays = refl; limits_stay = b.still.limits_stay }; marks = b.marks; beside = tt }
+  said-so (Some x) files note w q b = record { looks = b.looks; enough = b.enough; secured = λ a e. absurd (omega (arith, e)); budget = omega arith; lacking = b.lacking; still = record { files_stay = b.still.files_stay; note_stays = refl; limits_stay = b.still.limits_stay }; marks = b.marks; beside = tt }
 
   -- A removal, and what its edges say.
   removal : (path : FilePath) (fine fault : Option PidNote) (rest : Tree) (files : List File) (note : PidNote) (q : Progress) → ((q' : Progress) → Holds (without_file path files) (unwrap_or fine note) false q' → Goes rest q') → ((q' : Progress) → Holds files (unwrap_or fault note) false q' → Goes rest q') → Holds files note false q → Goes (does g.image (RemovePid path) (note_edges fine fault rest)) q
@@ -177,13 +177,13 @@ module _ (t : Table) (rec : Record) (quick : Bool) (pattern : Pattern) (s : IsSt
       remove-cases co.text g.image (record { number = rec.pid; holds = s.agrees.holds }) path fate p.table (λ st. Answers u (sc files note) (ground files note) order [] bs p st)
       (on_fault (noted fault (after_call order [] (gives answer.IoFault p.table) p)) (forget files (unwrap_or fault note) true _
       (said-so fault files note true (after_call order [] (gives answer.IoFault p.table) p)
-      (record { looks = b'.looks; enough = b'.enough; secured = λ e. absurd (omega (arith, e)); budget = omega arith; lacking = b'.lacking; still = b'.still; marks = marks-wrong false p.faults (p.faults + 1) p.losses (p.calls + 1) p.cause (omega arith) b'.marks; beside = tt }))))
+      (record { looks = b'.looks; enough = b'.enough; secured = λ a e. absurd (omega (arith, e)); budget = omega arith; lacking = b'.lacking; still = b'.still; marks = marks-wrong false p.faults (p.faults + 1) p.losses (p.calls + 1) p.cause (omega arith) b'.marks; beside = tt }))))
       (on_fine (noted fine (after_call order [] (gives answer.Fine (with_files (without_file path p.table.files) p.table)) p))
       (said-so fine (without_file path files) note false (after_call order [] (gives answer.Fine (with_files (without_file path p.table.files) p.table)) p)
       (record {
         looks = b'.looks;
         enough = b'.enough;
-        secured = λ e. absurd (omega (arith, e));
+        secured = λ a e. absurd (omega (arith, e));
         budget = omega arith;
         lacking = b'.lacking;
         still = record { files_stay = ap (without_file path) b'.still.files_stay; note_stays = b'.still.note_stays; limits_stay = b'.still.limits_stay };
@@ -249,7 +249,7 @@ module _ (t : Table) (rec : Record) (quick : Bool) (pattern : Pattern) (s : IsSt
   at_first =
       let looks0 = begin t rec s in
       widen t.files rec.note none u.ready false (start_at t rec.note)
-      (record { looks = looks0; enough = omega arith; secured = λ e. absurd (omega (arith, e)); budget = omega arith; lacking = refl; still = record { files_stay = refl; note_stays = refl; limits_stay = refl }; marks = record { clean = λ e. refl; blamed = λ e. absurd (cc e); caused = λ e. absurd (cc e) }; beside = tt })
+      (record { looks = looks0; enough = λ a e. absurd (omega (arith, e)); secured = λ a e. absurd (omega (arith, e)); budget = omega arith; lacking = refl; still = record { files_stay = refl; note_stays = refl; limits_stay = refl }; marks = record { clean = λ e. refl; blamed = λ e. absurd (cc e); caused = λ e. absurd (cc e) }; beside = tt })
 
   ending : (q : Progress) → Holds t.files rec.note false q → Goes (removes g.image rec.pid_path rec.note (stopped g.image)) q
   ending q b = removing rec.pid_path rec.note t.files q (λ files note q' as_said b'. leaving files note q' as_said b') s.agrees.files b
@@ -336,7 +336,8 @@ stop-note OldbinLeft path ran files failed removed = absurd files
 -- A stop is done, whatever is answered.
 abbrev AllDone : Table → Record → Bool → Ending → Progress → Type 0
 AllDone t rec quick e q =
-    Says (outcome_of e q.lacking) (service t) (want rec (Stop quick)) q.table × (next_record rec (Stop quick) (report_at e q) q.table ≡ None) × HasCause (outcome_of e q.lacking) q.cause × IsPaid rec.retries (outcome_of e q.lacking) q
+    let sides = sides_of rec (Stop quick) in
+    Says rec (Stop quick) (outcome_of sides e q.lacking) t q.table × (next_record rec (Stop quick) (report_at sides e q) q.table ≡ None) × HasCause (outcome_of sides e q.lacking) q.cause × IsPaid rec.retries (outcome_of sides e q.lacking) q
 
 all-done : (t : Table) (rec : Record) (quick : Bool) (pattern : Pattern) (s : IsStart t rec) (e : Ending) (q : Progress) → post t rec quick pattern s e q → AllDone t rec quick e q × Ended e × (list_any is_own q.table.rows ≡ false) × FilesThen q.note rec.pid_path q.table.files
 all-done t rec quick pattern s (At Done) q h = ((h.0, refl, tt, tt), tt, h.1, h.2)

@@ -12,7 +12,7 @@ use Rattle.vocabulary.specs.declared.targets.Target.TheVariants.{Upgrade}
 use Rattle.definitions.specs.Table.{FilePath, File, Master, Caller, same_generation, owner_at}
 use Rattle.definitions.specs.Calls.{gives, with_files, with_file, without_file, with_new_row}
 use Rattle.definitions.specs.Record.{FilesAre, oldbin}
-use Rattle.definitions.specs.Target.{want}
+use Rattle.definitions.specs.Target.{want, wanted_at}
 use Rattle.definitions.specs.Tree.{Tree, Nothing}
 use Rattle.definitions.specs.Plans.{back_from, plan_tree, on, does, settle, spawn_edges, move_aside, back_alone, tries, tries_all, new_calls, relieve, upgrade_tree}
 use Rattle.definitions.specs.Service.{service}
@@ -22,12 +22,11 @@ use Rattle.theorems.proofs.Rows.{every-more, and-left, and-right}
 use Rattle.theorems.proofs.Views.{Names, named, eqb-refl}
 use Rattle.theorems.proofs.Effects.{none, same-is}
 use Rattle.theorems.proofs.Begins.{begin-count}
-use Rattle.theorems.proofs.Ends.{first-few}
 use Rattle.theorems.proofs.Files.{written-file}
 use Rattle.theorems.proofs.Logic.{Unasked, Anyhow, from-along, are-mild-anyhow, move-cases, spawn-cases}
 use Rattle.theorems.proofs.Rules.{Scene, view, Band, Only, marks-plain, rule-step-at, band-failed, failed_at, Answers, grounded}
 use Rattle.theorems.proofs.Duo.{master-below, spawned-looks}
-use Rattle.theorems.proofs.UpgradeStage.{Given, g, new, R, H0, A0, f, n, wanted, few-old, looks0, co, acts, inv, post, Goes, u, w, common0, alone_scene, good-alone}
+use Rattle.theorems.proofs.UpgradeStage.{Given, g, new, old_crew, new_crew, R, H0, A0, f, n, wanted, looks0, co, acts, inv, post, Goes, u, w, common0, alone_scene, good-alone, enough-old, hold-old, serves_old}
 use Rattle.theorems.proofs.UpgradeBack.{Aside, settle-old, goes-back-alone}
 use Rattle.theorems.proofs.UpgradeCalls.{new-goes}
 use Rattle.theorems.proofs.UpgradeRelief.{relieves}
@@ -43,22 +42,22 @@ module _ (c : Given) where
   image = (new c).image
 
   abbrev sc : List File → Scene c.rec.pid c.rec.generation.image
-  sc files = alone_scene c c.rec.pid c.rec.generation.image (f c) 0 files c.rec.note
+  sc files = alone_scene c c.rec.pid c.rec.generation.image (serves_old c) (f c) 0 files c.rec.note
 
   abbrev Alone : List File → Names → Progress → Type 0
   Alone files r q = Band (u c) (sc files) none r (named (g c) (is_in (R c))) (length (R c)) 0 false [] q
 
   abbrev rest : Tree
-  rest = relieve c.rec.generation.image image (g c) (R c) c.rec.retries c.rec.pid_path (n c)
+  rest = relieve c.rec.generation.image (old_crew c) (new_crew c) (R c) c.rec.retries c.rec.pid_path (n c)
 
   abbrev back : Tree
-  back = back_from c.rec.generation.image image (g c) (R c) c.rec.retries c.rec.pid_path
+  back = back_from c.rec.generation.image image (old_crew c) (R c) c.rec.retries c.rec.pid_path
 
   abbrev ok : Tree
-  ok = tries_all image (new_calls (g c) c.rec.pid_path (A0 c) (wanted c) (n c)) (tries image (Census (new c)) (numbers_below (n c)) rest back) back
+  ok = tries_all image (new_calls (new_crew c) c.rec.pid_path (A0 c) (wanted c) (n c)) (tries image (Census (new c)) (numbers_below (n c)) rest back) back
 
   abbrev bad : Tree
-  bad = back_alone c.rec.generation.image (g c) (R c) c.rec.retries c.rec.pid_path
+  bad = back_alone c.rec.generation.image (old_crew c) (R c) c.rec.retries c.rec.pid_path
 
   -- the next process number is above the master's
   above : c.rec.pid < c.t.next_process
@@ -68,11 +67,11 @@ module _ (c : Given) where
   spawns r files q only aside next b =
       let order = Make (SpawnMaster image) in
       let bs = spawn_edges ok bad in
-      let gd = good-alone c (u c) (f c) 0 (H0 c) (inl (omega arith)) refl (λ h k. refl) (common0 c) in
+      let gd = good-alone c (u c) (serves_old c) (f c) 0 (H0 c) (inl (λ a. omega arith)) refl (hold-old c) (common0 c) in
       let me : Caller = record { number = c.rec.pid; holds = H0 c } in
       rule-step-at (u c) (sc files) (grounded I P (co c) (acts c) gd) order [] bs none r (named (g c) (is_in (R c))) (length (R c)) 0 false [] q refl b (λ es b' fate.
       let p = after_moment es q in
-      let failed = goes-back-alone c (f c) 0 (inl (omega arith)) r 1 [] files (failed_at (u c) (sc files) (grounded I P (co c) (acts c) gd) p) aside only (band-failed (u c) (sc files) (grounded I P (co c) (acts c) gd) none r (named (g c) (is_in (R c))) (length (R c)) 0 false [] p b') in
+      let failed = goes-back-alone c (f c) 0 (inl (λ a. omega arith)) r 1 [] files (failed_at (u c) (sc files) (grounded I P (co c) (acts c) gd) p) aside only (band-failed (u c) (sc files) (grounded I P (co c) (acts c) gd) none r (named (g c) (is_in (R c))) (length (R c)) 0 false [] p b') in
       spawn-cases (co c).text c.rec.generation.image me image fate p.table (λ st. Answers (u c) (sc files) (grounded I P (co c) (acts c) gd) order [] bs p st) failed failed failed
       (let m = q.table.next_process in
       let ne : m ≢ c.rec.pid = λ e. absurd (omega (arith, e, next, above)) in
@@ -83,7 +82,7 @@ module _ (c : Given) where
       (record {
         looks = two.old.looks;
         enough = b'.enough;
-        secured = λ e. omega (arith, b'.secured e, two.old.same (named (g c) (is_in (R c))));
+        secured = λ a e. omega (arith, b'.secured a e, two.old.same (named (g c) (is_in (R c))));
         budget = omega (arith, b'.budget, two.old.same (named (g c) (is_in (R c))));
         lacking = b'.lacking;
         marks = marks-plain false p.faults p.losses (p.calls + 1) p.cause b'.marks;
@@ -92,16 +91,16 @@ module _ (c : Given) where
       })))
 
   -- The pid file goes aside, where it isn't yet.
-  moves : (path : FilePath) (r : Names) (q : Progress) → Only (g c) (R c) r → Some path ≡ c.rec.pid_path → owner_at path c.t.files ≡ Some c.rec.pid → q.table.next_process ≡ c.t.next_process → Alone c.t.files r q → Goes c (co c) (does c.rec.generation.image (MovePid path (oldbin path)) (on (reply.Fine ∷ []) (does c.rec.generation.image (SpawnMaster image) (spawn_edges ok bad)) (on (reply.IoFault ∷ []) (settle c.rec.generation.image (g c) (R c) Old c.rec.retries) Nothing))) q
+  moves : (path : FilePath) (r : Names) (q : Progress) → Only (g c) (R c) r → Some path ≡ c.rec.pid_path → owner_at path c.t.files ≡ Some c.rec.pid → q.table.next_process ≡ c.t.next_process → Alone c.t.files r q → Goes c (co c) (does c.rec.generation.image (MovePid path (oldbin path)) (on (reply.Fine ∷ []) (does c.rec.generation.image (SpawnMaster image) (spawn_edges ok bad)) (on (reply.IoFault ∷ []) (settle c.rec.generation.image (old_crew c) (R c) Old c.rec.retries) Nothing))) q
   moves path r q only is there next b =
       let order = Make (MovePid path (oldbin path)) in
-      let bs = on (reply.Fine ∷ []) (does c.rec.generation.image (SpawnMaster image) (spawn_edges ok bad)) (on (reply.IoFault ∷ []) (settle c.rec.generation.image (g c) (R c) Old c.rec.retries) Nothing) in
-      let gd = good-alone c (u c) (f c) 0 (H0 c) (inl (omega arith)) refl (λ h k. refl) (common0 c) in
+      let bs = on (reply.Fine ∷ []) (does c.rec.generation.image (SpawnMaster image) (spawn_edges ok bad)) (on (reply.IoFault ∷ []) (settle c.rec.generation.image (old_crew c) (R c) Old c.rec.retries) Nothing) in
+      let gd = good-alone c (u c) (serves_old c) (f c) 0 (H0 c) (inl (λ a. omega arith)) refl (hold-old c) (common0 c) in
       let me : Caller = record { number = c.rec.pid; holds = H0 c } in
       rule-step-at (u c) (sc c.t.files) (grounded I P (co c) (acts c) gd) order [] bs none r (named (g c) (is_in (R c))) (length (R c)) 0 false [] q refl b (λ es b' fate.
       let p = after_moment es q in
       move-cases (co c).text c.rec.generation.image me path (oldbin path) fate p.table (λ st. Answers (u c) (sc c.t.files) (grounded I P (co c) (acts c) gd) order [] bs p st)
-      (settle-old c (f c) 0 (inl (omega arith)) c.t.files c.rec.note r 1 [] (failed_at (u c) (sc c.t.files) (grounded I P (co c) (acts c) gd) p) c.start.agrees.files only
+      (settle-old c (f c) 0 (inl (λ a. omega arith)) c.t.files c.rec.note r 1 [] (failed_at (u c) (sc c.t.files) (grounded I P (co c) (acts c) gd) p) c.start.agrees.files only
       (band-failed (u c) (sc c.t.files) (grounded I P (co c) (acts c) gd) none r (named (g c) (is_in (R c))) (length (R c)) 0 false [] p b'))
       (λ owner found.
       let files' = with_file (oldbin path) owner (without_file path p.table.files) in
@@ -119,7 +118,7 @@ module _ (c : Given) where
         beside = b'.beside;
       })))
 
-  begins : (path : Option FilePath) (note : PidNote) (r : Names) (q : Progress) → Only (g c) (R c) r → path ≡ c.rec.pid_path → note ≡ c.rec.note → FilesAre note path c.rec.pid c.t.files → q.table.next_process ≡ c.t.next_process → Alone c.t.files r q → Goes c (co c) (move_aside c.rec.generation.image path note (does c.rec.generation.image (SpawnMaster image) (spawn_edges ok bad)) (settle c.rec.generation.image (g c) (R c) Old c.rec.retries)) q
+  begins : (path : Option FilePath) (note : PidNote) (r : Names) (q : Progress) → Only (g c) (R c) r → path ≡ c.rec.pid_path → note ≡ c.rec.note → FilesAre note path c.rec.pid c.t.files → q.table.next_process ≡ c.t.next_process → Alone c.t.files r q → Goes c (co c) (move_aside c.rec.generation.image path note (does c.rec.generation.image (SpawnMaster image) (spawn_edges ok bad)) (settle c.rec.generation.image (old_crew c) (R c) Old c.rec.retries)) q
   begins None note r q only is same are next b = spawns r c.t.files q only (subst (λ o. Aside c o c.t.files) is (subst (λ x. FilesAre x None c.rec.pid c.t.files) same are)) next b
   begins (Some path) AtOldbin r q only is same are next b = spawns r c.t.files q only (subst (λ o. Aside c o c.t.files) is are) next b
   begins (Some path) InPlace r q only is same are next b = moves path r q only is are.0 next b
@@ -127,14 +126,14 @@ module _ (c : Given) where
   begins (Some path) Left r q only is same are next b = absurd are
   begins (Some path) NoFile r q only is same are next b = absurd are
 
-  pub goes : Goes c (co c) (upgrade_tree c.rec.generation.image (g c) (R c) c.rec.retries c.rec.pid_path c.rec.note (A0 c) (wanted c) (n c)) (start_at c.t c.rec.note)
+  pub goes : Goes c (co c) (upgrade_tree c.rec.generation.image (old_crew c) (new_crew c) (R c) c.rec.retries c.rec.pid_path c.rec.note (A0 c) (wanted c) (n c)) (start_at c.t c.rec.note)
   goes =
       let count = begin-count c.t c.rec c.start in
       begins c.rec.pid_path c.rec.note (named (g c) (is_in (R c))) (start_at c.t c.rec.note) (λ h k e. (same-is h (g c) (and-left _ _ e), and-right (same_generation h (g c)) _ e)) refl refl c.start.agrees.files refl
       (record {
         looks = looks0 c;
-        enough = few-old c;
-        secured = λ e. omega (arith, count);
+        enough = enough-old c;
+        secured = λ a e. omega (arith, count);
         budget = omega (arith, count);
         lacking = refl;
         marks = record { clean = λ e. refl; blamed = λ e. absurd (cc e); caused = λ e. absurd (cc e) };
@@ -144,8 +143,8 @@ module _ (c : Given) where
 
 pub upgrade_headline : UpgradeHeadline
 upgrade_headline t rec st pattern a =
-    let (range, ds, numbered) = a.accepts in
-    let c : Given = record { t = t; rec = rec; st = st; pattern = pattern; start = a.start; range = range; ds = ds; numbered = numbered } in
+    let (lone, range, ds, numbered) = a.accepts in
+    let c : Given = record { t = t; rec = rec; st = st; pattern = pattern; start = a.start; lone = lone; range = range; ds = ds; numbered = numbered } in
     let at = start_at t rec.note in
     let tree = plan_tree rec (Upgrade st) in
     let all = from-along (inv c) (post c) Anyhow Unasked (co c) tree at (goes c) a.spared (are-mild-anyhow (co c) tree at) in
@@ -159,5 +158,5 @@ upgrade_headline t rec st pattern a =
         cause = all.last.2;
         paid = all.last.1;
       },
-      every-more (inv c) (Floor (service t) target t st.workers) (λ q h address common. omega (arith, first-few t rec a.start address, h.1 address common)) ran.passed all.always,
+      every-more (inv c) (Floor (service t) target t (wanted_at rec (Upgrade st))) (λ q h address common. h.1 address common) ran.passed all.always,
     )

@@ -9,23 +9,23 @@ use Rattle.vocabulary.specs.declared.plans.Order.TheVariants.{Make}
 use Rattle.vocabulary.specs.declared.plans.Side.TheVariants.{Old}
 use Rattle.vocabulary.specs.declared.calls.Call.TheVariants.{MovePid, TermMaster}
 use Rattle.vocabulary.specs.declared.calls.Answer.TheVariants as answer
-use Rattle.definitions.specs.Table.{FilePath, File, Hold, Process, Master, Worker, Foreign, Caller, is_ready, bears, same_generation, owner_at}
+use Rattle.definitions.specs.Table.{Address, FilePath, File, Hold, Process, Master, Worker, Foreign, Caller, is_ready, bears, same_generation, owner_at}
 use Rattle.definitions.specs.Calls.{gives, with_files, with_file, without_file, own_step}
 use Rattle.definitions.specs.Record.{FilesAre, oldbin}
 use Rattle.definitions.specs.Tree.{Tree}
 use Rattle.definitions.specs.Plans.{does, then_edge, note_edges, settle, move_back, back_alone, back_from, back_late, starts_any, awaits_any}
 use Rattle.definitions.specs.Run.{Ending, Progress, noted, after_call}
 use Rattle.theorems.proofs.Rows.{one, weigh, and-left, and-right, both-true}
-use Rattle.theorems.proofs.Views.{Names, named, View, Looks, ready_in, eqb-is, eqb-refl}
+use Rattle.theorems.proofs.Views.{Names, named, View, ready_in, eqb-is, eqb-refl}
 use Rattle.theorems.proofs.Effects.{none, bears-is}
 use Rattle.theorems.proofs.Counts.{Distinct}
 use Rattle.theorems.proofs.Sets.{in-here, in-there, in-cases}
 use Rattle.theorems.proofs.Small.{off-from, or-elim, true-false}
 use Rattle.theorems.proofs.Files.{written-file, other-written, gone-file, other-oldbin}
 use Rattle.theorems.proofs.Logic.{move-cases, unfailing}
-use Rattle.theorems.proofs.Rules.{Scene, view, any, plus, also, ready_of, Marks, Band, Only, marks-plain, weigh-sub, rule-step, rule-settle, rule-forks-any, rule-awaits-any, band-failed, band-part, band-anew, band-still, failed_at, Answers, grounded}
+use Rattle.theorems.proofs.Rules.{IsGood, Scene, view, plus, also, Band, Only, marks-plain, weigh-sub, rule-step, rule-settle, rule-forks-any, rule-awaits-any, band-failed, band-part, band-anew, band-still, failed_at, Answers, grounded}
 use Rattle.theorems.proofs.Duo.{OneOther, alone-terminated, with_other}
-use Rattle.theorems.proofs.UpgradeStage.{Given, g, new, R, H0, f, co, acts, inv, post, Goes, u, low-R, dR, w, Common, common0, alone_scene, good-alone, Second, pair_scene, good-pair, old-full, old-short}
+use Rattle.theorems.proofs.UpgradeStage.{Given, g, new, old_crew, R, H0, f, co, acts, inv, post, Goes, u, low-R, dR, w, Common, common0, alone_scene, good-alone, Second, pair_scene, good-pair, old-full, old-short, hold-old, serves_old, enough-none, few-new, n}
 
 -- what is known before the rest of the waits of a restart: what is Ready was started, and every name that was tried is counted
 record Restarted (h : Generation) (all ks done : List ℕ) (r t : Names) (count : ℕ) : Type 0 where
@@ -74,16 +74,16 @@ module _ (c : Given) where
 
   ---- The old master is alone
 
-  module _ (floor need : ℕ) (kind : (f c ≤ floor) ⊎ (f c ≤ need)) where
+  module _ (floor : Address → ℕ) (need : ℕ) (kind : ((a : Address) → f c a ≤ floor a) ⊎ ((a : Address) → f c a ≤ need)) where
     abbrev sc : List File → PidNote → Scene c.rec.pid c.rec.generation.image
-    sc files note = alone_scene c c.rec.pid c.rec.generation.image floor need files note
+    sc files note = alone_scene c c.rec.pid c.rec.generation.image (serves_old c) floor need files note
 
-    good : (files : List File) (note : PidNote) (names : Names) (count : ℕ) (b : Bool) (q : Progress) → floor ≤ count → Looks (view (u c) any any) q.table.rows → (1 ≤ floor → count ≤ ready_of (u c) names q + q.losses) → Marks b q.faults q.losses q.cause → need ≤ q.losses → I q
-    good files note = good-alone c (u c) floor need (H0 c) kind refl (λ h k. refl) (common0 c)
+    good : (files : List File) (note : PidNote) → IsGood (u c) (sc files note) I
+    good files note = good-alone c (u c) (serves_old c) floor need (H0 c) kind refl (hold-old c) (common0 c)
 
-    pub settle-old : (files : List File) (note : PidNote) (r : Names) (k : ℕ) (ls : List ℕ) (q : Progress) → FilesAre note c.rec.pid_path c.rec.pid files → Only (g c) (R c) r → Band (u c) (sc files note) none r (named (g c) (is_in (R c))) (length (R c)) k true ls q → Goes c (co c) (settle c.rec.generation.image (g c) (R c) Old c.rec.retries) q
+    pub settle-old : (files : List File) (note : PidNote) (r : Names) (k : ℕ) (ls : List ℕ) (q : Progress) → FilesAre note c.rec.pid_path c.rec.pid files → Only (g c) (R c) r → Band (u c) (sc files note) none r (named (g c) (is_in (R c))) (length (R c)) k true ls q → Goes c (co c) (settle c.rec.generation.image (old_crew c) (R c) Old c.rec.retries) q
     settle-old files note r k ls q are only b =
-        rule-settle (u c) (sc files note) (grounded I P (co c) (acts c) (good files note)) Old (g c) (R c) (λ k. refl) (dR c) (low-R c) c.rec.retries true
+        rule-settle (u c) (sc files note) (grounded I P (co c) (acts c) (good files note)) Old (old_crew c) (R c) (λ k. refl) (dR c) (low-R c) c.rec.retries true
         (λ r' q' k' w' up only' b' saw exact. old-full c files note are r' q' only' b'.looks b'.lacking (b'.marks.caused (up refl)) b'.still saw exact)
         (λ r' q' x xs only' b' saw exact. old-short c files note are r' q' x xs only' b'.looks b'.lacking (b'.marks.caused refl) b'.still b'.budget saw exact)
         c.rec.retries 0 (omega arith) true (λ e. refl) r ls q only
@@ -107,24 +107,24 @@ module _ (c : Given) where
         (written-file path owner (without_file (oldbin path) p.table.files) ∙ same, other-written path (oldbin path) owner (without_file (oldbin path) p.table.files) (other-oldbin path) ∙ gone-file (oldbin path) p.table.files)
         (record { looks = b'.looks; enough = b'.enough; secured = b'.secured; budget = b'.budget; lacking = b'.lacking; marks = marks-plain true p.faults p.losses (p.calls + 1) p.cause b'.marks; still = record { files_stay = refl; note_stays = refl; limits_stay = b'.still.limits_stay }; beside = b'.beside })))
 
-    pub goes-back-alone : (r : Names) (k : ℕ) (ls : List ℕ) (files : List File) (q : Progress) → Aside c.rec.pid_path files → Only (g c) (R c) r → Band (u c) (sc files c.rec.note) none r (named (g c) (is_in (R c))) (length (R c)) k true ls q → Goes c (co c) (back_alone c.rec.generation.image (g c) (R c) c.rec.retries c.rec.pid_path) q
+    pub goes-back-alone : (r : Names) (k : ℕ) (ls : List ℕ) (files : List File) (q : Progress) → Aside c.rec.pid_path files → Only (g c) (R c) r → Band (u c) (sc files c.rec.note) none r (named (g c) (is_in (R c))) (length (R c)) k true ls q → Goes c (co c) (back_alone c.rec.generation.image (old_crew c) (R c) c.rec.retries c.rec.pid_path) q
     goes-back-alone r k ls files q aside only b =
-        move-back c.rec.pid_path (settle c.rec.generation.image (g c) (R c) Old c.rec.retries) r (named (g c) (is_in (R c))) (length (R c)) k ls files q aside
+        move-back c.rec.pid_path (settle c.rec.generation.image (old_crew c) (R c) Old c.rec.retries) r (named (g c) (is_in (R c))) (length (R c)) k ls files q aside
         (λ files' note' k' q' are b'. settle-old files' note' r k' ls q' are only b') b
 
   ---- The new master is terminated
 
-  module _ (m : ℕ) (ne : m ≢ c.rec.pid) (hs : List Hold) (s r : Names) (names : Names) (d floor need : ℕ) (kind : (f c ≤ floor) ⊎ ((f c ≤ d) × Common c hs × ((h : Generation) (k : ℕ) → hs ≡ hs))) (lost : (rows : List Process) (losses : ℕ) → Second c (w c m hs s r) names d rows losses → need ≤ losses) where
+  module _ (m : ℕ) (ne : m ≢ c.rec.pid) (hs : List Hold) (s r : Names) (names : Names) (d : ℕ) (floor : Address → ℕ) (need : ℕ) (kind : ((a : Address) → f c a ≤ floor a) ⊎ (((a : Address) → f c a ≤ d) × Common c hs × ((h : Generation) (k : ℕ) → hs ≡ hs))) (lost : (rows : List Process) (losses : ℕ) → Second c (w c m hs s r) names d rows losses → need ≤ losses) where
     abbrev two : List File → Scene c.rec.pid c.rec.generation.image
     two files = pair_scene c (w c m hs s r) ne (eqb-refl c.rec.pid c.rec.pid refl) names d floor files c.rec.note
 
     abbrev v : View
     v = with_other m (u c)
 
-    good-two : (files : List File) (names' : Names) (count : ℕ) (b : Bool) (q : Progress) → floor ≤ count → Looks (view v any any) q.table.rows → (1 ≤ floor → count ≤ ready_of v names' q + q.losses) → Marks b q.faults q.losses q.cause → Second c (w c m hs s r) names d q.table.rows q.losses → I q
-    good-two files = good-pair c v (w c m hs s r) hs names d floor kind refl (λ h k. refl)
+    good-two : (files : List File) → IsGood v (two files) I
+    good-two files = good-pair c v (w c m hs s r) hs names d floor kind refl (hold-old c)
 
-    pub term-master : (rest : Tree) (files : List File) (r0 t : Names) (count k : ℕ) (ls : List ℕ) (q : Progress) → ((q' : Progress) → Band (u c) (alone_scene c c.rec.pid c.rec.generation.image floor need files c.rec.note) none r0 t count k true ls q' → Goes c (co c) rest q') → Band v (two files) none r0 t count k true ls q → Goes c (co c) (does c.rec.generation.image (TermMaster (new c).image) (then_edge rest)) q
+    pub term-master : (rest : Tree) (files : List File) (r0 t : Names) (count k : ℕ) (ls : List ℕ) (q : Progress) → ((q' : Progress) → Band (u c) (alone_scene c c.rec.pid c.rec.generation.image (serves_old c) floor need files c.rec.note) none r0 t count k true ls q' → Goes c (co c) rest q') → Band v (two files) none r0 t count k true ls q → Goes c (co c) (does c.rec.generation.image (TermMaster (new c).image) (then_edge rest)) q
     term-master rest files r0 t count k ls q next b =
         let order = Make (TermMaster (new c).image) in
         let bs = then_edge rest in
@@ -136,7 +136,7 @@ module _ (c : Given) where
         (next (after_call order [] (own_step (co c).text c.rec.generation.image me (TermMaster (new c).image) p.table) p) (record {
           looks = alone.looks;
           enough = b'.enough;
-          secured = λ e. omega (arith, b'.secured e, alone.same t);
+          secured = λ a e. omega (arith, b'.secured a e, alone.same t);
           budget = omega (arith, b'.budget, alone.same t);
           lacking = b'.lacking;
           still = b'.still;
@@ -146,22 +146,22 @@ module _ (c : Given) where
 
   ---- The old workers are started again
 
-  restart : (k : ℕ) (ls : List ℕ) (files : List File) (q : Progress) → Aside c.rec.pid_path files → Band (u c) (alone_scene c c.rec.pid c.rec.generation.image 0 (f c) files c.rec.note) none none (named (g c) (is_in [])) 0 k true ls q → Goes c (co c) (starts_any c.rec.generation.image (g c) (R c) (back_alone c.rec.generation.image (g c) (R c) c.rec.retries c.rec.pid_path)) q
+  restart : (k : ℕ) (ls : List ℕ) (files : List File) (q : Progress) → Aside c.rec.pid_path files → Band (u c) (alone_scene c c.rec.pid c.rec.generation.image (serves_old c) (λ a. 0) (n c) files c.rec.note) none none (named (g c) (is_in [])) 0 k true ls q → Goes c (co c) (starts_any c.rec.generation.image (old_crew c) (R c) (back_alone c.rec.generation.image (old_crew c) (R c) c.rec.retries c.rec.pid_path)) q
   restart k ls files q aside b =
       let h = g c in
       let S = R c in
       let t0 = named (g c) (is_in []) in
-      let sc0 = alone_scene c c.rec.pid c.rec.generation.image 0 (f c) files c.rec.note in
-      let good0 = good-alone c (u c) 0 (f c) (H0 c) (inr (omega arith)) refl (λ h k. refl) (common0 c) in
-      let rest = back_alone c.rec.generation.image h S c.rec.retries c.rec.pid_path in
-      rule-forks-any (u c) sc0 (grounded I P (co c) (acts c) good0) (awaits_any c.rec.generation.image h S rest) h (λ k. refl) S none none t0 0 k true ls q
-      (λ s' k' b1 q' within up b2. rule-awaits-any (u c) sc0 (grounded I P (co c) (acts c) good0) (Restarted h S) rest h refl (restarts h S) ls 0 S [] s' none t0 0 b1 q'
+      let sc0 = alone_scene c c.rec.pid c.rec.generation.image (serves_old c) (λ a. 0) (n c) files c.rec.note in
+      let good0 = good-alone c (u c) (serves_old c) (λ a. 0) (n c) (H0 c) (inr (few-new c)) refl (hold-old c) (common0 c) in
+      let rest = back_alone c.rec.generation.image (old_crew c) S c.rec.retries c.rec.pid_path in
+      rule-forks-any (u c) sc0 (grounded I P (co c) (acts c) good0) (awaits_any c.rec.generation.image h S rest) (old_crew c) (λ k. refl) S none none t0 0 k true ls q
+      (λ s' k' b1 q' within up b2. rule-awaits-any (u c) sc0 (grounded I P (co c) (acts c) good0) (Restarted h S) rest h (λ a. refl) (restarts h S) ls 0 S [] s' none t0 0 b1 q'
       (λ done s2 r2 t2 n2 b3 q2 st less up2 b4.
       let off : (j : Generation) (i : ℕ) → s2 j i ≡ true → none j i ≡ true = λ j i e. let l = less j i e in ⊎_elim (λ a. a) (λ a. absurd (true-false (is_in S i) a.1 (l.1 a.0))) (within j i l.0) in
       let b5 = band-still (u c) sc0 (grounded I P (co c) (acts c) good0) s2 none r2 t2 n2 0 b3 ls q2 off b4 in
       let b6 = band-part (u c) sc0 (grounded I P (co c) (acts c) good0) none r2 t2 (named h (is_in S)) n2 (length S) 0 b3 ls q2
-      (λ rows looks. omega (arith, st.counted, st.sum, weigh-sub c.rec.pid t2 (named h (is_in S)) (λ j i e. let o = st.names j i e in both-true (same_generation j h) (is_in S i) (and-left _ _ o) (st.within i (and-right (same_generation j h) _ o))) rows)) (omega arith) b5 in
-      goes-back-alone 0 (f c) (inr (omega arith)) r2 0 ls files q2 aside (λ j i e. let o = st.only j i e in (o.0, st.within i o.1))
+      (λ rows looks. omega (arith, st.counted, st.sum, weigh-sub c.rec.pid t2 (named h (is_in S)) (λ j i e. let o = st.names j i e in both-true (same_generation j h) (is_in S i) (and-left _ _ o) (st.within i (and-right (same_generation j h) _ o))) rows)) (enough-none c c.rec.pid (serves_old c) (named h (is_in S)) (length S)) b5 in
+      goes-back-alone (λ a. 0) (n c) (inr (few-new c)) r2 0 ls files q2 aside (λ j i e. let o = st.only j i e in (o.0, st.within i o.1))
       (record { looks = b6.looks; enough = b6.enough; secured = b6.secured; budget = b6.budget; lacking = b6.lacking; still = b6.still; marks = record { clean = b6.marks.clean; blamed = b6.marks.blamed; caused = λ e. b6.marks.caused (up2 (up refl)) }; beside = b6.beside }))
       (record {
         only = λ j i e. absurd (cc e);
@@ -178,10 +178,10 @@ module _ (c : Given) where
 
   ---- Back with a new master
 
-  pub goes-back-from : (m : ℕ) (ne : m ≢ c.rec.pid) (hs : List Hold) (s r names : Names) (d : ℕ) (r0 : Names) (k : ℕ) (ls : List ℕ) (files : List File) (q : Progress) → Aside c.rec.pid_path files → Only (g c) (R c) r0 → Band (with_other m (u c)) (pair_scene c (w c m hs s r) ne (eqb-refl c.rec.pid c.rec.pid refl) names d (f c) files c.rec.note) none r0 (named (g c) (is_in (R c))) (length (R c)) k true ls q → Goes c (co c) (back_from c.rec.generation.image (new c).image (g c) (R c) c.rec.retries c.rec.pid_path) q
+  pub goes-back-from : (m : ℕ) (ne : m ≢ c.rec.pid) (hs : List Hold) (s r names : Names) (d : ℕ) (r0 : Names) (k : ℕ) (ls : List ℕ) (files : List File) (q : Progress) → Aside c.rec.pid_path files → Only (g c) (R c) r0 → Band (with_other m (u c)) (pair_scene c (w c m hs s r) ne (eqb-refl c.rec.pid c.rec.pid refl) names d (f c) files c.rec.note) none r0 (named (g c) (is_in (R c))) (length (R c)) k true ls q → Goes c (co c) (back_from c.rec.generation.image (new c).image (old_crew c) (R c) c.rec.retries c.rec.pid_path) q
   goes-back-from m ne hs s r names d r0 k ls files q aside only b =
-      term-master m ne hs s r names d (f c) 0 (inl (omega arith)) (λ rows losses h. omega arith) (back_alone c.rec.generation.image (g c) (R c) c.rec.retries c.rec.pid_path) files r0 (named (g c) (is_in (R c))) (length (R c)) k ls q
-      (λ q' b'. goes-back-alone (f c) 0 (inl (omega arith)) r0 k ls files q' aside only b') b
+      term-master m ne hs s r names d (f c) 0 (inl (λ a. omega arith)) (λ rows losses h. omega arith) (back_alone c.rec.generation.image (old_crew c) (R c) c.rec.retries c.rec.pid_path) files r0 (named (g c) (is_in (R c))) (length (R c)) k ls q
+      (λ q' b'. goes-back-alone (f c) 0 (inl (λ a. omega arith)) r0 k ls files q' aside only b') b
 
   none-ready : (m : ℕ) (rows : List Process) → weigh (ready_in m none) rows ≡ 0
   none-ready m [] = refl
@@ -198,7 +198,7 @@ module _ (c : Given) where
       unready (Foreign n hs) = refl
 
   -- Back when the new master is gone and the old workers are too: the floor was lost.
-  pub goes-back-late : (m : ℕ) (ne : m ≢ c.rec.pid) (hs : List Hold) (s r : Names) → Common c hs → (k : ℕ) (ls : List ℕ) (files : List File) (q : Progress) → Aside c.rec.pid_path files → Band (with_other m (u c)) (pair_scene c (w c m hs s r) ne (eqb-refl c.rec.pid c.rec.pid refl) none (f c) 0 files c.rec.note) none none (named (g c) (is_in [])) 0 k true ls q → Goes c (co c) (back_late c.rec.generation.image (new c).image (g c) (R c) c.rec.retries c.rec.pid_path) q
+  pub goes-back-late : (m : ℕ) (ne : m ≢ c.rec.pid) (hs : List Hold) (s r : Names) → Common c hs → (k : ℕ) (ls : List ℕ) (files : List File) (q : Progress) → Aside c.rec.pid_path files → Band (with_other m (u c)) (pair_scene c (w c m hs s r) ne (eqb-refl c.rec.pid c.rec.pid refl) none (n c) (λ a. 0) files c.rec.note) none none (named (g c) (is_in [])) 0 k true ls q → Goes c (co c) (back_late c.rec.generation.image (new c).image (old_crew c) (R c) c.rec.retries c.rec.pid_path) q
   goes-back-late m ne hs s r common k ls files q aside b =
-      term-master m ne hs s r none (f c) 0 (f c) (inr (omega arith, common, λ h k. refl)) (λ rows losses h. omega (arith, h.1, none-ready m rows)) (starts_any c.rec.generation.image (g c) (R c) (back_alone c.rec.generation.image (g c) (R c) c.rec.retries c.rec.pid_path)) files none (named (g c) (is_in [])) 0 k ls q
+      term-master m ne hs s r none (n c) (λ a. 0) (n c) (inr (few-new c, common, λ h k. refl)) (λ rows losses h. omega (arith, h.1, none-ready m rows)) (starts_any c.rec.generation.image (old_crew c) (R c) (back_alone c.rec.generation.image (old_crew c) (R c) c.rec.retries c.rec.pid_path)) files none (named (g c) (is_in [])) 0 k ls q
       (λ q' b'. restart k ls files q' aside b') b

@@ -7,9 +7,10 @@ use Rattle.listener_set.specs.AddressList.{has}
 use Rattle.listener_set.specs.declared.generation.Generation.{Generation}
 use Rattle.vocabulary.specs.declared.table.Listener.{Listener}
 use Rattle.vocabulary.specs.declared.calls.Call.{Call}
-use Rattle.vocabulary.specs.declared.calls.Call.TheVariants.{Adopt, CloseAt, OpenAt, Fork, AwaitReady, WritePid, Census}
+use Rattle.vocabulary.specs.declared.calls.Call.TheVariants.{Adopt, CloseAt, OpenAt, AwaitReady, WritePid, Census}
 use Rattle.definitions.specs.Table.{Address, FilePath, File, Hold, bears, same_generation, owner_at, is_at, has_address, is_worker, is_ready}
 use Rattle.definitions.specs.Calls.{each_row, drop_where, with_file, put_hold, lacks_address, is_exited_of, census_of}
+use Rattle.definitions.specs.Crew.{fork_of}
 use Rattle.definitions.specs.Record.{FilesAre, oldbin, listener_of}
 use Rattle.definitions.specs.Target.{only_in}
 use Rattle.definitions.specs.Tree.{Tree, full_or_short}
@@ -25,12 +26,13 @@ use Rattle.theorems.proofs.Sets.{every-in, in-here, in-there, in-cases, below-of
 use Rattle.theorems.proofs.Small.{off-from, or-elim, true-false, not-is}
 use Rattle.theorems.proofs.Addresses.{stays-lacks, stays-put, any-put, stands-filter}
 use Rattle.theorems.proofs.Listeners.{fds, fds-listed, opens-on, all_closed, closed-first, has-closed, rises-closed, upgrade-added}
+use Rattle.theorems.proofs.Layouts.{fork-sole}
 use Rattle.theorems.proofs.Files.{written-file, other-written, other-oldbin}
 use Rattle.theorems.proofs.Ends.{first-keys}
 use Rattle.theorems.proofs.Logic.{Unasked, Anyhow, Behind, unfailing}
 use Rattle.theorems.proofs.Rules.{view, minus, plus, seen, Only, marks-wrong, weigh-sub}
 use Rattle.theorems.proofs.Duo.{framed-drop}
-use Rattle.theorems.proofs.UpgradeStage.{post, inv, Second, Given, g, new, R, H0, A0, f, n, low, wanted, wanted-of, co, Goes, w, Common, common0, Lists}
+use Rattle.theorems.proofs.UpgradeStage.{post, inv, Second, Given, g, new, new_crew, R, H0, A0, f, n, low, wanted, wanted-of, co, Goes, w, Common, common0, Lists}
 use Rattle.theorems.proofs.UpgradeBack.{Aside}
 use Rattle.theorems.proofs.UpgradeNew.{Doing, Held, bare, readied, with_starting, with_written, v, back, edges, Edge, held-plain, goes-back, apart, me, step, just-failed, try-adopt, try-close, try-open, try-fork, try-await, try-write}
 
@@ -93,13 +95,14 @@ module _ (c : Given) (m : ℕ) (ne : m ≢ c.rec.pid) (r0 : Names) (only0 : Only
   abbrev forking : List Hold → Names → List File → Doing c m ne r0 only0
   forking hs s files = with_starting c m ne r0 only0 (none_yet hs files) s
 
-  forks-all : (ks : List ℕ) (more : List Call) (rest : Tree) (hs : List Hold) (s : Names) (files : List File) (q : Progress) → A files → ((k : ℕ) → is_in ks k ≡ true → is_in S k ≡ true) → Only (new c) S s → ((s' : Names) (q' : Progress) → Only (new c) S s' → H (forking hs s' files) q' → G (tries_all image more rest B) q') → H (forking hs s files) q → G (tries_all image (map (λ k. Fork (new c) k None) ks ++ more) rest B) q
+  forks-all : (ks : List ℕ) (more : List Call) (rest : Tree) (hs : List Hold) (s : Names) (files : List File) (q : Progress) → A files → ((k : ℕ) → is_in ks k ≡ true → is_in S k ≡ true) → Only (new c) S s → ((s' : Names) (q' : Progress) → Only (new c) S s' → H (forking hs s' files) q' → G (tries_all image more rest B) q') → H (forking hs s files) q → G (tries_all image (map (fork_of (new_crew c)) ks ++ more) rest B) q
   forks-all [] more rest hs s files q aside within only next b = next s q only b
   forks-all (k ∷ ks) more rest hs s files q aside within only next b =
-      try-fork c m ne r0 only0 (tries_all image (map (λ k. Fork (new c) k None) ks ++ more) rest B) k (forking hs s files) q aside
+      subst (λ call. G (tries image call [] (tries_all image (map (fork_of (new_crew c)) ks ++ more) rest B) B) q) (sym (fork-sole (new_crew c) k c.lone))
+      (try-fork c m ne r0 only0 (tries_all image (map (fork_of (new_crew c)) ks ++ more) rest B) k (forking hs s files) q aside
       (λ q' b'. forks-all ks more rest hs (plus s (new c) k) files q' aside (λ j e. within j (in-there k j ks e))
       (λ h j e. ⊎_elim (λ a. only h j a) (λ a. let is = bears-is (new c) k h j a in (is.0, subst (λ z. is_in S z ≡ true) (sym is.1) (within k (in-here k k ks refl)))) (or-elim (s h j) (bears (new c) k h j) e))
-      next b') b
+      next b') b)
 
   abbrev ready_so_far : List Hold → Names → List ℕ → List File → Doing c m ne r0 only0
   ready_so_far hs s done files = readied c m ne r0 only0 hs s done files
@@ -202,7 +205,7 @@ module _ (c : Given) (m : ℕ) (ne : m ≢ c.rec.pid) (r0 : Names) (only0 : Only
         | k ∷ ks ↦ λ e. goes-back c m ne r0 only0 (counted hs (seen T (new c) cs) files) 0 (k ∷ ks) (after (k ∷ ks)) aside (record {
           looks = framed.looks;
           enough = b'.enough;
-          secured = λ e'. omega (arith, b'.secured e', framed.same (named (g c) (is_in (R c))));
+          secured = λ a e'. omega (arith, b'.secured a e', framed.same (named (g c) (is_in (R c))));
           budget = omega (arith, b'.budget, framed.same (named (g c) (is_in (R c))));
           lacking = e;
           marks = marks-wrong false q'.faults q'.faults q'.losses (q'.calls + 1) q'.cause (omega (arith, b'.beside.1, count, below-length (n c), ap length e)) b'.marks;
@@ -262,12 +265,12 @@ module _ (c : Given) (m : ℕ) (ne : m ≢ c.rec.pid) (r0 : Names) (only0 : Only
   calls-are a b f w p = append_assoc (Adopt ∷ a ++ b ++ f) w p ∙ append_assoc (Adopt ∷ a ++ b) f (w ++ p) ∙ append_assoc (Adopt ∷ a) b (f ++ (w ++ p))
 
   -- Adopt, close, open, fork, wait, write and count: then the rest; else back.
-  pub new-goes : (rest : Tree) (files : List File) (q : Progress) → A files → ((hs : List Hold) (r : Names) (files' : List File) (q' : Progress) → Lists c hs → ((a : Address) → has_address a hs ≡ has (wanted c) a) → Common c hs → A files' → Written c.rec.pid_path files' → Only (new c) S r → H (counted hs r files') q' → G rest q') → H (none_yet (H0 c) files) q → G (tries_all image (new_calls (g c) c.rec.pid_path (A0 c) (wanted c) (n c)) (tries image (Census (new c)) S rest B) B) q
+  pub new-goes : (rest : Tree) (files : List File) (q : Progress) → A files → ((hs : List Hold) (r : Names) (files' : List File) (q' : Progress) → Lists c hs → ((a : Address) → has_address a hs ≡ has (wanted c) a) → Common c hs → A files' → Written c.rec.pid_path files' → Only (new c) S r → H (counted hs r files') q' → G rest q') → H (none_yet (H0 c) files) q → G (tries_all image (new_calls (new_crew c) c.rec.pid_path (A0 c) (wanted c) (n c)) (tries image (Census (new c)) S rest B) B) q
   new-goes rest files q aside next b =
       let last = tries image (Census (new c)) S rest B in
       let writing = pid_calls c.rec.pid_path WritePid in
       let waits = map (AwaitReady (new c)) S in
-      let forks = map (λ k. Fork (new c) k None) S in
+      let forks = map (fork_of (new_crew c)) S in
       let opens = map OpenAt added_here in
       let closes = map CloseAt dropped_here in
       let waiting = waits ++ writing in

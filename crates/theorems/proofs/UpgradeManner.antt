@@ -3,7 +3,6 @@ use Rattle.std.proofs.Common.{◌≡◌, ℕ, zero, suc, ◌<◌, Bool, true, fa
 use Rattle.std.specs.Prelude.{⊤, ◌&&◌, reverse}
 use Rattle.std.specs.List.{list_any}
 use Rattle.listener_set.specs.Numbers.{is_in}
-use Rattle.listener_set.specs.declared.generation.Generation.{Generation}
 use Rattle.vocabulary.specs.declared.names.Name.{Name}
 use Rattle.vocabulary.specs.declared.calls.Call.{Call}
 use Rattle.vocabulary.specs.declared.calls.Call.TheVariants.{OpenAt, CloseAt, Fork, AwaitReady, Census, Adopt, WritePid, MovePid, SpawnMaster, TermMaster, Quit, Kill, AwaitGone, Leave, Alive}
@@ -18,6 +17,8 @@ use Rattle.vocabulary.specs.declared.reports.Entry.{Entry}
 use Rattle.vocabulary.specs.declared.calls.Reply.{Reply}
 use Rattle.vocabulary.specs.Settings.{Settings}
 use Rattle.definitions.specs.Table.{Table, Caller, bears, is_worker, is_any}
+use Rattle.definitions.specs.Crew.{Crew}
+use Rattle.definitions.specs.Target.{sides_of}
 use Rattle.definitions.specs.Exits.{after_exits}
 use Rattle.definitions.specs.Calls.{Stepped, gives, each_row, drop_where, step_by, step_with}
 use Rattle.definitions.specs.Tree.{Tree, Branches, Ends, Does, Nothing, Branch, among, reply_of, call_of}
@@ -41,13 +42,13 @@ use Rattle.theorems.proofs.Absent.{Absent, absent-exits, absent-steps}
 use Rattle.theorems.proofs.Firsts.{first-in, first-low, first-stands, first-untouched, stands-ready}
 use Rattle.theorems.proofs.Manners.{are-unlost}
 use Rattle.theorems.proofs.Traces.{Asking, Finally, Traced, TracedBehind, AllTraced, from-traced, along-traced, robust, robust-behind, good-step, entry_of, any-more, any-last, then-last}
-use Rattle.theorems.proofs.UpgradeStage.{Given, g, new, R, n, co, acts}
+use Rattle.theorems.proofs.UpgradeStage.{Given, g, new, old_crew, new_crew, R, n, co, acts}
 use Rattle.theorems.proofs.UpgradeWalk.{Free, IsGood, upgrade-good, any-stays}
 use Rattle.theorems.proofs.Waits.{Told, AllWaited, told-on, all-waited-on, quits-told, waits-told, leaves-traced}
 
 -- the rest of the plan, when the old workers were waited for
 abbrev asking : Given → Tree
-asking c = does c.rec.generation.image (Alive (new c).image) (on (reply.IsAlive ∷ []) (hand_over c.rec.generation.image (new c).image (g c) c.rec.retries c.rec.pid_path (n c)) (on (reply.Gone ∷ []) (back_late c.rec.generation.image (new c).image (g c) (R c) c.rec.retries c.rec.pid_path) Nothing))
+asking c = does c.rec.generation.image (Alive (new c).image) (on (reply.IsAlive ∷ []) (hand_over c.rec.generation.image (new_crew c) c.rec.retries c.rec.pid_path (n c)) (on (reply.Gone ∷ []) (back_late c.rec.generation.image (new c).image (old_crew c) (R c) c.rec.retries c.rec.pid_path) Nothing))
 
 ---- Who stays
 
@@ -60,7 +61,7 @@ module _ (c : Given) (p k : ℕ) (on : has_ready c.t p k ≡ true) where
 
   -- it stands at an end on the old side, unless its master had waited for it to go
   abbrev stays : Finally
-  stays past e q = is_old_side (outcome_of e q.lacking) ≡ true → list_any (λ e. is_wait_call e.call) past ≡ false → F q.table
+  stays past e q = is_old_side (outcome_of (sides_of c.rec (Upgrade c.st)) e q.lacking) ≡ true → list_any (λ e. is_wait_call e.call) past ≡ false → F q.table
 
   abbrev no_asking : Asking
   no_asking past call t = ⊤
@@ -71,10 +72,10 @@ module _ (c : Given) (p k : ℕ) (on : has_ready c.t p k ≡ true) where
   exits-it : (es : List Name) (t : Table) → names_any (co c).executing es ≡ false → Unlost p es t.rows → F t → F (after_exits es t)
   exits-it es t spared mild h = stands-exits c.rec.pid c.rec.generation.image p c.rec.generation k low es t (spares-each (co c).executing c.rec.generation.image es (acts c) spared) mild h
 
-  settled-it : IsGood c no_asking stays (Unlost p) never-lost F exits-it Free (settle c.rec.generation.image (g c) (R c) Old c.rec.retries)
+  settled-it : IsGood c no_asking stays (Unlost p) never-lost F exits-it Free (settle c.rec.generation.image (old_crew c) (R c) Old c.rec.retries)
   settled-it past q known h =
-      along-traced no_asking stays (Unlost p) Unasked (λ e q. F q.table) (λ past call t x. tt) (λ past e q st old none. st) (co c) (settle c.rec.generation.image (g c) (R c) Old c.rec.retries) q
-      (settle-along c.rec.generation.image (Unlost p) Unasked (standing c.rec.pid c.rec.generation.image p c.rec.generation k low) (λ e q. F q.table) (λ e q st. st) (co c) (acts c) Old (g c) (R c) c.rec.retries q tt h) past
+      along-traced no_asking stays (Unlost p) Unasked (λ e q. F q.table) (λ past call t x. tt) (λ past e q st old none. st) (co c) (settle c.rec.generation.image (old_crew c) (R c) Old c.rec.retries) q
+      (settle-along c.rec.generation.image (Unlost p) Unasked (standing c.rec.pid c.rec.generation.image p c.rec.generation k low) (λ e q. F q.table) (λ e q st. st) (co c) (acts c) Old (old_crew c) (R c) c.rec.retries q tt h) past
 
   -- someone was waited for
   abbrev Waits : List Entry → Type 0
@@ -149,10 +150,10 @@ module _ (c : Given) (p k : ℕ) (on : has_ready c.t p k ≡ true) where
   exits-loose : (es : List Name) (t : Table) → names_any (co c).executing es ≡ false → Anyhow es t.rows → Loose t → Loose (after_exits es t)
   exits-loose es t spared mild h = fact-exits c.rec.pid c.rec.generation.image p _ _ (loose-lasts c.rec.pid c.rec.generation.image p c.rec.generation k low) es t (spares-each (co c).executing c.rec.generation.image es (acts c) spared) h
 
-  settled-close : IsGood c LateFirst anyway Anyhow not-lost Close exits-close Free (settle c.rec.generation.image (g c) (R c) Old c.rec.retries)
+  settled-close : IsGood c LateFirst anyway Anyhow not-lost Close exits-close Free (settle c.rec.generation.image (old_crew c) (R c) Old c.rec.retries)
   settled-close past q known h =
-      along-traced LateFirst anyway Anyhow (NotTaken p) (λ e q. ⊤) not-taken-late (λ past e q x. tt) (co c) (settle c.rec.generation.image (g c) (R c) Old c.rec.retries) q
-      (settle-along c.rec.generation.image Anyhow (NotTaken p) (untouched c.rec.pid c.rec.generation.image p c.rec.generation k low) (λ e q. ⊤) (λ e q st. tt) (co c) (acts c) Old (g c) (R c) c.rec.retries q tt h) past
+      along-traced LateFirst anyway Anyhow (NotTaken p) (λ e q. ⊤) not-taken-late (λ past e q x. tt) (co c) (settle c.rec.generation.image (old_crew c) (R c) Old c.rec.retries) q
+      (settle-along c.rec.generation.image Anyhow (NotTaken p) (untouched c.rec.pid c.rec.generation.image p c.rec.generation k low) (λ e q. ⊤) (λ e q st. tt) (co c) (acts c) Old (old_crew c) (R c) c.rec.retries q tt h) past
 
   -- When it has left, nothing takes it.
   absent-traced : (rest : Tree) (past : List Entry) (q : Progress) → Absent p q.table → Traced LateFirst anyway Anyhow (co c) past rest q
@@ -282,7 +283,7 @@ module _ (c : Given) where
           | false ↦ there
         ]
 
-  no-leave-settle : (by : ℕ) (h : Generation) (S : List ℕ) (side : Side) (rounds : ℕ) → NoLeave (settle by h S side rounds)
+  no-leave-settle : (by : ℕ) (h : Crew) (S : List ℕ) (side : Side) (rounds : ℕ) → NoLeave (settle by h S side rounds)
   no-leave-settle by h S side zero = (refl, (tt, (tt, tt)))
   no-leave-settle by h S side (suc rounds) =
       let rest = no-leave-settle by h S side rounds in
@@ -304,7 +305,7 @@ module _ (c : Given) where
   pub leave-traced : Traced WaitedFirst whatever Anyhow (co c) [] (plan_tree c.rec (Upgrade c.st)) (start_at c.t c.rec.note)
   leave-traced =
       upgrade-good c WaitedFirst whatever Anyhow not-lost-either Any exits-any (λ text by call fate t is h. tt) (λ past call t is h. stays-on past call t (any-stays c.rec.generation.image call is))
-      (λ past q k h. no-leave (co c) (settle c.rec.generation.image (g c) (R c) Old c.rec.retries) past q (no-leave-settle c.rec.generation.image (g c) (R c) Old c.rec.retries)) (relieved-waits (asking c))
+      (λ past q k h. no-leave (co c) (settle c.rec.generation.image (old_crew c) (R c) Old c.rec.retries) past q (no-leave-settle c.rec.generation.image (old_crew c) (R c) Old c.rec.retries)) (relieved-waits (asking c))
       [] (start_at c.t c.rec.note) tt tt
 
 ---- The manner
@@ -326,8 +327,8 @@ leave-due c past _ t e h = absurd (cc e)
 
 pub upgrade_manner : (s : Settings) → InManner (Upgrade s)
 upgrade_manner s t r pattern a =
-    let (range, ds, numbered) = a.accepts in
-    let c : Given = record { t = t; rec = r; st = s; pattern = pattern; start = a.start; range = range; ds = ds; numbered = numbered } in
+    let (lone, range, ds, numbered) = a.accepts in
+    let c : Given = record { t = t; rec = r; st = s; pattern = pattern; start = a.start; lone = lone; range = range; ds = ds; numbered = numbered } in
     let at = start_at t r.note in
     let tree = plan_tree r (Upgrade s) in
     let ran = run_of r (Upgrade s) pattern t in
@@ -341,10 +342,10 @@ upgrade_manner s t r pattern a =
         let tree = plan_tree c.rec (Upgrade c.st) in
         let at = start_at c.t c.rec.note in
         let ran = run_in (co c) tree at in
-        refused_in (co c) tree at ≡ None → is_old_side (outcome_of ran.ending ran.last.lacking) ≡ true → list_any (λ e. is_wait_call e.call) ran.entries ≡ false → (b : Bool) → is_lost p ran.passed ≡ b → (has_ready ran.last.table p k ≡ true) ⊎ (is_lost p ran.passed ≡ true)
+        refused_in (co c) tree at ≡ None → is_old_side (outcome_of (sides_of c.rec (Upgrade c.st)) ran.ending ran.last.lacking) ≡ true → list_any (λ e. is_wait_call e.call) ran.entries ≡ false → (b : Bool) → is_lost p ran.passed ≡ b → (has_ready ran.last.table p k ≡ true) ⊎ (is_lost p ran.passed ≡ true)
     stays-it c p k on spared old none true e = inr e
     stays-it c p k on spared old none false e =
         let tree = plan_tree c.rec (Upgrade c.st) in
         let at = start_at c.t c.rec.note in
-        let all = from-traced (λ past call t. ⊤) (λ past e q. is_old_side (outcome_of e q.lacking) ≡ true → list_any (λ e. is_wait_call e.call) past ≡ false → Stands c.rec.pid c.rec.generation.image p c.rec.generation k (first-low c.t c.rec c.start p k on) q.table) (Unlost p) (co c) [] tree at (stays-traced c p k on) spared (are-unlost p (co c) tree at e) in
+        let all = from-traced (λ past call t. ⊤) (λ past e q. is_old_side (outcome_of (sides_of c.rec (Upgrade c.st)) e q.lacking) ≡ true → list_any (λ e. is_wait_call e.call) past ≡ false → Stands c.rec.pid c.rec.generation.image p c.rec.generation k (first-low c.t c.rec c.start p k on) q.table) (Unlost p) (co c) [] tree at (stays-traced c p k on) spared (are-unlost p (co c) tree at e) in
         inl (stands-ready c.rec.pid c.rec.generation.image p c.rec.generation k (first-low c.t c.rec c.start p k on) (run_in (co c) tree at).last.table (all.last old none))

@@ -1,5 +1,5 @@
 -- An upgrade's new master: each of its calls answers plainly, or the old master goes back.
-use Rattle.std.proofs.Common.{◌≡◌, ◌≢◌, ℕ, ◌+◌, ◌≤◌, Bool, true, false, List, [], ◌∷◌, ◌++◌, length, Option, Some, None, refl, sym, ap, ◌∙◌, subst, arith, inl, ⊎_elim, nat_lt}
+use Rattle.std.proofs.Common.{◌≡◌, ◌≢◌, ℕ, ◌+◌, Bool, true, false, List, [], ◌∷◌, ◌++◌, length, Option, Some, None, refl, sym, ap, ◌∙◌, subst, arith, inl, ⊎_elim, nat_lt}
 use Rattle.std.specs.Prelude.{◌&&◌, if◌then◌else◌}
 use Rattle.listener_set.specs.Numbers.{is_in}
 use Rattle.listener_set.specs.declared.generation.Generation.{Generation}
@@ -28,9 +28,9 @@ use Rattle.theorems.proofs.Exits.{spares-each}
 use Rattle.theorems.proofs.Sets.{in-here, in-there}
 use Rattle.theorems.proofs.Small.{or-elim}
 use Rattle.theorems.proofs.Logic.{Unasked, Course, course_after, Behind, Anyhow, adopt-cases, open-cases, fork-cases, await-cases, write-cases, unfailing}
-use Rattle.theorems.proofs.Rules.{Scene, view, any, plus, minus, ready_of, Marks, Band, Only, marks-plain, marks-wrong, weigh-sub, band-exits, band-inv, grounded}
+use Rattle.theorems.proofs.Rules.{IsGood, Scene, view, plus, minus, Band, Only, marks-plain, marks-wrong, weigh-sub, band-exits, band-inv, grounded}
 use Rattle.theorems.proofs.Duo.{Framed, framed-change, framed-drop, framed-grow, dead-none, with_other}
-use Rattle.theorems.proofs.UpgradeStage.{Given, g, new, R, f, co, acts, inv, post, Goes, u, w, Second, pair_scene, good-pair}
+use Rattle.theorems.proofs.UpgradeStage.{Given, g, new, old_crew, R, f, co, acts, inv, post, Goes, u, w, Second, hold-old, pair_scene, good-pair}
 use Rattle.theorems.proofs.UpgradeBack.{Aside, goes-back-from}
 
 module _ (c : Given) (m : ℕ) (ne : m ≢ c.rec.pid) (r0 : Names) (only0 : Only (g c) (R c) r0) where
@@ -62,11 +62,11 @@ module _ (c : Given) (m : ℕ) (ne : m ≢ c.rec.pid) (r0 : Names) (only0 : Only
   abbrev pub Held : Doing → ℕ → Bool → List ℕ → Progress → Type 0
   Held x k b ls q = Band v (sc x) none r0 (named (g c) (is_in (R c))) (length (R c)) k b ls q
 
-  pub good : (x : Doing) (names' : Names) (count : ℕ) (b : Bool) (q : Progress) → f c ≤ count → Looks (view v any any) q.table.rows → (1 ≤ f c → count ≤ ready_of v names' q + q.losses) → Marks b q.faults q.losses q.cause → Second c (w c m x.hs x.s x.r) x.names x.d q.table.rows q.losses → I q
-  good x = good-pair c v (w c m x.hs x.s x.r) x.hs x.names x.d (f c) (inl (omega arith)) refl (λ h k. refl)
+  pub good : (x : Doing) → IsGood v (sc x) I
+  good x = good-pair c v (w c m x.hs x.s x.r) x.hs x.names x.d (f c) (inl (λ a. omega arith)) refl (hold-old c)
 
   abbrev pub back : Tree
-  back = back_from c.rec.generation.image image (g c) (R c) c.rec.retries c.rec.pid_path
+  back = back_from c.rec.generation.image image (old_crew c) (R c) c.rec.retries c.rec.pid_path
 
   pub goes-back : (x : Doing) (k : ℕ) (ls : List ℕ) (q : Progress) → Aside c c.rec.pid_path x.files → Held x k true ls q → Goes c (co c) back q
   goes-back x k ls q aside b = goes-back-from c m ne x.hs x.s x.r x.names x.d r0 k ls x.files q aside only0 b
@@ -94,7 +94,7 @@ module _ (c : Given) (m : ℕ) (ne : m ≢ c.rec.pid) (r0 : Names) (only0 : Only
   held-plain x y t ready lacking q b files limits is framed second = record {
     looks = framed.looks;
     enough = b.enough;
-    secured = λ e. omega (arith, b.secured e, framed.same (named (g c) (is_in (R c))));
+    secured = λ a e. omega (arith, b.secured a e, framed.same (named (g c) (is_in (R c))));
     budget = omega (arith, b.budget, framed.same (named (g c) (is_in (R c))));
     lacking = is;
     marks = marks-plain false q.faults q.losses (q.calls + 1) q.cause b.marks;
@@ -106,7 +106,7 @@ module _ (c : Given) (m : ℕ) (ne : m ≢ c.rec.pid) (r0 : Names) (only0 : Only
   held-failed x y t q b files limits framed second = record {
     looks = framed.looks;
     enough = b.enough;
-    secured = λ e. omega (arith, b.secured e, framed.same (named (g c) (is_in (R c))));
+    secured = λ a e. omega (arith, b.secured a e, framed.same (named (g c) (is_in (R c))));
     budget = omega (arith, b.budget, framed.same (named (g c) (is_in (R c))));
     lacking = b.lacking;
     marks = marks-wrong false q.faults (q.faults + 1) q.losses (q.calls + 1) q.cause (omega arith) b.marks;

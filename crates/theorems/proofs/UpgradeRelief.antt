@@ -24,9 +24,9 @@ use Rattle.theorems.proofs.Sets.{in-here, in-there, below-of, below-distinct, be
 use Rattle.theorems.proofs.Small.{in-reverse, true-false}
 use Rattle.theorems.proofs.Files.{gone-file, other-removed, oldbin-other, no-path}
 use Rattle.theorems.proofs.Logic.{Unasked, Anyhow, Behind, course_after, remove-cases, unfailing}
-use Rattle.theorems.proofs.Rules.{Still, Scene, view, any, ready_of, Marks, Band, Only, marks-plain, marks-wrong, rule-step, rule-quits, rule-waits, rule-settle, band-exits, band-inv, band-anew, band-failed, failed_at, Answers, grounded}
+use Rattle.theorems.proofs.Rules.{IsGood, Still, Scene, view, Marks, Band, Only, marks-plain, marks-wrong, rule-step, rule-quits, rule-waits, rule-settle, band-exits, band-inv, band-anew, band-failed, failed_at, Answers, grounded}
 use Rattle.theorems.proofs.Duo.{OneOther, alone-left, dead-none, dead-weigh, asked-looks, asked-dead, with_other}
-use Rattle.theorems.proofs.UpgradeStage.{Given, g, new, R, H0, f, n, low, wanted, few-new, co, co_after, acts, acts-after, inv, post, Goes, u, w, x, Common, Lists, Second, alone_scene, good-alone, pair_scene, good-pair, new-full, new-short}
+use Rattle.theorems.proofs.UpgradeStage.{Given, g, new, old_crew, new_crew, R, H0, f, n, low, wanted, few-new, co, co_after, acts, acts-after, inv, post, Goes, u, w, x, Common, Lists, alone_scene, good-alone, pair_scene, good-pair, new-full, new-short, hold-old, serves_new, enough-new, holds-new}
 use Rattle.theorems.proofs.UpgradeBack.{Aside, goes-back-late}
 use Rattle.theorems.proofs.UpgradeCalls.{Written}
 
@@ -50,10 +50,10 @@ module _ (c : Given) (m : ℕ) (ne : m ≢ c.rec.pid) (some : 1 ≤ m) (r0 : Nam
   second = w c m hs none r
 
   abbrev both : List File → Scene c.rec.pid c.rec.generation.image
-  both files = pair_scene c second ne (eqb-refl c.rec.pid c.rec.pid refl) T (n c) 0 files c.rec.note
+  both files = pair_scene c second ne (eqb-refl c.rec.pid c.rec.pid refl) T (n c) (λ a. 0) files c.rec.note
 
-  good : (files : List File) (names' : Names) (count : ℕ) (b : Bool) (q : Progress) → 0 ≤ count → Looks (view v any any) q.table.rows → (1 ≤ 0 → count ≤ ready_of v names' q + q.losses) → Marks b q.faults q.losses q.cause → Second c second T (n c) q.table.rows q.losses → I q
-  good files = good-pair c v second hs T (n c) 0 (inr (few-new c, common, λ h k. refl)) refl (λ h k. refl)
+  good : (files : List File) → IsGood v (both files) I
+  good files = good-pair c v second hs T (n c) (λ a. 0) (inr (few-new c, common, λ h k. refl)) refl (hold-old c)
 
   -- the old master's workers of these names are there, and nothing of them is counted
   abbrev Beside : List File → Names → Names → Bool → Progress → Type 0
@@ -62,8 +62,8 @@ module _ (c : Given) (m : ℕ) (ne : m ≢ c.rec.pid) (some : 1 ≤ m) (r0 : Nam
   beside : (files : List File) (st rd : Names) (b : Bool) (q : Progress) → Looks (view v st rd) q.table.rows → q.lacking ≡ [] → Marks b q.faults q.losses q.cause → Still (both files).files (both files).note (both files).limits q.table.files q.note q.table.limits → (both files).Holds q.table.rows q.losses q.faults → Beside files st rd b q
   beside files st rd b q looks lacking marks still holds = record {
     looks = looks;
-    enough = omega arith;
-    secured = λ e. absurd (omega (arith, e));
+    enough = λ a e. absurd (omega (arith, e));
+    secured = λ a e. absurd (omega (arith, e));
     budget = omega arith;
     lacking = lacking;
     marks = marks;
@@ -81,14 +81,14 @@ module _ (c : Given) (m : ℕ) (ne : m ≢ c.rec.pid) (some : 1 ≤ m) (r0 : Nam
   ---- The new master is alone
 
   abbrev last : List File → PidNote → Scene m (new c).image
-  last files note = alone_scene c m (new c).image (f c) 0 files note
+  last files note = alone_scene c m (new c).image (serves_new c) (f c) 0 files note
 
-  good-last : (files : List File) (note : PidNote) (names : Names) (count : ℕ) (b : Bool) (q : Progress) → f c ≤ count → Looks (view (x c m hs r) any any) q.table.rows → (1 ≤ f c → count ≤ ready_of (x c m hs r) names q + q.losses) → Marks b q.faults q.losses q.cause → 0 ≤ q.losses → I q
-  good-last files note = good-alone c (x c m hs r) (f c) 0 hs (inl (omega arith)) refl (λ h k. refl) common
+  good-last : (files : List File) (note : PidNote) → IsGood (x c m hs r) (last files note) I
+  good-last files note = good-alone c (x c m hs r) (serves_new c) (f c) 0 hs (inl (λ a. omega arith)) refl (λ a h j k on. (common a h).0) common
 
-  settles : (files : List File) (note : PidNote) (b : Bool) (q : Progress) → FilesAre note c.rec.pid_path m files → Band (x c m hs r) (last files note) none r T (length S) 0 b [] q → Goes c (co_after c) (settle (new c).image (new c) S Target c.rec.retries) q
+  settles : (files : List File) (note : PidNote) (b : Bool) (q : Progress) → FilesAre note c.rec.pid_path m files → Band (x c m hs r) (last files note) none r T (length S) 0 b [] q → Goes c (co_after c) (settle (new c).image (new_crew c) S Target c.rec.retries) q
   settles files note b q are h =
-      rule-settle (x c m hs r) (last files note) (grounded I P (co_after c) (acts-after c) (good-last files note)) Target (new c) S (λ k. refl) (below-distinct (n c)) (λ k e. omega (arith, below-of (n c) k e, low c)) c.rec.retries false
+      rule-settle (x c m hs r) (last files note) (grounded I P (co_after c) (acts-after c) (good-last files note)) Target (new_crew c) S (holds-new c m hs r) (below-distinct (n c)) (λ k e. omega (arith, below-of (n c) k e, low c)) c.rec.retries false
       (λ r' q' k' b' up only' h' saw exact. new-full c m some hs lists keys files note are r' q' only' h'.looks h'.lacking h'.still saw exact)
       (λ r' q' y ys only' h' saw exact. new-short c m some hs lists keys files note are r' q' y ys only' h'.looks h'.lacking (h'.marks.caused refl) h'.still h'.budget saw exact)
       c.rec.retries 0 (omega arith) b (λ e. absurd (cc e)) r [] q only h
@@ -113,7 +113,7 @@ module _ (c : Given) (m : ℕ) (ne : m ≢ c.rec.pid) (some : 1 ≤ m) (r0 : Nam
 
   ---- The old master leaves
 
-  leaves : (files : List File) (b : Bool) (q : Progress) → Written c m ne r0 only0 c.rec.pid_path files → Looks second q.table.rows → Beside files none none b q → Goes c (co c) (hand_over c.rec.generation.image (new c).image (g c) c.rec.retries c.rec.pid_path (n c)) q
+  leaves : (files : List File) (b : Bool) (q : Progress) → Written c m ne r0 only0 c.rec.pid_path files → Looks second q.table.rows → Beside files none none b q → Goes c (co c) (hand_over c.rec.generation.image (new_crew c) c.rec.retries c.rec.pid_path (n c)) q
   leaves files b q written looks h spared mild =
       let order = Make Leave in
       let moment = c.pattern (q.calls + 1) in
@@ -129,11 +129,11 @@ module _ (c : Given) (m : ℕ) (ne : m ≢ c.rec.pid) (some : 1 ≤ m) (r0 : Nam
       let gone = after_call order [] (gives answer.Fine (each_row (without_master c.rec.pid) middle.table)) middle in
       let one : OneOther second c.rec.pid = (ne, λ j e. eqb-is j c.rec.pid e) in
       let alone = alone-left second c.rec.pid middle.table.rows one looks' in
-      let rest = remove_oldbin (new c).image c.rec.pid_path (settle (new c).image (new c) S Target c.rec.retries) in
-      let after : Goes c (co_after c) rest gone = removes c.rec.pid_path (settle (new c).image (new c) S Target c.rec.retries) files b gone written (λ files' note' b' q' are h2. settles files' note' b' q' are h2) (record {
+      let rest = remove_oldbin (new c).image c.rec.pid_path (settle (new c).image (new_crew c) S Target c.rec.retries) in
+      let after : Goes c (co_after c) rest gone = removes c.rec.pid_path (settle (new c).image (new_crew c) S Target c.rec.retries) files b gone written (λ files' note' b' q' are h2. settles files' note' b' q' are h2) (record {
         looks = alone.looks;
-        enough = omega (arith, few-new c, below-length (n c));
-        secured = λ e. omega (arith, h'.beside.1, alone.same T, below-length (n c));
+        enough = enough-new c m;
+        secured = λ a e. omega (arith, h'.beside.1, alone.same T, below-length (n c));
         budget = omega (arith, h'.beside.1, alone.same T, below-length (n c));
         lacking = h'.lacking;
         marks = marks-plain b middle.faults middle.losses (middle.calls + 1) middle.cause h'.marks;
@@ -147,10 +147,10 @@ module _ (c : Given) (m : ℕ) (ne : m ≢ c.rec.pid) (some : 1 ≤ m) (r0 : Nam
       )
 
   -- It asks whether the new one lives: then it leaves, and else goes back.
-  asks : (files : List File) (b : Bool) (q : Progress) → Aside c c.rec.pid_path files → Written c m ne r0 only0 c.rec.pid_path files → Beside files none none b q → Goes c (co c) (does c.rec.generation.image (Alive (new c).image) (on (reply.IsAlive ∷ []) (hand_over c.rec.generation.image (new c).image (g c) c.rec.retries c.rec.pid_path (n c)) (on (reply.Gone ∷ []) (back_late c.rec.generation.image (new c).image (g c) (R c) c.rec.retries c.rec.pid_path) Nothing))) q
+  asks : (files : List File) (b : Bool) (q : Progress) → Aside c c.rec.pid_path files → Written c m ne r0 only0 c.rec.pid_path files → Beside files none none b q → Goes c (co c) (does c.rec.generation.image (Alive (new c).image) (on (reply.IsAlive ∷ []) (hand_over c.rec.generation.image (new_crew c) c.rec.retries c.rec.pid_path (n c)) (on (reply.Gone ∷ []) (back_late c.rec.generation.image (new c).image (old_crew c) (R c) c.rec.retries c.rec.pid_path) Nothing))) q
   asks files b q aside written h =
       let order = Make (Alive (new c).image) in
-      let bs = on (reply.IsAlive ∷ []) (hand_over c.rec.generation.image (new c).image (g c) c.rec.retries c.rec.pid_path (n c)) (on (reply.Gone ∷ []) (back_late c.rec.generation.image (new c).image (g c) (R c) c.rec.retries c.rec.pid_path) Nothing) in
+      let bs = on (reply.IsAlive ∷ []) (hand_over c.rec.generation.image (new_crew c) c.rec.retries c.rec.pid_path (n c)) (on (reply.Gone ∷ []) (back_late c.rec.generation.image (new c).image (old_crew c) (R c) c.rec.retries c.rec.pid_path) Nothing) in
       rule-step v (both files) (grounded I P (co c) (acts c) (good files)) order [] bs none none none 0 0 b [] q refl h (λ p h' fate.
       let me : Caller = record { number = c.rec.pid; holds = H0 c } in
       let answered_by : Option Caller → Type 0 = λ o. Answers v (both files) (grounded I P (co c) (acts c) (good files)) order [] bs p (asked_alive o (new c).image p.table) in
@@ -158,27 +158,27 @@ module _ (c : Given) (m : ℕ) (ne : m ≢ c.rec.pid) (some : 1 ≤ m) (r0 : Nam
       (⊎_elim
       (λ looks. subst answered_by (sym (finds second p.table.rows looks))
       (leaves files b (after_call order [] (gives answer.IsAlive p.table) p) written looks
-      (record { looks = h'.looks; enough = h'.enough; secured = λ e. absurd (omega (arith, e)); budget = omega arith; lacking = h'.lacking; marks = marks-plain b p.faults p.losses (p.calls + 1) p.cause h'.marks; still = h'.still; beside = h'.beside })))
+      (record { looks = h'.looks; enough = h'.enough; secured = λ a e. absurd (omega (arith, e)); budget = omega arith; lacking = h'.lacking; marks = marks-plain b p.faults p.losses (p.calls + 1) p.cause h'.marks; still = h'.still; beside = h'.beside })))
       (λ dead. subst answered_by (sym (dead-none second p.table.rows dead))
       (let framed = asked-looks (view v none none) (new c).image p.table.rows (λ e. absurd (omega (arith, e))) h'.looks in
       goes-back-late c m ne hs none r common 0 [] files (after_call order [] (gives answer.Gone (each_row (drop_where (is_image (new c).image)) p.table)) p) aside
       (record {
         looks = framed.looks;
-        enough = omega arith;
-        secured = λ e. absurd (omega (arith, e));
+        enough = λ a e. absurd (omega (arith, e));
+        secured = λ a e. absurd (omega (arith, e));
         budget = omega arith;
         lacking = h'.lacking;
         marks = marks-wrong b p.faults (p.faults + 1) p.losses (p.calls + 1) p.cause (omega arith) h'.marks;
         still = h'.still;
-        beside = (inr (asked-dead second (new c).image p.table.rows dead), omega (arith, h'.beside.1, dead-weigh second T p.table.rows dead, few-new c));
+        beside = (inr (asked-dead second (new c).image p.table.rows dead), omega (arith, h'.beside.1, dead-weigh second T p.table.rows dead));
       })))
       h'.beside.0))
 
   ---- All of it
 
-  pub relieves : (files : List File) (q : Progress) → Aside c c.rec.pid_path files → Written c m ne r0 only0 c.rec.pid_path files → Band v (pair_scene c second ne (eqb-refl c.rec.pid c.rec.pid refl) T (n c) (f c) files c.rec.note) none r0 (named (g c) (is_in (R c))) (length (R c)) 0 false [] q → Goes c (co c) (relieve c.rec.generation.image (new c).image (g c) (R c) c.rec.retries c.rec.pid_path (n c)) q
+  pub relieves : (files : List File) (q : Progress) → Aside c c.rec.pid_path files → Written c m ne r0 only0 c.rec.pid_path files → Band v (pair_scene c second ne (eqb-refl c.rec.pid c.rec.pid refl) T (n c) (f c) files c.rec.note) none r0 (named (g c) (is_in (R c))) (length (R c)) 0 false [] q → Goes c (co c) (relieve c.rec.generation.image (old_crew c) (new_crew c) (R c) c.rec.retries c.rec.pid_path (n c)) q
   relieves files q aside written h =
-      let ask = does c.rec.generation.image (Alive (new c).image) (on (reply.IsAlive ∷ []) (hand_over c.rec.generation.image (new c).image (g c) c.rec.retries c.rec.pid_path (n c)) (on (reply.Gone ∷ []) (back_late c.rec.generation.image (new c).image (g c) (R c) c.rec.retries c.rec.pid_path) Nothing)) in
+      let ask = does c.rec.generation.image (Alive (new c).image) (on (reply.IsAlive ∷ []) (hand_over c.rec.generation.image (new_crew c) c.rec.retries c.rec.pid_path (n c)) (on (reply.Gone ∷ []) (back_late c.rec.generation.image (new c).image (old_crew c) (R c) c.rec.retries c.rec.pid_path) Nothing)) in
       rule-quits v (both files) (grounded I P (co c) (acts c) (good files)) (awaits_gone c.rec.generation.image (g c) (reverse (R c)) ask) (g c) (reverse (R c)) none r0 none 0 0 false [] q (λ k e. refl)
       (λ st rd q' less_st less_rd h'. rule-waits v (both files) (grounded I P (co c) (acts c) (good files)) ask (g c) (reverse (R c)) none none none 0 false [] q' (λ k e. refl)
       (λ st' rd' b k q'' sub_st sub_rd up h''. asks files b q'' aside written (bared files st' rd' k b q'' sub_st sub_rd h''))

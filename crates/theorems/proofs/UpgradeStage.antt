@@ -1,6 +1,7 @@
 -- An upgrade: who is on the stage, what each part keeps, and the ends.
 use Rattle.std.proofs.Common.{◌≡◌, ◌≢◌, ℕ, ◌+◌, ◌<◌, ◌≤◌, Bool, true, false, List, [], ◌∷◌, length, Some, None, refl, sym, ap, ◌∙◌, arith, ◌⊎◌, ⊎_elim}
 use Rattle.std.specs.Prelude.{map, min, if◌then◌else◌, is_some}
+use Rattle.std.proofs.lemmas.List.Sums.{length-filter}
 use Rattle.std.specs.List.{list_any}
 use Rattle.listener_set.specs.Numbers.{is_in, numbers_below}
 use Rattle.listener_set.specs.AddressList.{has}
@@ -11,26 +12,29 @@ use Rattle.vocabulary.specs.declared.plans.End.TheVariants.{Done, RolledBack, Sh
 use Rattle.vocabulary.specs.Settings.{Settings, IsInRange}
 use Rattle.definitions.specs.Table.{Address, File, Hold, Process, Table, same_generation, has_address, is_worker, is_ready}
 use Rattle.definitions.specs.Service.{Service, service}
-use Rattle.definitions.specs.Record.{Record, Agrees, FilesAre, addresses_of, listener_of}
-use Rattle.definitions.specs.Target.{upgrade_generation, want, text_handed}
-use Rattle.definitions.specs.After.{Setup, setup_after, recorded, renewed, upgraded, next_image}
+use Rattle.definitions.specs.Crew.{Crew, Layout, group_of, layout_in, short_at, shortfalls_of}
+use Rattle.definitions.specs.Record.{Record, Agrees, FilesAre, addresses_of, crew_of, layout_of, listener_of}
+use Rattle.definitions.specs.Target.{Sides, upgrade_generation, want, wanted_at, sides_of, text_handed}
+use Rattle.definitions.specs.After.{crew_wanted, posts_wanted, Setup, setup_after, recorded, renewed, upgraded, next_image}
 use Rattle.definitions.specs.Tree.{Tree}
 use Rattle.definitions.specs.Run.{Pattern, Progress, Ending, At, outcome_of}
 use Rattle.definitions.specs.Claims.{AgreesAfter, IsStart, has_socket, Says, IsPaid, Kept, IsCommon, IsBlamed, HasCause, HasDescriptors, ready_with}
 use Rattle.theorems.proofs.Rows.{weigh}
-use Rattle.theorems.proofs.Views.{Names, named, View, Looks, ready_in}
+use Rattle.theorems.proofs.Views.{HoldsShare, Names, named, View, Looks, ready_in}
 use Rattle.theorems.proofs.Effects.{none}
 use Rattle.theorems.proofs.Exits.{falls-all}
-use Rattle.theorems.proofs.Counts.{Distinct}
-use Rattle.theorems.proofs.Sets.{in-here, below-of, below-length}
+use Rattle.theorems.proofs.Counts.{Distinct, Counted, counted-all}
+use Rattle.theorems.proofs.Sets.{filter-le, in-here, below-of, below-length}
 use Rattle.theorems.proofs.Services.{live-with, live-with-on, fewer-same, ready-floor}
 use Rattle.theorems.proofs.Begins.{first_view, begin, rising-distinct}
 use Rattle.theorems.proofs.Small.{every-is_in}
 use Rattle.theorems.proofs.Listeners.{some-held}
+use Rattle.theorems.proofs.Shares.{shortfalls-sum}
+use Rattle.theorems.proofs.Layouts.{share-sole, sole-listens}
 use Rattle.theorems.proofs.After.{agrees-after}
-use Rattle.theorems.proofs.Ends.{next-image-is, moved-after, resized, report_at, service-of, service-short, first-keys, first-service, first-held, census-within, files-still, kept-after}
+use Rattle.theorems.proofs.Ends.{ListensBy, first-few, first-listens, next-image-is, moved-after, resized, report_at, service-of, service-short, first-keys, first-service, first-held, census-within, files-still, kept-after}
 use Rattle.theorems.proofs.Logic.{Unasked, Course, Along, Anyhow}
-use Rattle.theorems.proofs.Rules.{Scene, Still, Marks, Only, view, any, ready_of, floor-by}
+use Rattle.theorems.proofs.Rules.{Scene, Still, Marks, Only, Enough, covers-part, level-by, view, any, ready_of, floor-by}
 use Rattle.theorems.proofs.Duo.{Lives, beside-change, beside-drop, beside-grow, lives-exits, dead-weigh, new_view, sole}
 
 -- What an upgrade is given.
@@ -40,6 +44,7 @@ pub record Given : Type 0 where
   pub st : Settings
   pub pattern : Pattern
   pub start : IsStart t rec
+  pub lone : length st.groups ≡ 1
   pub range : IsInRange st
   pub ds : HasDescriptors t rec
   pub numbered : is_some (next_image rec.generation) ≡ true
@@ -50,6 +55,13 @@ module _ (c : Given) where
 
   abbrev pub new : Generation
   new = upgrade_generation c.rec.generation
+
+  -- the old workers, and the new ones, which are of one group
+  abbrev pub old_crew : Crew
+  old_crew = crew_of c.rec
+
+  abbrev pub new_crew : Crew
+  new_crew = crew_wanted c.rec (Upgrade c.st)
 
   abbrev pub R : List ℕ
   R = c.rec.ready
@@ -66,17 +78,38 @@ module _ (c : Given) where
   abbrev pub n : ℕ
   n = c.st.workers
 
-  abbrev pub f : ℕ
-  f = min (length R) n
+  abbrev pub S : List ℕ
+  S = numbers_below n
+
+  -- where the new workers listen
+  abbrev pub layout : Layout
+  layout = layout_in c.st.groups c.st.listeners
+
+  abbrev pub sides : Sides
+  sides = sides_of c.rec (Upgrade c.st)
+
+  -- the floor of an address
+  abbrev pub f : Address → ℕ
+  f a = min (ready_with a c.t) (wanted_at c.rec (Upgrade c.st) a)
+
+  -- the numbers of the old workers whose groups listen there, and the names that serve
+  abbrev pub old_at : Address → ℕ → Bool
+  old_at a k = (layout_of c.rec).listens (group_of c.rec.posts.groups k) a
+
+  abbrev pub serves_old : Address → Names
+  serves_old a h k = old_at a k
+
+  -- all new workers do
+  abbrev pub serves_new : Address → Names
+  serves_new a h k = true
 
   pub low : n ≤ 1024
   low = c.range.workers
 
-  pub few-old : f ≤ length R
-  few-old = omega arith
-
-  pub few-new : f ≤ n
-  few-new = omega arith
+  pub few-new : (a : Address) → f a ≤ n
+  few-new a =
+      let listens : ℕ → Bool = λ k. layout.listens (group_of c.st.groups k) a in
+      omega (arith, length-filter listens S, filter-le listens S, below-length n)
 
   -- the old master executes, and then the new one
   abbrev pub co : Course
@@ -99,15 +132,15 @@ module _ (c : Given) where
 
   -- at each address of both services so many Ready workers, losses aside
   abbrev pub Level : Progress → Type 0
-  Level q = (a : Address) → IsCommon old target a → f ≤ ready_with a q.table + q.losses
+  Level q = (a : Address) → IsCommon old target a → f a ≤ ready_with a q.table + q.losses
 
   abbrev pub inv : Progress → Type 0
   inv q = Kept old target c.t q.table × Level q × IsBlamed q
 
   abbrev pub post : Ending → Progress → Type 0
   post e q =
-      Says (outcome_of e q.lacking) old target q.table × IsPaid c.rec.retries (outcome_of e q.lacking) q × HasCause (outcome_of e q.lacking) q.cause
-      × AgreesAfter c.rec (Upgrade c.st) (report_at e q) q.table
+      Says c.rec (Upgrade c.st) (outcome_of sides e q.lacking) c.t q.table × IsPaid c.rec.retries (outcome_of sides e q.lacking) q × HasCause (outcome_of sides e q.lacking) q.cause
+      × AgreesAfter c.rec (Upgrade c.st) (report_at sides e q) q.table
 
   abbrev pub Goes : Course → Tree → Progress → Type 0
   Goes x tree q = Along inv post Anyhow Unasked x tree q
@@ -137,7 +170,7 @@ module _ (c : Given) where
   pub wanted-of : (a : Address) → is_some (target a) ≡ true → has wanted a ≡ true
   wanted-of a e = go (has wanted a) e
     where
-      go : (b : Bool) → is_some {T = Generation → ℕ} (if b then Some (λ h. if same_generation h new then n else 0) else None) ≡ true → b ≡ true
+      go : (b : Bool) → is_some {T = Generation → ℕ} (if b then Some (λ h. if same_generation h new then wanted_at c.rec (Upgrade c.st) a else 0) else None) ≡ true → b ≡ true
       go true e = refl
       go false e = e
 
@@ -151,15 +184,44 @@ module _ (c : Given) where
   kept-by : (v : View) (hs : List Hold) → v.holds ≡ hs → Common hs → (q : Progress) → Looks v q.table.rows → Kept old target c.t q.table
   kept-by v hs is common q looks = λ a k h on. live-with-on v (has_socket a k) q.table.rows looks (ap (has_socket a k) is ∙ (common a h).1 k (sym (live-with u (λ n. refl) (has_socket a k) c.t.rows looks0) ∙ on))
 
-  level-by : (v : View) (hs : List Hold) → Common hs → ((h : Generation) (k : ℕ) → v.held h k ≡ hs) → (names : Names) (count : ℕ) (q : Progress) → f ≤ count → Looks v q.table.rows → (1 ≤ f → count ≤ ready_of v names q + q.losses) → Level q
-  level-by v hs common held names count q enough looks secured = λ a h. floor-by f (ready_with a q.table + q.losses) (λ e. omega (arith, enough, secured e, ready-floor v names a q.table.rows (λ j k. ap (has_address a) (held j k) ∙ (common a h).0) looks))
+  -- Where all of some names hold what is held, those that are not lost are enough.
+  level-all : (v : View) (hs : List Hold) → Common hs → ((h : Generation) (k : ℕ) → v.held h k ≡ hs) → (names : Names) (count : ℕ) (q : Progress) → ((a : Address) → f a ≤ count) → Looks v q.table.rows → count ≤ ready_of v names q + q.losses → Level q
+  level-all v hs common held names count q enough looks secured = λ a h. omega (arith, enough a, secured, ready-floor v names a q.table.rows (λ j k e. ap (has_address a) (held j k) ∙ (common a h).0) looks)
+
+  -- Who serves at a common address holds it.
+  abbrev pub HoldAll : View → (Address → Names) → Type 0
+  HoldAll v serves = (a : Address) → IsCommon old target a → (h : Generation) (k : ℕ) → serves a h k ≡ true → has_address a (v.held h k) ≡ true
+
+  pub hold-old : HoldAll u serves_old
+  hold-old a h j k on = first-listens c.t c.rec c.start k a ∙ on
+
+  level-some : (v : View) (floor : Address → ℕ) (serves : Address → Names) → HoldAll v serves → (names : Names) (count : ℕ) (q : Progress) → ((a : Address) → f a ≤ floor a) → Enough v.number floor serves names count → Looks v q.table.rows → ((a : Address) → 1 ≤ floor a → count ≤ ready_of v names q + q.losses) → Level q
+  level-some v floor serves hold names count q most enough looks secured = λ a h. floor-by (f a) (ready_with a q.table + q.losses) (at a h)
+    where
+      at : (a : Address) → IsCommon old target a → 1 ≤ f a → f a ≤ ready_with a q.table + q.losses
+      at a h e =
+          let some : 1 ≤ floor a = omega (arith, e, most a) in
+          omega (arith, most a, level-by v (floor a) (serves a) names count a q.table.rows q.losses (hold a h) (enough a some) looks (secured a some))
+
+  -- The old workers are enough.
+  pub enough-old : Enough c.rec.pid f serves_old (named g (is_in R)) (length R)
+  enough-old a e = covers-part c.rec.pid (f a) (serves_old a) g R (old_at a) dR (λ k on. on) (omega (arith, first-few c.t c.rec c.start a, length-filter (old_at a) R))
+
+  -- and so are the new ones
+  pub enough-new : (m : ℕ) → Enough m f serves_new (named new (is_in S)) (length S)
+  enough-new m a e = record { names = named new (is_in S); many = length S; serve = λ h k on. refl; part = λ rows once. omega arith; enough = omega (arith, few-new a, below-length n) }
+
+  -- none is asked for where there is no floor
+  pub enough-none : (m : ℕ) (serves : Address → Names) (names : Names) (count : ℕ) → Enough m (λ a. 0) serves names count
+  enough-none m serves names count a e = absurd (omega (arith, e))
 
   ---- The parts
 
   -- The master is alone: the floor is its own workers', or so many were lost.
-  abbrev pub alone_scene : (m image floor need : ℕ) → List File → PidNote → Scene m image
-  alone_scene m image floor need files note = record {
+  abbrev pub alone_scene : (m image : ℕ) → (Address → Names) → (Address → ℕ) → ℕ → List File → PidNote → Scene m image
+  alone_scene m image serves floor need files note = record {
     floor = floor;
+    serves = serves;
     files = files;
     note = note;
     limits = c.t.limits;
@@ -172,10 +234,10 @@ module _ (c : Given) where
     fails = λ rows losses faults h. h;
   }
 
-  pub good-alone : (v : View) (floor need : ℕ) (hs : List Hold) → (f ≤ floor) ⊎ (f ≤ need) → v.holds ≡ hs → ((h : Generation) (k : ℕ) → v.held h k ≡ hs) → Common hs → (names : Names) (count : ℕ) (b : Bool) (q : Progress) → floor ≤ count → Looks (view v any any) q.table.rows → (1 ≤ floor → count ≤ ready_of v names q + q.losses) → Marks b q.faults q.losses q.cause → need ≤ q.losses → inv q
-  good-alone v floor need hs kind is held common names count b q enough looks secured marks lost = (
+  pub good-alone : (v : View) (serves : Address → Names) (floor : Address → ℕ) (need : ℕ) (hs : List Hold) → ((a : Address) → f a ≤ floor a) ⊎ ((a : Address) → f a ≤ need) → v.holds ≡ hs → HoldAll v serves → Common hs → (names : Names) (count : ℕ) (b : Bool) (q : Progress) → Enough v.number floor serves names count → Looks (view v any any) q.table.rows → ((a : Address) → 1 ≤ floor a → count ≤ ready_of v names q + q.losses) → Marks b q.faults q.losses q.cause → need ≤ q.losses → inv q
+  good-alone v serves floor need hs kind is hold common names count b q enough looks secured marks lost = (
     kept-by (view v any any) hs is common q looks,
-    ⊎_elim (λ le. level-by (view v any any) hs common held names count q (omega (arith, le, enough)) looks (λ e. secured (omega (arith, e, le)))) (λ le a h. omega (arith, le, lost)) kind,
+    ⊎_elim (λ most. level-some (view v any any) floor serves hold names count q most enough looks secured) (λ le a h. omega (arith, le a, lost)) kind,
     (marks.clean, marks.blamed),
   )
 
@@ -183,9 +245,10 @@ module _ (c : Given) where
   abbrev pub Second : View → Names → ℕ → List Process → ℕ → Type 0
   Second v names d rows losses = Lives v rows × (d ≤ weigh (ready_in v.number names) rows + losses)
 
-  abbrev pub pair_scene : (v : View) → v.number ≢ c.rec.pid → v.others c.rec.pid ≡ true → (names : Names) (d floor : ℕ) → List File → PidNote → Scene c.rec.pid g.image
+  abbrev pub pair_scene : (v : View) → v.number ≢ c.rec.pid → v.others c.rec.pid ≡ true → (names : Names) (d : ℕ) (floor : Address → ℕ) → List File → PidNote → Scene c.rec.pid g.image
   pair_scene v ne on names d floor files note = record {
     floor = floor;
+    serves = serves_old;
     files = files;
     note = note;
     limits = c.t.limits;
@@ -199,11 +262,11 @@ module _ (c : Given) where
   }
 
   -- The floor is the old one's workers', or the other one's.
-  pub good-pair : (v x : View) (hs : List Hold) (names : Names) (d floor : ℕ) → (f ≤ floor) ⊎ ((f ≤ d) × Common hs × ((h : Generation) (k : ℕ) → x.held h k ≡ hs)) → v.holds ≡ H0 → ((h : Generation) (k : ℕ) → v.held h k ≡ H0) → (names' : Names) (count : ℕ) (b : Bool) (q : Progress) → floor ≤ count → Looks (view v any any) q.table.rows → (1 ≤ floor → count ≤ ready_of v names' q + q.losses) → Marks b q.faults q.losses q.cause → Second x names d q.table.rows q.losses → inv q
-  good-pair v x hs names d floor kind is held names' count b q enough looks secured marks second = (
+  pub good-pair : (v x : View) (hs : List Hold) (names : Names) (d : ℕ) (floor : Address → ℕ) → ((a : Address) → f a ≤ floor a) ⊎ (((a : Address) → f a ≤ d) × Common hs × ((h : Generation) (k : ℕ) → x.held h k ≡ hs)) → v.holds ≡ H0 → HoldAll v serves_old → (names' : Names) (count : ℕ) (b : Bool) (q : Progress) → Enough v.number floor serves_old names' count → Looks (view v any any) q.table.rows → ((a : Address) → 1 ≤ floor a → count ≤ ready_of v names' q + q.losses) → Marks b q.faults q.losses q.cause → Second x names d q.table.rows q.losses → inv q
+  good-pair v x hs names d floor kind is hold names' count b q enough looks secured marks second = (
     kept-by (view v any any) H0 is common0 q looks,
-    ⊎_elim (λ le. level-by (view v any any) H0 common0 held names' count q (omega (arith, le, enough)) looks (λ e. secured (omega (arith, e, le))))
-        (λ o. ⊎_elim (λ lives. level-by x hs o.1 o.2 names d q o.0 lives (λ e. second.1)) (λ dead a h. omega (arith, o.0, second.1, dead-weigh x names q.table.rows dead)) second.0) kind,
+    ⊎_elim (λ most. level-some (view v any any) floor serves_old hold names' count q most enough looks secured)
+        (λ o. ⊎_elim (λ lives. level-all x hs o.1 o.2 names d q o.0 lives second.1) (λ dead a h. omega (arith, o.0 a, second.1, dead-weigh x names q.table.rows dead)) second.0) kind,
     (marks.clean, marks.blamed),
   )
 
@@ -213,33 +276,35 @@ module _ (c : Given) where
   Exactly m h q = (k : ℕ) → list_any (is_worker is_ready m h k) q.table.rows ≡ is_in q.ready k
 
   abbrev pub Saw : ℕ → Generation → List ℕ → Progress → Type 0
-  Saw m h S q = weigh (ready_in m (named h (is_in S))) q.table.rows + length q.lacking ≡ length S
+  Saw m h S q = Counted m h S q.lacking q.table.rows
+
+  listens-old : ListensBy u g (layout_of c.rec)
+  listens-old k a on = first-listens c.t c.rec c.start k a
 
   module _ (files : List File) (note : PidNote) (are : FilesAre note c.rec.pid_path c.rec.pid files) where
-    agrees-old : (r : Names) (q : Progress) → Only g R r → Looks (view u none r) q.table.rows → Exactly c.rec.pid g q → Still files note c.t.limits q.table.files q.note q.table.limits → (e : Ending) → Agrees q.table (recorded (resized c.rec c.rec.wanted) c.rec.pid_path (report_at e q) c.rec.pid)
-    agrees-old r q only looks exact still e = agrees-after (view u none r) g q.table _ (λ n. refl) (λ k. refl) (λ h k on. (only h k on).0) looks exact refl refl refl c.start.agrees.listeners (files-still note q.note c.rec.pid_path c.rec.pid files q.table.files c.t.limits q.table.limits are still)
+    agrees-old : (r : Names) (q : Progress) → Only g R r → Looks (view u none r) q.table.rows → Exactly c.rec.pid g q → Still files note c.t.limits q.table.files q.note q.table.limits → (e : Ending) → Agrees q.table (recorded (resized c.rec c.rec.wanted) c.rec.pid_path (report_at sides e q) c.rec.pid)
+    agrees-old r q only looks exact still e = agrees-after (view u none r) old_crew q.table _ (λ n. refl) (λ k. refl) (λ h k on. (only h k on).0) looks exact refl refl refl c.start.agrees.listeners (files-still note q.note c.rec.pid_path c.rec.pid files q.table.files c.t.limits q.table.limits are still)
 
     within-old : (r : Names) (q : Progress) → Only g R r → Looks (view u none r) q.table.rows → Exactly c.rec.pid g q → (k : ℕ) → is_in q.ready k ≡ true → k < c.rec.wanted
     within-old r q only looks exact k e = every-is_in (λ j. j < c.rec.wanted) R c.start.record_in_range.ready k (census-within u (λ n. refl) g R r q.table.rows q.ready only looks exact k e)
 
     pub old-full : (r : Names) (q : Progress) → Only g R r → Looks (view u none r) q.table.rows → q.lacking ≡ [] → is_some q.cause ≡ true → Still files note c.t.limits q.table.files q.note q.table.limits → Saw c.rec.pid g R q → Exactly c.rec.pid g q → post (At RolledBack) q
     old-full r q only looks full caused still saw exact = (
-      λ a. service-of u (λ n. refl) g R (addresses_of c.rec) (λ k. refl) (first-keys c.t c.rec c.start) r (length R) q.table only looks (omega (arith, saw, ap length full)) a ∙ sym (first-service c.t c.rec c.start a),
+      λ a. service-of u (λ n. refl) g R (addresses_of c.rec) (layout_of c.rec) listens-old (first-keys c.t c.rec c.start) r q.table q.lacking only looks full saw a ∙ sym (first-service c.t c.rec c.start a),
       tt,
       caused,
-      kept-after c.rec (Upgrade c.st) (report_at (At RolledBack) q) q.table c.rec.wanted refl c.start.record_in_range c.start.record_in_range.wanted (within-old r q only looks exact) (agrees-old r q only looks exact still (At RolledBack)),
+      kept-after c.rec (Upgrade c.st) (report_at sides (At RolledBack) q) q.table c.rec.wanted refl c.start.record_in_range c.start.record_in_range.wanted (within-old r q only looks exact) (agrees-old r q only looks exact still (At RolledBack)),
     )
 
     pub old-short : (r : Names) (q : Progress) (x : ℕ) (xs : List ℕ) → Only g R r → Looks (view u none r) q.table.rows → q.lacking ≡ x ∷ xs → is_some q.cause ≡ true → Still files note c.t.limits q.table.files q.note q.table.limits → length R + c.rec.retries ≤ weigh (ready_in c.rec.pid (named g (is_in R))) q.table.rows + q.losses + q.faults → Saw c.rec.pid g R q → Exactly c.rec.pid g q → post (At ShortOld) q
-    old-short r q x xs only looks short caused still budget saw exact = (
-      (
-        omega (arith, ap length short),
-        fewer-same (length q.lacking) _ _ _ _ (λ a. sym (first-service c.t c.rec c.start a)) (λ a. refl) (service-short u (λ n. refl) g R (addresses_of c.rec) (λ k. refl) (first-keys c.t c.rec c.start) r (length R) (length q.lacking) q.table only looks saw),
-      ),
-      omega (arith, budget, saw),
-      caused,
-      kept-after c.rec (Upgrade c.st) (report_at (At ShortOld) q) q.table c.rec.wanted refl c.start.record_in_range c.start.record_in_range.wanted (within-old r q only looks exact) (agrees-old r q only looks exact still (At ShortOld)),
-    )
+    old-short r q x xs only looks short caused still budget saw exact =
+        let some = c.start.record_in_range.groups.some in
+        let less = service-short u (λ n. refl) g R (addresses_of c.rec) (layout_of c.rec) listens-old (first-keys c.t c.rec c.start) r q.table q.lacking only looks some (omega (arith, ap length short)) saw in (
+          (less.0, less.1, fewer-same (short_at (layout_of c.rec) (shortfalls_of c.rec.posts.groups q.lacking)) _ _ _ _ (λ a. sym (first-service c.t c.rec c.start a)) (λ a. refl) less.2),
+          omega (arith, budget, counted-all c.rec.pid g R q.lacking q.table.rows saw, shortfalls-sum c.rec.posts.groups q.lacking some),
+          caused,
+          kept-after c.rec (Upgrade c.st) (report_at sides (At ShortOld) q) q.table c.rec.wanted refl c.start.record_in_range c.start.record_in_range.wanted (within-old r q only looks exact) (agrees-old r q only looks exact still (At ShortOld)),
+        )
 
   ---- The ends on the target's side
 
@@ -249,34 +314,41 @@ module _ (c : Given) where
 
   -- the setup of the target, with these holds
   abbrev pub moved : List Hold → Setup
-  moved hs = record { listeners = map listener_of hs; generation = new; wanted = n; retries = c.st.retries; timeout = c.st.timeout }
+  moved hs = record { listeners = map listener_of hs; posts = posts_wanted c.rec (Upgrade c.st); generation = new; wanted = n; retries = c.st.retries; timeout = c.st.timeout }
 
   -- the listeners that the record will have
   abbrev pub Lists : List Hold → Type 0
   Lists hs = upgraded c.st.listeners c.rec.listeners ≡ Some (map listener_of hs)
 
-  moved-is : (hs : List Hold) → Lists hs → renewed c.st (upgraded c.st.listeners c.rec.listeners) (next_image c.rec.generation) ≡ Some (moved hs)
-  moved-is hs lists = ap (λ ls. renewed c.st ls (next_image c.rec.generation)) lists ∙ ap (λ o. renewed c.st (Some (map listener_of hs)) o) (next-image-is c.rec.generation c.numbered)
+  moved-is : (hs : List Hold) → Lists hs → renewed c.st (posts_wanted c.rec (Upgrade c.st)) (upgraded c.st.listeners c.rec.listeners) (next_image c.rec.generation) ≡ Some (moved hs)
+  moved-is hs lists = ap (λ ls. renewed c.st (posts_wanted c.rec (Upgrade c.st)) ls (next_image c.rec.generation)) lists ∙ ap (λ o. renewed c.st (posts_wanted c.rec (Upgrade c.st)) (Some (map listener_of hs)) o) (next-image-is c.rec.generation c.numbered)
+
+  -- its workers, which are of one group, hold what it holds
+  pub holds-new : (m : ℕ) (hs : List Hold) (r : Names) → HoldsShare (x m hs r) new_crew
+  holds-new m hs r k = sym (share-sole new_crew.posts k hs c.lone)
 
   module _ (m : ℕ) (some : 1 ≤ m) (hs : List Hold) (lists : Lists hs) (keys : (a : Address) → has_address a hs ≡ has wanted a) (files : List File) (note : PidNote) (are : FilesAre note c.rec.pid_path m files) where
-    moved-left : (r : Names) (q : Progress) → Only new (numbers_below n) r → Looks (view (x m hs r) none r) q.table.rows → Exactly m new q → Still files note c.t.limits q.table.files q.note q.table.limits → (e : Ending) → setup_after (outcome_of e q.lacking) c.rec (Upgrade c.st) ≡ Some (moved hs) → AgreesAfter c.rec (Upgrade c.st) (report_at e q) q.table
-    moved-left r q only looks exact still e is =
-        moved-after c.rec (Upgrade c.st) (report_at e q) q.table (moved hs) m is (some-held hs wanted keys c.range.listens) low c.range.retries c.range.timeout_least c.range.timeout_most c.start.record_in_range some (λ e. absurd (omega (arith, e)))
-        (λ k on. below-of n k (census-within (x m hs r) (λ n. refl) new (numbers_below n) r q.table.rows q.ready only looks exact k on))
-        (agrees-after (view (x m hs r) none r) new q.table _ (λ n. refl) (λ k. refl) (λ h k on. (only h k on).0) looks exact refl refl refl refl (files-still note q.note c.rec.pid_path m files q.table.files c.t.limits q.table.limits are still))
+    listens-new : (r : Names) → ListensBy (x m hs r) new layout
+    listens-new r k a on = keys a ∙ sym (sole-listens c.st.groups wanted k a c.lone c.range.addresses_add_up)
 
-    pub new-full : (r : Names) (q : Progress) → Only new (numbers_below n) r → Looks (view (x m hs r) none r) q.table.rows → q.lacking ≡ [] → Still files note c.t.limits q.table.files q.note q.table.limits → Saw m new (numbers_below n) q → Exactly m new q → post (At Done) q
+    moved-left : (r : Names) (q : Progress) → Only new S r → Looks (view (x m hs r) none r) q.table.rows → Exactly m new q → Still files note c.t.limits q.table.files q.note q.table.limits → (e : Ending) → setup_after (outcome_of sides e q.lacking) c.rec (Upgrade c.st) ≡ Some (moved hs) → AgreesAfter c.rec (Upgrade c.st) (report_at sides e q) q.table
+    moved-left r q only looks exact still e is =
+        moved-after c.rec (Upgrade c.st) (report_at sides e q) q.table (moved hs) m is (some-held hs wanted keys c.range.listens) c.range.groups low c.range.retries c.range.timeout_least c.range.timeout_most c.start.record_in_range some (λ e. absurd (omega (arith, e)))
+        (λ k on. below-of n k (census-within (x m hs r) (λ n. refl) new S r q.table.rows q.ready only looks exact k on))
+        (agrees-after (view (x m hs r) none r) new_crew q.table _ (λ n. refl) (holds-new m hs r) (λ h k on. (only h k on).0) looks exact refl refl refl refl (files-still note q.note c.rec.pid_path m files q.table.files c.t.limits q.table.limits are still))
+
+    pub new-full : (r : Names) (q : Progress) → Only new S r → Looks (view (x m hs r) none r) q.table.rows → q.lacking ≡ [] → Still files note c.t.limits q.table.files q.note q.table.limits → Saw m new S q → Exactly m new q → post (At Done) q
     new-full r q only looks full still saw exact = (
-      service-of (x m hs r) (λ n. refl) new (numbers_below n) wanted (λ k. refl) keys r n q.table only looks (omega (arith, saw, ap length full, below-length n)),
+      service-of (x m hs r) (λ n. refl) new S wanted layout (listens-new r) keys r q.table q.lacking only looks full saw,
       tt,
       tt,
       moved-left r q only looks exact still (At Done) (moved-is hs lists),
     )
 
-    pub new-short : (r : Names) (q : Progress) (y : ℕ) (ys : List ℕ) → Only new (numbers_below n) r → Looks (view (x m hs r) none r) q.table.rows → q.lacking ≡ y ∷ ys → is_some q.cause ≡ true → Still files note c.t.limits q.table.files q.note q.table.limits → length (numbers_below n) + c.rec.retries ≤ weigh (ready_in m (named new (is_in (numbers_below n)))) q.table.rows + q.losses + q.faults → Saw m new (numbers_below n) q → Exactly m new q → post (At ShortTarget) q
+    pub new-short : (r : Names) (q : Progress) (y : ℕ) (ys : List ℕ) → Only new S r → Looks (view (x m hs r) none r) q.table.rows → q.lacking ≡ y ∷ ys → is_some q.cause ≡ true → Still files note c.t.limits q.table.files q.note q.table.limits → length S + c.rec.retries ≤ weigh (ready_in m (named new (is_in S))) q.table.rows + q.losses + q.faults → Saw m new S q → Exactly m new q → post (At ShortTarget) q
     new-short r q y ys only looks short caused still budget saw exact = (
-      (omega (arith, ap length short), service-short (x m hs r) (λ n. refl) new (numbers_below n) wanted (λ k. refl) keys r n (length q.lacking) q.table only looks (omega (arith, saw, below-length n))),
-      omega (arith, budget, saw),
+      service-short (x m hs r) (λ n. refl) new S wanted layout (listens-new r) keys r q.table q.lacking only looks c.range.groups.some (omega (arith, ap length short)) saw,
+      omega (arith, budget, counted-all m new S q.lacking q.table.rows saw, shortfalls-sum c.st.groups q.lacking c.range.groups.some),
       caused,
       moved-left r q only looks exact still (At ShortTarget) (moved-is hs lists),
     )

@@ -20,13 +20,14 @@ use Rattle.vocabulary.specs.declared.calls.Reply.TheVariants as reply
 use Rattle.definitions.specs.Tree.{Tree, Branches, Nothing, Does, plain_reply, replies_to}
 use Rattle.definitions.specs.Plans.{on, others, then_edge, note_edges, settle, back_alone, back_from, move_back, move_aside, tries, tries_all, new_calls, pid_calls, relieve, spawn_edges, upgrade_tree, does}
 use Rattle.definitions.specs.Run.{Progress, Lost}
+use Rattle.definitions.specs.Crew.{fork_of}
 use Rattle.definitions.specs.Record.{oldbin}
 use Rattle.definitions.specs.Target.{only_in}
 use Rattle.definitions.specs.Claims.{names_any}
 use Rattle.theorems.proofs.Logic.{Exiting}
 use Rattle.theorems.proofs.Processes.{AnyCall}
 use Rattle.theorems.proofs.Traces.{Asking, Finally, Good, AllGood, good-call}
-use Rattle.theorems.proofs.UpgradeStage.{Given, g, new, R, A0, n, wanted, co}
+use Rattle.theorems.proofs.UpgradeStage.{Given, new, old_crew, new_crew, R, A0, n, wanted, co}
 
 -- nothing is known of what was done
 abbrev pub Free : List Entry → Type 0
@@ -59,7 +60,7 @@ module _ (c : Given) (due : Asking) (post : Finally) (mild : Exiting) (lost : (p
 
   ---- Up to the relief
 
-  module _ (any : (text : List ℕ) (by : ℕ) (call : Call) (fate : Option Fate) (t : Table) → AnyCall c.rec.generation.image call → F t → F (step_with text by call fate t).table) (asks : (past : List Entry) (call : Call) (t : Table) → AnyCall c.rec.generation.image call → F t → due past call t) (settled : IsGood Free (settle c.rec.generation.image (g c) (R c) Old c.rec.retries)) (relieved : IsGood Free (relieve c.rec.generation.image (new c).image (g c) (R c) c.rec.retries c.rec.pid_path (n c))) where
+  module _ (any : (text : List ℕ) (by : ℕ) (call : Call) (fate : Option Fate) (t : Table) → AnyCall c.rec.generation.image call → F t → F (step_with text by call fate t).table) (asks : (past : List Entry) (call : Call) (t : Table) → AnyCall c.rec.generation.image call → F t → due past call t) (settled : IsGood Free (settle c.rec.generation.image (old_crew c) (R c) Old c.rec.retries)) (relieved : IsGood Free (relieve c.rec.generation.image (old_crew c) (new_crew c) (R c) c.rec.retries c.rec.pid_path (n c))) where
     one-call : (by : ℕ) (call : Call) (set : List ℕ) (bs : Branches) → AnyCall c.rec.generation.image call → AllGood due post mild (co c) lost F Free bs → IsGood Free (Does by (Make call) set bs)
     one-call by call set bs is all = good-call due post mild (co c) lost F Free by call set bs (any-stays c.rec.generation.image call is) exits (λ past e k. tt) (λ past t k h. asks past call t is h) (λ text fate t h. any text by call fate t is h) all
 
@@ -71,13 +72,13 @@ module _ (c : Given) (due : Asking) (post : Finally) (mild : Exiting) (lost : (p
     moved-back (Some path) rest h = one-call c.rec.generation.image (MovePid (oldbin path) path) [] (note_edges (Some InPlace) (Some AtOldbin) rest) tt (h, (h, tt))
 
     abbrev alone : Tree
-    alone = back_alone c.rec.generation.image (g c) (R c) c.rec.retries c.rec.pid_path
+    alone = back_alone c.rec.generation.image (old_crew c) (R c) c.rec.retries c.rec.pid_path
 
     back-good : IsGood Free alone
-    back-good = moved-back c.rec.pid_path (settle c.rec.generation.image (g c) (R c) Old c.rec.retries) settled
+    back-good = moved-back c.rec.pid_path (settle c.rec.generation.image (old_crew c) (R c) Old c.rec.retries) settled
 
     abbrev back : Tree
-    back = back_from c.rec.generation.image (new c).image (g c) (R c) c.rec.retries c.rec.pid_path
+    back = back_from c.rec.generation.image (new c).image (old_crew c) (R c) c.rec.retries c.rec.pid_path
 
     from-good : IsGood Free back
     from-good = one-call c.rec.generation.image (TermMaster (new c).image) [] (then_edge alone) apart (back-good, tt)
@@ -95,13 +96,13 @@ module _ (c : Given) (due : Asking) (post : Finally) (mild : Exiting) (lost : (p
     joined : (l k : List Call) → Calls l → Calls k → Calls (l ++ k)
     joined l k a b = all-joined (AnyCall c.rec.generation.image) l k a b
 
-    calls-any : (path : Option FilePath) (closes opens : List Address) (ks : List ℕ) → Calls (Adopt ∷ map CloseAt closes ++ map OpenAt opens ++ map (λ k. Fork (new c) k None) ks ++ map (AwaitReady (new c)) ks ++ pid_calls path WritePid)
+    calls-any : (path : Option FilePath) (closes opens : List Address) (ks : List ℕ) → Calls (Adopt ∷ map CloseAt closes ++ map OpenAt opens ++ map (fork_of (new_crew c)) ks ++ map (AwaitReady (new c)) ks ++ pid_calls path WritePid)
     calls-any path closes opens ks =
         let a = Adopt ∷ map CloseAt closes in
         let b = map OpenAt opens in
-        let f = map (λ k. Fork (new c) k None) ks in
+        let f = map (fork_of (new_crew c)) ks in
         let w = map (AwaitReady (new c)) ks in
-        joined (a ++ b ++ f ++ w) (pid_calls path WritePid) (joined (a ++ b ++ f) w (joined (a ++ b) f (joined a b (tt, mapped CloseAt closes (λ x. tt)) (mapped OpenAt opens (λ x. tt))) (mapped (λ k. Fork (new c) k None) ks (λ x. tt))) (mapped (AwaitReady (new c)) ks (λ x. tt))) (written path)
+        joined (a ++ b ++ f ++ w) (pid_calls path WritePid) (joined (a ++ b ++ f) w (joined (a ++ b) f (joined a b (tt, mapped CloseAt closes (λ x. tt)) (mapped OpenAt opens (λ x. tt))) (mapped (fork_of (new_crew c)) ks (λ x. tt))) (mapped (AwaitReady (new c)) ks (λ x. tt))) (written path)
       where
         mapped : {X : Type 0} (f : X → Call) (l : List X) → ((x : X) → AnyCall c.rec.generation.image (f x)) → Calls (map f l)
         mapped f l h = all-mapped (AnyCall c.rec.generation.image) f l h
@@ -111,13 +112,13 @@ module _ (c : Given) (due : Asking) (post : Finally) (mild : Exiting) (lost : (p
         written (Some path) = (tt, tt)
 
     abbrev relief : Tree
-    relief = relieve c.rec.generation.image (new c).image (g c) (R c) c.rec.retries c.rec.pid_path (n c)
+    relief = relieve c.rec.generation.image (old_crew c) (new_crew c) (R c) c.rec.retries c.rec.pid_path (n c)
 
     abbrev ok : Tree
-    ok = tries_all (new c).image (new_calls (g c) c.rec.pid_path (A0 c) (wanted c) (n c)) (tries (new c).image (Census (new c)) (numbers_below (n c)) relief back) back
+    ok = tries_all (new c).image (new_calls (new_crew c) c.rec.pid_path (A0 c) (wanted c) (n c)) (tries (new c).image (Census (new c)) (numbers_below (n c)) relief back) back
 
     ok-good : IsGood Free ok
-    ok-good = tries-good (new_calls (g c) c.rec.pid_path (A0 c) (wanted c) (n c)) (tries (new c).image (Census (new c)) (numbers_below (n c)) relief back) (calls-any c.rec.pid_path (only_in (A0 c) (wanted c)) (only_in (wanted c) (A0 c)) (numbers_below (n c))) (one-call (new c).image (Census (new c)) (numbers_below (n c)) (edges (Census (new c)) relief) tt (relieved, (from-good, tt)))
+    ok-good = tries-good (new_calls (new_crew c) c.rec.pid_path (A0 c) (wanted c) (n c)) (tries (new c).image (Census (new c)) (numbers_below (n c)) relief back) (calls-any c.rec.pid_path (only_in (A0 c) (wanted c)) (only_in (wanted c) (A0 c)) (numbers_below (n c))) (one-call (new c).image (Census (new c)) (numbers_below (n c)) (edges (Census (new c)) relief) tt (relieved, (from-good, tt)))
 
     spawn-good : IsGood Free (does c.rec.generation.image (SpawnMaster (new c).image) (spawn_edges ok alone))
     spawn-good = one-call c.rec.generation.image (SpawnMaster (new c).image) [] (spawn_edges ok alone) apart (ok-good, (back-good, tt))
@@ -130,5 +131,5 @@ module _ (c : Given) (due : Asking) (post : Finally) (mild : Exiting) (lost : (p
     aside-good (Some path) Left rest bad h b = one-call c.rec.generation.image (MovePid path (oldbin path)) [] (on (reply.Fine ∷ []) rest (on (reply.IoFault ∷ []) bad Nothing)) tt (h, (b, tt))
     aside-good (Some path) NoFile rest bad h b = one-call c.rec.generation.image (MovePid path (oldbin path)) [] (on (reply.Fine ∷ []) rest (on (reply.IoFault ∷ []) bad Nothing)) tt (h, (b, tt))
 
-    pub upgrade-good : IsGood Free (upgrade_tree c.rec.generation.image (g c) (R c) c.rec.retries c.rec.pid_path c.rec.note (A0 c) (wanted c) (n c))
-    upgrade-good = aside-good c.rec.pid_path c.rec.note (does c.rec.generation.image (SpawnMaster (new c).image) (spawn_edges ok alone)) (settle c.rec.generation.image (g c) (R c) Old c.rec.retries) spawn-good settled
+    pub upgrade-good : IsGood Free (upgrade_tree c.rec.generation.image (old_crew c) (new_crew c) (R c) c.rec.retries c.rec.pid_path c.rec.note (A0 c) (wanted c) (n c))
+    upgrade-good = aside-good c.rec.pid_path c.rec.note (does c.rec.generation.image (SpawnMaster (new c).image) (spawn_edges ok alone)) (settle c.rec.generation.image (old_crew c) (R c) Old c.rec.retries) spawn-good settled

@@ -8,6 +8,7 @@ use Rattle.vocabulary.specs.declared.table.Stance.{Stance}
 use Rattle.vocabulary.specs.declared.table.Stance.TheVariants.{Starting, Ready, Draining, Exited}
 use Rattle.listener_set.specs.declared.generation.Generation.{Generation}
 use Rattle.definitions.specs.Exits.{is_active_worker}
+use Rattle.definitions.specs.Crew.{Crew, share}
 use Rattle.theorems.proofs.Rows.{one, weigh}
 
 -- names of workers of a master
@@ -30,9 +31,9 @@ pub record View : Type 0 where
   -- what a worker of a name holds
   pub held : Generation → ℕ → List Hold
 
--- each worker of the generation holds what the master holds
-abbrev pub HoldsAll : View → Generation → Type 0
-HoldsAll v g = (k : ℕ) → v.held g k ≡ v.holds
+-- each worker of the crew holds its share of what the master holds
+abbrev pub HoldsShare : View → Crew → Type 0
+HoldsShare v crew = (k : ℕ) → v.held crew.generation k ≡ share crew.posts k v.holds
 
 abbrev pub FineLive : View → Stance → Generation → ℕ → List Hold → Type 0
 FineLive v Starting g k hs = (v.starting g k ≡ true) × (hs ≡ v.held g k)
@@ -75,10 +76,14 @@ master_of m (Foreign n hs) = 0
 abbrev pub masters : Process → ℕ
 masters p = one (is_master p)
 
+-- no two active workers of the master bear one name
+abbrev pub Once : ℕ → List Process → Type 0
+Once m rows = (g : Generation) (k : ℕ) → weigh (live_named m g k) rows ≤ 1
+
 pub record Looks (v : View) (rows : List Process) : Type 0 where
   pub fine : AllByRecursion (Row v) rows
   pub alone : weigh (master_of v.number) rows ≡ 1
-  pub once : (g : Generation) (k : ℕ) → weigh (live_named v.number g k) rows ≤ 1
+  pub once : Once v.number rows
 
 -- The master is found by its image.
 found_if : (v : View) (b : Bool) (n : ℕ) (hs : List Hold) (rest : Option Caller) → b ≡ true → n ≡ v.number → hs ≡ v.holds → caller_if b n hs rest ≡ Some (record { number = v.number; holds = v.holds })

@@ -6,6 +6,7 @@ use Rattle.std.proofs.lemmas.Fmt.{decimal_digit, decimal_step}
 use Rattle.definitions.specs.Calls.{census_of}
 use Rattle.definitions.specs.Target.{text_handed}
 use Rattle.theorems.specs.Examples.{two_ready}
+use Rattle.theorems.proofs.GroupRuns.{group_runs}
 use Rattle.theorems.specs.WorkedRuns.{handed, same_upgrade, WorkedRuns, Upgrades, NoImage, GoneAtLast, Refused, GoneEarly, RepairedAtLast, OldFileLeft}
 
 hundred : decimal 100 ≡ codes "100"
@@ -52,4 +53,5 @@ worked_runs = record {
   reopens = (refl, refl);
   no_process_left = (refl, refl);
   longest = (refl, refl, refl);
+  groups = group_runs;
 }

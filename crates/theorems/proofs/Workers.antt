@@ -1,5 +1,5 @@
 -- The headline for a change of the number of workers.
-use Rattle.theorems.proofs.Same.{Goes, Like, first, scene, whole, new-full, old-full, start-band, new-short, old-short, Level, ground}
+use Rattle.theorems.proofs.Same.{Goes, Like, first, scene, whole, new-full, old-full, start-band, new-short, old-short, Level, ground, covers}
 use Rattle.theorems.proofs.Ends.{first-few}
 use Rattle.definitions.specs.Table.{Process, same_generation, Table, bears}
 use Rattle.std.proofs.Common.{◌≡◌, ℕ, ◌+◌, ◌<◌, ◌≤◌, Bool, true, false, not, List, [], ◌∷◌, length, refl, sym, ap, ◌∙◌, subst, arith, ◌⊎◌, inl, inr, ⊎_elim}
@@ -10,20 +10,21 @@ use Rattle.listener_set.specs.Numbers.{is_in, numbers_below}
 use Rattle.definitions.specs.Plans.{workers_tree, quits, settle}
 use Rattle.vocabulary.specs.declared.plans.Side.TheVariants.{Old, Target}
 use Rattle.vocabulary.specs.declared.targets.Target.TheVariants.{Workers}
-use Rattle.definitions.specs.Target.{want}
+use Rattle.definitions.specs.Target.{want, wanted_at}
+use Rattle.definitions.specs.Crew.{Crew, served}
 use Rattle.definitions.specs.Run.{Pattern, Progress, start_at}
 use Rattle.definitions.specs.Plans.{plan_tree}
 use Rattle.definitions.specs.Claims.{run_of, IsStart, Floor, WorkersHeadline}
-use Rattle.definitions.specs.Record.{Record}
+use Rattle.definitions.specs.Record.{Record, crew_of, layout_of}
 use Rattle.definitions.specs.Service.{service}
 use Rattle.theorems.proofs.Rows.{weigh, both-true, every-more, and-left, and-right}
 use Rattle.theorems.proofs.Views.{ready_in, Names, named, View, Looks}
 use Rattle.theorems.proofs.Effects.{none, same-is, bears-is}
-use Rattle.theorems.proofs.Counts.{Distinct, in-earlier, in-later}
-use Rattle.theorems.proofs.Sets.{weigh-part, Within, in-here, in-there, in-cases, in-filter-on, in-filter-of, below-of, below-on, below-distinct, below-length}
+use Rattle.theorems.proofs.Counts.{Distinct, filter-distinct, in-earlier, in-later}
+use Rattle.theorems.proofs.Sets.{weigh-part, Within, in-here, in-there, in-cases, in-filter-on, in-filter-of, below-of, below-on, below-distinct}
 use Rattle.theorems.proofs.Begins.{rising-distinct}
-use Rattle.theorems.proofs.Small.{in-reverse, every-is_in, not-is, off-from, filter-distinct, or-elim, true-false}
-use Rattle.theorems.proofs.Rules.{Ground, Scene, view, plus, also, Band, Only, weigh-sub, band-part, band-anew, band-still, rule-quits, rule-starts, rule-settle}
+use Rattle.theorems.proofs.Small.{in-reverse, every-is_in, not-is, off-from, or-elim, true-false}
+use Rattle.theorems.proofs.Rules.{Enough, Ground, Scene, view, plus, also, Band, Only, weigh-sub, band-part, band-anew, band-still, rule-quits, rule-starts, rule-settle}
 
 -- what is known before the rest of the starts
 pub record Started (g : Generation) (R : List ℕ) (n : ℕ) (ks done : List ℕ) (r t : Names) (count : ℕ) : Type 0 where
@@ -62,7 +63,7 @@ one-more g R n x ks done r t count s =
 -- The names of those that are done or were there from the start are no more than those of a set of them, but for what is counted.
 pub started-part : (v : View) (g : Generation) (R : List ℕ) (n : ℕ) (done : List ℕ) (r names : Names) (count : ℕ) (ks T : List ℕ) → Started g R n ks done r names count → Distinct T → Within T (done ++ R) → (rows : List Process) → Looks v rows → weigh (ready_in v.number names) rows + length T ≤ weigh (ready_in v.number (named g (is_in T))) rows + count
 started-part v g R n done r names count ks T st dT within rows looks =
-    omega (arith, weigh-sub v.number names (named g (is_in (done ++ R))) st.names rows, weigh-part v g rows looks (done ++ R) T dT within, st.counted)
+    omega (arith, weigh-sub v.number names (named g (is_in (done ++ R))) st.names rows, weigh-part v.number g rows looks.once (done ++ R) T dT within, st.counted)
 
 -- the numbers below n are among those that are done or were there, once none is left
 pub all-within : (g : Generation) (R : List ℕ) (n : ℕ) (done : List ℕ) (r names : Names) (count : ℕ) → Started g R n [] done r names count → Within (numbers_below n) (done ++ R)
@@ -72,11 +73,10 @@ all-within g R n done r names count st k e =
 -- The target wants the numbers below n.
 abbrev like_workers : (rec : Record) (n : ℕ) → n ≤ 1024 → Like rec (Workers n)
 like_workers rec n low = record {
-  count = n;
   set = numbers_below n;
   wanted = n;
-  floor = min (length rec.ready) n;
-  sized = below-length n;
+  floor = λ a. min (served (layout_of rec) rec.ready a) (served (layout_of rec) (numbers_below n) a);
+  layout = refl;
   wants = refl;
   below = λ k e. below-of n k e;
   most = low;
@@ -91,6 +91,9 @@ module _ (t : Table) (rec : Record) (n : ℕ) (pattern : Pattern) (s : IsStart t
   abbrev g : Generation
   g = rec.generation
 
+  abbrev crew : Crew
+  crew = crew_of rec
+
   abbrev R : List ℕ
   R = rec.ready
 
@@ -103,9 +106,6 @@ module _ (t : Table) (rec : Record) (n : ℕ) (pattern : Pattern) (s : IsStart t
   abbrev sc : Scene rec.pid rec.generation.image
   sc = scene t rec (Workers n) pattern s like
 
-  few : sc.floor ≡ min (length R) n
-  few = refl
-
   abbrev G : Ground u sc
   G = ground t rec (Workers n) pattern s like
 
@@ -117,6 +117,13 @@ module _ (t : Table) (rec : Record) (n : ℕ) (pattern : Pattern) (s : IsStart t
   dR : Distinct R
   dR = rising-distinct R s.rising
 
+  -- those that were there, and those that are wanted, are enough
+  enough-old : Enough rec.pid sc.floor sc.serves (named g (is_in R)) (length R)
+  enough-old = covers t rec (Workers n) pattern s like R dR (λ a. omega arith)
+
+  enough-new : Enough rec.pid sc.floor sc.serves (named g (is_in (numbers_below n))) (length (numbers_below n))
+  enough-new = covers t rec (Workers n) pattern s like (numbers_below n) (below-distinct n) (λ a. omega arith)
+
   abbrev fresh_numbers : List ℕ
   fresh_numbers = filter (λ k. not (is_in R k)) (numbers_below n)
 
@@ -124,12 +131,12 @@ module _ (t : Table) (rec : Record) (n : ℕ) (pattern : Pattern) (s : IsStart t
   surplus = reverse (filter (λ k. not (nat_lt k n)) R)
 
   -- the way back of the numbers that were forked, of which some became Ready
-  back : (forked ks done : List ℕ) (ss r names : Names) (count c : ℕ) (q : Progress) → ((k : ℕ) → is_in forked k ≡ true → is_in fresh_numbers k ≡ true) → Only g forked ss → Started g R n ks done r names count → ((ks ≡ fresh_numbers) × (done ≡ [])) ⊎ ((k : ℕ) → is_in fresh_numbers k ≡ true → is_in forked k ≡ true) → Band u sc ss r names count c true [] q → Goes t rec (Workers n) pattern s like (quits g.image g forked (settle g.image g R Old rec.retries)) q
+  back : (forked ks done : List ℕ) (ss r names : Names) (count c : ℕ) (q : Progress) → ((k : ℕ) → is_in forked k ≡ true → is_in fresh_numbers k ≡ true) → Only g forked ss → Started g R n ks done r names count → ((ks ≡ fresh_numbers) × (done ≡ [])) ⊎ ((k : ℕ) → is_in fresh_numbers k ≡ true → is_in forked k ≡ true) → Band u sc ss r names count c true [] q → Goes t rec (Workers n) pattern s like (quits g.image g forked (settle g.image crew R Old rec.retries)) q
   back forked ks done ss r names count c q within only st covers b =
-      let b1 = band-part u sc G ss r names (named g (is_in R)) count (length R) c true [] q (λ rows looks. started-part (view u ss r) g R n done r names count ks R st dR (in-later done R) rows looks) (omega (arith, few)) b in
-      rule-quits u sc G (settle g.image g R Old rec.retries) g forked ss r (named g (is_in R)) (length R) c true [] q
+      let b1 = band-part u sc G ss r names (named g (is_in R)) count (length R) c true [] q (λ rows looks. started-part (view u ss r) g R n done r names count ks R st dR (in-later done R) rows looks) enough-old b in
+      rule-quits u sc G (settle g.image crew R Old rec.retries) g forked ss r (named g (is_in R)) (length R) c true [] q
       (λ k e. off (same_generation g g) (is_in R k) (not-is (is_in R k) (in-filter-of (λ j. not (is_in R j)) (numbers_below n) k (within k e)).1))
-      (λ s' r' q' less_s less b'. rule-settle u sc G Old g R (λ k. refl) dR low-R rec.retries true (old-full t rec (Workers n) pattern s like) (old-short t rec (Workers n) pattern s like) rec.retries 0 (omega arith) true (λ e. refl) r' [] q'
+      (λ s' r' q' less_s less b'. rule-settle u sc G Old crew R (λ k. refl) dR low-R rec.retries true (old-full t rec (Workers n) pattern s like) (old-short t rec (Workers n) pattern s like) rec.retries 0 (omega arith) true (λ e. refl) r' [] q'
       (λ h k e. let l = less h k e in let o = st.only h k l.0 in (o.0, ⊎_elim (λ a. a) (λ a. absurd (true-false (is_in forked k) (was k a) (l.1 o.0))) o.1))
       (band-still u sc G s' none r' (named g (is_in R)) (length R) 0 true [] q' (λ h k e. let l = less_s h k e in let o = only h k l.0 in absurd (true-false (is_in forked k) o.1 (l.1 o.0)))
       (band-anew u sc G s' r' (named g (is_in R)) (length R) c true [] q' b')))
@@ -142,14 +149,14 @@ module _ (t : Table) (rec : Record) (n : ℕ) (pattern : Pattern) (s : IsStart t
       was : (k : ℕ) → is_in done k ≡ true → is_in forked k ≡ true
       was k a = ⊎_elim (λ z. absurd (cc (a, ap (λ l. is_in l k) z.1))) (λ all. all k (let o = st.started k a in in-filter-on (λ j. not (is_in R j)) (numbers_below n) k (below-on n k o.1) (ap not o.0))) covers
 
-  on : (done : List ℕ) (r names : Names) (count c : ℕ) (q : Progress) → Started g R n [] done r names count → Band u sc none r names count c false [] q → Goes t rec (Workers n) pattern s like (quits g.image g surplus (settle g.image g (numbers_below n) Target rec.retries)) q
+  on : (done : List ℕ) (r names : Names) (count c : ℕ) (q : Progress) → Started g R n [] done r names count → Band u sc none r names count c false [] q → Goes t rec (Workers n) pattern s like (quits g.image g surplus (settle g.image crew (numbers_below n) Target rec.retries)) q
   on done r names count c q st b =
       let within = all-within g R n done r names count st in
-      let b1 = band-part u sc G none r names (named g (is_in (numbers_below n))) count (length (numbers_below n)) c false [] q (started-part (view u none r) g R n done r names count [] (numbers_below n) st (below-distinct n) within) (omega (arith, few, below-length n)) b in
-      rule-quits u sc G (settle g.image g (numbers_below n) Target rec.retries) g surplus none r (named g (is_in (numbers_below n))) (length (numbers_below n)) c false [] q
+      let b1 = band-part u sc G none r names (named g (is_in (numbers_below n))) count (length (numbers_below n)) c false [] q (started-part (view u none r) g R n done r names count [] (numbers_below n) st (below-distinct n) within) enough-new b in
+      rule-quits u sc G (settle g.image crew (numbers_below n) Target rec.retries) g surplus none r (named g (is_in (numbers_below n))) (length (numbers_below n)) c false [] q
       (λ k e. let o = in-filter-of (λ j. not (nat_lt j n)) R k (sym (in-reverse (filter (λ j. not (nat_lt j n)) R) k) ∙ e) in
       off (same_generation g g) (is_in (numbers_below n) k) (off-from (numbers_below n) k (λ in_it. let lt = below-of n k in_it in let no_lt = not-is (nat_lt k n) o.1 in let yes_lt : nat_lt k n ≡ true = grind (arith, nat_tests) in true-false (nat_lt k n) yes_lt no_lt)))
-      (λ s' r' q' less_s less b'. rule-settle u sc G Target g (numbers_below n) (λ k. refl) (below-distinct n) (λ k e. omega (arith, below-of n k e)) rec.retries false (new-full t rec (Workers n) pattern s like false) (new-short t rec (Workers n) pattern s like) rec.retries 0 (omega arith) false (λ e. e) r' [] q'
+      (λ s' r' q' less_s less b'. rule-settle u sc G Target crew (numbers_below n) (λ k. refl) (below-distinct n) (λ k e. omega (arith, below-of n k e)) rec.retries false (new-full t rec (Workers n) pattern s like false) (new-short t rec (Workers n) pattern s like) rec.retries 0 (omega arith) false (λ e. e) r' [] q'
       (λ h k e.
       let l = less h k e in
       let o = st.only h k l.0 in
@@ -185,13 +192,13 @@ module _ (t : Table) (rec : Record) (n : ℕ) (pattern : Pattern) (s : IsStart t
       cover k lt true e = inl e
       cover k lt false e = inr (inr (in-filter-on (λ j. not (is_in R j)) (numbers_below n) k (below-on n k lt) (ap not e)))
 
-  goes : Goes t rec (Workers n) pattern s like (workers_tree g.image g R rec.retries n) (start_at t rec.note)
+  goes : Goes t rec (Workers n) pattern s like (workers_tree g.image crew R rec.retries n) (start_at t rec.note)
   goes =
-      rule-starts u sc G (Started g R n) (quits g.image g surplus (settle g.image g (numbers_below n) Target rec.retries)) (λ forked. quits g.image g forked (settle g.image g R Old rec.retries)) g (λ k. refl) (one-more g R n) [] false 0 fresh_numbers u.ready (named g (is_in R)) (length R)
+      rule-starts u sc G (Started g R n) (quits g.image g surplus (settle g.image crew (numbers_below n) Target rec.retries)) (λ forked. quits g.image g forked (settle g.image crew R Old rec.retries)) crew (λ k. refl) (one-more g R n) [] false 0 fresh_numbers u.ready (named g (is_in R)) (length R)
       (λ done r names count q st b. on done r names count 0 q st b)
       (λ forked ks done ss r names count q within only st covers b. back forked ks done ss r names count 1 q within only st covers b)
       (start_at t rec.note) begun
-      (start-band t rec (Workers n) pattern s like (omega (arith, few)))
+      (start-band t rec (Workers n) pattern s like (λ a. omega arith))
 
 pub workers_headline : WorkersHeadline
 workers_headline t rec n pattern a =
@@ -199,4 +206,4 @@ workers_headline t rec n pattern a =
     let first = start_at t rec.note in
     let all = whole t rec (Workers n) pattern a.start like (plan_tree rec (Workers n)) (goes t rec n pattern a.start a.accepts) a.spared in
     let target = want rec (Workers n) in
-    (all.0, every-more (Level t rec (Workers n) pattern a.start like) (Floor (service t) target t n) (λ q h address common. omega (arith, first-few t rec a.start address, h address common)) (run_of rec (Workers n) pattern t).passed all.1)
+    (all.0, every-more (Level t rec (Workers n) pattern a.start like) (Floor (service t) target t (wanted_at rec (Workers n))) (λ q h address common. omega (arith, first-few t rec a.start address, h address common)) (run_of rec (Workers n) pattern t).passed all.1)

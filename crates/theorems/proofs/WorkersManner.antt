@@ -7,7 +7,9 @@ use Rattle.listener_set.specs.declared.generation.Generation.{Generation}
 use Rattle.vocabulary.specs.declared.targets.Target.TheVariants.{Workers}
 use Rattle.vocabulary.specs.declared.plans.Side.TheVariants.{Old, Target}
 use Rattle.definitions.specs.Table.{Table, bears, same_generation}
-use Rattle.definitions.specs.Record.{Record}
+use Rattle.definitions.specs.Crew.{Crew}
+use Rattle.definitions.specs.Record.{Record, crew_of}
+use Rattle.definitions.specs.Target.{sides_of}
 use Rattle.definitions.specs.Tree.{Tree}
 use Rattle.definitions.specs.Plans.{plan_tree, workers_tree, quits, settle}
 use Rattle.definitions.specs.Run.{Pattern, Progress, Ending, At, start_at, outcome_of}
@@ -43,6 +45,9 @@ module _ (t : Table) (r : Record) (n : ℕ) (pattern : Pattern) (s : IsStart t r
   abbrev g : Generation
   g = r.generation
 
+  abbrev crew : Crew
+  crew = crew_of r
+
   abbrev R : List ℕ
   R = r.ready
 
@@ -71,7 +76,7 @@ module _ (t : Table) (r : Record) (n : ℕ) (pattern : Pattern) (s : IsStart t r
   ---- It stays
 
   abbrev Need : Ending → Progress → Type 0
-  Need e q = stays_below n (outcome_of e q.lacking) k ≡ true
+  Need e q = stays_below n (outcome_of (sides_of r (Workers n)) e q.lacking) k ≡ true
 
   abbrev post : Ending → Progress → Type 0
   post e q = Need e q → Stands r.pid g.image p g k low q.table
@@ -83,26 +88,26 @@ module _ (t : Table) (r : Record) (n : ℕ) (pattern : Pattern) (s : IsStart t r
   ends e q st need = st
 
   abbrev way_on : Tree
-  way_on = quits g.image g surplus (settle g.image g (numbers_below n) Target r.retries)
+  way_on = quits g.image g surplus (settle g.image crew (numbers_below n) Target r.retries)
 
   on-calm : (b : Bool) → nat_lt k n ≡ b → IsCalm g.image (Unlost p) Unasked light post ends co (own-acts r pattern) way_on
   on-calm true e =
-      calm-quits g.image (Unlost p) Unasked light post ends co (own-acts r pattern) g surplus (settle g.image g (numbers_below n) Target r.retries)
+      calm-quits g.image (Unlost p) Unasked light post ends co (own-acts r pattern) g surplus (settle g.image crew (numbers_below n) Target r.retries)
       (λ x in_it. let le = at-least x in_it in (free-number g x k (λ same. let lt : k < n = grind (arith, nat_tests) in absurd (omega arith)), tt))
-      (calm-settle g.image (Unlost p) Unasked light post ends co (own-acts r pattern) Target g (numbers_below n) r.retries tt)
+      (calm-settle g.image (Unlost p) Unasked light post ends co (own-acts r pattern) Target crew (numbers_below n) r.retries tt)
   on-calm false e =
       by-itself g.image (Unlost p) Unasked light post ends co (own-acts r pattern) way_on
       (λ q st. free-along (Unlost p) post co (λ q need. absurd (cc)) way_on q
-      (ends-quits (λ e. (q : Progress) → post (At e) q) g.image g surplus (settle g.image g (numbers_below n) Target r.retries)
-      (ends-settle (λ e. (q : Progress) → post (At e) q) g.image g (numbers_below n) Target r.retries (λ q need. absurd (cc)) (λ q need. absurd (cc)))))
+      (ends-quits (λ e. (q : Progress) → post (At e) q) g.image g surplus (settle g.image crew (numbers_below n) Target r.retries)
+      (ends-settle (λ e. (q : Progress) → post (At e) q) g.image crew (numbers_below n) Target r.retries (λ q need. absurd (cc)) (λ q need. absurd (cc)))))
 
-  stays-along : Along no_claim post (Unlost p) Unasked co (workers_tree g.image g R r.retries n) (start_at t r.note)
+  stays-along : Along no_claim post (Unlost p) Unasked co (workers_tree g.image crew R r.retries n) (start_at t r.note)
   stays-along =
-      calm-along g.image (Unlost p) Unasked light post ends co (own-acts r pattern) (workers_tree g.image g R r.retries n)
-      (calm-starts g.image (Unlost p) Unasked light post ends co (own-acts r pattern) g fresh way_on (λ forked. quits g.image g forked (settle g.image g R Old r.retries))
+      calm-along g.image (Unlost p) Unasked light post ends co (own-acts r pattern) (workers_tree g.image crew R r.retries n)
+      (calm-starts g.image (Unlost p) Unasked light post ends co (own-acts r pattern) crew fresh way_on (λ forked. quits g.image g forked (settle g.image crew R Old r.retries))
       (λ x e. (tt, free-fresh x e)) (on-calm (nat_lt k n) refl)
-      (λ forked within. calm-quits g.image (Unlost p) Unasked light post ends co (own-acts r pattern) g forked (settle g.image g R Old r.retries) (λ x e. (free-fresh x (within x e), tt))
-      (calm-settle g.image (Unlost p) Unasked light post ends co (own-acts r pattern) Old g R r.retries tt)))
+      (λ forked within. calm-quits g.image (Unlost p) Unasked light post ends co (own-acts r pattern) g forked (settle g.image crew R Old r.retries) (λ x e. (free-fresh x (within x e), tt))
+      (calm-settle g.image (Unlost p) Unasked light post ends co (own-acts r pattern) Old crew R r.retries tt)))
       (start_at t r.note) (first-stands t r s p k on)
 
   ---- No kill takes it
@@ -115,24 +120,24 @@ module _ (t : Table) (r : Record) (n : ℕ) (pattern : Pattern) (s : IsStart t r
 
   on-untaken : (b : Bool) → nat_lt k n ≡ b → IsCalm g.image Anyhow (NotTaken p) closely any_end (λ e q h. tt) co (own-acts r pattern) way_on
   on-untaken true e =
-      calm-quits g.image Anyhow (NotTaken p) closely any_end (λ e q h. tt) co (own-acts r pattern) g surplus (settle g.image g (numbers_below n) Target r.retries)
+      calm-quits g.image Anyhow (NotTaken p) closely any_end (λ e q h. tt) co (own-acts r pattern) g surplus (settle g.image crew (numbers_below n) Target r.retries)
       (λ x in_it. let le = at-least x in_it in (free-number g x k (λ same. let lt : k < n = grind (arith, nat_tests) in absurd (omega arith)), tt))
-      (calm-settle g.image Anyhow (NotTaken p) closely any_end (λ e q h. tt) co (own-acts r pattern) Target g (numbers_below n) r.retries tt)
+      (calm-settle g.image Anyhow (NotTaken p) closely any_end (λ e q h. tt) co (own-acts r pattern) Target crew (numbers_below n) r.retries tt)
   on-untaken false e =
       by-itself g.image Anyhow (NotTaken p) closely any_end (λ e q h. tt) co (own-acts r pattern) way_on
       (λ q close. calm-along g.image Anyhow (NotTaken p) loosely any_end (λ e q h. tt) co (own-acts r pattern) way_on
-      (calm-quits g.image Anyhow (NotTaken p) loosely any_end (λ e q h. tt) co (own-acts r pattern) g surplus (settle g.image g (numbers_below n) Target r.retries) (λ x in_it. (tt, tt))
-      (calm-settle g.image Anyhow (NotTaken p) loosely any_end (λ e q h. tt) co (own-acts r pattern) Target g (numbers_below n) r.retries
+      (calm-quits g.image Anyhow (NotTaken p) loosely any_end (λ e q h. tt) co (own-acts r pattern) g surplus (settle g.image crew (numbers_below n) Target r.retries) (λ x in_it. (tt, tt))
+      (calm-settle g.image Anyhow (NotTaken p) loosely any_end (λ e q h. tt) co (own-acts r pattern) Target crew (numbers_below n) r.retries
       (λ x in_it. free-number g x k (λ same. let lt = below-of n x in_it in let ge : n ≤ k = grind (arith, nat_tests) in absurd (omega arith)))))
       q (loosens r.pid g.image p g k low q.table close))
 
-  untaken-along : Along no_claim any_end Anyhow (NotTaken p) co (workers_tree g.image g R r.retries n) (start_at t r.note)
+  untaken-along : Along no_claim any_end Anyhow (NotTaken p) co (workers_tree g.image crew R r.retries n) (start_at t r.note)
   untaken-along =
-      calm-along g.image Anyhow (NotTaken p) closely any_end (λ e q h. tt) co (own-acts r pattern) (workers_tree g.image g R r.retries n)
-      (calm-starts g.image Anyhow (NotTaken p) closely any_end (λ e q h. tt) co (own-acts r pattern) g fresh way_on (λ forked. quits g.image g forked (settle g.image g R Old r.retries))
+      calm-along g.image Anyhow (NotTaken p) closely any_end (λ e q h. tt) co (own-acts r pattern) (workers_tree g.image crew R r.retries n)
+      (calm-starts g.image Anyhow (NotTaken p) closely any_end (λ e q h. tt) co (own-acts r pattern) crew fresh way_on (λ forked. quits g.image g forked (settle g.image crew R Old r.retries))
       (λ x e. (tt, free-fresh x e)) (on-untaken (nat_lt k n) refl)
-      (λ forked within. calm-quits g.image Anyhow (NotTaken p) closely any_end (λ e q h. tt) co (own-acts r pattern) g forked (settle g.image g R Old r.retries) (λ x e. (free-fresh x (within x e), tt))
-      (calm-settle g.image Anyhow (NotTaken p) closely any_end (λ e q h. tt) co (own-acts r pattern) Old g R r.retries tt)))
+      (λ forked within. calm-quits g.image Anyhow (NotTaken p) closely any_end (λ e q h. tt) co (own-acts r pattern) g forked (settle g.image crew R Old r.retries) (λ x e. (free-fresh x (within x e), tt))
+      (calm-settle g.image Anyhow (NotTaken p) closely any_end (λ e q h. tt) co (own-acts r pattern) Old crew R r.retries tt)))
       (start_at t r.note) (first-untouched t r s p k on)
 
 pub workers_manner : (n : ℕ) → InManner (Workers n)

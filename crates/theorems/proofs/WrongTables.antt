@@ -1,12 +1,14 @@
 -- Tables and runs that break a claim.
-use Rattle.std.proofs.Common.{◌≡◌, ℕ, ◌+◌, Bool, true, false, length, refl, sym, ap, subst, arith, ⊎_elim}
-use Rattle.std.specs.Prelude.{is_some, count_by}
+use Rattle.std.proofs.Common.{◌≡◌, ℕ, ◌+◌, Bool, true, false, length, refl, sym, ap, ◌∙◌, subst, arith, ⊎_elim}
+use Rattle.std.specs.Prelude.{is_some, count_by, List, Some}
 use Rattle.listener_set.specs.declared.generation.Generation.{Generation}
-use Rattle.definitions.specs.Table.{Table, same_generation}
+use Rattle.definitions.specs.Table.{Hold, Table, Caller, same_generation, live_master}
+use Rattle.definitions.specs.Crew.{share}
 use Rattle.definitions.specs.Service.{service, is_serving}
 use Rattle.definitions.specs.Claims.{IsFewerAt}
 use Rattle.theorems.specs.Examples.{first, port, other_port, holds, two_workers, count_if}
-use Rattle.theorems.specs.WrongTables.{none_left, WrongTables}
+use Rattle.theorems.specs.GroupRuns.{both_holds, grouped_with, three_workers, three_ready}
+use Rattle.theorems.specs.WrongTables.{none_left, other_unserved, WrongTables}
 use Rattle.theorems.proofs.Effects.{same-is}
 
 no : true ≡ false → ⊥
@@ -25,11 +27,34 @@ two_less h = go (same_generation first h.0) refl
         absurd (cc (less))
     go false e = absurd (cc (h.2 first e))
 
+-- At the first group's address no generation has one less.
+none_less : IsFewerAt 1 (service three_workers port) (service other_unserved port) → ⊥
+none_less h = go (same_generation first h.0) refl
+  where
+    same : (b : Bool) → same_generation first h.0 ≡ b → counts three_workers h.0 ≡ counts other_unserved h.0
+    same true e = rw e refl
+    same false e = rw e refl
+
+    go : (b : Bool) → same_generation first h.0 ≡ b → ⊥
+    go b e = absurd (omega (arith, h.1, same b e))
+
+-- The master holds both sockets.
+holds-both : (hs : List Hold) → live_master 1 (grouped_with both_holds).rows ≡ Some (record { number = 100; holds = hs }) → both_holds ≡ hs
+holds-both hs lives =
+    let found : record { number = 100; holds = both_holds } ≡ record { number = 100; holds = hs } = cc in
+    ap (λ (c : Caller). c.holds) found
+
+-- The other group's worker holds one of them.
+not_all : (hs : List Hold) → both_holds ≡ hs → both_holds ≡ share three_ready.posts 2 hs → ⊥
+not_all hs same is =
+    let two : length both_holds ≡ length (share three_ready.posts 2 both_holds) = ap length is ∙ ap (λ l. length (share three_ready.posts 2 l)) (sym same) in
+    absurd (omega (arith, two))
+
 pub wrong_tables : WrongTables
 wrong_tables = record {
   done = λ h. let e = ap (λ o. count_if o first) (h port) in absurd (cc);
   rolled_back = λ h. no (ap is_some (h other_port));
-  degraded = λ h. two_less (h.1 port);
+  degraded = λ h. two_less (h.2 port);
   lost = λ h. h;
   kept = λ h. no (sym (h port 1 (refl, refl) refl));
   floor = λ h. absurd (omega (arith, h port (refl, refl)));
@@ -62,4 +87,9 @@ wrong_tables = record {
   settled_by_count = λ h. ⊎_elim (λ a. absurd (cc)) (λ a. let e = ap length a.2 in absurd (omega (arith, e))) h;
   settled_early = λ h. ⊎_elim (λ a. absurd (cc (a.0))) (λ a. absurd (omega (arith, a.3))) h;
   side_after = λ h. h.running.1.1.1.0 refl;
+  shares = λ h. not_all h.holds (holds-both h.holds h.lives) (h.running.1.1.1.0 refl).1;
+  summed = λ h. absurd (omega (arith, h.0));
+  misplaced = λ h. let e = ap (λ o. count_if o first) (h port) in absurd (cc);
+  named_wrongly = λ h. none_less (h.2 port);
+  swapped = λ h. no (sym (h.1 0 port (omega arith)));
 }

@@ -1,5 +1,5 @@
 -- A master with two workers on one address, and what is asked of it in the worked examples.
-use Rattle.std.specs.Prelude.{ℕ, true, ◌≡◌, ◌==◌, ◌++◌, List, [], ◌∷◌, Option, Some, None, if◌then◌else◌, codes}
+use Rattle.std.specs.Prelude.{ℕ, true, ◌≡◌, ◌==◌, ◌++◌, List, [], ◌∷◌, Option, Some, None, if◌then◌else◌, codes, length}
 use Rattle.listener_set.specs.declared.generation.Generation.{Generation}
 use Rattle.vocabulary.specs.declared.table.Stance.TheVariants.{Ready}
 use Rattle.vocabulary.specs.declared.names.Name.{Name}
@@ -16,8 +16,10 @@ use Rattle.vocabulary.specs.Settings.{Settings}
 use Rattle.definitions.specs.Formed.{IsFormed}
 use Rattle.definitions.specs.Settling.{HasSide}
 use Rattle.definitions.specs.Service.{service}
-use Rattle.definitions.specs.Record.{Record, oldbin}
-use Rattle.definitions.specs.Claims.{IsStart, HasDescriptors}
+use Rattle.definitions.specs.Crew.{Posts}
+use Rattle.definitions.specs.Record.{Record, oldbin, crew_of}
+use Rattle.definitions.specs.Target.{Target, Sides, sides_of}
+use Rattle.definitions.specs.Claims.{IsStart, HasDescriptors, run_of}
 use Rattle.definitions.specs.Run.{quiet, Pattern, Ran, report_of}
 
 ---- A master with two workers
@@ -76,9 +78,14 @@ other_held = record {
   limits = record { processes = 65535; descriptors = 64 };
 }
 
+-- one group, of so many workers at the one address
+abbrev pub one_group : ℕ → Posts
+one_group workers = record { groups = (record { addresses = 1; workers = workers }) ∷ []; descriptors = (3 ∷ []) ∷ [] }
+
 abbrev pub record_with : List ℕ → ℕ → ℕ → Option FilePath → PidNote → Record
 record_with ready wanted retries path note = record {
   listeners = record { descriptor = 3; address = port } ∷ [];
+  posts = one_group 2;
   generation = first;
   ready = ready;
   wanted = wanted;
@@ -97,7 +104,14 @@ abbrev pub two_ready_without_file : Record
 two_ready_without_file = record_with (0 ∷ 1 ∷ []) 2 3 None NoFile
 
 abbrev pub settings_of : List Address → ℕ → Settings
-settings_of listeners workers = record { listeners = listeners; workers = workers; timeout = 60; retries = 3; pid = Some pid_file }
+settings_of listeners workers = record {
+  listeners = listeners;
+  workers = workers;
+  groups = (record { addresses = length listeners; workers = workers }) ∷ [];
+  timeout = 60;
+  retries = 3;
+  pid = Some pid_file;
+}
 
 -- a new master beside the old one
 abbrev pub two_masters : Table
@@ -136,8 +150,12 @@ abbrev pub report : Outcome → Option ℕ → PidNote → List ℕ → Report
 report outcome cause note ready = record { outcome = outcome; cause = cause; note = note; ready = ready }
 
 -- the run makes these calls and ends with this report
-abbrev pub Gives : Ran → List Entry → Report → Type 0
-Gives ran entries said = (ran.entries ≡ entries) × (report_of ran ≡ said)
+abbrev pub GivesIn : Sides → Ran → List Entry → Report → Type 0
+GivesIn sides ran entries said = (ran.entries ≡ entries) × (report_of sides ran ≡ said)
+
+-- and so does that of a target's plan
+abbrev pub Gives : Record → Target → Pattern → Table → List Entry → Report → Type 0
+Gives r target pattern t entries said = GivesIn (sides_of r target) (run_of r target pattern t) entries said
 
 abbrev pub count_if : Option (Generation → ℕ) → Generation → Option ℕ
 count_if None g = None
@@ -152,5 +170,5 @@ serving ran a g = count_if (service ran.last.table a) g
 abbrev pub HasStart : Type 0
 HasStart =
     IsStart two_workers (two_ready 3) × HasDescriptors two_workers (two_ready 3)
-    × IsFormed two_masters × HasSide two_masters 1 100 holds first (0 ∷ 1 ∷ [])
+    × IsFormed two_masters × HasSide two_masters 1 100 holds (crew_of (two_ready 3)) (0 ∷ 1 ∷ [])
     × IsStart two_with_stale_file (record_with (0 ∷ 1 ∷ []) 2 3 (Some pid_file) AtOldbin)

@@ -1,3 +1,5 @@
 pub mod Examples
+pub mod GroupRuns
+pub mod Layouts
 pub mod WorkedRuns
 pub mod WrongTables

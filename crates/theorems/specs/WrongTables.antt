@@ -9,16 +9,19 @@ use Rattle.vocabulary.specs.declared.plans.PidNote.TheVariants.{InPlace, Left, N
 use Rattle.vocabulary.specs.declared.plans.Side.TheVariants as side
 use Rattle.vocabulary.specs.declared.reports.Entry.{Entry}
 use Rattle.vocabulary.specs.declared.reports.Outcome.TheVariants.{Done, RolledBack, Degraded, Lost}
-use Rattle.vocabulary.specs.declared.targets.Target.TheVariants.{Workers, Stop}
+use Rattle.vocabulary.specs.declared.targets.Target.TheVariants.{Workers, Reload, Stop}
 use Rattle.definitions.specs.Table.{Master, Worker, Table}
 use Rattle.definitions.specs.Service.{service}
 use Rattle.definitions.specs.Formed.{IsFormed}
-use Rattle.definitions.specs.Record.{Agrees, FilesAre}
-use Rattle.definitions.specs.Target.{want}
+use Rattle.definitions.specs.Crew.{layout_in}
+use Rattle.definitions.specs.Record.{Agrees, FilesAre, crew_of, layout_of}
+use Rattle.definitions.specs.Target.{want, wanted_at}
 use Rattle.definitions.specs.Run.{Progress, Ran, At, start_at}
 use Rattle.definitions.specs.Settling.{IsSettled, HasSide}
 use Rattle.definitions.specs.Manner.{Stays, Goes, KillsOnlyLate, LeavesLast}
 use Rattle.definitions.specs.Claims.{Says, Kept, Floor, IsBlamed, HasCause, IsPaid, StopNote, IsSucceeded}
+use Rattle.theorems.specs.GroupRuns.{both_holds, first_hold, grouped, grouped_with, three_workers, three_ready, two_groups}
+use Rattle.theorems.specs.Layouts.{IsSameLayout}
 use Rattle.theorems.specs.Examples.{first, port, other_port, pid_file, holds, two_workers, two_without_file, two_ready, table_with, pid_files, own_rows, m1}
 
 ---- Tables
@@ -50,6 +53,10 @@ orphaned = record {
   limits = record { processes = 65535; descriptors = 64 };
 }
 
+-- the other group's worker is gone
+abbrev pub other_unserved : Table
+other_unserved = record { rows = Master 100 1 1 true both_holds ∷ Worker 101 100 first 0 Ready (first_hold ∷ []) ∷ Worker 102 100 first 1 Ready (first_hold ∷ []) ∷ []; files = pid_files; next_process = 104; next_socket = 3; limits = record { processes = 65535; descriptors = 64 } }
+
 ---- Runs
 
 abbrev pub progress : Table → ℕ → ℕ → Option ℕ → Progress
@@ -73,16 +80,16 @@ Refuted claim = claim → ⊥
 
 pub record WrongTables : Type 0 where
   -- Two workers where three are wanted.
-  pub done : Refuted (Says Done (service two_workers) (want (two_ready 3) (Workers 3)) two_workers)
+  pub done : Refuted (Says (two_ready 3) (Workers 3) Done two_workers two_workers)
   -- An address was left open.
-  pub rolled_back : Refuted (Says RolledBack (service none_left) (want (two_ready 3) (Workers 3)) left_open)
+  pub rolled_back : Refuted (Says (two_ready 3) (Workers 3) RolledBack none_left left_open)
   -- Two are lacking, and one is named.
-  pub degraded : Refuted (Says (Degraded side.Old 1) (service two_workers) (want (two_ready 3) (Workers 3)) none_left)
-  pub lost : Refuted (Says Lost (service two_workers) (want (two_ready 3) (Workers 3)) two_workers)
+  pub degraded : Refuted (Says (two_ready 3) (Workers 3) (Degraded side.Old (1 ∷ [])) two_workers none_left)
+  pub lost : Refuted (Says (two_ready 3) (Workers 3) Lost two_workers two_workers)
   -- An address that both services name was closed and opened anew.
   pub kept : Refuted (Kept (service two_workers) (want (two_ready 3) (Workers 2)) two_workers opened_anew)
   -- The old workers went before new ones were ready.
-  pub floor : Refuted (Floor (service two_workers) (want (two_ready 3) (Workers 2)) two_workers 2 (progress one_left 0 0 None))
+  pub floor : Refuted (Floor (service two_workers) (want (two_ready 3) (Workers 2)) two_workers (wanted_at (two_ready 3) (Workers 2)) (progress one_left 0 0 None))
   -- A worker is left Starting.
   pub agrees : Refuted (Agrees one_starts (two_ready 3))
   -- A worker is Ready that no master has, which the record does not see.
@@ -99,7 +106,7 @@ pub record WrongTables : Type 0 where
   pub blamed_falsely : Refuted (IsBlamed (progress two_workers 0 0 (Some 1)))
   pub cause : Refuted (HasCause RolledBack None)
   -- It gave up at its first failure, with three retries.
-  pub paid : Refuted (IsPaid 3 (Degraded side.Old 1) (progress one_left 1 0 (Some 1)))
+  pub paid : Refuted (IsPaid 3 (Degraded side.Old (1 ∷ [])) (progress one_left 1 0 (Some 1)))
   -- A worker went that was no loss.
   pub stays : Refuted (Stays two_workers (λ k. true) (ran_from two_workers (m1 (Kill first 1) answer.Fine) one_left))
   -- An overdue worker is still there.
@@ -113,4 +120,14 @@ pub record WrongTables : Type 0 where
   pub settled_by_count : Refuted (IsSettled side.Target 0 100 first (0 ∷ 1 ∷ []) (start_at two_workers InPlace) (At end.ShortTarget) (lacks_one none_left 2))
   pub settled_early : Refuted (IsSettled side.Target 3 100 first (0 ∷ 1 ∷ []) (start_at two_workers InPlace) (At end.ShortTarget) (lacks_one one_left 1))
   -- A worker is left Starting after it.
-  pub side_after : Refuted (HasSide one_starts 1 100 holds first (0 ∷ 1 ∷ 2 ∷ []))
+  pub side_after : Refuted (HasSide one_starts 1 100 holds (crew_of (two_ready 3)) (0 ∷ 1 ∷ 2 ∷ []))
+  -- Of two groups' workers one holds all that its master holds.
+  pub shares : Refuted (Agrees (grouped_with both_holds) three_ready)
+  -- Two groups, and one shortfall for both.
+  pub summed : Refuted (Says (two_ready 3) (Reload grouped) (Degraded side.Target (1 ∷ [])) two_workers three_workers)
+  -- A worker of the other group holds the first one's address.
+  pub misplaced : Refuted (Says three_ready (Workers 3) Done three_workers (grouped_with (first_hold ∷ [])))
+  -- A worker of the other group is lacking, and the first one is named.
+  pub named_wrongly : Refuted (Says three_ready (Workers 3) (Degraded side.Old (1 ∷ 0 ∷ [])) three_workers other_unserved)
+  -- Each of two groups listens where the other should.
+  pub swapped : Refuted (IsSameLayout (layout_of (record three_ready { posts = record { groups = two_groups; descriptors = (4 ∷ []) ∷ (3 ∷ []) ∷ [] } })) (layout_in grouped.groups grouped.listeners))

@@ -9,6 +9,7 @@ ghost use Rattle.definitions.specs.Start.{StartsAgree};
 ghost use Rattle.definitions.specs.Claims.{InManner, MendHeadline, ReloadHeadline, ReopenFloor, ReopenHeadline, RunsWithin, StopHeadline, UpgradeHeadline, WorkersHeadline};
 ghost use Rattle.definitions.specs.Settling.{PlansGoBack, ReturnsAlways, SettlesAlways};
 ghost use Rattle.theorems.specs.Examples.{HasStart};
+ghost use Rattle.theorems.specs.Layouts.{RecordsLaidOut, StartsLaidOut};
 ghost use Rattle.theorems.specs.WorkedRuns.{WorkedRuns};
 ghost use Rattle.theorems.specs.WrongTables.{WrongTables};
 
@@ -76,6 +77,16 @@ pub fn wrong_tables_are_refuted()
 /// A kernel that starts with some settings agrees with the record of a master that starts with them.
 pub fn starts_agree()
     ensures { StartsAgree }
+{}
+
+/// A master that starts listens as its configuration lays out.
+pub fn starts_are_laid_out()
+    ensures { StartsLaidOut }
+{}
+
+/// The record that a plan leaves listens as the side that its outcome names is laid out.
+pub fn records_are_laid_out()
+    ensures { RecordsLaidOut }
 {}
 
 /// A table that meets the premises of the theorems.

@@ -17,7 +17,7 @@ use Rattle.plain_text.proofs.CutTexts.{cut_found, cut_at}
 use Rattle.call_text.specs.Words.{side_text}
 use Rattle.call_text.specs.Reads.{Reads}
 use Rattle.call_text.specs.Reading.{some_if}
-use Rattle.call_text.specs.ReportText.{outcome_text, ending_text}
+use Rattle.call_text.specs.ReportText.{shortfalls_text, outcome_text, ending_text}
 use Rattle.call_text.specs.ReportReading.{report_of}
 use Rattle.call_text.proofs.Readers.{IsReader, reads, mapped, chosen, same_bytes}
 use Rattle.call_text.proofs.PartTexts.{number_lacks}
@@ -135,8 +135,8 @@ ended_from : (o : Outcome) (rest : List ℕ) → line_of (outcome_text o ++ 32 �
 ended_from outcome.Done rest = ap (line_from (codes "done" ++ 32 ∷ rest)) (cut_at 32 (codes "done") rest refl)
 ended_from outcome.RolledBack rest = ap (line_from (codes "rolled-back" ++ 32 ∷ rest)) (cut_at 32 (codes "rolled-back") rest refl)
 ended_from outcome.Lost rest = ap (line_from (codes "lost" ++ 32 ∷ rest)) (cut_at 32 (codes "lost") rest refl)
-ended_from (outcome.Degraded s short) rest =
-    ap (line_from (outcome_text (outcome.Degraded s short) ++ 32 ∷ rest)) (cut_at 32 (codes "degraded") ((side_text s ++ 32 ∷ decimal short) ++ 32 ∷ rest) refl)
+ended_from (outcome.Degraded s shortfalls) rest =
+    ap (line_from (outcome_text (outcome.Degraded s shortfalls) ++ 32 ∷ rest)) (cut_at 32 (codes "degraded") ((side_text s ++ 32 ∷ shortfalls_text shortfalls) ++ 32 ∷ rest) refl)
 
 only : (v : Line) → IsLine v → line_of (line_text v) ≡ Some v
 only (Heard word) h = ap (line_from (codes "word " ++ word_text word)) (cut_at 32 (codes "word") (word_text word) refl) ∙ ap (option_map Heard) (word_reads.only word h)

@@ -32,10 +32,11 @@ use Rattle.plain_text.proofs.CutTexts.{lacks, lacks-append, lacks-all, lacks-dec
 use Rattle.call_text.specs.SetText.{run_text, runs_text, set_text}
 use Rattle.call_text.specs.CallText.{worker_text, forked_text, call_text, answer_text}
 use Rattle.call_text.specs.Words.{note_text, side_text}
-use Rattle.call_text.specs.ReportText.{outcome_text, cause_text, report_text}
+use Rattle.call_text.specs.ReportText.{shortfalls_text, outcome_text, cause_text, report_text}
 use Rattle.call_text.specs.Ranges.{IsWorker, IsShare, IsPath, IsCall, IsAnswer, IsCause, IsOutcome, IsReport}
 use Rattle.call_text.proofs.ForkTexts.{are_numbers}
 use Rattle.call_text.proofs.PartTexts.{number_lacks, generation_lacks}
+use Rattle.call_text.proofs.ShortfallTexts.{shortfalls_lack}
 use Rattle.transcript.specs.EntryReading.{IsEntry, answered_text}
 use Rattle.transcript.specs.BlockLine.{Line, Heard, Unread, Nothing, Refused, Made, Ended, line_text, IsLine}
 use Rattle.transcript.proofs.CodeTexts.{code_lacks}
@@ -175,9 +176,10 @@ side_lacks side.Target = refl
 outcome_lacks : (o : Outcome) → IsOutcome o → lacks 10 (outcome_text o) ≡ true
 outcome_lacks outcome.Done h = refl
 outcome_lacks outcome.RolledBack h = refl
-outcome_lacks (outcome.Degraded s short) h =
-    lacks-append 10 (codes "degraded ") (side_text s ++ 32 ∷ decimal short) refl
-    (lacks-append 10 (side_text s) (codes " " ++ decimal short) (side_lacks s) (lacks-append 10 (codes " ") (decimal short) refl (number_lacks 10 short refl h.1)))
+outcome_lacks (outcome.Degraded s shortfalls) h =
+    lacks-append 10 (codes "degraded ") (side_text s ++ 32 ∷ shortfalls_text shortfalls) refl
+    (lacks-append 10 (side_text s) (codes " " ++ shortfalls_text shortfalls) (side_lacks s)
+    (lacks-append 10 (codes " ") (shortfalls_text shortfalls) refl (shortfalls_lack 10 refl refl shortfalls h.within)))
 outcome_lacks outcome.Lost h = refl
 
 report_lacks : (r : Report) → IsReport [] r → lacks 10 (report_text r) ≡ true

@@ -40,6 +40,7 @@ fn is_key(text: &[u8]) -> bool
     ensures { result ≡ is_key text.now }
 {
     text == b"command".as_slice()
+        || text == b"groups".as_slice()
         || text == b"listeners".as_slice()
         || text == b"pid".as_slice()
         || text == b"retries".as_slice()

@@ -1,9 +1,9 @@
 -- The plan of an upgrade can be run: each step has an edge for each reply, and a worker is named only after a short census.
 use Rattle.std.proofs.Common.{ℕ, List, Option, Some, None, reverse, refl}
-use Rattle.listener_set.specs.declared.generation.Generation.{Generation}
 use Rattle.listener_set.specs.Numbers.{numbers_below}
 use Rattle.definitions.specs.Table.{FilePath}
 use Rattle.definitions.specs.Calls.{Call, Census, SpawnMaster}
+use Rattle.definitions.specs.Crew.{Crew}
 use Rattle.vocabulary.specs.declared.plans.Side.TheVariants.{Old, Target}
 use Rattle.vocabulary.specs.declared.plans.PidNote.{PidNote}
 use Rattle.vocabulary.specs.declared.plans.PidNote.TheVariants.{InPlace, AtOldbin, OldbinLeft, Left, NoFile}
@@ -20,14 +20,14 @@ move_back_fit : (by : ℕ) (path : Option FilePath) (rest : Tree) → IsFit rest
 move_back_fit by None rest h = h
 move_back_fit by (Some path) rest h = move_fit by (oldbin path) path (Some InPlace) (Some AtOldbin) rest h
 
-alone_fit : (by : ℕ) (g : Generation) (ready : List ℕ) (rounds : ℕ) (path : Option FilePath) → IsFit (back_alone by g ready rounds path)
-alone_fit by g ready rounds path = move_back_fit by path (settle by g ready Old rounds) (λ short. settle_fit by g ready Old rounds short)
+alone_fit : (by : ℕ) (crew : Crew) (ready : List ℕ) (rounds : ℕ) (path : Option FilePath) → IsFit (back_alone by crew ready rounds path)
+alone_fit by crew ready rounds path = move_back_fit by path (settle by crew ready Old rounds) (λ short. settle_fit by crew ready Old rounds short)
 
-from_fit : (by new : ℕ) (g : Generation) (ready : List ℕ) (rounds : ℕ) (path : Option FilePath) → IsFit (back_from by new g ready rounds path)
-from_fit by new g ready rounds path short = rw (alone_fit by g ready rounds path short) refl
+from_fit : (by heir : ℕ) (crew : Crew) (ready : List ℕ) (rounds : ℕ) (path : Option FilePath) → IsFit (back_from by heir crew ready rounds path)
+from_fit by heir crew ready rounds path short = rw (alone_fit by crew ready rounds path short) refl
 
-late_fit : (by new : ℕ) (g : Generation) (ready : List ℕ) (rounds : ℕ) (path : Option FilePath) → IsFit (back_late by new g ready rounds path)
-late_fit by new g ready rounds path short = rw (starts_any_fit by g ready (back_alone by g ready rounds path) short (alone_fit by g ready rounds path short)) refl
+late_fit : (by heir : ℕ) (crew : Crew) (ready : List ℕ) (rounds : ℕ) (path : Option FilePath) → IsFit (back_late by heir crew ready rounds path)
+late_fit by heir crew ready rounds path short = rw (starts_any_fit by crew ready (back_alone by crew ready rounds path) short (alone_fit by crew ready rounds path short)) refl
 
 ---- On
 
@@ -35,12 +35,15 @@ remove_oldbin_fit : (by : ℕ) (path : Option FilePath) (rest : Tree) → IsFit 
 remove_oldbin_fit by None rest h = h
 remove_oldbin_fit by (Some path) rest h = λ short. remove_fit by (oldbin path) (Some InPlace) (Some OldbinLeft) rest short (h short)
 
-hand_over_fit : (by new : ℕ) (g : Generation) (rounds : ℕ) (path : Option FilePath) (n : ℕ) → IsFit (hand_over by new g rounds path n)
-hand_over_fit by new g rounds path n short = rw (remove_oldbin_fit new path _ (λ s. settle_fit new _ (numbers_below n) Target rounds s) short) refl
+hand_over_fit : (by : ℕ) (new : Crew) (rounds : ℕ) (path : Option FilePath) (n : ℕ) → IsFit (hand_over by new rounds path n)
+hand_over_fit by new rounds path n short =
+    let heir = new.generation.image in
+    rw (remove_oldbin_fit heir path _ (λ s. settle_fit heir new (numbers_below n) Target rounds s) short) refl
 
-relieve_fit : (by new : ℕ) (g : Generation) (ready : List ℕ) (rounds : ℕ) (path : Option FilePath) (n : ℕ) → IsFit (relieve by new g ready rounds path n)
-relieve_fit by new g ready rounds path n short =
-    quits_fit by g (reverse ready) _ short (awaits_gone_fit by g (reverse ready) _ short (rw (hand_over_fit by new g rounds path n short, late_fit by new g ready rounds path short) refl))
+relieve_fit : (by : ℕ) (old new : Crew) (ready : List ℕ) (rounds : ℕ) (path : Option FilePath) (n : ℕ) → IsFit (relieve by old new ready rounds path n)
+relieve_fit by old new ready rounds path n short =
+    let g = old.generation in
+    quits_fit by g (reverse ready) _ short (awaits_gone_fit by g (reverse ready) _ short (rw (hand_over_fit by new rounds path n short, late_fit by new.generation.image old ready rounds path short) refl))
 
 ---- The whole
 
@@ -55,16 +58,18 @@ move_aside_fit by (Some path) OldbinLeft ok bad h e = λ short. rw (h short, e s
 move_aside_fit by (Some path) Left ok bad h e = λ short. rw (h short, e short) refl
 move_aside_fit by (Some path) NoFile ok bad h e = λ short. rw (h short, e short) refl
 
-pub succession_fit : (old new : Generation) (ready : List ℕ) (rounds : ℕ) (path : Option FilePath) (note : PidNote) (calls : List Call) (numbers : List ℕ) (n : ℕ) → IsFit (succession old new ready rounds path note calls numbers n)
+pub succession_fit : (old new : Crew) (ready : List ℕ) (rounds : ℕ) (path : Option FilePath) (note : PidNote) (calls : List Call) (numbers : List ℕ) (n : ℕ) → IsFit (succession old new ready rounds path note calls numbers n)
 succession_fit old new ready rounds path note calls numbers n =
-    let back = back_from old.image new.image old ready rounds path in
-    let relief = relieve old.image new.image old ready rounds path n in
-    let counted = tries new.image (Census new) numbers relief back in
-    let takeover = tries_all new.image calls counted back in
-    let alone = back_alone old.image old ready rounds path in
-    let is_back = from_fit old.image new.image old ready rounds path in
-    let is_counted = tries_fit new.image (Census new) numbers relief back (relieve_fit old.image new.image old ready rounds path n) is_back in
-    let is_takeover = tries_all_fit new.image calls counted back is_counted is_back in
-    move_aside_fit old.image path note (does old.image (SpawnMaster new.image) (spawn_edges takeover alone)) (settle old.image old ready Old rounds)
-    (spawn_fit old.image new.image takeover alone is_takeover (alone_fit old.image old ready rounds path))
-    (λ short. settle_fit old.image old ready Old rounds short)
+    let by = old.generation.image in
+    let heir = new.generation.image in
+    let back = back_from by heir old ready rounds path in
+    let relief = relieve by old new ready rounds path n in
+    let counted = tries heir (Census new.generation) numbers relief back in
+    let takeover = tries_all heir calls counted back in
+    let alone = back_alone by old ready rounds path in
+    let is_back = from_fit by heir old ready rounds path in
+    let is_counted = tries_fit heir (Census new.generation) numbers relief back (relieve_fit by old new ready rounds path n) is_back in
+    let is_takeover = tries_all_fit heir calls counted back is_counted is_back in
+    move_aside_fit by path note (does by (SpawnMaster heir) (spawn_edges takeover alone)) (settle by old ready Old rounds)
+    (spawn_fit by heir takeover alone is_takeover (alone_fit by old ready rounds path))
+    (λ short. settle_fit by old ready Old rounds short)

@@ -1,8 +1,9 @@
 -- The new master takes over, in a draft.
-use Rattle.std.proofs.Common.{◌≡◌, ℕ, ◌<◌, List, [], ◌∷◌, ◌++◌, length, map, Option, None, subst}
+use Rattle.std.proofs.Common.{◌≡◌, ℕ, ◌<◌, List, [], ◌∷◌, ◌++◌, length, map, Option, subst}
 use Rattle.listener_set.specs.declared.generation.Generation.{Generation}
 use Rattle.definitions.specs.Table.{Address, FilePath}
-use Rattle.definitions.specs.Calls.{Call, OpenAt, CloseAt, Fork, AwaitReady, Census, Adopt, WritePid}
+use Rattle.definitions.specs.Calls.{Call, OpenAt, CloseAt, AwaitReady, Census, Adopt, WritePid}
+use Rattle.definitions.specs.Crew.{Crew, fork_of}
 use Rattle.definitions.specs.Tree.{Tree}
 use Rattle.definitions.specs.Plans.{tries, tries_all, pid_calls}
 use Rattle.rollback_plan.specs.declared.draft.Draft.{Draft}
@@ -13,21 +14,24 @@ use Rattle.plan_pieces.proofs.TriedTrees.{tried_before, tried_on}
 use Rattle.upgrade_planner.specs.Trees.{staffing}
 
 -- workers are forked, waited for and counted
-pub staffed : (by : ℕ) (g : Generation) (path : Option FilePath) (numbers set : List ℕ) (old counted written waited new : Draft) (full back counting writing waiting place : Place)
-    → back.0 < length (trees_of old) → Keeps old counted → Keeps counted written → Keeps written waited
+pub staffed : (by : ℕ) (crew : Crew) (g : Generation) (path : Option FilePath) (numbers set : List ℕ) (old counted written waited new : Draft) (full back counting writing waiting place : Place)
+    → g ≡ crew.generation → back.0 < length (trees_of old) → Keeps old counted → Keeps counted written → Keeps written waited
     → IsMade counted counting (tries by (Census g) set (tree_at old full) (tree_at old back))
     → IsMade written writing (tries_all by (pid_calls path WritePid) (tree_at counted counting) (tree_at counted back))
     → IsMade waited waiting (tries_all by (map (AwaitReady g) numbers) (tree_at written writing) (tree_at written back))
-    → IsMade new place (tries_all by (map (λ k. Fork g k None) numbers) (tree_at waited waiting) (tree_at waited back))
-    → IsMade new place (tries_all by (staffing g path numbers) (tries by (Census g) set (tree_at old full) (tree_at old back)) (tree_at old back))
-staffed by g path numbers set old counted written waited new full back counting writing waiting place low k1 k2 k3 counts writes waits forks =
+    → IsMade new place (tries_all by (map (fork_of crew) numbers) (tree_at waited waiting) (tree_at waited back))
+    → IsMade new place (tries_all by (staffing crew path numbers) (tries by (Census crew.generation) set (tree_at old full) (tree_at old back)) (tree_at old back))
+staffed by crew g path numbers set old counted written waited new full back counting writing waiting place same low k1 k2 k3 counts writes waits forks =
+    let own = crew.generation in
     let bad = tree_at old back in
-    let rest = tries by (Census g) set (tree_at old full) bad in
+    let rest = tries by (Census own) set (tree_at old full) bad in
     let k2' = keeps_on old counted written k1 k2 in
     let k3' = keeps_on old written waited k2' k3 in
-    let wrote = tried_before by (pid_calls path WritePid) counted written counting back writing rest bad (at_kept old counted back k1 low) counts writes in
-    let ready = tried_on by (pid_calls path WritePid) (map (AwaitReady g) numbers) written waited writing back waiting rest bad (at_kept old written back k2' low) wrote waits in
-    tried_on by (map (AwaitReady g) numbers ++ pid_calls path WritePid) (map (λ k. Fork g k None) numbers) waited new waiting back place rest bad (at_kept old waited back k3' low) ready forks
+    let count = subst (λ (h : Generation). IsMade counted counting (tries by (Census h) set (tree_at old full) bad)) same counts in
+    let wait = subst (λ (h : Generation). IsMade waited waiting (tries_all by (map (AwaitReady h) numbers) (tree_at written writing) (tree_at written back))) same waits in
+    let wrote = tried_before by (pid_calls path WritePid) counted written counting back writing rest bad (at_kept old counted back k1 low) count writes in
+    let ready = tried_on by (pid_calls path WritePid) (map (AwaitReady own) numbers) written waited writing back waiting rest bad (at_kept old written back k2' low) wrote wait in
+    tried_on by (map (AwaitReady own) numbers ++ pid_calls path WritePid) (map (fork_of crew) numbers) waited new waiting back place rest bad (at_kept old waited back k3' low) ready forks
 
 -- a handover is adopted, addresses are closed and opened, and then other calls follow
 pub taken_over : (by : ℕ) (calls : List Call) (dropped added : List Address) (set : List ℕ) (old manned opened closed new : Draft) (back manning opening closing place : Place) (rest : Tree)

@@ -34,35 +34,36 @@ fn add_restart(
     alone: Place,
     stopped: Place,
 ) -> Result<Place, DraftRefusal>
-    requires alone { IsMade draft.old alone (back_alone upgrade.now.old.generation.image upgrade.now.old.generation upgrade.now.old.numbers upgrade.now.rounds upgrade.now.path) }
-    requires stopped { IsMade draft.old stopped (back_from upgrade.now.old.generation.image upgrade.now.new.generation.image upgrade.now.old.generation upgrade.now.old.numbers upgrade.now.rounds upgrade.now.path) }
-    ensures made { IfOk result (λ place. IsMade draft.new place (back_late upgrade.now.old.generation.image upgrade.now.new.generation.image upgrade.now.old.generation upgrade.now.old.numbers upgrade.now.rounds upgrade.now.path)) }
+    requires alone { IsMade draft.old alone (back_alone upgrade.now.old.crew.generation.image upgrade.now.old.crew upgrade.now.old.numbers upgrade.now.rounds upgrade.now.path) }
+    requires stopped { IsMade draft.old stopped (back_from upgrade.now.old.crew.generation.image upgrade.now.new.crew.generation.image upgrade.now.old.crew upgrade.now.old.numbers upgrade.now.rounds upgrade.now.path) }
+    ensures made { IfOk result (λ place. IsMade draft.new place (back_late upgrade.now.old.crew.generation.image upgrade.now.new.crew.generation.image upgrade.now.old.crew upgrade.now.old.numbers upgrade.now.rounds upgrade.now.path)) }
     ensures grows { GrowsWithin draft.old draft.new result (3 * length upgrade.now.old.numbers + 1) }
 {
     let old = &upgrade.old;
     if upgrade.leaving.is_empty() {
         return Ok(stopped);
     }
-    let starting = add_starts_any(draft, old.master(), old.generation, upgrade.leaving, alone)?;
-    let call = Call::TermMaster(upgrade.new.generation.image);
+    let starting = add_starts_any(draft, old.master(), &old.crew, upgrade.leaving, alone)?;
+    let call = Call::TermMaster(upgrade.new.crew.generation.image);
     draft.call(old.master(), call, starting)
 }
 
 /// Adds the ways back to the old master.
 pub fn add_ways_back(draft: &mut Draft, upgrade: &Upgrade<'_>) -> Result<WaysBack, DraftRefusal>
     requires room { HasSuffixRoom upgrade.now.path }
-    ensures undone { IfOk result (λ ways. IsMade draft.new ways.undone (settle upgrade.now.old.generation.image upgrade.now.old.generation upgrade.now.old.numbers side.Old upgrade.now.rounds)) }
-    ensures alone { IfOk result (λ ways. IsMade draft.new ways.alone (back_alone upgrade.now.old.generation.image upgrade.now.old.generation upgrade.now.old.numbers upgrade.now.rounds upgrade.now.path)) }
-    ensures stopped { IfOk result (λ ways. IsMade draft.new ways.stopped (back_from upgrade.now.old.generation.image upgrade.now.new.generation.image upgrade.now.old.generation upgrade.now.old.numbers upgrade.now.rounds upgrade.now.path)) }
-    ensures restarted { IfOk result (λ ways. IsMade draft.new ways.restarted (back_late upgrade.now.old.generation.image upgrade.now.new.generation.image upgrade.now.old.generation upgrade.now.old.numbers upgrade.now.rounds upgrade.now.path)) }
+    ensures undone { IfOk result (λ ways. IsMade draft.new ways.undone (settle upgrade.now.old.crew.generation.image upgrade.now.old.crew upgrade.now.old.numbers side.Old upgrade.now.rounds)) }
+    ensures alone { IfOk result (λ ways. IsMade draft.new ways.alone (back_alone upgrade.now.old.crew.generation.image upgrade.now.old.crew upgrade.now.old.numbers upgrade.now.rounds upgrade.now.path)) }
+    ensures stopped { IfOk result (λ ways. IsMade draft.new ways.stopped (back_from upgrade.now.old.crew.generation.image upgrade.now.new.crew.generation.image upgrade.now.old.crew upgrade.now.old.numbers upgrade.now.rounds upgrade.now.path)) }
+    ensures restarted { IfOk result (λ ways. IsMade draft.new ways.restarted (back_late upgrade.now.old.crew.generation.image upgrade.now.new.crew.generation.image upgrade.now.old.crew upgrade.now.old.numbers upgrade.now.rounds upgrade.now.path)) }
     ensures count { OnOk result (length (trees_of draft.new) ≤ length (trees_of draft.old) + (4 * upgrade.now.rounds + 3 * length upgrade.now.old.numbers + 4)) }
     ensures too_large { IsErrOf result TooLarge → MOST_STEPS < length (trees_of draft.old) + (4 * upgrade.now.rounds + 3 * length upgrade.now.old.numbers + 4) }
 {
     let old = &upgrade.old;
     let by = old.master();
-    let undone = draft.settle(by, old.generation, &old.numbers, Side::Old, upgrade.rounds)?;
+    let undone = draft.settle(by, &old.crew, &old.numbers, Side::Old, upgrade.rounds)?;
     let alone = add_cleared(draft, by, upgrade.path, Aside::Returns, undone)?;
-    let stopped = draft.call(by, Call::TermMaster(upgrade.new.generation.image), alone)?;
+    let term = Call::TermMaster(upgrade.new.crew.generation.image);
+    let stopped = draft.call(by, term, alone)?;
     let restarted = add_restart(draft, upgrade, alone, stopped)?;
     Ok(WaysBack {
         undone,

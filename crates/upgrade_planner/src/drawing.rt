@@ -45,8 +45,8 @@ fn add_spawn(
 /// relieved. Until then whatever fails leads back to the old master.
 pub fn add_upgrade(draft: &mut Draft, upgrade: &Upgrade<'_>) -> Result<Place, DraftRefusal>
     requires room { HasSuffixRoom upgrade.now.path }
-    ensures made { IfOk result (λ place. IsMade draft.new place (succession upgrade.now.old.generation upgrade.now.new.generation upgrade.now.old.numbers upgrade.now.rounds upgrade.now.path upgrade.now.note
-        (taking_over upgrade.now.new.generation upgrade.now.path upgrade.now.dropped.now upgrade.now.added.now upgrade.now.coming.now) upgrade.now.coming.now upgrade.now.workers)) }
+    ensures made { IfOk result (λ place. IsMade draft.new place (succession upgrade.now.old.crew upgrade.now.new.crew upgrade.now.old.numbers upgrade.now.rounds upgrade.now.path upgrade.now.note
+        (taking_over upgrade.now.new.crew upgrade.now.path upgrade.now.dropped.now upgrade.now.added.now upgrade.now.coming.now) upgrade.now.coming.now upgrade.now.workers)) }
     ensures count { OnOk result (length (trees_of draft.new) ≤ length (trees_of draft.old)
         + (8 * upgrade.now.rounds + 6 * length upgrade.now.old.numbers + 2 * length upgrade.now.coming.now + length upgrade.now.dropped.now + length upgrade.now.added.now + 13)) }
     ensures too_large { IsErrOf result TooLarge → MOST_STEPS < length (trees_of draft.old)
@@ -56,7 +56,7 @@ pub fn add_upgrade(draft: &mut Draft, upgrade: &Upgrade<'_>) -> Result<Place, Dr
     let back = add_ways_back(draft, upgrade)?;
     let relief = add_relief(draft, upgrade, back.restarted)?;
     let takeover = add_takeover(draft, upgrade, relief, back.stopped)?;
-    let image = upgrade.new.generation.image;
+    let image = upgrade.new.crew.generation.image;
     let spawn = add_spawn(draft, by, image, takeover, back.alone)?;
     add_move_aside(draft, by, upgrade.path, upgrade.note, spawn, back.undone)
 }

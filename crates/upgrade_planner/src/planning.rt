@@ -1,14 +1,15 @@
 //! The plan of an upgrade.
-ghost use Rattle.std.specs.Prelude.{◌≡◌, ◌≤◌, ◌↔◌, Some, None, option_map, length, IfOk, IsErrOf, IsOkUnless};
+ghost use Rattle.std.specs.Prelude.{◌≡◌, ◌≤◌, ◌↔◌, ◌&&◌, not, Some, length, IfOk, IsErrOf, IsOkUnless, IsTrue};
 ghost use Rattle.vocabulary.specs.declared.targets.Target.TheVariants as target;
 ghost use Rattle.definitions.specs.After as after;
-ghost use Rattle.definitions.specs.Target.{text_handed, upgrade_generation};
-ghost use Rattle.definitions.specs.Plans.{plan_tree};
-ghost use Rattle.rollback_plan.specs.Plans.{tree_of, note_of, text_of, trees_in};
+ghost use Rattle.definitions.specs.Target.{sides_of, text_handed, upgrade_generation};
+ghost use Rattle.definitions.specs.Plans.{plan_tree, planned};
+ghost use Rattle.rollback_plan.specs.Plans.{tree_of, note_of, sides_told, text_of, trees_in};
 ghost use Rattle.reload_planner.specs.Planning.{most_steps};
 
 use crate::drawing::add_upgrade;
-use crate::upgrade::{Crew, Upgrade};
+use crate::upgrade::{Staff, Upgrade};
+use crews::Crew;
 use handover_text::{Handover, write};
 use listener_set::{Generation, Numbers};
 use plan_pieces::listed;
@@ -16,7 +17,7 @@ use reload_planner::PlanRefusal;
 use rollback_plan::{Draft, Plan};
 use service_state::{Record, next_image};
 use std::alloc::{AllocError, Global};
-use vocabulary::Settings;
+use vocabulary::{Settings, Target};
 
 /// The most steps of an upgrade that are of no one worker: four settles of 8 rounds, an open or a close of each of two
 /// times 64 addresses, and those of the masters and of the pid file.
@@ -53,10 +54,13 @@ fn plan_to(
     requires { generation ≡ upgrade_generation state.now.generation }
     ensures tree { IfOk result (λ plan. tree_of plan ≡ plan_tree state.now (target.Upgrade settings.now)) }
     ensures note { IfOk result (λ plan. note_of plan ≡ state.now.note) }
+    ensures sides { IfOk result (λ plan. sides_told plan ≡ sides_of state.now (target.Upgrade settings.now)) }
     ensures text { IfOk result (λ plan. text_of plan ≡ text_handed state.now (target.Upgrade settings.now)) }
     ensures few { IfOk result (λ plan. length (trees_in plan) ≤ most_steps state.now (target.Upgrade settings.now)) }
     ensures memory { IsOkUnless result PlanRefusal.Memory }
 {
+    let target = Target::Upgrade(*settings);
+    let posts = state.posts_wanted(&target);
     let leaving = listed(alloc, &state.ready)?;
     let wanted = Numbers::below(settings.workers);
     let coming = listed(alloc, &wanted)?;
@@ -64,13 +68,13 @@ fn plan_to(
     let dropped = listening.only_in(&settings.listeners);
     let added = settings.listeners.only_in(&listening);
     let upgrade = Upgrade {
-        old: Crew {
-            generation: state.generation,
+        old: Staff {
+            crew: state.crew(),
             numbers: state.ready,
         },
         leaving: &leaving,
-        new: Crew {
-            generation,
+        new: Staff {
+            crew: Crew { generation, posts },
             numbers: wanted,
         },
         coming: &coming,
@@ -84,23 +88,36 @@ fn plan_to(
     let mut draft = Draft::with_room(alloc, 6 * leaving.len() + 2 * coming.len() + MOST_OTHERS)?;
     let first = add_upgrade(&mut draft, &upgrade)?;
     let text = handed(alloc, state, settings, generation)?;
-    Ok(draft.finish(first, state.note, text)?)
+    Ok(draft.finish(first, state.note, &state.sides(&target), text)?)
+}
+
+/// Whether there are several groups.
+fn is_grouped(settings: &Settings) -> bool
+    ensures { result ≡ after.is_grouped_upgrade (target.Upgrade settings.now) }
+{
+    settings.groups.as_slice().len() != 1
 }
 
 /// Plans an upgrade of a running master to a new executable with these settings: what both masters do, and what they do
 /// instead where a call fails or the new master is gone. The plan's text is what the new master is handed.
 ///
-/// `NoGeneration` (P3) exactly where the number of the image or of the configuration is 4,294,967,295; it is found
-/// before any memory is asked for. No plan is too large: its steps are bounded as those of the other targets are.
+/// `Grouped` (P4) exactly where the settings have several groups, and `NoGeneration` (P3) exactly where they have one
+/// and the number of the image or of the configuration is 4,294,967,295; both are found before any memory is asked for.
+/// No plan is too large: its steps are bounded as those of the other targets are.
 pub fn plan(alloc: Global, state: &Record, settings: &Settings) -> Result<Plan, PlanRefusal>
-    ensures tree { IfOk result (λ plan. option_map (λ g. plan_tree state.now (target.Upgrade settings.now)) (after.next_image state.now.generation) ≡ Some (tree_of plan)) }
+    ensures tree { IfOk result (λ plan. planned state.now (target.Upgrade settings.now) ≡ Some (tree_of plan)) }
     ensures note { IfOk result (λ plan. note_of plan ≡ state.now.note) }
+    ensures sides { IfOk result (λ plan. sides_told plan ≡ sides_of state.now (target.Upgrade settings.now)) }
     ensures text { IfOk result (λ plan. text_of plan ≡ text_handed state.now (target.Upgrade settings.now)) }
     ensures few { IfOk result (λ plan. length (trees_in plan) ≤ most_steps state.now (target.Upgrade settings.now)) }
-    ensures numbered { IsErrOf result PlanRefusal.NoGeneration ↔ (after.next_image state.now.generation ≡ None) }
+    ensures grouped { IsErrOf result PlanRefusal.Grouped ↔ IsTrue (after.is_grouped_upgrade (target.Upgrade settings.now)) }
+    ensures numbered { IsErrOf result PlanRefusal.NoGeneration ↔ IsTrue (not (after.is_grouped_upgrade (target.Upgrade settings.now)) && after.lacks_generation state.now (target.Upgrade settings.now)) }
     ensures not_large { IsErrOf result PlanRefusal.TooLarge → ⊥ }
     ensures planned_here { IsErrOf result PlanRefusal.Unplanned → ⊥ }
 {
+    if is_grouped(settings) {
+        return Err(PlanRefusal::Grouped);
+    }
     match next_image(state.generation) {
         None => Err(PlanRefusal::NoGeneration),
         Some(generation) => plan_to(alloc, state, settings, generation),

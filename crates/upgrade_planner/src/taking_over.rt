@@ -47,23 +47,23 @@ fn add_staffing(
 ) -> Result<Place, DraftRefusal>
     requires full { full.0 < length (trees_of draft.old) }
     requires back { back.0 < length (trees_of draft.old) }
-    ensures made { IfOk result (λ place. IsMade draft.new place (tries_all upgrade.now.new.generation.image (staffing upgrade.now.new.generation upgrade.now.path upgrade.now.coming.now)
-        (tries upgrade.now.new.generation.image (call.Census upgrade.now.new.generation) upgrade.now.new.numbers (tree_at draft.old full) (tree_at draft.old back)) (tree_at draft.old back))) }
+    ensures made { IfOk result (λ place. IsMade draft.new place (tries_all upgrade.now.new.crew.generation.image (staffing upgrade.now.new.crew upgrade.now.path upgrade.now.coming.now)
+        (tries upgrade.now.new.crew.generation.image (call.Census upgrade.now.new.crew.generation) upgrade.now.new.numbers (tree_at draft.old full) (tree_at draft.old back)) (tree_at draft.old back))) }
     ensures grows { GrowsWithin draft.old draft.new result (2 * length upgrade.now.coming.now + 2) }
 {
     let new = &upgrade.new;
-    let (by, generation) = (new.master(), new.generation);
+    let (by, crew) = (new.master(), &new.crew);
     let counting = add_tried(
         draft,
         by,
-        Call::Census(generation),
+        Call::Census(crew.generation),
         &new.numbers,
         full,
         back,
     )?;
     let writing = add_written(draft, by, upgrade.path, counting, back)?;
-    let waits = Batch::Workers(Asked::AwaitReady, generation, upgrade.coming);
-    let forks = Batch::Workers(Asked::Fork, generation, upgrade.coming);
+    let waits = Batch::Workers(Asked::AwaitReady, crew.generation, upgrade.coming);
+    let forks = Batch::Forks(crew, upgrade.coming);
     let waiting = add_tried_all(draft, by, &waits, writing, back)?;
     add_tried_all(draft, by, &forks, waiting, back)
 }
@@ -78,8 +78,8 @@ pub fn add_takeover(
 ) -> Result<Place, DraftRefusal>
     requires full { full.0 < length (trees_of draft.old) }
     requires back { back.0 < length (trees_of draft.old) }
-    ensures made { IfOk result (λ place. IsMade draft.new place (tries_all upgrade.now.new.generation.image (taking_over upgrade.now.new.generation upgrade.now.path upgrade.now.dropped.now upgrade.now.added.now upgrade.now.coming.now)
-        (tries upgrade.now.new.generation.image (call.Census upgrade.now.new.generation) upgrade.now.new.numbers (tree_at draft.old full) (tree_at draft.old back)) (tree_at draft.old back))) }
+    ensures made { IfOk result (λ place. IsMade draft.new place (tries_all upgrade.now.new.crew.generation.image (taking_over upgrade.now.new.crew upgrade.now.path upgrade.now.dropped.now upgrade.now.added.now upgrade.now.coming.now)
+        (tries upgrade.now.new.crew.generation.image (call.Census upgrade.now.new.crew.generation) upgrade.now.new.numbers (tree_at draft.old full) (tree_at draft.old back)) (tree_at draft.old back))) }
     ensures grows { GrowsWithin draft.old draft.new result (2 * length upgrade.now.coming.now + length upgrade.now.dropped.now + length upgrade.now.added.now + 3) }
 {
     let by = upgrade.new.master();

@@ -1,26 +1,26 @@
 //! What an upgrade changes.
 ghost use Rattle.std.specs.Prelude.{◌≡◌};
 ghost use Rattle.listener_set.specs.Numbers.{numbers_below};
-ghost use Rattle.definitions.specs.Target.{upgrade_generation};
 
-use listener_set::{Address, FilePath, Generation, Numbers};
+use crews::Crew;
+use listener_set::{Address, FilePath, Numbers};
 use vocabulary::{Actor, PidNote};
 
 /// A master with its workers.
 #[derive(Clone, Copy)]
-pub struct Crew {
-    /// What its workers run; the image is the master's own.
-    pub generation: Generation,
+pub struct Staff {
+    /// What its workers run, and where those of each group listen; the image is the master's own.
+    pub crew: Crew,
     /// The numbers of its workers.
     pub numbers: Numbers,
 }
 
-impl Crew {
+impl Staff {
     /// The master.
     pub fn master(&self) -> Actor
-        ensures { result ≡ self.now.generation.image }
+        ensures { result ≡ self.now.crew.generation.image }
     {
-        Actor(self.generation.image)
+        Actor(self.crew.generation.image)
     }
 }
 
@@ -28,10 +28,10 @@ impl Crew {
 #[derive(Clone, Copy)]
 pub struct Upgrade<'a> {
     /// The old master with its ready workers, and their numbers upwards.
-    pub old: Crew,
+    pub old: Staff,
     pub leaving: &'a [u32],
     /// The new master with the workers that are wanted of it, and their numbers upwards.
-    pub new: Crew,
+    pub new: Staff,
     pub coming: &'a [u32],
     /// How many workers are wanted.
     pub workers: u32,
@@ -46,5 +46,4 @@ pub struct Upgrade<'a> {
     ghost leave: { leaving.now ≡ old.numbers },
     ghost come: { coming.now ≡ new.numbers },
     ghost wanted: { new.numbers ≡ numbers_below workers },
-    ghost next: { new.generation ≡ upgrade_generation old.generation },
 }

@@ -1,12 +1,20 @@
 //! The words of a plan.
 use crate::Call;
-use listener_set::Generation;
+use crews::Crew;
+use listener_set::{Generation, Groups};
 
 /// The service that ran before, or the one that the plan is to reach.
 #[derive(Clone, Copy, Debug, PartialEq, Eq)]
 pub enum Side {
     Old,
     Target,
+}
+
+/// The groups of the old side and of the target's, by which a report says what is lacking.
+#[derive(Clone, Copy, Debug)]
+pub struct Sides {
+    pub old: Groups,
+    pub target: Groups,
 }
 
 /// How a plan ends.
@@ -42,7 +50,7 @@ pub enum PidNote {
 #[derive(Clone, Copy, Debug, PartialEq, Eq)]
 pub enum Order {
     Make(Call),
-    ForkLacking(Generation),
+    ForkLacking(Crew),
     AwaitLacking(Generation),
     KillLacking(Generation),
 }

@@ -1,5 +1,6 @@
 //! What was done, and how it ended.
 use crate::{Actor, Answer, Call, PidNote, Side};
+use crews::Shortfalls;
 use listener_set::Numbers;
 
 /// A call that was made, with its answer.
@@ -17,8 +18,8 @@ pub enum Outcome {
     Done,
     /// The old service runs.
     RolledBack,
-    /// That side's service runs, with so many workers fewer at each of its addresses.
-    Degraded { side: Side, short: u32 },
+    /// That side's service runs, with so many workers of each of its groups fewer.
+    Degraded { side: Side, shortfalls: Shortfalls },
     /// The master that should act is gone, and the plan has no way on.
     Lost,
 }

@@ -2,7 +2,7 @@
 ghost use Rattle.std.specs.Prelude.{◌≡◌};
 ghost use Rattle.vocabulary.specs.Settings.{plain_settings};
 
-use listener_set::{Address, FilePath, ListenerSet};
+use listener_set::{Address, FilePath, Groups, ListenerSet};
 use std::marker::Model;
 
 /// What a configuration says. Contracts see the record of these values, each within its range.
@@ -12,6 +12,9 @@ pub struct Settings {
     pub listeners: ListenerSet,
     /// How many workers are wanted, from 0 to 1024.
     pub workers: u32,
+    /// The groups of its workers, which take the addresses and the worker numbers in order; their addresses and workers
+    /// add up to the two above.
+    pub groups: Groups,
     /// After how many seconds without a beat a worker is overdue, from 1 to 86,400.
     pub timeout: u32,
     /// How many rounds of starts a plan makes before it gives up, from 0 to 8.
@@ -25,11 +28,11 @@ impl Model for Settings {
 
     ghost Value = { Said };
 
-    ghost view = { λ s. record { listeners = s.listeners; workers = s.workers; timeout = s.timeout; retries = s.retries; pid = s.pid } };
+    ghost view = { λ s. record { listeners = s.listeners; workers = s.workers; groups = s.groups; timeout = s.timeout; retries = s.retries; pid = s.pid } };
 
-    ghost invariant = { λ s. IsInRange (record { listeners = s.listeners; workers = s.workers; timeout = s.timeout; retries = s.retries; pid = s.pid }) };
+    ghost invariant = { λ s. IsInRange (record { listeners = s.listeners; workers = s.workers; groups = s.groups; timeout = s.timeout; retries = s.retries; pid = s.pid }) };
 
-    ghost inverse = { λ v. record { listeners = v.listeners; workers = v.workers; timeout = v.timeout; retries = v.retries; pid = v.pid } };
+    ghost inverse = { λ v. record { listeners = v.listeners; workers = v.workers; groups = v.groups; timeout = v.timeout; retries = v.retries; pid = v.pid } };
 }
 
 impl Settings {
@@ -43,6 +46,7 @@ impl Settings {
         Settings {
             listeners,
             workers: 1,
+            groups: Groups::one(1, 1),
             timeout: 60,
             retries: 3,
             pid: None,

@@ -97,6 +97,6 @@ returns c =
     let place : record { trail = begin _ _; table = c.in_ok-copy.copy.table; executing = c.state.inside.generation.image ∷ [] } ≡ begins t r target =
     λ i. record { trail = begin (c.in_ok-plan.ensures.tree i) (c.in_ok-plan.ensures.note i); table = (c.in_ok-copy.ensures.same i).table; executing = image i ∷ [] } in
     let all = answered t r target es report ready c.hold.result
-    (subst (λ (X : Type 0). X) (λ i. IfOk c.hold.result (Holds (c.in_ok-plan.ensures.text i) (same i) (place i) es report)) c.hold.ensures.ok)
-    (subst (λ (X : Type 0). X) (λ i. IfErr c.hold.result (FailsBy (c.in_ok-plan.ensures.text i) (same i) (place i) es report)) c.hold.ensures.err) in
+    (subst (λ (X : Type 0). X) (λ i. IfOk c.hold.result (Holds (c.in_ok-plan.ensures.text i) (same i) (c.in_ok-plan.ensures.sides i) (place i) es report)) c.hold.ensures.ok)
+    (subst (λ (X : Type 0). X) (λ i. IfErr c.hold.result (FailsBy (c.in_ok-plan.ensures.text i) (same i) (c.in_ok-plan.ensures.sides i) (place i) es report)) c.hold.ensures.err) in
     record { ok = all.0; exact = all.1; enacts = IfOk-weaker c.hold.result (IsCertified t r target es report) (EnactsSo c.args.kernel.now r target es report) (enacts-so c.args.kernel.now r target es report) all.0; complete = complete-by t r target es report c.hold.result all.1 due; memory = λ _. record { agrees = agrees; spared = λ p none. no_plan r target p none plan } }

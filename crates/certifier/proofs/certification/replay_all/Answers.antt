@@ -3,6 +3,7 @@ use Rattle.std.proofs.lemmas.Bool.{false≢true}
 use Rattle.std.proofs.lemmas.List.{take_more}
 use Rattle.std.proofs.lemmas.Option.{get_or_from_slice_get}
 use Rattle.vocabulary.specs.declared.reports.Entry.{Entry}
+use Rattle.plan_runner.specs.Walk.{sides_in}
 use Rattle.plan_executor.specs.Naming.{listed}
 use Rattle.certifier.specs.Places.{place_of, HasTaken, AreNext}
 use Rattle.certifier.proofs.Taking.{taken-on, taken-stops}
@@ -16,8 +17,8 @@ loop-place-preserved c =
     let e = c.entry.result in
     let within : place < length entries = omega (arith, c.loop-place-test.true, c.len-place-end.ensures.count) in
     let longer : take (place + 1) entries ≡ take place entries ++ e ∷ [] = take_more entries place e within ∙ ap (λ x. take place entries ++ x ∷ []) (((get_or_from_slice_get entries place e e c.entry.ensures))) in
-    subst (λ (es : List Entry). HasTaken old.text.now (listed old.heir) (place_of old) es c.take.new.self) (sym longer)
-    (taken-on old.text.now (listed old.heir) (place_of old) (take place entries) e c.loop-place.replay c.take.new.self c.loop-place.invariant
+    subst (λ (es : List Entry). HasTaken old.text.now (listed old.heir) (sides_in old.walk) (place_of old) es c.take.new.self) (sym longer)
+    (taken-on old.text.now (listed old.heir) (sides_in old.walk) (place_of old) (take place entries) e c.loop-place.replay c.take.new.self c.loop-place.invariant
     (c.in_ok-take.ensures.next.0 c.if-not-branch.false) (c.in_ok-take.ensures.taken c.if-not-branch.false))
 
 pub returns-then-not-branch-clause-err : goal.returns-then-not-branch-clause-err
@@ -34,7 +35,7 @@ returns-then-not-branch-clause-err c =
       within = omega (arith, within);
       next = c.loop-place.invariant.next;
       stops =
-          λ all. taken-stops old.text.now (listed old.heir) (place_of old) (take place entries) e c.loop-place.replay c.loop-place.invariant
+          λ all. taken-stops old.text.now (listed old.heir) (sides_in old.walk) (place_of old) (take place entries) e c.loop-place.replay c.loop-place.invariant
           (λ next. false≢true (sym c.if-not-branch.true ∙ c.in_ok-take.ensures.next.1 next))
           (subst (λ (es : List Entry). AreNext old.text.now (listed old.heir) (place_of old) es) longer all);
     }

@@ -8,5 +8,5 @@ use Rattle.kernel_model.proofs.running.are_running.Given as goal
 abbrev pub invariant-loop-holder : goal.invariant-loop-holder
 invariant-loop-holder l =
     (addresses : List (List ℕ))
-    → AreRunning l.master.number l.generation (seen_holds addresses l.master.holds) (seen_rows addresses (drop l.holder-index l.holders))
-    ↔ AreRunning l.master.number l.generation (seen_holds addresses l.master.holds) (seen_rows addresses l.holders)
+    → AreRunning l.master.number l.crew (seen_holds addresses l.master.holds) (seen_rows addresses (drop l.holder-index l.holders))
+    ↔ AreRunning l.master.number l.crew (seen_holds addresses l.master.holds) (seen_rows addresses l.holders)

@@ -1,5 +1,8 @@
-use Rattle.std.proofs.Common.{◌≡◌, true, nat_eq, ◌&&◌, ap, sym}
+use Rattle.std.proofs.Common.{◌≡◌, true, nat_eq, ◌&&◌, ap, sym, ◌∙◌}
 use Rattle.std.proofs.lemmas.Bool.{and_parts, eqb-true}
+use Rattle.crews.specs.Crews.{Crew}
+use Rattle.definitions.specs.Calls.{shared}
+use Rattle.definitions.specs.Crew.{fds_of}
 use Rattle.definitions.specs.Table.{Generation}
 use Rattle.process_table.specs.Holds.{seen_holds}
 use Rattle.kernel_model.proofs.Agreement.{same_sockets}
@@ -14,8 +17,10 @@ same_generation g h e =
 
 pub returns-then-eq : goal.returns-then-eq
 returns-then-eq c = λ addresses.
-    let g = same_generation c.in-Worker.own c.args.generation (sym c.if-eq.ensures) in
+    let g = same_generation c.in-Worker.generation c.crew.inside.generation (sym c.if-eq.ensures) ∙ ap (λ (k : Crew). k.generation) c.crew.view_is in
+    let given = c.given.ensures ∙ ap (λ (k : Crew). fds_of k.posts c.in-Worker.nr) c.crew.view_is in
+    let held = c.shared-share.ensures addresses ∙ ap (λ fds. shared fds (seen_holds addresses c.args.master.now.holds)) given in
     rw (c.in-Worker.is, c.in-Ready.is) (
-      (λ t q. (g, ap (seen_holds addresses) (c.same_holds.ensures.0 t))),
-      (λ h. c.same_holds.ensures.1 (same_sockets addresses c.args.holder.now.holds c.args.master.now.holds (h c.if-parent-master.true).1)),
+      (λ t q. (g, ap (seen_holds addresses) (c.same_holds.ensures.0 t) ∙ held)),
+      (λ h. c.same_holds.ensures.1 (same_sockets addresses c.args.holder.now.holds c.shared-share.result ((h c.if-parent-master.true).1 ∙ sym held))),
     )

@@ -11,4 +11,4 @@ pub returns : goal.returns
 returns c =
     let keys = keys_of c.args.table.now.entries in
     all_from_yields_List (λ k. is_known (string_bytes k)) _ _ c.all.result c.all.ensures.ran (YieldsList-from_rest {shows = deref {X = String Global}} keys c.keys.ensures.rest) (λ x b q k. search (rules, tests))
-    ∙ list_all-keys c.args.table.now.entries
+    ∙ list_all-keys is_known c.args.table.now.entries

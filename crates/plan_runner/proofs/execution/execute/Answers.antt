@@ -32,6 +32,7 @@ loop-due-preserved g c =
     record {
       path = subst (Follows start) (sym pushed) (Follows-push start old e kept.path asks);
       trail = c.after-walk.ensures.trail ∙ (ap (λ t. advance t e) kept.trail ∙ (sym (after-push start old e) ∙ ap (trail_after start) (sym pushed)));
+      sides = c.after-walk.ensures.sides ∙ kept.sides;
       follows = subst (λ (es : List Entry). g.C.Calls.follows c.args.calls.now es c.make-answer.new.self) (sym pushed) (c.make-answer.ensures.follows c.args.calls.now old kept.follows);
       lost = λ none. (old, e, pushed, c.after-walk.ensures.lost none);
       longest = omega (arith, ap length pushed, length-append old (e ∷ []), kept.longest, c.after-walk.ensures.lower);

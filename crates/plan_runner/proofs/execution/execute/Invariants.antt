@@ -1,9 +1,9 @@
 use Rattle.std.proofs.Common.{◌≡◌, ◌≤◌, ◌+◌, length, None}
 use Rattle.definitions.specs.Tree.{height}
 use Rattle.definitions.specs.Path.{begin, trail_after, Follows, EndsGone}
-use Rattle.rollback_plan.specs.Plans.{tree_of, note_of}
+use Rattle.rollback_plan.specs.Plans.{tree_of, note_of, sides_told}
 use Rattle.plan_runner.specs.Fit.{height_next}
-use Rattle.plan_runner.specs.Walk.{trail_of}
+use Rattle.plan_runner.specs.Walk.{trail_of, sides_in}
 use Rattle.plan_runner.proofs.execution.execute.Given as goal
 
 abbrev pub invariant-loop-due : goal.invariant-loop-due
@@ -12,6 +12,7 @@ invariant-loop-due g l =
     let left = height_next (trail_of l.walk).rest in
     record {
       path : Follows start l.log.entries;
+      sides : sides_in l.walk ≡ sides_told l.plan;
       trail : trail_of l.walk ≡ trail_after start l.log.entries;
       follows : g.C.Calls.follows l.fn.calls l.log.entries l.calls;
       lost : (trail_of l.walk).rest ≡ None → EndsGone l.log.entries;

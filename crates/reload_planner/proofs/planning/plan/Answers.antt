@@ -1,19 +1,43 @@
-use Rattle.std.proofs.Common.{◌≡◌, Some, sym, ◌∙◌, ap, subst}
+use Rattle.std.proofs.Common.{◌≡◌, ◌≤◌, Some, length, sym, ◌∙◌, ap, subst, arith}
 use Rattle.std.specs.Prelude.{IfOk}
+use Rattle.std.proofs.lemmas.List.{length-map}
 use Rattle.std.proofs.lemmas.Result.{IfOk-weaker}
-use Rattle.definitions.specs.Record.{Record}
+use Rattle.definitions.specs.Record.{Record, crew_of}
+use Rattle.definitions.specs.After.{posts_wanted}
+use Rattle.vocabulary.specs.declared.table.Listener.{Listener}
 use Rattle.vocabulary.specs.declared.targets.Target.{Target}
-use Rattle.definitions.specs.Plans.{planned, reload_tree}
-use Rattle.rollback_plan.specs.Plans.{tree_of}
-use Rattle.reload_planner.proofs.Reloads.{planned_is}
+use Rattle.definitions.specs.Plans.{planned}
+use Rattle.rollback_plan.specs.Plans.{tree_of, trees_in}
+use Rattle.reload_planner.specs.Planning.{most_steps}
+use Rattle.reload_planner.proofs.Sets.{length-below}
+use Rattle.reload_planner.proofs.Reloads.{planned_is, reload_is}
 use Rattle.reload_planner.proofs.planning.plan.Goals as goal
 
 pub returns-in-Reload-clause-tree : goal.returns-in-Reload-clause-tree
 returns-in-Reload-clause-tree c =
     let v = c.state.inside in
     let s = c.in-Reload.settings in
-    let r : Record = record { listeners = v.listeners; generation = v.generation; ready = v.ready; wanted = v.wanted; retries = v.retries; timeout = v.timeout; pid_path = v.pid_path; note = v.note; pid = v.pid } in
+    let r : Record = record { listeners = v.listeners; posts = v.posts; generation = v.generation; ready = v.ready; wanted = v.wanted; retries = v.retries; timeout = v.timeout; pid_path = v.pid_path; note = v.note; pid = v.pid } in
+    let posts = c.posts_wanted-posts.ensures ∙ (ap (λ (known : Record). posts_wanted known c.args.target.now) (sym c.state.view_is) ∙ ap (posts_wanted r) c.in-Reload.is) in
+    let crew = c.crew.ensures ∙ ap crew_of (sym c.state.view_is) in
+    let is = reload_is r s c.crew.result c.posts_wanted-posts.result c.addresses-old.result crew posts c.addresses-old.ensures in
     subst (λ (known : Record). IfOk c.plan_reload.result (λ plan. planned known c.args.target.now ≡ Some (tree_of plan))) c.state.view_is
     (subst (λ (target : Target). IfOk c.plan_reload.result (λ plan. planned r target ≡ Some (tree_of plan))) (sym c.in-Reload.is)
-    (planned_is r s c.plan_reload.result c.plan_reload.ensures.numbered
-    (IfOk-weaker c.plan_reload.result _ _ (λ plan is. is ∙ ap (λ old. reload_tree r.generation.image r.generation r.ready r.retries old s.listeners s.workers) c.addresses.ensures) c.plan_reload.ensures.tree)))
+    (planned_is r s c.crew.result c.plan_reload.result crew c.plan_reload.ensures.numbered
+    (IfOk-weaker c.plan_reload.result _ _ (λ plan tree. tree ∙ is) c.plan_reload.ensures.tree)))
+
+pub returns-in-Workers-clause-few : goal.returns-in-Workers-clause-few
+returns-in-Workers-clause-few c = grind (arith, length-below)
+
+pub returns-in-Mend-clause-few : goal.returns-in-Mend-clause-few
+returns-in-Mend-clause-few c = grind (arith, length-below)
+
+pub returns-in-Reload-clause-few : goal.returns-in-Reload-clause-few
+returns-in-Reload-clause-few c =
+    let v = c.state.inside in
+    let s = c.in-Reload.settings in
+    let r : Record = record { listeners = v.listeners; posts = v.posts; generation = v.generation; ready = v.ready; wanted = v.wanted; retries = v.retries; timeout = v.timeout; pid_path = v.pid_path; note = v.note; pid = v.pid } in
+    let held : length c.addresses-old.result ≡ length r.listeners = ap length c.addresses-old.ensures ∙ length-map r.listeners (λ (l : Listener). l.address) in
+    subst (λ (known : Record). IfOk c.plan_reload.result (λ plan. length (trees_in plan) ≤ most_steps known c.args.target.now)) c.state.view_is
+    (subst (λ (target : Target). IfOk c.plan_reload.result (λ plan. length (trees_in plan) ≤ most_steps r target)) (sym c.in-Reload.is)
+    (IfOk-weaker c.plan_reload.result _ _ (λ plan few. omega (arith, few, held, length-below s.workers)) c.plan_reload.ensures.few))

@@ -25,7 +25,7 @@ returns-clause-made c =
     let way : Place = get_or c.args.ways_back.now n (record { 0 = 0 }) in
     let back = ways.made n way (slice_get-get_or c.args.ways_back.now n (record { 0 = 0 }) (omega (arith, c.requires.each))) in
     let all = ap (λ xs. bad (reverse xs)) (take_all n fresh (omega arith)) in
-    subst (λ (t : Tree). IsMade c.add_starts.new.draft place (starts by u.generation fresh t bad))
-    (c.in_ok-counting.ensures.made.is ∙ ap (λ t. census by u.generation u.wanted (census_edges full t)) (back.is ∙ all))
+    subst (λ (t : Tree). IsMade c.add_starts.new.draft place (starts by u.crew fresh t bad))
+    (c.in_ok-counting.ensures.made.is ∙ ap (λ t. census by u.crew.generation u.wanted (census_edges full t)) (back.is ∙ all))
     (made bad (all_kept c.args.draft.now c.add_count.new.draft c.args.ways_back.now n (λ i. bad (reverse (take i fresh))) c.in_ok-counting.ensures.grows.keeps ways)))
     c.add_starts.ensures.made

@@ -1,5 +1,7 @@
 use Rattle.std.proofs.Common.{false, ◌∙◌, ap, length, arith, sym, not, ◌≡◌}
 use Rattle.listener_set.specs.AddressList.{has}
+use Rattle.definitions.specs.Crew.{Crew}
+use Rattle.definitions.specs.After.{next_config}
 use Rattle.definitions.specs.Tree.{is_fit}
 use Rattle.reload_planner.proofs.Sets.{filter_few, length-below}
 use Rattle.reload_planner.proofs.Fitness.{renewal_fit}
@@ -10,13 +12,14 @@ pub finish-requires-clause-fit : goal.finish-requires-clause-fit
 finish-requires-clause-fit c =
     let s = c.args.scene.now in
     ap (is_fit false) c.in_ok-first.ensures.made.is
-    ∙ renewal_fit s.by s.generation c.in-Some.generation s.ready c.deref-2.result.now s.rounds c.as_slice.result.now c.as_slice-2.result.now c.below-wanted.result c.deref.result.now
+    ∙ renewal_fit s.by s.crew (record { generation = c.in-Some.generation; posts = c.args.posts.now }) s.ready c.deref-2.result.now s.rounds c.as_slice.result.now c.as_slice-2.result.now c.below-wanted.result c.deref.result.now
 
 pub returns-clause-tree : goal.returns-clause-tree
 returns-clause-tree c =
     let s = c.args.scene.now in
-    let is = renewal_is s.by s.generation c.in-Some.generation s.ready c.deref-2.result.now s.rounds c.args.old.now c.settings.inside.listeners c.settings.inside.workers c.as_slice.result.now c.as_slice-2.result.now c.below-wanted.result c.deref.result.now
-    (next_is s.generation c.in-Some.generation (sym c.in-Some.ensures))
+    let here = ap (λ (crew : Crew). next_config crew.generation) c.old_crew.view_is in
+    let is = renewal_is s.by s.crew c.in-Some.generation c.args.posts.now s.ready c.deref-2.result.now s.rounds c.args.old.now c.settings.inside.listeners c.settings.inside.workers c.as_slice.result.now c.as_slice-2.result.now c.below-wanted.result c.deref.result.now
+    (next_is s.crew.generation c.in-Some.generation (sym (c.in-Some.ensures ∙ here)))
     (c.deref-2.ensures.value ∙ c.in_ok-ready.ensures.items)
     (c.as_slice.ensures.items ∙ c.only_in-added.ensures)
     (c.as_slice-2.ensures.items ∙ c.only_in-dropped.ensures)

@@ -8,12 +8,12 @@ use Rattle.reload_planner.proofs.workers.plan_workers.Goals as goal
 pub finish-requires-clause-fit : goal.finish-requires-clause-fit
 finish-requires-clause-fit c =
     let s = c.args.scene.now in
-    ap (is_fit false) c.in_ok-first.ensures.made.is ∙ change_fit s.by s.generation s.ready s.rounds c.below-all.result c.deref.result.now (reverse c.deref-2.result.now)
+    ap (is_fit false) c.in_ok-first.ensures.made.is ∙ change_fit s.by s.crew s.ready s.rounds c.below-all.result c.deref.result.now (reverse c.deref-2.result.now)
 
 pub returns-clause-tree : goal.returns-clause-tree
 returns-clause-tree c =
     let s = c.args.scene.now in
-    let is = change_is s.by s.generation s.ready s.rounds c.args.wanted c.below-all.result c.deref.result.now c.deref-2.result.now c.below-all.ensures
+    let is = change_is s.by s.crew s.ready s.rounds c.args.wanted c.below-all.result c.deref.result.now c.deref-2.result.now c.below-all.ensures
     (c.deref.ensures.value ∙ (c.in_ok-starts.ensures.items ∙ (c.minus.ensures ∙ ap (λ ks. lacks ks s.ready) c.below-all.ensures)))
     (c.deref-2.ensures.value ∙ (c.in_ok-quits.ensures.items ∙ (c.minus-2.ensures ∙ ap (lacks s.ready) c.below-all.ensures))) in
     c.in_ok-finish.ensures.tree ∙ (c.in_ok-first.ensures.made.is ∙ is)

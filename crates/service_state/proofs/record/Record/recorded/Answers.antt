@@ -7,7 +7,7 @@ pub invariant_of-result : goal.invariant_of-result
 invariant_of-result c =
     let path = c.self.inside.pid_path in
     let kept = rw (← c.setup.view_is) at (sym (c.keeps_rules.ensures path) ∙ c.if-not-keeps_rules.false) in
-    IsRecord-from_rules _ path c.args.report.now c.args.pid kept c.setup.invariant c.self.invariant.pid_path
+    IsRecord-from_rules _ path c.args.report.now c.args.pid kept c.setup.invariant c.groups.ensures.are c.self.invariant.pid_path
 
 pub returns-then-not-keeps_rules : goal.returns-then-not-keeps_rules
 returns-then-not-keeps_rules c =

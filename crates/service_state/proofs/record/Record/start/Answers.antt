@@ -1,4 +1,6 @@
-use Rattle.std.proofs.Common.{length, ap, ◌∙◌, arith}
+use Rattle.std.proofs.Common.{length, ap, sym, subst, ◌∙◌, arith}
+use Rattle.listener_set.specs.Groups.{AreGroups}
+use Rattle.crews.specs.Crews.{Posts}
 use Rattle.handover_text.proofs.Listed.{length-listeners_from}
 use Rattle.service_state.proofs.record.Record.start.Goals as goal
 
@@ -7,6 +9,7 @@ invariant_of-result c =
     let n = ap length c.from_set.ensures ∙ length-listeners_from 3 c.settings.inside.listeners in
     record {
       listens = omega (arith, n, c.settings.invariant.listens);
+      groups = subst (λ (p : Posts). AreGroups p.groups) (sym c.first.ensures.posts) c.first.ensures.groups;
       wanted = c.requires.wanted;
       ready = c.requires.ready;
       retries = c.settings.invariant.retries;

@@ -1,0 +1,2 @@
+pub mod PostLists
+pub mod GroupCounts

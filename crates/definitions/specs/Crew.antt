@@ -1,0 +1,67 @@
+-- Groups of workers: what the workers of each are given, and whom an address counts.
+use Rattle.std.specs.Prelude.{ℕ, zero, suc, Bool, List, [], ◌∷◌, Option, Some, None, map, filter, length, take, drop, get_or, count_by, if◌then◌else◌}
+use Rattle.std.specs.List.{sum_by}
+use Rattle.listener_set.specs.Numbers.{numbers_below, is_in}
+use Rattle.listener_set.specs.AddressList.{has}
+use Rattle.vocabulary.specs.declared.table.Listener.{Listener}
+use Rattle.definitions.specs.Table.{Address, Hold}
+use Rattle.definitions.specs.Calls.{Call, Fork, shared}
+pub use Rattle.listener_set.specs.declared.groups.Group.{Group}
+pub use Rattle.listener_set.specs.Groups.{group_of}
+pub use Rattle.crews.specs.Crews.{Posts, Crew, fds_in, fds_of, shortfalls_of}
+
+---- What a worker is given
+
+-- the call that starts a worker of a crew: with the descriptors of its group, where there are several
+abbrev pub fork_of : Crew → ℕ → Call
+fork_of crew k = Fork crew.generation k (fds_of crew.posts k)
+
+-- what a worker holds of what its master holds
+abbrev pub share : Posts → ℕ → List Hold → List Hold
+share posts k holds = shared (fds_of posts k) holds
+
+-- the descriptors of the listeners whose addresses a list has
+abbrev pub descriptors_at : List Listener → List Address → List ℕ
+descriptors_at ls addresses = map (λ (l : Listener). l.descriptor) (filter (λ (l : Listener). has addresses l.address) ls)
+
+-- of each group the descriptors: it takes the next so many addresses
+abbrev pub descriptors_by : List Group → List Address → List Listener → List (List ℕ)
+descriptors_by [] addresses ls = []
+descriptors_by (g ∷ gs) addresses ls = descriptors_at ls (take g.addresses addresses) ∷ descriptors_by gs (drop g.addresses addresses) ls
+
+abbrev pub posts_of : List Group → List Address → List Listener → Posts
+posts_of groups addresses ls = record { groups = groups; descriptors = descriptors_by groups addresses ls }
+
+---- Whom an address counts
+
+-- The groups of a service, and whether a group, by its place, listens at an address.
+pub record Layout : Type 0 where
+  pub groups : List Group
+  pub listens : ℕ → Address → Bool
+
+-- the addresses of a group, by its place: each takes the next so many
+abbrev pub addresses_of_group : List Group → List Address → ℕ → List Address
+addresses_of_group [] addresses place = []
+addresses_of_group (g ∷ gs) addresses zero = take g.addresses addresses
+addresses_of_group (g ∷ gs) addresses (suc place) = addresses_of_group gs (drop g.addresses addresses) place
+
+-- as a configuration lays it out
+abbrev pub layout_in : List Group → List Address → Layout
+layout_in groups addresses = record { groups = groups; listens = λ place a. has (addresses_of_group groups addresses place) a }
+
+-- the listeners at these descriptors, or all
+abbrev pub listeners_under : Option (List ℕ) → List Listener → List Listener
+listeners_under None ls = ls
+listeners_under (Some fds) ls = filter (λ (l : Listener). is_in fds l.descriptor) ls
+
+-- as a master's descriptors lay it out
+abbrev pub layout_at : Posts → List Listener → Layout
+layout_at posts ls = record { groups = posts.groups; listens = λ place a. has (map (λ (l : Listener). l.address) (listeners_under (fds_in posts place) ls)) a }
+
+-- how many of these worker numbers an address counts: those whose group listens there
+abbrev pub served : Layout → List ℕ → Address → ℕ
+served layout numbers a = count_by (λ k. layout.listens (group_of layout.groups k) a) numbers
+
+-- what an address is short by, where each group is short by so many
+abbrev pub short_at : Layout → List ℕ → Address → ℕ
+short_at layout shortfalls a = sum_by (λ place. if layout.listens place a then get_or shortfalls place 0 else 0) (numbers_below (length shortfalls))

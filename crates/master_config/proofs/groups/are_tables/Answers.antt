@@ -1,0 +1,12 @@
+use Rattle.std.proofs.Common.{◌∙◌, rules, tests}
+use Rattle.std.proofs.lemmas.Iterator.{YieldsList-from_slice}
+use Rattle.std.proofs.lemmas.Iterator.Search.{all_from_yields_List}
+use Rattle.toml.specs.View.{view}
+use Rattle.master_config.specs.Groups.{is_table}
+use Rattle.master_config.proofs.Trees.{list_all-items_view}
+use Rattle.master_config.proofs.groups.are_tables.Goals as goal
+
+pub returns : goal.returns
+returns c =
+    all_from_yields_List (λ v. is_table (view v)) _ _ c.all.result c.all.ensures.ran (YieldsList-from_slice c.args.items.now.items cc) (λ x b q k. search (rules, tests))
+    ∙ list_all-items_view is_table c.args.items.now.items
