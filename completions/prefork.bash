@@ -8,7 +8,7 @@ _prefork() {
 
     COMPREPLY=()
     if ((COMP_CWORD == 1)); then
-        mapfile -t COMPREPLY < <(compgen -W 'enact plan certify supervise adopt child explain --help --version' -- "$cur")
+        mapfile -t COMPREPLY < <(compgen -W 'enact plan explore certify supervise adopt child explain --help --version' -- "$cur")
         return
     fi
 
@@ -20,13 +20,22 @@ _prefork() {
             compopt -o default
             return
             ;;
-        --workers | --held | :) return ;;
+        --forbid)
+            mapfile -t COMPREPLY < <(compgen -W 'degraded' -- "$cur")
+            return
+            ;;
+        --events)
+            mapfile -t COMPREPLY < <(compgen -W '1' -- "$cur")
+            return
+            ;;
+        --workers | --held | --limit | :) return ;;
     esac
     [[ $cur == : ]] && return
 
     case ${COMP_WORDS[1]} in
         enact) options='--from --to --workers --bare --why --held --state --help' ;;
         plan) options='--from --to --workers --bare --why --dot --help' ;;
+        explore) options='--from --to --workers --bare --why --held --events --limit --forbid --list --help' ;;
         certify) options='--from --to --workers --bare --why --held --help' ;;
         supervise) options='--program --from --to --verbose --why --help' ;;
         adopt) options='--program --help' ;;
@@ -56,8 +65,8 @@ _prefork() {
             ;;
     esac
 
-    # One word is all that plan takes.
-    if [[ ${COMP_WORDS[1]} == plan ]]; then
+    # One word is all that plan and explore take.
+    if [[ ${COMP_WORDS[1]} == plan || ${COMP_WORDS[1]} == explore ]]; then
         for word in "${before[@]}"; do
             [[ " $signals " == *" $word "* || $word == [\'\"]* ]] && return
         done

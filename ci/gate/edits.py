@@ -5,6 +5,7 @@ import shutil
 import tempfile
 import threading
 import time
+import traceback
 
 from gate import kit
 from gate.ledger import Ledger, key
@@ -111,7 +112,11 @@ class Trials:
         # (what this thread starts is nice too)
         os.setpriority(os.PRIO_PROCESS, threading.get_native_id(), NICE)
         while (crate := self.next_crate()) is not None:
-            self.try_edits(crate)
+            try:
+                self.try_edits(crate)
+            except Exception:
+                # (its edits count as not tried, and those of other crates are tried all the same)
+                self.say(f"the trial of {crate.name}'s edits broke off:\n{traceback.format_exc().rstrip()}")
 
     def try_edits(self, crate):
         started = time.monotonic()

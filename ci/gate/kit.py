@@ -63,11 +63,10 @@ class Built:
 
     def refuses(self, edit, kept):
         """Whether a whole check refuses the edit, and what is to be said of it: `rt must-fail` of one edit."""
-        refused = (rt.REFUSED, rt.AT_LIMIT)
         came_to, text = rt.must_fail(self.crate, edit, ["--jobs", "1"], kept)
-        if came_to not in refused:
+        if not is_refusal(came_to):
             came_to, text = rt.must_fail(self.crate, edit, ["--jobs", "1"])
-        return came_to in refused, text
+        return is_refusal(came_to), text
 
     def functions(self):
         source = bodies.Source(self.folder)
@@ -80,6 +79,11 @@ class Built:
 
     def of_kit(self):
         return sorted(self.crate.of_kit)
+
+
+def is_refusal(came_to):
+    """Whether an edit that came to this was refused: one kit says whether it was, and another what it came to."""
+    return came_to if isinstance(came_to, bool) else came_to in (rt.REFUSED, rt.AT_LIMIT)
 
 
 def built_crates(folder):

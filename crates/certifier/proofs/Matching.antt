@@ -1,9 +1,8 @@
 -- What the replay of a target's entries says of the target.
-use Rattle.std.proofs.Common.{◌≡◌, ◌⊎◌, ◌||◌, inl, inr, not, ℕ, ◌+◌, ◌-◌, ◌<◌, ◌≤◌, List, [], ◌∷◌, ◌++◌, take, drop, Result, Ok, Err, true, refl, sym, ◌∙◌, ap, subst, arith}
+use Rattle.std.proofs.Common.{◌≡◌, ◌⊎◌, inl, inr, ℕ, ◌+◌, ◌-◌, ◌<◌, ◌≤◌, List, [], ◌∷◌, ◌++◌, take, drop, Result, Ok, Err, true, refl, sym, ◌∙◌, ap, subst, arith}
 use Rattle.std.specs.Prelude.{◌↔◌, IfOk, IfErr}
 use Rattle.std.specs.Result.{IsErrOf}
-use Rattle.std.proofs.lemmas.Bool.{false≢true, and_parts, cases_order}
-use Rattle.std.proofs.Math.Bool.{or-true}
+use Rattle.std.proofs.lemmas.Bool.{false≢true, cases_order}
 use Rattle.std.proofs.lemmas.List.{take-append-drop}
 use Rattle.std.proofs.Math.Seq.{take-add}
 use Rattle.definitions.specs.Table.{Table}
@@ -16,7 +15,7 @@ use Rattle.definitions.specs.Run.{Moment}
 use Rattle.definitions.specs.Claims.{refused_among, heirs_of}
 use Rattle.kernel_model.specs.Pattern.{moment_at}
 use Rattle.kernel_model.specs.Room.{LacksNumbers}
-use Rattle.definitions.specs.After.{is_grouped_upgrade, lacks_generation, lacks_plan}
+use Rattle.definitions.specs.After.{lacks_generation}
 use Rattle.definitions.specs.Tree.{height}
 use Rattle.reload_planner.specs.declared.refusal.PlanRefusal.{PlanRefusal}
 use Rattle.reload_planner.specs.declared.refusal.PlanRefusal.TheVariants as planner
@@ -232,13 +231,10 @@ pub plain-mismatches : (t : Table) (r : Record) (target : Target) (es : List Ent
 plain-mismatches t r target es report = record { one = one t r target es report; refused = λ unready. unready }
 
 -- a target that a planner refuses has no plan
-planless : (r : Record) (target : Target) (refusal : PlanRefusal) → HasNoPlan r target refusal → lacks_plan r target ≡ true
+planless : (r : Record) (target : Target) (refusal : PlanRefusal) → HasNoPlan r target refusal → lacks_generation r target ≡ true
 planless r target planner.Unplanned none = absurd none
 planless r target planner.TooLarge none = absurd none
-planless r target planner.Grouped none = ap (λ b. b || lacks_generation r target) none
-planless r target planner.NoGeneration none =
-    let lacks = and_parts (not (is_grouped_upgrade target)) (lacks_generation r target) none in
-    ap (λ b. is_grouped_upgrade target || b) lacks.1 ∙ or-true (is_grouped_upgrade target)
+planless r target planner.NoGeneration none = none
 planless r target planner.Memory none = absurd none
 
 exact-held : {T : Type 0} (fits : Mismatch → Type 0) (x : T) → ((why : Mismatch) → fits why → ⊥) → IsExactly {T = T} fits (Ok x)

@@ -4,7 +4,7 @@ use Rattle.definitions.specs.Table.{Table}
 use Rattle.definitions.specs.Record.{Record, Agrees}
 use Rattle.vocabulary.specs.declared.targets.Target.{Target}
 use Rattle.definitions.specs.Target.{text_handed, sides_of}
-use Rattle.definitions.specs.After.{lacks_plan}
+use Rattle.definitions.specs.After.{lacks_generation}
 use Rattle.definitions.specs.Tree.{height}
 use Rattle.definitions.specs.Plans.{plan_tree}
 use Rattle.definitions.specs.Path.{Entry, Report, Trail, begin, trail_after, Follows, IsOver, Reports}
@@ -50,7 +50,7 @@ pub record IsReady (t : Table) (r : Record) (target : Target) : Type 0 where
 
 -- The record disagrees, there is no plan, or numbers are lacking.
 abbrev pub IsUnready : Table → Record → Target → Type 0
-IsUnready t r target = (Agrees t r → ⊥) ⊎ (lacks_plan r target ≡ true) ⊎ LacksNumbers t (height (plan_tree r target))
+IsUnready t r target = (Agrees t r → ⊥) ⊎ (lacks_generation r target ≡ true) ⊎ LacksNumbers t (height (plan_tree r target))
 
 -- The entries before the n-th, counted from 1, are explained, and with it they are not.
 pub record IsStrange (t : Table) (r : Record) (target : Target) (entries : List Entry) (n : ℕ) : Type 0 where

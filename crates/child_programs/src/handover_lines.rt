@@ -6,7 +6,7 @@ use crate::requests::read_request;
 use std::alloc::{AllocError, Global};
 use std::marker::Model;
 
-/// What is taken at once for the lines of a handover: the longest has 15,102 bytes.
+/// What is taken at once for the lines of a handover: the longest has 15,235 bytes.
 const ROOM: usize = 16_384;
 
 /// What a line is to a handover that is read.

@@ -1,14 +1,14 @@
--- What the value of `--workers` comes to.
+-- What the value of an option that takes a number comes to.
 use Rattle.std.proofs.Common.{◌≡◌, ◌<◌, ◌^◌, ℕ, List, Option, Some, None, IfSome, refl, ◌∙◌}
 use Rattle.std.specs.Fmt.{decimal}
-use Rattle.command_line.specs.Arguments.{IsWorkers}
+use Rattle.command_line.specs.Arguments.{IsNumber}
 use Rattle.command_line.specs.Number.{Spells}
 
-pub spelled : (text : List ℕ) (number : Option ℕ) → ¬ (number ≡ None) → IfSome number (Spells text) → IsWorkers (Some text) number
+pub spelled : (text : List ℕ) (number : Option ℕ) → ¬ (number ≡ None) → IfSome number (Spells text) → IsNumber (Some text) number
 spelled text None some spells = absurd (some refl)
 spelled text (Some n) some spells = spells
 
-pub not_spelled : (text : List ℕ) (number : Option ℕ) → ((n : ℕ) → ¬ Spells text n) → ¬ IsWorkers (Some text) number
+pub not_spelled : (text : List ℕ) (number : Option ℕ) → ((n : ℕ) → ¬ Spells text n) → ¬ IsNumber (Some text) number
 not_spelled text None none is = is
 not_spelled text (Some n) none is = none n is
 

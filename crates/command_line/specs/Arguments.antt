@@ -16,10 +16,11 @@ use Rattle.command_line.specs.declared.options.AdoptOptions.{AdoptOptions}
 use Rattle.command_line.specs.declared.options.CertifyOptions.{CertifyOptions}
 use Rattle.command_line.specs.declared.options.EnactOptions.{EnactOptions}
 use Rattle.command_line.specs.declared.options.PlanOptions.{PlanOptions}
+use Rattle.command_line.specs.declared.options.ExploreOptions.{ExploreOptions}
 use Rattle.command_line.specs.declared.options.StartOptions.{StartOptions}
 use Rattle.command_line.specs.declared.options.SuperviseOptions.{SuperviseOptions}
 use Rattle.command_line.specs.declared.Request.{Request}
-use Rattle.command_line.specs.declared.Request.TheVariants.{Adopt, Certify, Child, Enact, Explain, Plan, Show, Supervise}
+use Rattle.command_line.specs.declared.Request.TheVariants.{Adopt, Certify, Child, Enact, Explain, Explore, Plan, Show, Supervise}
 use Rattle.command_line.specs.declared.refusal.Refusal.{Refusal}
 use Rattle.command_line.specs.declared.refusal.Refusal.TheVariants.{Usage, Memory}
 
@@ -81,6 +82,17 @@ enact_app = with_rule (with_rule (with_rule (with_start (new_app (codes "enact")
 abbrev pub plan_app : App
 plan_app = with_rule (with_rule (with_start (new_app (codes "plan"))) (flag_rule (codes "dot"))) word_rule
 
+-- those of a start, `[--held ADDRESS] [--list]`
+abbrev pub with_list : App → App
+with_list app = with_rule (with_rule (with_start app) (option_rule (codes "held"))) (flag_rule (codes "list"))
+
+-- `[--events K] [--limit N] [--forbid END]`
+abbrev pub with_runs : App → App
+with_runs app = with_rule (with_rule (with_rule app (option_rule (codes "events"))) (option_rule (codes "limit"))) (option_rule (codes "forbid"))
+
+abbrev pub explore_app : App
+explore_app = with_rule (with_runs (with_list (new_app (codes "explore")))) word_rule
+
 abbrev pub certify_app : App
 certify_app = with_rule (with_start (new_app (codes "certify"))) (option_rule (codes "held"))
 
@@ -110,7 +122,7 @@ bare_app = on_top (λ top. record top {
 
 -- the subcommands to which control words are told
 abbrev pub with_words : App → App
-with_words app = with_subcommand (with_subcommand app enact_app.top) plan_app.top
+with_words app = with_subcommand (with_subcommand (with_subcommand app enact_app.top) plan_app.top) explore_app.top
 
 -- the subcommands that are masters and workers
 abbrev pub with_children : App → App
@@ -140,6 +152,16 @@ pub record Enactment : Type 0 where
 pub record Planning : Type 0 where
   pub start : Start
   pub dot : Bool
+  pub word : Text
+
+-- what `explore` is given
+pub record Exploration : Type 0 where
+  pub start : Start
+  pub held : Option Text
+  pub events : Option ℕ
+  pub limit : Option ℕ
+  pub forbid : Option Text
+  pub list : Bool
   pub word : Text
 
 -- what `certify` is given
@@ -179,6 +201,17 @@ planning_of options = record {
   word = options.word.now;
 }
 
+abbrev pub exploration_of : ExploreOptions → Exploration
+exploration_of options = record {
+  start = start_of options.start;
+  held = option_map (λ text. text.now) options.held;
+  events = options.events;
+  limit = options.limit;
+  forbid = option_map (λ text. text.now) options.forbid;
+  list = options.list;
+  word = options.word.now;
+}
+
 abbrev pub certification_of : CertifyOptions → Certification
 certification_of options = record {
   start = start_of options.start;
@@ -196,11 +229,11 @@ supervision_of options = record {
 
 -- ---- what `clap` finds for a subcommand
 
--- the value of `--workers` is a number, or there is none
-abbrev pub IsWorkers : Option Text → Option ℕ → Type 0
-IsWorkers None None = ⊤
-IsWorkers (Some text) (Some n) = Spells text n
-IsWorkers _ _ = ⊥
+-- the value of an option that takes a number is one, or there is none
+abbrev pub IsNumber : Option Text → Option ℕ → Type 0
+IsNumber None None = ⊤
+IsNumber (Some text) (Some n) = Spells text n
+IsNumber _ _ = ⊥
 
 -- a flag is given where `clap` finds it true
 abbrev pub is_given : Option Text → Bool
@@ -210,7 +243,7 @@ is_given (Some text) = bytes_eq text (codes "true")
 pub record FindsStart (rows : List Row) (start : Start) : Type 0 where
   pub from : start.from ≡ first_of (codes "from") rows
   pub to : start.to ≡ first_of (codes "to") rows
-  pub workers : IsWorkers (first_of (codes "workers") rows) start.workers
+  pub workers : IsNumber (first_of (codes "workers") rows) start.workers
   pub bare : start.bare ≡ is_given (first_of (codes "bare") rows)
   pub why : start.why ≡ is_given (first_of (codes "why") rows)
 
@@ -223,6 +256,15 @@ pub record FindsEnactment (rows : List Row) (values : Enactment) : Type 0 where
 pub record FindsPlanning (rows : List Row) (values : Planning) : Type 0 where
   pub start : FindsStart rows values.start
   pub dot : values.dot ≡ is_given (first_of (codes "dot") rows)
+  pub word : first_of (codes "word") rows ≡ Some values.word
+
+pub record FindsExploration (rows : List Row) (values : Exploration) : Type 0 where
+  pub start : FindsStart rows values.start
+  pub held : values.held ≡ first_of (codes "held") rows
+  pub events : IsNumber (first_of (codes "events") rows) values.events
+  pub limit : IsNumber (first_of (codes "limit") rows) values.limit
+  pub forbid : values.forbid ≡ first_of (codes "forbid") rows
+  pub list : values.list ≡ is_given (first_of (codes "list") rows)
   pub word : first_of (codes "word") rows ≡ Some values.word
 
 pub record FindsCertification (rows : List Row) (values : Certification) : Type 0 where
@@ -250,6 +292,9 @@ AsksEnact arguments values = AsksFor (codes "enact") (λ rows. FindsEnactment ro
 
 abbrev pub AsksPlan : List Text → Planning → Type 0
 AsksPlan arguments values = AsksFor (codes "plan") (λ rows. FindsPlanning rows values) arguments
+
+abbrev pub AsksExplore : List Text → Exploration → Type 0
+AsksExplore arguments values = AsksFor (codes "explore") (λ rows. FindsExploration rows values) arguments
 
 abbrev pub AsksCertify : List Text → Certification → Type 0
 AsksCertify arguments values = AsksFor (codes "certify") (λ rows. FindsCertification rows values) arguments
@@ -280,6 +325,7 @@ Takes arguments = (fault_of prefork_app arguments ≡ []) ⊎ AsksText arguments
 abbrev pub Asks : List Text → Request → Type 0
 Asks arguments (Enact options) = AsksEnact arguments (enactment_of options)
 Asks arguments (Plan options) = AsksPlan arguments (planning_of options)
+Asks arguments (Explore options) = AsksExplore arguments (exploration_of options)
 Asks arguments (Certify options) = AsksCertify arguments (certification_of options)
 Asks arguments (Supervise options) = AsksSupervise arguments (supervision_of options)
 Asks arguments (Adopt options) = AsksAdopt arguments (option_map (λ text. text.now) options.program)
@@ -297,6 +343,7 @@ pub record AsksForNoChild (arguments : List Text) : Type 0 where
 pub record IsUsageFault (arguments : List Text) : Type 0 where
   pub no_enact : (values : Enactment) → ¬ AsksEnact arguments values
   pub no_plan : (values : Planning) → ¬ AsksPlan arguments values
+  pub no_explore : (values : Exploration) → ¬ AsksExplore arguments values
   pub no_certify : (values : Certification) → ¬ AsksCertify arguments values
   pub no_child : AsksForNoChild arguments
   pub no_explain : (code : Option Text) → ¬ AsksExplain arguments code

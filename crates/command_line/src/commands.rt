@@ -2,13 +2,13 @@
 ghost use Rattle.std.specs.Prelude.{◌≡◌, IfOk, false};
 ghost use Rattle.clap.specs.Words.{app_of, rule_of};
 ghost use Rattle.clap.specs.declared.builder.command.Command.TheViews.{out-Command};
-ghost use Rattle.command_line.specs.Arguments.{adopt_app, bare_app, certify_app, child_app, code_rule, enact_app, explain_app, flag_rule, option_rule, plan_app, prefork_app, program_rule, required_rule, supervise_app, with_children, with_files, with_start, with_words, word_rule, words_rule};
+ghost use Rattle.command_line.specs.Arguments.{adopt_app, bare_app, certify_app, child_app, code_rule, enact_app, explain_app, explore_app, flag_rule, option_rule, plan_app, prefork_app, program_rule, required_rule, supervise_app, with_children, with_files, with_list, with_runs, with_start, with_words, word_rule, words_rule};
 
 use crate::help::{
     ADOPT_HELP, ADOPT_NOTES, BARE_HELP, CERTIFY_NOTES, CHILD_NOTES, CODE_HELP, DOT_HELP,
-    ENACT_NOTES, EXPLAIN_NOTES, FROM_HELP, HELD_HELP, PLAN_NOTES, PROGRAM_HELP, PROGRAM_NOTES,
-    STATE_HELP, SUPERVISE_NOTES, TO_HELP, VERBOSE_HELP, WHY_HELP, WORD_HELP, WORDS_HELP,
-    WORKERS_HELP,
+    ENACT_NOTES, EVENTS_HELP, EXPLAIN_NOTES, EXPLORE_NOTES, FORBID_HELP, FROM_HELP, HELD_HELP,
+    LIMIT_HELP, LIST_HELP, PLAN_NOTES, PROGRAM_HELP, PROGRAM_NOTES, STATE_HELP, SUPERVISE_NOTES,
+    TO_HELP, VERBOSE_HELP, WHY_HELP, WORD_HELP, WORDS_HELP, WORKERS_HELP,
 };
 use clap::{Arg, ArgAction, Command};
 use std::alloc::{AllocError, Global};
@@ -38,7 +38,10 @@ fn bare<'a>(alloc: Global) -> Command<'a>
 fn with_words<'a>(alloc: Global, command: Command<'a>) -> Result<Command<'a>, AllocError>
     ensures { IfOk result (λ more. app_of more ≡ with_words (app_of command.entry)) }
 {
-    command.subcommand(enact(alloc)?)?.subcommand(plan(alloc)?)
+    command
+        .subcommand(enact(alloc)?)?
+        .subcommand(plan(alloc)?)?
+        .subcommand(explore(alloc)?)
 }
 
 /// The subcommands that are masters and workers.
@@ -74,6 +77,39 @@ fn plan<'a>(alloc: Global) -> Result<Command<'a>, AllocError>
     with_start(alloc, command)?
         .arg(flag(alloc, "dot", DOT_HELP))?
         .arg(word(alloc))
+}
+
+fn explore<'a>(alloc: Global) -> Result<Command<'a>, AllocError>
+    ensures app { IfOk result (λ command. app_of command ≡ explore_app) }
+    ensures own { IfOk result (λ command. (out-Command command).has_globals ≡ false) }
+{
+    let command = Command::new(alloc, "explore")
+        .about("Carry out a control word under each event that can matter; count how it ends")
+        .after_help(EXPLORE_NOTES);
+    with_runs(alloc, with_list(alloc, command)?)?.arg(word(alloc))
+}
+
+/// The options of each subcommand that starts a master beside somebody else, and `--list`.
+fn with_list<'a>(alloc: Global, command: Command<'a>) -> Result<Command<'a>, AllocError>
+    requires { (out-Command command).has_globals ≡ false }
+    ensures app { IfOk result (λ more. app_of more ≡ with_list (app_of command.entry)) }
+    ensures own { IfOk result (λ more. (out-Command more).has_globals ≡ false) }
+{
+    with_start(alloc, command)?
+        .arg(option(alloc, "held", "ADDRESS", HELD_HELP))?
+        .arg(flag(alloc, "list", LIST_HELP))
+}
+
+/// The options that say which runs are tried, and which end is answered with a status of its own.
+fn with_runs<'a>(alloc: Global, command: Command<'a>) -> Result<Command<'a>, AllocError>
+    requires { (out-Command command).has_globals ≡ false }
+    ensures app { IfOk result (λ more. app_of more ≡ with_runs (app_of command.entry)) }
+    ensures own { IfOk result (λ more. (out-Command more).has_globals ≡ false) }
+{
+    command
+        .arg(option(alloc, "events", "K", EVENTS_HELP))?
+        .arg(option(alloc, "limit", "N", LIMIT_HELP))?
+        .arg(option(alloc, "forbid", "END", FORBID_HELP))
 }
 
 fn supervise<'a>(alloc: Global) -> Result<Command<'a>, AllocError>

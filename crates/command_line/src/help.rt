@@ -50,6 +50,18 @@ pub(crate) const STATE_HELP: &str = "\
 Print the table of processes, files and the service
 after the last block";
 
+pub(crate) const EVENTS_HELP: &str = "\
+How many events a run has at most: 1 [default: 1]";
+
+pub(crate) const LIMIT_HELP: &str = "\
+Stop after that many runs, and say so";
+
+pub(crate) const FORBID_HELP: &str = "\
+With 'degraded': end with status 4 where a run ended so";
+
+pub(crate) const LIST_HELP: &str = "\
+Print each run: its pattern and its report";
+
 pub(crate) const DOT_HELP: &str = "Draw the plan for Graphviz: the input of `dot`";
 
 pub(crate) const WORDS_HELP: &str = "\
@@ -157,6 +169,19 @@ Exit status: 0, or 2 where there is no such code.
 
 Example: a configuration is refused, and the fault's line ends with C4 workers:
   prefork explain C4";
+
+pub(crate) const EXPLORE_NOTES: &str = "\
+Each run is that of `enact` from the same start: under no event, and under
+each single event. An event is a failure that changes what the call at a place
+is answered, or the exit of a worker that is starting or ready, or of the new
+master before the old one leaves. The output says how many runs ended how, the
+largest shortfall, and for each end the first pattern that leads to it.
+
+Exit status: 0 counted, 1 the word was refused, 2 usage, 4 a run ended
+degraded and --forbid degraded is given.
+
+Example: what is left if any one thing goes wrong during a reload:
+  prefork explore --from a.toml --to b.toml HUP";
 
 pub(crate) const PLAN_NOTES: &str = "\
 The output has a line for each step: its number, the master that makes the

@@ -13,11 +13,12 @@ mod refusal;
 use clap::error::ErrorKind;
 use clap::{ArgMatches, Error};
 pub use options::{
-    AdoptOptions, CertifyOptions, EnactOptions, ExplainOptions, PlanOptions, StartOptions,
-    SuperviseOptions,
+    AdoptOptions, CertifyOptions, EnactOptions, ExplainOptions, ExploreOptions, PlanOptions,
+    StartOptions, SuperviseOptions,
 };
 use options::{
-    adopt_options, certify_options, enact_options, explain_options, plan_options, supervise_options,
+    adopt_options, certify_options, enact_options, explain_options, explore_options, plan_options,
+    supervise_options,
 };
 pub use refusal::Refusal;
 use refusal::UsageFault;
@@ -30,6 +31,8 @@ pub enum Request<'a> {
     Enact(EnactOptions<'a>),
     /// `plan`: show what a control word would do.
     Plan(PlanOptions<'a>),
+    /// `explore`: count how a control word ends whatever goes wrong.
+    Explore(ExploreOptions<'a>),
     /// `certify`: compare blocks with plans and kernel.
     Certify(CertifyOptions<'a>),
     /// `supervise`: run a master and its workers.
@@ -46,7 +49,7 @@ pub enum Request<'a> {
 
 /// Reads the arguments of the process, of which the first is the program's name.
 ///
-/// - `Usage` where `clap` refuses them or the value of `--workers` isn't a decimal number up to
+/// - `Usage` where `clap` refuses them or the value of an option that takes a number isn't a decimal one up to
 ///   4,294,967,295 without leading zeros.
 /// - `Memory` where a growth was refused, in `clap` too.
 pub fn read<'a>(alloc: Global, args: &'a [String]) -> Result<Request<'a>, Refusal>
@@ -97,6 +100,9 @@ fn request_of<'a>(alloc: Global, matches: &ArgMatches<'a>) -> Result<Request<'a>
     }
     if let Some(found) = matches.subcommand_matches("plan") {
         return Ok(Request::Plan(plan_options(found)?));
+    }
+    if let Some(found) = matches.subcommand_matches("explore") {
+        return Ok(Request::Explore(explore_options(found)?));
     }
     if let Some(found) = matches.subcommand_matches("certify") {
         return Ok(Request::Certify(certify_options(found)?));

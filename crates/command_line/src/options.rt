@@ -1,7 +1,7 @@
 //! The options and words of the subcommands, as `clap` found them.
-ghost use Rattle.std.specs.Prelude.{◌≡◌, IfErr, IfOk, IsErrOf, Option, ℕ, codes, option_map};
+ghost use Rattle.std.specs.Prelude.{◌≡◌, IfErr, IfOk, IsErrOf, Option, None, Some, ℕ, codes, option_map};
 ghost use Rattle.clap.specs.Words.{first_of, found_of, rows_of};
-ghost use Rattle.command_line.specs.Arguments.{Certification, Enactment, FindsCertification, FindsEnactment, FindsPlanning, FindsStart, FindsSupervision, IsWorkers, Planning, Start, Supervision, certification_of, enactment_of, is_given, planning_of, start_of, supervision_of};
+ghost use Rattle.command_line.specs.Arguments.{Certification, Enactment, Exploration, FindsCertification, FindsEnactment, FindsExploration, FindsPlanning, FindsStart, FindsSupervision, IsNumber, Planning, Start, Supervision, certification_of, enactment_of, exploration_of, is_given, planning_of, start_of, supervision_of};
 
 use crate::Refusal;
 use crate::refusal::UsageFault;
@@ -46,6 +46,25 @@ pub struct PlanOptions<'a> {
     pub start: StartOptions<'a>,
     /// `--dot`: the plan is drawn for Graphviz.
     pub dot: bool,
+    /// The control word.
+    pub word: &'a str,
+}
+
+/// The options and the word of `explore`.
+#[derive(Clone, Copy)]
+pub struct ExploreOptions<'a> {
+    /// How the master starts.
+    pub start: StartOptions<'a>,
+    /// `--held`: an address that a foreign process holds.
+    pub held: Option<&'a str>,
+    /// `--events`: how many events a run has at most. Without it one.
+    pub events: Option<u32>,
+    /// `--limit`: how many runs there are at most. Without it as many as it takes.
+    pub limit: Option<u32>,
+    /// `--forbid`: the end that is to be answered with a status of its own.
+    pub forbid: Option<&'a str>,
+    /// `--list`: each run is printed.
+    pub list: bool,
     /// The control word.
     pub word: &'a str,
 }
@@ -129,6 +148,39 @@ pub(crate) fn plan_options<'a>(found: &ArgMatches<'a>) -> Result<PlanOptions<'a>
     }
 }
 
+/// The options of `explore`, unless `--workers`, `--events` or `--limit` has no number.
+pub(crate) fn explore_options<'a>(found: &ArgMatches<'a>) -> Result<ExploreOptions<'a>, UsageFault>
+    ensures found { IfOk result (λ options.
+        FindsExploration (rows_of (found_of found.now)) (exploration_of options)) }
+    ensures usage { IfErr result (λ _. (values : Exploration)
+        → ¬ FindsExploration (rows_of (found_of found.now)) values) }
+{
+    let start = start_options(found)?;
+    let events = number_of(found, "events")?;
+    let limit = number_of(found, "limit")?;
+    let address = text_of(found, "held");
+    Ok(ExploreOptions {
+        start,
+        held: address,
+        events,
+        limit,
+        forbid: text_of(found, "forbid"),
+        list: has_flag(found, "list"),
+        word: word_of(found)?,
+    })
+}
+
+/// The control word, which must be there.
+fn word_of<'a>(found: &ArgMatches<'a>) -> Result<&'a str, UsageFault>
+    ensures found { IfOk result (λ word. first_of (codes "word") (rows_of (found_of found.now)) ≡ Some word.now) }
+    ensures usage { IfErr result (λ _. first_of (codes "word") (rows_of (found_of found.now)) ≡ None) }
+{
+    match text_of(found, "word") {
+        Some(word) => Ok(word),
+        None => Err(UsageFault),
+    }
+}
+
 /// The options of `certify`, unless `--workers` has no number.
 pub(crate) fn certify_options<'a>(found: &ArgMatches<'a>) -> Result<CertifyOptions<'a>, UsageFault>
     ensures found { IfOk result (λ options.
@@ -188,7 +240,7 @@ fn start_options<'a>(found: &ArgMatches<'a>) -> Result<StartOptions<'a>, UsageFa
     ensures usage { IfErr result (λ _. (values : Start)
         → ¬ FindsStart (rows_of (found_of found.now)) values) }
 {
-    let workers = workers_of(found)?;
+    let workers = number_of(found, "workers")?;
     Ok(StartOptions {
         from: text_of(found, "from"),
         to: text_of(found, "to"),
@@ -215,12 +267,13 @@ fn has_flag(found: &ArgMatches<'_>, id: &str) -> bool
     }
 }
 
-fn workers_of(found: &ArgMatches<'_>) -> Result<Option<u32>, UsageFault>
-    ensures found { IfOk result (IsWorkers (first_of (codes "workers") (rows_of (found_of found.now)))) }
-    ensures usage { IfErr result (λ _. (workers : Option ℕ)
-        → ¬ IsWorkers (first_of (codes "workers") (rows_of (found_of found.now))) workers) }
+/// The value of an option that takes a number, if it is given.
+fn number_of(found: &ArgMatches<'_>, id: &str) -> Result<Option<u32>, UsageFault>
+    ensures found { IfOk result (IsNumber (first_of id.now (rows_of (found_of found.now)))) }
+    ensures usage { IfErr result (λ _. (number : Option ℕ)
+        → ¬ IsNumber (first_of id.now (rows_of (found_of found.now))) number) }
 {
-    match text_of(found, "workers") {
+    match text_of(found, id) {
         None => Ok(None),
         Some(text) => match read_number(text.as_bytes()) {
             None => Err(UsageFault),

@@ -116,18 +116,6 @@ lacks_generation r (target.Reload s) = is_none (next_config r.generation)
 lacks_generation r (target.Upgrade s) = is_none (next_image r.generation)
 lacks_generation r (target.Stop quick) = false
 
--- an upgrade of several groups, which no handover can tell yet
-abbrev pub is_grouped_upgrade : Target → Bool
-is_grouped_upgrade (target.Upgrade s) = not (length s.groups == 1)
-is_grouped_upgrade (target.Workers n) = false
-is_grouped_upgrade (target.Mend overdue) = false
-is_grouped_upgrade target.Reopen = false
-is_grouped_upgrade (target.Reload s) = false
-is_grouped_upgrade (target.Stop quick) = false
-
-abbrev pub lacks_plan : Record → Target → Bool
-lacks_plan r t = is_grouped_upgrade t || lacks_generation r t
-
 -- the service of new settings
 abbrev pub renewed : Settings → Posts → Option (List Listener) → Option Generation → Option Setup
 renewed s posts None g = None

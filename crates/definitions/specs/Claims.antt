@@ -216,13 +216,13 @@ pub record HasDescriptors (t : Table) (r : Record) : Type 0 where
   pub descriptors : RisesFrom 3 (map (λ (l : Listener). l.descriptor) r.listeners)
   pub limit : t.limits.descriptors ≤ 64
 
--- What is asked of the start, beside that it is one: of the target, an upgrade's having one group, and of the pattern, which must not name an executing master.
+-- What is asked beside a start: of the target, and of the pattern, which must not name an executing master.
 abbrev pub Accepts : Table → Record → Target → Type 0
 Accepts t r (Workers n) = n ≤ 1024
 Accepts t r (Mend overdue) = ⊤
 Accepts t r Reopen = ⊤
 Accepts t r (Reload s) = IsInRange s × HasDescriptors t r × (is_some (next_config r.generation) ≡ true)
-Accepts t r (Upgrade s) = (length s.groups ≡ 1) × IsInRange s × HasDescriptors t r × (is_some (next_image r.generation) ≡ true)
+Accepts t r (Upgrade s) = IsInRange s × HasDescriptors t r × (is_some (next_image r.generation) ≡ true)
 Accepts t r (Stop quick) = ⊤
 
 pub record IsAccepted (t : Table) (r : Record) (target : Target) (pattern : Pattern) : Type 0 where

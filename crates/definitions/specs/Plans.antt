@@ -6,7 +6,7 @@ use Rattle.definitions.specs.Calls.{Call, OpenAt, CloseAt, AwaitReady, Quit, Kil
 use Rattle.definitions.specs.Crew.{Crew, fork_of}
 use Rattle.definitions.specs.Record.{Record, PidNote, InPlace, AtOldbin, OldbinLeft, Left, NoFile, oldbin, addresses_of, crew_of}
 use Rattle.definitions.specs.Target.{Target, Workers, Mend, Reopen, Reload, Upgrade, Stop, only_in}
-use Rattle.definitions.specs.After.{crew_wanted, lacks_plan}
+use Rattle.definitions.specs.After.{crew_wanted, lacks_generation}
 use Rattle.definitions.specs.Tree.{Reply, plain_reply, replies_to, Side, End, Done, RolledBack, ShortOld, ShortTarget, Make, ForkLacking, AwaitLacking, KillLacking, Tree, Branches, Ends, Does, Nothing, Branch}
 use Rattle.vocabulary.specs.declared.plans.Side.TheVariants as side
 use Rattle.vocabulary.specs.declared.calls.Reply.TheVariants as reply
@@ -292,7 +292,6 @@ plan_tree r (Upgrade s) =
     upgrade_tree r.generation.image (crew_of r) (crew_wanted r (Upgrade s)) r.ready r.retries r.pid_path r.note (addresses_of r) s.listeners s.workers
 plan_tree r (Stop quick) = stop_tree r.generation.image r.generation r.ready r.pid_path r.note quick
 
--- The plan of a target for a running master. There is none for an upgrade of several groups, nor where a number of the target's
--- generation would pass its limit.
+-- The plan of a target for a running master. There is none where a number of the target's generation would pass its limit.
 abbrev pub planned : Record → Target → Option Tree
-planned r target = if lacks_plan r target then None else Some (plan_tree r target)
+planned r target = if lacks_generation r target then None else Some (plan_tree r target)

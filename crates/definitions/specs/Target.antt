@@ -88,7 +88,7 @@ handover_of r s = record {
   generation = upgrade_generation r.generation;
   listeners = r.listeners;
   want = s.listeners;
-  workers = s.workers;
+  groups = s.groups;
   pid_file = r.pid_path;
 }
 

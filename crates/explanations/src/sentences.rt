@@ -210,7 +210,7 @@ of the groups before it count: all addresses are different.",
     Explanation {
         code: "H1",
         meaning: "the handover is of another version",
-        remedy: "Its first line is not 'handover 1'.",
+        remedy: "Its first line is neither 'handover 1' nor 'handover 2'.",
     },
     Explanation {
         code: "H2",
@@ -241,7 +241,7 @@ pipe was closed.",
 ];
 
 /// The others: those of plans, words, workers and texts.
-pub const WORDS: [Explanation; 24] = [
+pub const WORDS: [Explanation; 23] = [
     Explanation {
         code: "P1",
         meaning: "the plan would have more than 65,536 steps",
@@ -256,13 +256,6 @@ pub const WORDS: [Explanation; 24] = [
         code: "P3",
         meaning: "the number of the next configuration or image would pass 4,294,967,295",
         remedy: "Each HUP takes one, and each USR2 one of both. Start the master anew.",
-    },
-    Explanation {
-        code: "P4",
-        meaning: "a new executable cannot take over a service of several groups yet",
-        remedy: "\
-This version can hand over to one group alone. HUP goes over to the groups
-without a new executable; a stop and a start brings both. Nothing was changed.",
     },
     Explanation {
         code: "W1",
@@ -323,7 +316,7 @@ and start it anew.",
     Explanation {
         code: "E3",
         meaning: "there is no plan",
-        remedy: "Why follows the code: P3 or P4. Nothing was changed.",
+        remedy: "Why follows the code: P3. Nothing was changed.",
     },
     Explanation {
         code: "E4",

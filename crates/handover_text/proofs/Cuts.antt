@@ -6,8 +6,8 @@ use Rattle.std.proofs.lemmas.Result.{IfOk-at_ok}
 use Rattle.std.proofs.lemmas.List.Splits.{length-slice_split}
 use Rattle.vocabulary.specs.declared.handover.HandoverRefusal.{HandoverRefusal}
 use Rattle.vocabulary.specs.declared.handover.HandoverRefusal.TheVariants as refusal
-use Rattle.definitions.specs.Handover.{Handover, Reached, AtVersion, AtOldPid, AtGeneration, AtFirstListener, AtListeners, AtWants, AtPidFile, AtEnd, Over, Read, nothing_read, read_line, then_read, read_rest, read_pieces, reading, spelling}
-use Rattle.handover_text.specs.Ranges.{IsHandover}
+use Rattle.definitions.specs.Handover.{Handover, HandoverVersion, Reached, AtVersion, AtOldPid, AtGeneration, AtFirstListener, AtListeners, AtWants, AtGroup, AtPidFile, AtEnd, Over, Read, nothing_read, read_line, then_read, read_rest, read_pieces, reading, spelled}
+use Rattle.handover_text.specs.Ranges.{IsHandover, IsTold, IsSpelling}
 use Rattle.handover_text.proofs.SoFar.{is_newline, reading_in_range}
 use Rattle.handover_text.proofs.Spelled.{spelling-reading}
 use Rattle.handover_text.proofs.Taken.{reading-spelling, spellings_apart}
@@ -65,17 +65,18 @@ kept_itself refusal.Trailing = refl
 
 rest_kept : (n : ℕ) (place : Reached) (h : Handover) (rest : List ℕ) (zs : List (List ℕ)) → IsKept (read_rest place h rest) (read_pieces n place h (joined (rest ∷ []) zs))
 rest_kept n AtVersion h rest zs = tt
-rest_kept n AtOldPid h rest zs = tt
-rest_kept n AtGeneration h rest zs = tt
-rest_kept n AtFirstListener h rest zs = tt
-rest_kept n AtListeners h rest zs = tt
+rest_kept n (AtOldPid version) h rest zs = tt
+rest_kept n (AtGeneration version) h rest zs = tt
+rest_kept n (AtFirstListener version) h rest zs = tt
+rest_kept n (AtListeners version) h rest zs = tt
 rest_kept n AtWants h rest zs = tt
+rest_kept n (AtGroup g) h rest zs = tt
 rest_kept n AtPidFile h rest zs = tt
-rest_kept n AtEnd h rest zs = tt
-rest_kept n Over h [] zs = tt
-rest_kept n Over h (c ∷ cs) [] = refl
-rest_kept n Over h (c ∷ cs) (z ∷ []) = refl
-rest_kept n Over h (c ∷ cs) (z ∷ y ∷ zs) = refl
+rest_kept n (AtEnd version) h rest zs = tt
+rest_kept n (Over version) h [] zs = tt
+rest_kept n (Over version) h (c ∷ cs) [] = refl
+rest_kept n (Over version) h (c ∷ cs) (z ∷ []) = refl
+rest_kept n (Over version) h (c ∷ cs) (z ∷ y ∷ zs) = refl
 
 line_joined : (n : ℕ) (place : Reached) (h : Handover) (line next : List ℕ) (more zs : List (List ℕ)) → read_pieces n place h (line ∷ joined (next ∷ more) zs) ≡ then_read (read_line n place h line) (λ place' h'. read_pieces (n + 1) place' h' (joined (next ∷ more) zs))
 line_joined n place h line next [] [] = refl
@@ -99,14 +100,15 @@ reading_kept a b =
     (λ x xs e. pieces_kept 1 AtVersion nothing_read x xs (slice_split is_newline b)))
 
 -- A text that ends before its end is a cut.
-pub cut_short : (told : Handover) (start : List ℕ) (byte : ℕ) (more : List ℕ) → IsHandover told → start ++ byte ∷ more ≡ spelling told → reading start ≡ Err refusal.Cut
-cut_short told start byte more h e =
-    at (reading start) refl (subst (IsKept (reading start)) (ap reading e ∙ reading-spelling told h) (reading_kept start (byte ∷ more)))
+pub cut_short : (version : HandoverVersion) (told : Handover) (start : List ℕ) (byte : ℕ) (more : List ℕ) → IsHandover told → IsTold version told → start ++ byte ∷ more ≡ spelled version told → reading start ≡ Err refusal.Cut
+cut_short version told start byte more h tells e =
+    at (reading start) refl (subst (IsKept (reading start)) (ap reading e ∙ reading-spelling version told h tells) (reading_kept start (byte ∷ more)))
   where
     at : (r : Result Handover HandoverRefusal) → reading start ≡ r → IsKept r (Ok told) → r ≡ Err refusal.Cut
     at (Ok other) is kept =
         let in_range = IfOk-at_ok IsHandover is (reading_in_range start) in
-        let none = (spellings_apart other told (byte ∷ more) in_range h (ap (λ t. t ++ byte ∷ more) (spelling-reading start other is) ∙ e)).0 in
+        let stands = spelling-reading start other is in
+        let none = (spellings_apart stands.version other version told (byte ∷ more) in_range stands.tells h tells (ap (λ t. t ++ byte ∷ more) stands.spelled ∙ e)).0 in
         absurd (omega (arith, ap length none))
     at (Err refusal.Version) is kept = cc
     at (Err (refusal.Line n)) is kept = cc

@@ -7,3 +7,4 @@ pub mod LinesRead
 pub mod SoFar
 pub mod Spelled
 pub mod Taken
+pub mod Begun

@@ -13,7 +13,7 @@ use Rattle.listener_set.specs.AddressList.{has}
 use Rattle.plain_text.proofs.NumberTextLemmas.{decimal-number_of, decimal-number_within}
 use Rattle.vocabulary.specs.declared.table.Listener.{Listener}
 use Rattle.definitions.specs.After.{listens_on}
-use Rattle.definitions.specs.Handover.{Handover, AtListeners, AtWants, passes, is_space, is_address, is_above, listener_if, listener_read, with_listener, with_want}
+use Rattle.definitions.specs.Handover.{Handover, HandoverVersion, Reached, AtListeners, passes, is_space, is_address, is_above, listener_if, listener_read, with_listener, with_want}
 
 ---- Values
 
@@ -44,16 +44,16 @@ address_read text a e = at (check text) refl e
     at (Err refusal) is h = cc
 
 -- an address that is taken up
-pub want_taken : (n : ℕ) (h : Handover) (text a : List ℕ) (new : List (List ℕ)) → reading text ≡ Ok a → has h.want a ≡ false → length h.want < 64 → new ≡ h.want ++ a ∷ [] → Ok (AtWants, record { old_pid = h.old_pid; generation = h.generation; listeners = h.listeners; want = new; workers = h.workers; pid_file = h.pid_file }) ≡ with_want n h text
-want_taken n h text a new e absent room is =
+pub want_taken : (n : ℕ) (place : Reached) (h : Handover) (text a : List ℕ) (new : List (List ℕ)) → reading text ≡ Ok a → has h.want a ≡ false → length h.want < 64 → new ≡ h.want ++ a ∷ [] → Ok (place, record { old_pid = h.old_pid; generation = h.generation; listeners = h.listeners; want = new; groups = h.groups; pid_file = h.pid_file }) ≡ with_want n place h text
+want_taken n place h text a new e absent room is =
     let read = address_read text a e in
     let absent' : has h.want text ≡ false = rw (sym read.0) absent in
     let more : new ≡ h.want ++ text ∷ [] = is ∙ ap (λ b. h.want ++ b ∷ []) read.0 in
     rw (read.1, absent', lt-ltb (length h.want) 64 room, more) refl
 
 -- a listener that is taken up
-pub listener_taken : (n : ℕ) (h : Handover) (o : Option Listener) (l : Listener) (new : List Listener) → o ≡ Some l → is_above l.descriptor h.listeners ≡ true → listens_on h.listeners l.address ≡ false → new ≡ h.listeners ++ l ∷ [] → Ok (AtListeners, record { old_pid = h.old_pid; generation = h.generation; listeners = new; want = h.want; workers = h.workers; pid_file = h.pid_file }) ≡ with_listener n h o
-listener_taken n h o l new read above absent is = rw (read, above, absent, is) refl
+pub listener_taken : (n : ℕ) (version : HandoverVersion) (h : Handover) (o : Option Listener) (l : Listener) (new : List Listener) → o ≡ Some l → is_above l.descriptor h.listeners ≡ true → listens_on h.listeners l.address ≡ false → new ≡ h.listeners ++ l ∷ [] → Ok (AtListeners version, record { old_pid = h.old_pid; generation = h.generation; listeners = new; want = h.want; groups = h.groups; pid_file = h.pid_file }) ≡ with_listener n version h o
+listener_taken n version h o l new read above absent is = rw (read, above, absent, is) refl
 
 -- the path of a file that leaves room for a suffix
 pub file_path_is : (path : List ℕ) → IsFilePath path → length path ≤ 100 → is_path path ≡ true

@@ -1,3 +1,4 @@
 pub mod Listeners
 pub mod Ranges
 pub mod Reader
+pub mod Faults

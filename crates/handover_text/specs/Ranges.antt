@@ -1,20 +1,21 @@
 -- What each handover keeps, and what is read of one so far.
-use Rattle.std.specs.Prelude.{ℕ, ◌≡◌, ◌+◌, ◌≤◌, true, Bool, Option, Some, None, length, ⊤}
+use Rattle.std.specs.Prelude.{ℕ, ◌≡◌, ◌+◌, ◌≤◌, true, Bool, List, [], Option, Some, None, length, ⊤, ◌⊎◌}
 use Rattle.std.specs.List.{list_all}
 use Rattle.listener_set.specs.AddressList.{AreDistinct}
 use Rattle.listener_set.specs.PathText.{is_path}
+use Rattle.listener_set.specs.declared.groups.Group.{Group}
+use Rattle.listener_set.specs.Groups.{AreGroups, addresses_in, group_refused}
 use Rattle.vocabulary.specs.Settings.{HasSuffixRoom}
 use Rattle.definitions.specs.Table.{FilePath}
-use Rattle.definitions.specs.Handover.{Handover, Reached, AtVersion, AtOldPid, AtGeneration, AtFirstListener, AtListeners, AtWants, AtPidFile, AtEnd, Over, is_address}
+use Rattle.definitions.specs.Handover.{Handover, HandoverVersion, One, Two, spelled, Reached, AtVersion, AtOldPid, AtGeneration, AtFirstListener, AtListeners, AtWants, AtGroup, AtPidFile, AtEnd, Over, is_address}
 use Rattle.handover_text.specs.Listeners.{AreListed}
 
--- a process number of at least 1, at least one listener, at least one address that is wanted, at most 1024 workers, and
--- a pid file's path of at most 100 bytes
+-- a process number of at least 1, at least one listener, groups that take all addresses that are wanted, and a pid file's path of
+-- at most 100 bytes
 pub record IsInRange (h : Handover) : Type 0 where
   pub old_pid : 1 ≤ h.old_pid
   pub listens : 1 ≤ length h.listeners
-  pub wants : 1 ≤ length h.want
-  pub workers : h.workers ≤ 1024
+  pub add_up : addresses_in h.groups ≡ length h.want
   pub pid_file : HasSuffixRoom h.pid_file
 
 abbrev pub is_path_if : Option FilePath → Bool
@@ -31,65 +32,109 @@ pub record AreParts (h : Handover) : Type 0 where
   pub wanted : list_all is_address h.want ≡ true
   pub distinct : AreDistinct h.want
   pub most : length h.want ≤ 64
-  pub workers : h.workers ≤ 1024
   pub path : is_path_if h.pid_file ≡ true
 
 -- Every handover is so.
 pub record IsHandover (h : Handover) : Type 0 where
   pub parts : AreParts h
   pub in_range : IsInRange h
+  pub groups : AreGroups h.groups
+
+-- Version 1 tells of one group.
+abbrev pub IsTold : HandoverVersion → Handover → Type 0
+IsTold One h = length h.groups ≡ 1
+IsTold Two h = ⊤
+
+-- The text is the spelling of a handover in one of the versions.
+pub record IsSpelling (text : List ℕ) (told : Handover) : Type 0 where
+  pub version : HandoverVersion
+  pub tells : IsTold version told
+  pub spelled : spelled version told ≡ text
 
 ---- What is read so far
 
--- how many lines there are up to a place, besides listeners and wanted addresses
+-- how many lines there are up to a place, besides listeners, groups and wanted addresses
 abbrev pub lines_to : Reached → ℕ
 lines_to AtVersion = 1
-lines_to AtOldPid = 2
-lines_to AtGeneration = 3
-lines_to AtFirstListener = 4
-lines_to AtListeners = 4
+lines_to (AtOldPid version) = 2
+lines_to (AtGeneration version) = 3
+lines_to (AtFirstListener version) = 4
+lines_to (AtListeners version) = 4
 lines_to AtWants = 4
+lines_to (AtGroup g) = 5
 lines_to AtPidFile = 5
-lines_to AtEnd = 6
-lines_to Over = 7
+lines_to (AtEnd version) = 6
+lines_to (Over version) = 7
 
 abbrev pub HasPid : Reached → Handover → Type 0
 HasPid AtVersion h = ⊤
-HasPid AtOldPid h = ⊤
-HasPid AtGeneration h = 1 ≤ h.old_pid
-HasPid AtFirstListener h = 1 ≤ h.old_pid
-HasPid AtListeners h = 1 ≤ h.old_pid
+HasPid (AtOldPid version) h = ⊤
+HasPid (AtGeneration version) h = 1 ≤ h.old_pid
+HasPid (AtFirstListener version) h = 1 ≤ h.old_pid
+HasPid (AtListeners version) h = 1 ≤ h.old_pid
 HasPid AtWants h = 1 ≤ h.old_pid
+HasPid (AtGroup g) h = 1 ≤ h.old_pid
 HasPid AtPidFile h = 1 ≤ h.old_pid
-HasPid AtEnd h = 1 ≤ h.old_pid
-HasPid Over h = 1 ≤ h.old_pid
+HasPid (AtEnd version) h = 1 ≤ h.old_pid
+HasPid (Over version) h = 1 ≤ h.old_pid
 
 abbrev pub HasListener : Reached → Handover → Type 0
-HasListener AtVersion h = ⊤
-HasListener AtOldPid h = ⊤
-HasListener AtGeneration h = ⊤
-HasListener AtFirstListener h = ⊤
-HasListener AtListeners h = 1 ≤ length h.listeners
+HasListener AtVersion h = h.listeners ≡ []
+HasListener (AtOldPid version) h = h.listeners ≡ []
+HasListener (AtGeneration version) h = h.listeners ≡ []
+HasListener (AtFirstListener version) h = h.listeners ≡ []
+HasListener (AtListeners version) h = 1 ≤ length h.listeners
 HasListener AtWants h = 1 ≤ length h.listeners
+HasListener (AtGroup g) h = 1 ≤ length h.listeners
 HasListener AtPidFile h = 1 ≤ length h.listeners
-HasListener AtEnd h = 1 ≤ length h.listeners
-HasListener Over h = 1 ≤ length h.listeners
+HasListener (AtEnd version) h = 1 ≤ length h.listeners
+HasListener (Over version) h = 1 ≤ length h.listeners
 
-abbrev pub HasWant : Reached → Handover → Type 0
-HasWant AtVersion h = ⊤
-HasWant AtOldPid h = ⊤
-HasWant AtGeneration h = ⊤
-HasWant AtFirstListener h = ⊤
-HasWant AtListeners h = ⊤
-HasWant AtWants h = 1 ≤ length h.want
-HasWant AtPidFile h = 1 ≤ length h.want
-HasWant AtEnd h = 1 ≤ length h.want
-HasWant Over h = 1 ≤ length h.want
+-- nothing of what is wanted was read
+abbrev pub IsUnasked : Handover → Type 0
+IsUnasked h = (h.want ≡ []) × (h.groups ≡ [])
+
+-- A group was begun behind others, so many of whose addresses were read, and one with an address can stand there.
+pub record IsBegun (g : Group) (h : Handover) : Type 0 where
+  pub before : (h.groups ≡ []) ⊎ AreGroups h.groups
+  pub counts : addresses_in h.groups + g.addresses ≡ length h.want
+  pub fits : group_refused h.groups (record { addresses = 1; workers = g.workers }) ≡ None
+
+-- all that is wanted was read
+pub record IsAsked (version : HandoverVersion) (h : Handover) : Type 0 where
+  pub groups : AreGroups h.groups
+  pub add_up : addresses_in h.groups ≡ length h.want
+  pub tells : IsTold version h
+
+abbrev pub HasGroups : Reached → Handover → Type 0
+HasGroups AtVersion h = IsUnasked h
+HasGroups (AtOldPid version) h = IsUnasked h
+HasGroups (AtGeneration version) h = IsUnasked h
+HasGroups (AtFirstListener version) h = IsUnasked h
+HasGroups (AtListeners version) h = IsUnasked h
+HasGroups AtWants h = h.groups ≡ []
+HasGroups (AtGroup g) h = IsBegun g h
+HasGroups AtPidFile h = IsAsked One h
+HasGroups (AtEnd version) h = IsAsked version h
+HasGroups (Over version) h = IsAsked version h
+
+abbrev pub HasNoPath : Reached → Handover → Type 0
+HasNoPath AtVersion h = h.pid_file ≡ None
+HasNoPath (AtOldPid version) h = h.pid_file ≡ None
+HasNoPath (AtGeneration version) h = h.pid_file ≡ None
+HasNoPath (AtFirstListener version) h = h.pid_file ≡ None
+HasNoPath (AtListeners version) h = h.pid_file ≡ None
+HasNoPath AtWants h = h.pid_file ≡ None
+HasNoPath (AtGroup g) h = h.pid_file ≡ None
+HasNoPath AtPidFile h = h.pid_file ≡ None
+HasNoPath (AtEnd version) h = ⊤
+HasNoPath (Over version) h = ⊤
 
 -- the line of that number can come next, where so much of a handover was read
 pub record IsReadTo (number : ℕ) (place : Reached) (h : Handover) : Type 0 where
   pub parts : AreParts h
-  pub count : number ≤ lines_to place + length h.listeners + length h.want
+  pub count : number ≤ lines_to place + length h.listeners + length h.groups + length h.want
   pub pid : HasPid place h
   pub listener : HasListener place h
-  pub want : HasWant place h
+  pub groups : HasGroups place h
+  pub no_path : HasNoPath place h

@@ -1,5 +1,6 @@
 //! The values in a line of a handover.
 ghost use Rattle.std.specs.Prelude.{◌≡◌, None, Some, MatchOption};
+ghost use Rattle.plain_text.specs.NumberText.{number_within};
 ghost use Rattle.definitions.specs.Handover.{after_prefix, listener_read};
 
 use listener_set::Address;
@@ -26,4 +27,11 @@ pub(crate) fn read_listener(rest: &[u8]) -> Option<Listener>
         descriptor,
         address,
     })
+}
+
+/// A number of workers.
+pub(crate) fn read_workers(rest: &[u8]) -> Option<u32>
+    ensures { result ≡ number_within 0 1024 rest.now }
+{
+    number_within(rest, 0, 1024)
 }

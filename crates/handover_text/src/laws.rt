@@ -1,15 +1,21 @@
 //! What holds of the texts of handovers.
 ghost use Rattle.std.specs.Prelude.{◌≡◌, ◌++◌, ◌∷◌, [], ℕ, List, Ok, Err, IfOk};
-ghost use Rattle.definitions.specs.Handover.{Handover as Told, reading, spelling};
+ghost use Rattle.definitions.specs.Handover.{Handover as Told, HandoverVersion as Version, reading, spelled};
 ghost use Rattle.vocabulary.specs.declared.handover.HandoverRefusal.{HandoverRefusal};
-ghost use Rattle.handover_text.specs.Ranges.{IsHandover};
+ghost use Rattle.handover_text.specs.Ranges.{IsHandover, IsTold, IsSpelling};
+ghost use Rattle.handover_text.specs.Faults.{Begins, lines_before};
 
-/// A handover has one text, and no such text begins another one.
+/// A handover has one text in each version that can tell it, and no such text begins another one, of either version. Where
+/// a line is refused, those before it begin such a text.
 pub fn handovers_have_one_text()
     ensures in_range { (text : List ℕ) → IfOk (reading text) IsHandover }
-    ensures spelled { (text : List ℕ) (told : Told) → reading text ≡ Ok told → spelling told ≡ text }
-    ensures read_back { (told : Told) → IsHandover told → reading (spelling told) ≡ Ok told }
-    ensures trailing { (told : Told) (byte : ℕ) (more : List ℕ) → IsHandover told → reading (spelling told ++ byte ∷ more) ≡ Err HandoverRefusal.Trailing }
-    ensures cut { (told : Told) (start : List ℕ) (byte : ℕ) (more : List ℕ) → IsHandover told → start ++ byte ∷ more ≡ spelling told → reading start ≡ Err HandoverRefusal.Cut }
-    ensures apart { (told other : Told) (more : List ℕ) → IsHandover told → IsHandover other → spelling told ++ more ≡ spelling other → (more ≡ []) × (told ≡ other) }
+    ensures spelled { (text : List ℕ) (told : Told) → reading text ≡ Ok told → IsSpelling text told }
+    ensures read_back { (version : Version) (told : Told) → IsHandover told → IsTold version told → reading (spelled version told) ≡ Ok told }
+    ensures trailing { (version : Version) (told : Told) (byte : ℕ) (more : List ℕ) → IsHandover told → IsTold version told → reading (spelled version told ++ byte ∷ more) ≡ Err HandoverRefusal.Trailing }
+    ensures cut { (version : Version) (told : Told) (start : List ℕ) (byte : ℕ) (more : List ℕ) → IsHandover told → IsTold version told → start ++ byte ∷ more ≡ spelled version told → reading start ≡ Err HandoverRefusal.Cut }
+    ensures apart { (version : Version) (told : Told) (other_version : Version) (other : Told) (more : List ℕ)
+        → IsHandover told → IsTold version told → IsHandover other → IsTold other_version other
+        → spelled version told ++ more ≡ spelled other_version other → (more ≡ []) × (told ≡ other) × (version ≡ other_version) }
+    ensures line { (text : List ℕ) (n : ℕ) → reading text ≡ Err (HandoverRefusal.Line n) → Begins (lines_before n text) }
+    ensures order { (text : List ℕ) (n : ℕ) → reading text ≡ Err (HandoverRefusal.OutOfOrder n) → Begins (lines_before n text) }
 {}

@@ -2,6 +2,7 @@
 #![tactic(auto)]
 
 mod fields;
+mod groups;
 mod handover;
 mod laws;
 mod listeners;

@@ -1,33 +1,36 @@
 //! Reading a handover line by line.
-ghost use Rattle.std.specs.Prelude.{◌≡◌, ℕ, codes};
+ghost use Rattle.std.specs.Prelude.{◌≡◌, ◌≤◌, ℕ, codes};
 ghost use Rattle.plain_text.specs.NumberText.{number_within};
-ghost use Rattle.definitions.specs.Handover.{AtVersion, AtOldPid, AtGeneration, AtFirstListener, AtListeners, AtWants, AtPidFile, AtEnd, Over, nothing_read, read_version, with_old_pid, with_generation, with_listener, with_want, with_workers, with_pid_file, read_end, read_line, read_want, read_listener, listener_read, read_rest};
+ghost use Rattle.definitions.specs.Handover.{AtVersion, AtOldPid, AtGeneration, AtFirstListener, AtListeners, AtWants, AtGroup, AtPidFile, AtEnd, Over, nothing_read, read_version, with_old_pid, with_generation, with_listener, with_want, with_workers, with_group, with_pid_file, one_more, joined, read_end, read_line, read_wanted, read_behind, read_pid_file, listener_read, read_rest};
 ghost use Rattle.handover_text.specs.Ranges.{IsReadTo};
-ghost use Rattle.handover_text.specs.Reader.{read_to};
+ghost use Rattle.handover_text.specs.Reader.{read_to, place_of};
 
-use crate::fields::{after_prefix, read_listener};
+use crate::fields::{after_prefix, read_listener, read_workers};
+use crate::groups::joined;
 use crate::{Handover, Listeners};
-use listener_set::{Address, FilePath, Generation, ListenerSet, MOST_LISTENERS};
-use plain_text::{around, number_within, read_count, read_number};
+use listener_set::{Address, FilePath, Generation, Group, Groups, ListenerSet, MOST_LISTENERS};
+use plain_text::{around, read_count, read_number};
 use std::marker::Model;
-use vocabulary::HandoverRefusal;
+use vocabulary::{HandoverRefusal, HandoverVersion};
 
 /// Which lines can come next.
 #[derive(Clone, Copy, Debug)]
 enum Next {
     Version,
-    OldPid,
-    Generation,
+    OldPid(HandoverVersion),
+    Generation(HandoverVersion),
     /// A listener.
-    FirstListener,
-    /// A listener, or the first address that is wanted.
-    Listeners,
+    FirstListener(HandoverVersion),
+    /// A listener, or the first of what is wanted.
+    Listeners(HandoverVersion),
     /// An address that is wanted, or the workers.
     Wants,
+    /// An address of a group, of which so many were read, or what stands behind a group.
+    Group(Group),
     /// The pid file, or the end.
     PidFile,
-    End,
-    Nothing,
+    End(HandoverVersion),
+    Nothing(HandoverVersion),
 }
 
 /// What was read so far.
@@ -38,17 +41,17 @@ pub(crate) struct Reader {
     generation: Generation,
     listeners: Listeners,
     want: ListenerSet,
-    workers: u32,
+    groups: Option<Groups>,
     pid_file: Option<FilePath>,
 }
 
 impl Model for Reader {
     ghost use Rattle.definitions.specs.Handover.{Reached, Handover as Told};
-    ghost use Rattle.handover_text.specs.Reader.{place_of};
+    ghost use Rattle.handover_text.specs.Reader.{place_of, groups_in};
 
     ghost Value = { Reached × Told };
 
-    ghost view = { λ r. (place_of r.next, record { old_pid = r.old_pid; generation = r.generation; listeners = r.listeners; want = r.want; workers = r.workers; pid_file = r.pid_file }) };
+    ghost view = { λ r. (place_of r.next, record { old_pid = r.old_pid; generation = r.generation; listeners = r.listeners; want = r.want; groups = groups_in r.groups; pid_file = r.pid_file }) };
 }
 
 impl Reader {
@@ -65,7 +68,7 @@ impl Reader {
             },
             listeners: Listeners::new(),
             want: ListenerSet::new(),
-            workers: 0,
+            groups: None,
             pid_file: None,
         }
     }
@@ -73,15 +76,24 @@ impl Reader {
     fn read_version(&mut self, line: &[u8]) -> Result<(), HandoverRefusal>
         ensures { read_to result self.new ≡ read_version self.old.1 line.now }
     {
-        if line != b"handover 1".as_slice() {
+        let version = if line == b"handover 1".as_slice() {
+            HandoverVersion::One
+        } else if line == b"handover 2".as_slice() {
+            HandoverVersion::Two
+        } else {
             return Err(HandoverRefusal::Version);
-        }
-        self.next = Next::OldPid;
+        };
+        self.next = Next::OldPid(version);
         Ok(())
     }
 
-    fn read_old_pid(&mut self, number: u32, line: &[u8]) -> Result<(), HandoverRefusal>
-        ensures { read_to result self.new ≡ read_line number AtOldPid self.old.1 line.now }
+    fn read_old_pid(
+        &mut self,
+        number: u32,
+        version: HandoverVersion,
+        line: &[u8],
+    ) -> Result<(), HandoverRefusal>
+        ensures { read_to result self.new ≡ read_line number (AtOldPid version) self.old.1 line.now }
     {
         let Some(rest) = after_prefix(line, b"old-pid ") else {
             return Err(HandoverRefusal::Line(number));
@@ -90,12 +102,17 @@ impl Reader {
             return Err(HandoverRefusal::Line(number));
         };
         self.old_pid = old_pid;
-        self.next = Next::Generation;
+        self.next = Next::Generation(version);
         Ok(())
     }
 
-    fn read_generation(&mut self, number: u32, line: &[u8]) -> Result<(), HandoverRefusal>
-        ensures { read_to result self.new ≡ read_line number AtGeneration self.old.1 line.now }
+    fn read_generation(
+        &mut self,
+        number: u32,
+        version: HandoverVersion,
+        line: &[u8],
+    ) -> Result<(), HandoverRefusal>
+        ensures { read_to result self.new ≡ read_line number (AtGeneration version) self.old.1 line.now }
     {
         let Some(rest) = after_prefix(line, b"generation ") else {
             return Err(HandoverRefusal::Line(number));
@@ -105,12 +122,17 @@ impl Reader {
             return Err(HandoverRefusal::Line(number));
         };
         self.generation = Generation { image, config };
-        self.next = Next::FirstListener;
+        self.next = Next::FirstListener(version);
         Ok(())
     }
 
-    fn take_listener(&mut self, number: u32, rest: &[u8]) -> Result<(), HandoverRefusal>
-        ensures { read_to result self.new ≡ with_listener number self.old.1 (listener_read rest.now) }
+    fn take_listener(
+        &mut self,
+        number: u32,
+        version: HandoverVersion,
+        rest: &[u8],
+    ) -> Result<(), HandoverRefusal>
+        ensures { read_to result self.new ≡ with_listener number version self.old.1 (listener_read rest.now) }
     {
         let Some(listener) = read_listener(rest) else {
             return Err(HandoverRefusal::Line(number));
@@ -122,12 +144,13 @@ impl Reader {
             return Err(HandoverRefusal::Line(number));
         }
         self.listeners.push(&listener);
-        self.next = Next::Listeners;
+        self.next = Next::Listeners(version);
         Ok(())
     }
 
-    fn take_want(&mut self, number: u32, rest: &[u8]) -> Result<(), HandoverRefusal>
-        ensures { read_to result self.new ≡ with_want number self.old.1 rest.now }
+    /// Takes up an address that is wanted, behind which such lines can come.
+    fn take_want(&mut self, number: u32, next: Next, rest: &[u8]) -> Result<(), HandoverRefusal>
+        ensures { read_to result self.new ≡ with_want number (place_of next) self.old.1 rest.now }
     {
         let Ok(address) = Address::read(rest) else {
             return Err(HandoverRefusal::Line(number));
@@ -136,60 +159,123 @@ impl Reader {
             return Err(HandoverRefusal::Line(number));
         }
         let _ = self.want.add(&address);
-        self.next = Next::Wants;
+        self.next = next;
         Ok(())
     }
 
     fn take_workers(&mut self, number: u32, rest: &[u8]) -> Result<(), HandoverRefusal>
         ensures { read_to result self.new ≡ with_workers number self.old.1 (number_within 0 1024 rest.now) }
     {
-        let Some(workers) = number_within(rest, 0, 1024) else {
+        let Some(workers) = read_workers(rest) else {
             return Err(HandoverRefusal::Line(number));
         };
-        self.workers = workers;
+        let addresses = self.want.len() as u32;
+        let Some(groups) = joined(None, Group { addresses, workers }) else {
+            return Err(HandoverRefusal::Line(number));
+        };
+        self.groups = Some(groups);
         self.next = Next::PidFile;
         Ok(())
     }
 
-    fn take_pid_file(&mut self, number: u32, rest: &[u8]) -> Result<(), HandoverRefusal>
-        ensures { read_to result self.new ≡ with_pid_file number self.old.1 rest.now }
+    /// Begins a group, where one with an address can stand behind the others.
+    fn take_group(&mut self, number: u32, rest: &[u8]) -> Result<(), HandoverRefusal>
+        ensures { read_to result self.new ≡ with_group number self.old.1 (number_within 0 1024 rest.now) }
+    {
+        let Some(workers) = read_workers(rest) else {
+            return Err(HandoverRefusal::Line(number));
+        };
+        let least = Group {
+            addresses: 1,
+            workers,
+        };
+        if joined(self.groups, least).is_none() {
+            return Err(HandoverRefusal::Line(number));
+        }
+        self.next = Next::Group(Group {
+            addresses: 0,
+            workers,
+        });
+        Ok(())
+    }
+
+    fn take_pid_file(
+        &mut self,
+        number: u32,
+        version: HandoverVersion,
+        rest: &[u8],
+    ) -> Result<(), HandoverRefusal>
+        ensures { read_to result self.new ≡ with_pid_file number version self.old.1 rest.now }
     {
         let Ok(path) = FilePath::read(rest) else {
             return Err(HandoverRefusal::Line(number));
         };
         self.pid_file = Some(path);
-        self.next = Next::End;
+        self.next = Next::End(version);
         Ok(())
     }
 
-    fn read_end(&mut self, number: u32, line: &[u8]) -> Result<(), HandoverRefusal>
-        ensures { read_to result self.new ≡ read_end number self.old.1 line.now }
+    fn read_end(
+        &mut self,
+        number: u32,
+        version: HandoverVersion,
+        line: &[u8],
+    ) -> Result<(), HandoverRefusal>
+        ensures { read_to result self.new ≡ read_end number version self.old.1 line.now }
     {
         if line != b"end".as_slice() {
             return Err(HandoverRefusal::Line(number));
         }
-        self.next = Next::Nothing;
+        self.next = Next::Nothing(version);
         Ok(())
     }
 
-    fn read_first_listener(&mut self, number: u32, line: &[u8]) -> Result<(), HandoverRefusal>
-        ensures { read_to result self.new ≡ read_line number AtFirstListener self.old.1 line.now }
+    fn read_first_listener(
+        &mut self,
+        number: u32,
+        version: HandoverVersion,
+        line: &[u8],
+    ) -> Result<(), HandoverRefusal>
+        ensures { read_to result self.new ≡ read_line number (AtFirstListener version) self.old.1 line.now }
     {
         match after_prefix(line, b"listener ") {
-            Some(rest) => self.take_listener(number, rest),
+            Some(rest) => self.take_listener(number, version, rest),
             None => Err(HandoverRefusal::Line(number)),
         }
     }
 
-    fn read_listeners(&mut self, number: u32, line: &[u8]) -> Result<(), HandoverRefusal>
-        ensures { read_to result self.new ≡ read_line number AtListeners self.old.1 line.now }
+    /// The first line of what is wanted.
+    fn read_wanted(
+        &mut self,
+        number: u32,
+        version: HandoverVersion,
+        line: &[u8],
+    ) -> Result<(), HandoverRefusal>
+        ensures { read_to result self.new ≡ read_wanted number version self.old.1 line.now }
     {
-        if let Some(rest) = after_prefix(line, b"listener ") {
-            return self.take_listener(number, rest);
+        match version {
+            HandoverVersion::One => match after_prefix(line, b"want ") {
+                Some(rest) => self.take_want(number, Next::Wants, rest),
+                None => Err(HandoverRefusal::Line(number)),
+            },
+            HandoverVersion::Two => match after_prefix(line, b"group ") {
+                Some(rest) => self.take_group(number, rest),
+                None => Err(HandoverRefusal::Line(number)),
+            },
         }
-        match after_prefix(line, b"want ") {
-            Some(rest) => self.take_want(number, rest),
-            None => Err(HandoverRefusal::Line(number)),
+    }
+
+    fn read_listeners(
+        &mut self,
+        number: u32,
+        version: HandoverVersion,
+        line: &[u8],
+    ) -> Result<(), HandoverRefusal>
+        ensures { read_to result self.new ≡ read_line number (AtListeners version) self.old.1 line.now }
+    {
+        match after_prefix(line, b"listener ") {
+            Some(rest) => self.take_listener(number, version, rest),
+            None => self.read_wanted(number, version, line),
         }
     }
 
@@ -197,7 +283,7 @@ impl Reader {
         ensures { read_to result self.new ≡ read_line number AtWants self.old.1 line.now }
     {
         if let Some(rest) = after_prefix(line, b"want ") {
-            return self.take_want(number, rest);
+            return self.take_want(number, Next::Wants, rest);
         }
         match after_prefix(line, b"workers ") {
             Some(rest) => self.take_workers(number, rest),
@@ -205,29 +291,64 @@ impl Reader {
         }
     }
 
-    fn read_pid_file(&mut self, number: u32, line: &[u8]) -> Result<(), HandoverRefusal>
-        ensures { read_to result self.new ≡ read_line number AtPidFile self.old.1 line.now }
+    fn read_pid_file(
+        &mut self,
+        number: u32,
+        version: HandoverVersion,
+        line: &[u8],
+    ) -> Result<(), HandoverRefusal>
+        ensures { read_to result self.new ≡ read_pid_file number version self.old.1 line.now }
     {
         match after_prefix(line, b"pid-file ") {
-            Some(rest) => self.take_pid_file(number, rest),
-            None => self.read_end(number, line),
+            Some(rest) => self.take_pid_file(number, version, rest),
+            None => self.read_end(number, version, line),
         }
+    }
+
+    /// A line behind the last address of a group.
+    fn read_behind(&mut self, number: u32, group: Group, line: &[u8]) -> Result<(), HandoverRefusal>
+        ensures { read_to result self.new ≡ read_behind number self.old.1 (joined self.old.1.groups group) line.now }
+    {
+        let Some(groups) = joined(self.groups, group) else {
+            return Err(HandoverRefusal::Line(number));
+        };
+        self.groups = Some(groups);
+        match after_prefix(line, b"group ") {
+            Some(rest) => self.take_group(number, rest),
+            None => self.read_pid_file(number, HandoverVersion::Two, line),
+        }
+    }
+
+    fn read_group(&mut self, number: u32, group: Group, line: &[u8]) -> Result<(), HandoverRefusal>
+        requires { group.addresses ≤ MOST_LISTENERS }
+        ensures { read_to result self.new ≡ read_line number (AtGroup group) self.old.1 line.now }
+    {
+        let Some(rest) = after_prefix(line, b"want ") else {
+            return self.read_behind(number, group, line);
+        };
+        let with_it = Group {
+            addresses: group.addresses + 1,
+            workers: group.workers,
+        };
+        self.take_want(number, Next::Group(with_it), rest)
     }
 
     /// Reads the line of a number, counted from 1, without its newline.
     pub(crate) fn read_line(&mut self, number: u32, line: &[u8]) -> Result<(), HandoverRefusal>
+        requires { IsReadTo number self.old.0 self.old.1 }
         ensures { read_to result self.new ≡ read_line number self.old.0 self.old.1 line.now }
     {
         match self.next {
             Next::Version => self.read_version(line),
-            Next::OldPid => self.read_old_pid(number, line),
-            Next::Generation => self.read_generation(number, line),
-            Next::FirstListener => self.read_first_listener(number, line),
-            Next::Listeners => self.read_listeners(number, line),
+            Next::OldPid(version) => self.read_old_pid(number, version, line),
+            Next::Generation(version) => self.read_generation(number, version, line),
+            Next::FirstListener(version) => self.read_first_listener(number, version, line),
+            Next::Listeners(version) => self.read_listeners(number, version, line),
             Next::Wants => self.read_wants(number, line),
-            Next::PidFile => self.read_pid_file(number, line),
-            Next::End => self.read_end(number, line),
-            Next::Nothing => Err(HandoverRefusal::Trailing),
+            Next::Group(group) => self.read_group(number, group, line),
+            Next::PidFile => self.read_pid_file(number, HandoverVersion::One, line),
+            Next::End(version) => self.read_end(number, version, line),
+            Next::Nothing(_) => Err(HandoverRefusal::Trailing),
         }
     }
 
@@ -236,18 +357,21 @@ impl Reader {
         requires { (number : ℕ) × IsReadTo number self.0 self.1 }
         ensures { result ≡ read_rest self.0 self.1 rest.now }
     {
-        let Next::Nothing = self.next else {
+        let Next::Nothing(_) = self.next else {
             return Err(HandoverRefusal::Cut);
         };
         if !rest.is_empty() {
             return Err(HandoverRefusal::Trailing);
         }
+        let Some(groups) = self.groups else {
+            unreachable!();
+        };
         Ok(Handover {
             old_pid: self.old_pid,
             generation: self.generation,
             listeners: self.listeners,
             want: self.want,
-            workers: self.workers,
+            groups,
             pid_file: self.pid_file,
         })
     }

@@ -1,15 +1,16 @@
 //! Writing a handover.
 ghost use Rattle.std.specs.Prelude.{◌≡◌, ◌≤◌, ◌++◌, ◌∷◌, true, Ok, length, codes, IfOk};
+ghost use Rattle.listener_set.specs.Groups.{AreGroups, addresses_in};
 ghost use Rattle.std.specs.Fmt.{decimal};
 ghost use Rattle.std.specs.List.{flat_map, list_all};
 ghost use Rattle.listener_set.specs.AddressList.{AreDistinct};
 ghost use Rattle.vocabulary.specs.Settings.{HasSuffixRoom};
-ghost use Rattle.definitions.specs.Handover.{line_of, listener_line, want_line, pid_file_line, spelling, reading, is_address};
+ghost use Rattle.definitions.specs.Handover.{line_of, listener_line, want_line, group_line, group_lines, pid_file_line, spelling, reading, is_address};
 ghost use Rattle.handover_text.specs.Listeners.{AreListed};
 ghost use Rattle.handover_text.specs.Ranges.{is_path_if};
 
 use crate::{Handover, Listeners};
-use listener_set::{Address, FilePath, Generation, ListenerSet};
+use listener_set::{Address, FilePath, Generation, Group, Groups, ListenerSet};
 use plain_text::write_number;
 use std::alloc::{AllocError, Global};
 use vocabulary::Listener;
@@ -71,15 +72,44 @@ fn put_want(text: &mut Vec<u8>, address: &Address) -> Result<(), AllocError>
     text.extend_from_slice(b"\n")
 }
 
-fn put_wants(text: &mut Vec<u8>, addresses: &ListenerSet) -> Result<(), AllocError>
+fn put_wants(text: &mut Vec<u8>, addresses: &[Address]) -> Result<(), AllocError>
     ensures lines { IfOk result (λ _. text.new.items ≡ text.old.items ++ flat_map want_line addresses.now) }
     ensures addresses { IfOk result (λ _. list_all is_address addresses.now ≡ true) }
+{
+    for address in addresses {
+        put_want(text, address)?;
+    }
+    Ok(())
+}
+
+/// A group, with its addresses.
+fn put_group(text: &mut Vec<u8>, group: Group, addresses: &[Address]) -> Result<(), AllocError>
+    ensures lines { IfOk result (λ _. text.new.items ≡ text.old.items ++ group_line group.workers ++ flat_map want_line addresses.now) }
+    ensures addresses { IfOk result (λ _. list_all is_address addresses.now ≡ true) }
+{
+    put_numbered(text, b"group ", group.workers)?;
+    put_wants(text, addresses)
+}
+
+/// Groups, each of which takes the next so many addresses.
+fn put_groups(
+    text: &mut Vec<u8>,
+    groups: &Groups,
+    addresses: &ListenerSet,
+) -> Result<(), AllocError>
+    requires { addresses_in groups.now ≡ length addresses.now }
+    ensures lines { IfOk result (λ _. text.new.items ≡ text.old.items ++ group_lines groups.now addresses.now) }
+    ensures addresses { IfOk result (λ _. list_all is_address addresses.now ≡ true) }
+    ensures groups { AreGroups groups.now }
     ensures distinct { AreDistinct addresses.now }
     ensures most { length addresses.now ≤ 64 }
 {
-    let all = addresses.as_slice();
-    for address in all {
-        put_want(text, address)?;
+    let all = groups.as_slice();
+    let mut rest = addresses.as_slice();
+    for group in all {
+        let (own, others) = rest.split_at(group.addresses as usize);
+        put_group(text, *group, own)?;
+        rest = others;
     }
     Ok(())
 }
@@ -97,18 +127,17 @@ fn put_pid_file(text: &mut Vec<u8>, pid_file: Option<FilePath>) -> Result<(), Al
     text.extend_from_slice(b"\n")
 }
 
-/// Writes a handover, as `read` reads it. `AllocError` where memory for the text is refused.
+/// Writes a handover, as `read` reads it: with `handover 2` before it. `AllocError` where memory for the text is refused.
 pub fn write(alloc: Global, handover: &Handover) -> Result<Vec<u8>, AllocError>
     ensures exact { IfOk result (λ text. text.items ≡ spelling handover.now) }
     ensures read_back { IfOk result (λ text. reading text.items ≡ Ok handover.now) }
 {
     let mut text = Vec::new(alloc);
-    text.extend_from_slice(b"handover 1\n")?;
+    text.extend_from_slice(b"handover 2\n")?;
     put_numbered(&mut text, b"old-pid ", handover.old_pid)?;
     put_generation(&mut text, handover.generation)?;
     put_listeners(&mut text, &handover.listeners)?;
-    put_wants(&mut text, &handover.want)?;
-    put_numbered(&mut text, b"workers ", handover.workers)?;
+    put_groups(&mut text, &handover.groups, &handover.want)?;
     put_pid_file(&mut text, handover.pid_file)?;
     text.extend_from_slice(b"end\n")?;
     Ok(text)

@@ -58,16 +58,16 @@ part-last f (g ∷ gs) (suc i) n past = part-last f gs i n (omega (arith, past))
 
 -- ---- one group more
 
-record Fits (gs : List Group) (g : Group) : Type 0 where
-  few : length gs ≢ 16
-  listens : 1 ≤ g.addresses
-  addresses : addresses_in gs + g.addresses ≤ 64
-  workers : workers_in gs + g.workers ≤ 1024
+pub record Fits (gs : List Group) (g : Group) : Type 0 where
+  pub few : length gs ≢ 16
+  pub listens : 1 ≤ g.addresses
+  pub addresses : addresses_in gs + g.addresses ≤ 64
+  pub workers : workers_in gs + g.workers ≤ 1024
 
 not-equal : (n k : ℕ) → (n == k) ≡ false → n ≢ k
 not-equal n k e = grind (arith, nat_tests)
 
-fits-where : (gs : List Group) (g : Group) → group_refused gs g ≡ None → Fits gs g
+pub fits-where : (gs : List Group) (g : Group) → group_refused gs g ≡ None → Fits gs g
 fits-where gs g = go (length gs == 16) refl (g.addresses == 0) refl (nat_lt 64 (addresses_in gs + g.addresses)) refl (nat_lt 1024 (workers_in gs + g.workers)) refl
   where
     go : (a : Bool) → (length gs == 16) ≡ a → (b : Bool) → (g.addresses == 0) ≡ b → (c : Bool) → nat_lt 64 (addresses_in gs + g.addresses) ≡ c → (d : Bool) → nat_lt 1024 (workers_in gs + g.workers) ≡ d
@@ -83,11 +83,18 @@ fits-where gs g = go (length gs == 16) refl (g.addresses == 0) refl (nat_lt 64 (
       workers = ltb-false 1024 (workers_in gs + g.workers) ed;
     }
 
+-- where it keeps the rules, none of them refuses it
+pub none-where : (gs : List Group) (g : Group) → Fits gs g → group_refused gs g ≡ None
+none-where gs g fits =
+    let few : (length gs == 16) ≡ false = grind (arith, nat_tests, fits.few) in
+    let some : (g.addresses == 0) ≡ false = grind (arith, nat_tests, fits.listens) in
+    rw (few, some, le-ltb 64 (addresses_in gs + g.addresses) fits.addresses, le-ltb 1024 (workers_in gs + g.workers) fits.workers) refl
+
 listens-more : (gs : List Group) (g : Group) → AllByRecursion (λ (x : Group). 1 ≤ x.addresses) gs → 1 ≤ g.addresses → AllByRecursion (λ (x : Group). 1 ≤ x.addresses) (gs ++ g ∷ [])
 listens-more [] g all here = (here, tt)
 listens-more (x ∷ gs) g all here = (all.0, listens-more gs g all.1 here)
 
-groups-more : (gs : List Group) (g : Group) → AreGroups gs → Fits gs g → AreGroups (gs ++ g ∷ [])
+pub groups-more : (gs : List Group) (g : Group) → AreGroups gs → Fits gs g → AreGroups (gs ++ g ∷ [])
 groups-more gs g h fits = record {
   some = omega (arith, length-append gs (g ∷ []));
   most = omega (arith, length-append gs (g ∷ []), h.most, fits.few);

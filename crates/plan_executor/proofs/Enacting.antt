@@ -1,9 +1,7 @@
 -- What is carried out ends as it reports.
-use Rattle.std.proofs.Common.{◌≡◌, ℕ, ◌+◌, ◌==◌, not, arith, true, false, Bool, List, [], ◌∷◌, length, Option, Some, None, refl, sym, ◌∙◌, ap, subst}
+use Rattle.std.proofs.Common.{◌≡◌, ℕ, ◌+◌, true, false, Bool, List, [], ◌∷◌, length, Option, Some, None, refl, sym, ◌∙◌, ap, subst}
 use Rattle.std.specs.Prelude.{is_some, is_none}
-use Rattle.std.proofs.lemmas.Bool.{false≢true, or_parts}
-use Rattle.std.proofs.lemmas.Bool.Decides.{nat_tests}
-use Rattle.listener_set.specs.declared.groups.Group.{Group}
+use Rattle.std.proofs.lemmas.Bool.{false≢true}
 use Rattle.definitions.specs.Table.{Table, Generation}
 use Rattle.definitions.specs.Record.{Record}
 use Rattle.definitions.specs.Target.{IsTarget, sides_of, text_handed}
@@ -20,7 +18,7 @@ use Rattle.definitions.specs.Plans.{plan_tree}
 use Rattle.definitions.specs.Run.{Moment, Pattern, Replays}
 use Rattle.rollback_plan.specs.Plans.{tree_of, note_of, sides_told, text_of}
 use Rattle.definitions.specs.Path.{KeepsPathLaw}
-use Rattle.definitions.specs.After.{next_record, next_config, next_image, is_grouped_upgrade, lacks_generation}
+use Rattle.definitions.specs.After.{next_record, next_config, next_image}
 use Rattle.word_runner.specs.declared.enactor.Enacted.{Enacted}
 use Rattle.plan_executor.specs.Lawful.{IsWholeRun}
 use Rattle.plan_executor.specs.Enacted.{EndsSo, IsEnacted}
@@ -55,10 +53,6 @@ there : (g : Option Generation) → is_none g ≡ false → is_some g ≡ true
 there None h = absurd (false≢true (sym h))
 there (Some g) h = refl
 
--- one group, where there are not several
-one-group : (gs : List Group) → not (length gs == 1) ≡ false → length gs ≡ 1
-one-group gs h = grind (arith, nat_tests)
-
 pub keeps : Headlines → (target : Target) → IsTarget target → HasRange target → EndsSo target
 keeps h (Workers n) within range t r pattern start ds plan spared =
     let a : IsAccepted t r (Workers n) pattern = record { start = start; accepts = within; spared = spared } in
@@ -73,8 +67,7 @@ keeps h (Reload s) within range t r pattern start ds plan spared =
     let a : IsAccepted t r (Reload s) pattern = record { start = start; accepts = (range, ds, there (next_config r.generation) plan); spared = spared } in
     let k = h.reloads t r s pattern a in record { ends = k.0; floor = k.1; manner = h.reloads_manner s t r pattern a }
 keeps h (Upgrade s) within range t r pattern start ds plan spared =
-    let parts = or_parts (is_grouped_upgrade (Upgrade s)) (lacks_generation r (Upgrade s)) plan in
-    let a : IsAccepted t r (Upgrade s) pattern = record { start = start; accepts = (one-group s.groups parts.0, range, ds, there (next_image r.generation) parts.1); spared = spared } in
+    let a : IsAccepted t r (Upgrade s) pattern = record { start = start; accepts = (range, ds, there (next_image r.generation) plan); spared = spared } in
     let k = h.upgrades t r s pattern a in record { ends = k.0; floor = k.1; manner = h.upgrades_manner s t r pattern a }
 keeps h (Stop quick) within range t r pattern start ds plan spared =
     let a : IsAccepted t r (Stop quick) pattern = record { start = start; accepts = tt; spared = spared } in

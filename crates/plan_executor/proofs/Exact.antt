@@ -8,9 +8,9 @@ use Rattle.definitions.specs.Record.{Record, Agrees}
 use Rattle.vocabulary.specs.declared.targets.Target.{Target}
 use Rattle.definitions.specs.Tree.{height}
 use Rattle.definitions.specs.Plans.{plan_tree}
-use Rattle.definitions.specs.After.{is_grouped_upgrade, lacks_generation}
-use Rattle.std.proofs.lemmas.Bool.{false≢true, or_parts, and_parts, not-true}
-use Rattle.std.specs.Prelude.{true, not, ◌&&◌}
+use Rattle.definitions.specs.After.{lacks_generation}
+use Rattle.std.proofs.lemmas.Bool.{false≢true}
+use Rattle.std.specs.Prelude.{true}
 use Rattle.definitions.specs.Run.{Pattern}
 use Rattle.kernel_model.specs.Room.{LacksNumbers}
 use Rattle.kernel_model.specs.State.{State}
@@ -32,29 +32,14 @@ IsExact t r target pattern result = (why : EnactRefusal) → IsErrOf result Memo
 pub no_plan : (r : Record) (target : Target) (p : PlanRefusal) → HasNoPlan r target p → HasPlan r target → ⊥
 no_plan r target planner.Unplanned none plan = none
 no_plan r target planner.TooLarge none plan = none
-no_plan r target planner.Grouped none plan = false≢true (sym (or_parts (is_grouped_upgrade target) (lacks_generation r target) plan).0 ∙ none)
-no_plan r target planner.NoGeneration none plan =
-    let lacks = and_parts (not (is_grouped_upgrade target)) (lacks_generation r target) none in
-    false≢true (sym (or_parts (is_grouped_upgrade target) (lacks_generation r target) plan).1 ∙ lacks.1)
+no_plan r target planner.NoGeneration none plan = false≢true (sym plan ∙ none)
 no_plan r target planner.Memory none plan = none
-
--- a grouped upgrade is refused as that, whatever its generation
-not-both : (r : Record) (target : Target) → HasNoPlan r target planner.Grouped → HasNoPlan r target planner.NoGeneration → ⊥
-not-both r target grouped none =
-    let other = and_parts (not (is_grouped_upgrade target)) (lacks_generation r target) none in
-    false≢true (sym (not-true (is_grouped_upgrade target) other.0) ∙ grouped)
 
 one_planless : (r : Record) (target : Target) (p q : PlanRefusal) → HasNoPlan r target p → HasNoPlan r target q → p ≡ q
 one_planless r target planner.Unplanned q none also = absurd none
 one_planless r target planner.TooLarge q none also = absurd none
-one_planless r target planner.Grouped planner.Unplanned none also = absurd also
-one_planless r target planner.Grouped planner.TooLarge none also = absurd also
-one_planless r target planner.Grouped planner.Grouped none also = refl
-one_planless r target planner.Grouped planner.NoGeneration none also = absurd (not-both r target none also)
-one_planless r target planner.Grouped planner.Memory none also = absurd also
 one_planless r target planner.NoGeneration planner.Unplanned none also = absurd also
 one_planless r target planner.NoGeneration planner.TooLarge none also = absurd also
-one_planless r target planner.NoGeneration planner.Grouped none also = absurd (not-both r target also none)
 one_planless r target planner.NoGeneration planner.NoGeneration none also = refl
 one_planless r target planner.NoGeneration planner.Memory none also = absurd also
 one_planless r target planner.Memory q none also = absurd none
@@ -122,10 +107,8 @@ unprepared-exact t r target pattern because (inl memory) why = inl (ap Err memor
 unprepared-exact t r target pattern because (inr is) why = inr (only-refused t r target pattern because (is pattern) why)
 
 -- where a planner wants memory it refuses nothing
-pub unspared : {T : Type 0} (r : Record) (target : Target) (result : Result T EnactRefusal) → (IsErrOf result (Plan planner.Grouped) ↔ (is_grouped_upgrade target ≡ true)) →
-    (IsErrOf result (Plan planner.NoGeneration) ↔ ((not (is_grouped_upgrade target) && lacks_generation r target) ≡ true)) → IsErrOf result Memory → (p : PlanRefusal) → HasNoPlan r target p → ⊥
-unspared r target result grouped numbered memory planner.Unplanned none = none
-unspared r target result grouped numbered memory planner.TooLarge none = none
-unspared r target result grouped numbered memory planner.Grouped none = let planless = grouped.1 none in cc
-unspared r target result grouped numbered memory planner.NoGeneration none = let planless = numbered.1 none in cc
-unspared r target result grouped numbered memory planner.Memory none = none
+pub unspared : {T : Type 0} (r : Record) (target : Target) (result : Result T EnactRefusal) → (IsErrOf result (Plan planner.NoGeneration) ↔ (lacks_generation r target ≡ true)) → IsErrOf result Memory → (p : PlanRefusal) → HasNoPlan r target p → ⊥
+unspared r target result numbered memory planner.Unplanned none = none
+unspared r target result numbered memory planner.TooLarge none = none
+unspared r target result numbered memory planner.NoGeneration none = let planless = numbered.1 none in cc
+unspared r target result numbered memory planner.Memory none = none

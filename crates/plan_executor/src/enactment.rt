@@ -1,5 +1,5 @@
 //! A target, planned and carried out on the modelled kernel.
-ghost use Rattle.std.specs.Prelude.{◌≡◌, ◌≤◌, ◌↔◌, ◌⊎◌, ◌&&◌, not, OnErr, IfOk, IfErr, IsErrOf, IsTrue};
+ghost use Rattle.std.specs.Prelude.{◌≡◌, ◌≤◌, ◌↔◌, ◌⊎◌, OnErr, IfOk, IfErr, IsErrOf, IsTrue};
 ghost use Rattle.definitions.specs.Formed.{IsFormed};
 ghost use Rattle.definitions.specs.Record.{Agrees};
 ghost use Rattle.definitions.specs.Plans.{plan_tree};
@@ -11,7 +11,7 @@ ghost use Rattle.rollback_plan.specs.Plans.{tree_of, note_of, sides_told, text_o
 ghost use Rattle.reload_planner.specs.declared.refusal.PlanRefusal.{PlanRefusal as Unplannable};
 ghost use Rattle.plan_executor.specs.Enacted.{IsEnacted};
 ghost use Rattle.plan_executor.specs.Prepared.{IsPrepared};
-ghost use Rattle.definitions.specs.After.{is_grouped_upgrade, lacks_generation};
+ghost use Rattle.definitions.specs.After.{lacks_generation};
 ghost use Rattle.plan_executor.specs.Refusals.{HasPlan, HasNoPlan, IsPlannable, IsRefused};
 ghost use Rattle.plan_executor.specs.declared.enactment.EnactRefusal.{EnactRefusal as Refusal};
 
@@ -123,8 +123,7 @@ pub fn plan_of(alloc: Global, state: &Record, target: &Target) -> Result<Plan, E
     ensures text { IfOk result (λ plan. text_of plan ≡ text_handed state.now target.now) }
     ensures refused { IfErr result (λ why.
         (why ≡ EnactRefusal.Memory) ⊎ ((refusal : Unplannable) × (why ≡ EnactRefusal.Plan refusal) × HasNoPlan state.now target.now refusal)) }
-    ensures grouped { IsErrOf result (EnactRefusal.Plan Unplannable.Grouped) ↔ IsTrue (is_grouped_upgrade target.now) }
-    ensures numbered { IsErrOf result (EnactRefusal.Plan Unplannable.NoGeneration) ↔ IsTrue (not (is_grouped_upgrade target.now) && lacks_generation state.now target.now) }
+    ensures numbered { IsErrOf result (EnactRefusal.Plan Unplannable.NoGeneration) ↔ IsTrue (lacks_generation state.now target.now) }
 {
     match target_planner::plan(alloc, state, target) {
         Ok(plan) => Ok(plan),

@@ -1,4 +1,5 @@
 pub mod Certificates
+pub mod Explorations
 pub mod Faults
 pub mod Outlooks
 pub mod Output

@@ -3,6 +3,7 @@
 
 mod certifying;
 mod explaining;
+mod exploration;
 mod fault;
 mod instead;
 mod planning;

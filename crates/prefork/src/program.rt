@@ -12,14 +12,16 @@ ghost use Rattle.word_runner.specs.Status.{gravest};
 
 use crate::certifying::certify_all;
 use crate::explaining::explain;
+use crate::exploration::{Listing, summary};
 use crate::fault::Fault;
 use crate::planning::{self, Form};
 use crate::rehearsal::Rehearsal;
 use crate::serving::{OwnNumber, adopt, child, supervise};
 use crate::start::Start;
 use crate::why;
-use command_line::{CertifyOptions, EnactOptions, PlanOptions, Request};
+use command_line::{CertifyOptions, EnactOptions, ExploreOptions, PlanOptions, Request};
 use control_words::Word;
+use explorer::Tally;
 use kernel_model::Pattern;
 use std::alloc::{AllocError, Global};
 use std::io::{Read, Write};
@@ -61,6 +63,7 @@ fn answer<R: AllocGlobal + Files + Processes + OwnNumber, I: Read, O: Write, E: 
     match command_line::read(rt.alloc(), args)? {
         Request::Enact(options) => enact(rt, &options, input, given, output),
         Request::Plan(options) => plan(rt, &options, output),
+        Request::Explore(options) => explore(rt, &options, output),
         Request::Certify(options) => certify(rt, &options, input, given, output),
         Request::Supervise(options) => supervise(rt, &options, input, output, errors),
         Request::Adopt(options) => adopt(rt, &options, input, output),
@@ -170,6 +173,43 @@ fn plan<R: AllocGlobal + Files, O: Write>(
     let outlook = planning::look_ahead(alloc, &start, word, form)?;
     write(output, outlook.text.as_slice())?;
     Ok(outlook.status)
+}
+
+/// `explore`: writes how a word ends under each event that can matter.
+fn explore<R: AllocGlobal + Files, O: Write>(
+    rt: &R,
+    options: &ExploreOptions<'_>,
+    output: &mut O,
+) -> Result<u8, Fault> {
+    let alloc = rt.alloc();
+    let is_forbidden = forbids(options.forbid)?;
+    if !matches!(options.events, None | Some(1)) {
+        return Err(Fault::Usage);
+    }
+    let word = control_words::read(options.word.as_bytes()).map_err(|refusal| Fault::Word(
+        1, refusal,
+    ))?;
+    let start = Start::read(rt, &options.start)?;
+    let mut rehearsal = Rehearsal::start(alloc, &start)?;
+    if let Some(address) = options.held {
+        rehearsal.hold(address)?;
+    }
+    let mut tally = Tally::new();
+    let mut listing = Listing::new(alloc, output, options.list, options.limit);
+    let explored = rehearsal.explore(alloc, word, &mut tally, &mut listing)?;
+    listing.finish()?;
+    let (text, status) = summary(alloc, &explored, &tally, is_forbidden)?;
+    write(output, text.as_slice())?;
+    Ok(status)
+}
+
+/// Whether an end is forbidden that is degraded; no other can be.
+fn forbids(end: Option<&str>) -> Result<bool, Fault> {
+    match end {
+        None => Ok(false),
+        Some("degraded") => Ok(true),
+        Some(_) => Err(Fault::Usage),
+    }
 }
 
 /// The control words of the command line; the first that is none is the fault.

@@ -10,20 +10,23 @@ ghost use Rattle.prefork.specs.Starts.{IsStarted, limits, record_at};
 ghost use Rattle.definitions.specs.Start.{booted};
 ghost use Rattle.prefork.specs.declared.fault.Fault.TheVariants.{Memory};
 ghost use Rattle.definitions.specs.Target.{IsTarget};
+ghost use Rattle.prefork.specs.Explorations.{AreCounted, IsExplored};
 ghost use Rattle.prefork.specs.Rehearsals.{Held, IsOfHeld, standing_of, IsRehearsed, IsShownOf, IsShownBy};
 
+use crate::exploration::Explored;
 use crate::fault::Fault;
 use crate::start::{Start, silent_workers};
 use certifier::{BlockMismatch, Mismatch, certify_beginning, certify_blocks};
 use control_words::Word;
+use explorer::{Audience, ExploreRefusal, Tally, explore};
 use kernel_model::{Kernel, Pattern};
 use listener_set::{Address, WORKER_LIMIT};
-use plan_executor::run_words;
+use plan_executor::{EnactRefusal, run_words};
 use plan_runner::CallLog;
 use service_state::Record;
 use std::alloc::{AllocError, Global};
 use vocabulary::{Limits, Settings, Target};
-use word_runner::{Asked, Block, asked_by};
+use word_runner::{Asked, Block, Body, CodeText, asked_by, note};
 use worker_table::WorkerTable;
 
 /// What the modelled kernel of a rehearsal allows.
@@ -171,11 +174,54 @@ impl Rehearsal {
         shown_of(alloc, &self.kernel, &record, &target, begun)
     }
 
+    /// Counts how a word ends under no event and under each event that this run meets. The audience hears of each run.
+    pub fn explore<A: Audience>(
+        &mut self,
+        alloc: Global,
+        word: Word,
+        tally: &mut Tally,
+        audience: &mut A,
+    ) -> Result<Explored, AllocError>
+        ensures { IfOk result (IsExplored self.old word tally.old tally.new) }
+    {
+        let Some(record) = self.record else {
+            return Ok(Explored::Told(Body::Nothing));
+        };
+        match asked_by(word, &record, &self.workers, Some(&self.next)) {
+            Asked::Act(target) => counted(alloc, &self.kernel, &record, &target, tally, audience),
+            Asked::Beat(heard) => Ok(Explored::Told(note(&mut self.workers, heard))),
+            Asked::Nothing => Ok(Explored::Told(Body::Nothing)),
+            Asked::Refused(code) => Ok(Explored::Told(Body::Refused(code))),
+        }
+    }
+
     /// The table of processes, files and the service.
     pub fn state(&self) -> Result<Vec<u8>, AllocError>
         ensures { IfOk result (λ text. IsTextOf self.now.kernel.table text.items) }
     {
         self.kernel.table_text()
+    }
+}
+
+/// Counts how a target ends under no event and under each event that this run meets.
+fn counted<A: Audience>(
+    alloc: Global,
+    kernel: &Kernel,
+    state: &Record,
+    target: &Target,
+    tally: &mut Tally,
+    audience: &mut A,
+) -> Result<Explored, AllocError>
+    requires { IsTarget target.now }
+    ensures { IfOk result (AreCounted state.now target.now kernel.now.table tally.old tally.new) }
+{
+    match explore(alloc, kernel, state, target, tally, audience) {
+        Ok(()) => Ok(Explored::All),
+        Err(ExploreRefusal::Enough) => Ok(Explored::Cut),
+        Err(ExploreRefusal::Enact(EnactRefusal::Memory)) => Err(AllocError),
+        Err(ExploreRefusal::Enact(refusal)) => {
+            Ok(Explored::Told(Body::Refused(CodeText::from(refusal))))
+        }
     }
 }
 

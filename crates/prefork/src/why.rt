@@ -97,6 +97,7 @@ fn tell_word<E: Write>(request: &Request<'_>, number: usize, errors: &mut E) {
     let word = match request {
         Request::Enact(options) => options.words.get(number.wrapping_sub(1)).copied(),
         Request::Plan(options) => Some(options.word),
+        Request::Explore(options) => Some(options.word),
         _ => None,
     };
     if let Some(word) = word {
@@ -107,6 +108,7 @@ fn tell_word<E: Write>(request: &Request<'_>, number: usize, errors: &mut E) {
 fn tell_held<E: Write>(request: &Request<'_>, errors: &mut E) {
     let held = match request {
         Request::Enact(options) => options.held,
+        Request::Explore(options) => options.held,
         Request::Certify(options) => options.held,
         _ => None,
     };
@@ -128,6 +130,7 @@ fn start_of<'a>(request: &Request<'a>) -> Option<StartOptions<'a>> {
     match request {
         Request::Enact(options) => Some(options.start),
         Request::Plan(options) => Some(options.start),
+        Request::Explore(options) => Some(options.start),
         Request::Certify(options) => Some(options.start),
         Request::Supervise(options) => Some(StartOptions {
             from: options.from,

@@ -28,7 +28,6 @@ pub fn plan(alloc: Global, state: &Record, target: &Target) -> Result<Plan, Plan
     ensures few { IfOk result (λ plan. length (trees_in plan) ≤ most_steps state.now target.now) }
     ensures unplanned { IsErrOf result PlanRefusal.Unplanned ↔ IsTrue (is_apart state.now target.now) }
     ensures numbered { IsErrOf result PlanRefusal.NoGeneration ↔ IsTrue (lacks_generation state.now target.now) }
-    ensures grouped { IsErrOf result PlanRefusal.Grouped → ⊥ }
     ensures not_large { IsErrOf result PlanRefusal.TooLarge → ⊥ }
 {
     let (note, wanted) = (state.note, state.wanted);

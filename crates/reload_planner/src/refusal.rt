@@ -15,8 +15,6 @@ pub enum PlanRefusal {
     Unplanned,
     /// P3: a number of the target's generation would pass 4,294,967,295.
     NoGeneration,
-    /// P4: the target has several groups of workers, which no new executable can be handed yet.
-    Grouped,
     /// Memory was refused.
     Memory,
 }
@@ -33,7 +31,6 @@ impl PlanRefusal {
             PlanRefusal::TooLarge => "P1",
             PlanRefusal::Unplanned => "P2",
             PlanRefusal::NoGeneration => "P3",
-            PlanRefusal::Grouped => "P4",
             PlanRefusal::Memory => "out of memory",
         }
     }

@@ -152,7 +152,6 @@ pub fn plan_reload(
     ensures numbered { IsErrOf result PlanRefusal.NoGeneration ↔ (after.next_config scene.now.crew.generation ≡ None) }
     ensures not_large { IsErrOf result PlanRefusal.TooLarge → ⊥ }
     ensures planned { IsErrOf result PlanRefusal.Unplanned → ⊥ }
-    ensures grouped { IsErrOf result PlanRefusal.Grouped → ⊥ }
 {
     let old_crew = &scene.crew;
     let Some(generation) = next_config(old_crew.generation) else {

@@ -1,31 +1,26 @@
 -- A target carried out on real children.
-use Rattle.std.specs.Prelude.{ℕ, ◌≡◌, true, false, List, Option, if◌then◌else◌}
+use Rattle.std.specs.Prelude.{ℕ, ◌≡◌, true, false, List, Option}
 use Rattle.definitions.specs.Record.{Record}
 use Rattle.definitions.specs.Target.{sides_of, text_handed}
-use Rattle.definitions.specs.After.{is_grouped_upgrade, lacks_plan, record_after}
+use Rattle.definitions.specs.After.{lacks_generation, record_after}
 use Rattle.definitions.specs.Plans.{plan_tree}
 use Rattle.definitions.specs.Path.{KeepsPathLaw}
 use Rattle.vocabulary.specs.declared.targets.Target.{Target}
-use Rattle.reload_planner.specs.declared.refusal.PlanRefusal.{PlanRefusal}
-use Rattle.reload_planner.specs.declared.refusal.PlanRefusal.TheVariants.{Grouped, NoGeneration}
+use Rattle.reload_planner.specs.declared.refusal.PlanRefusal.TheVariants.{NoGeneration}
 use Rattle.child_family.specs.Told.{Told}
 use Rattle.child_edge.specs.State.{State}
 use Rattle.child_edge.specs.Edge.{CallsHeld}
 use Rattle.word_runner.specs.Codes.{unplanned_code}
 use Rattle.word_runner.specs.declared.enactor.Enacted.{Enacted}
 
--- There is a plan: it is no upgrade of several groups, and no number of the target's generation would pass its limit.
+-- There is a plan: no number of the target's generation would pass its limit.
 abbrev pub HasPlan : Record → Target → Type 0
-HasPlan r target = lacks_plan r target ≡ false
-
--- why there is none
-abbrev pub refusal_of : Target → PlanRefusal
-refusal_of target = if is_grouped_upgrade target then Grouped else NoGeneration
+HasPlan r target = lacks_generation r target ≡ false
 
 -- There is none, and the code is the planner's.
 pub record IsUnplanned (r : Record) (target : Target) (code : List ℕ) : Type 0 where
-  pub lacks : lacks_plan r target ≡ true
-  pub code_is : code ≡ unplanned_code (refusal_of target)
+  pub lacks : lacks_generation r target ≡ true
+  pub code_is : code ≡ unplanned_code NoGeneration
 
 -- what the edge knows before the first call: the handover's text too
 abbrev pub handed : State → Record → Target → State

@@ -1,9 +1,9 @@
 //! The plan of a target, by the planner that plans such a target.
 #![tactic(auto)]
 
-ghost use Rattle.std.specs.Prelude.{◌≡◌, ◌≤◌, ◌↔◌, ◌&&◌, not, Some, length, IfOk, IsErrOf, IsTrue};
+ghost use Rattle.std.specs.Prelude.{◌≡◌, ◌≤◌, ◌↔◌, Some, length, IfOk, IsErrOf, IsTrue};
 ghost use Rattle.definitions.specs.Target.{IsTarget, sides_of, text_handed};
-ghost use Rattle.definitions.specs.After.{is_grouped_upgrade, lacks_generation};
+ghost use Rattle.definitions.specs.After.{lacks_generation};
 ghost use Rattle.definitions.specs.Plans.{planned};
 ghost use Rattle.rollback_plan.specs.Plans.{tree_of, note_of, sides_told, text_of, trees_in};
 ghost use Rattle.reload_planner.specs.Planning.{most_steps};
@@ -17,8 +17,7 @@ use vocabulary::Target;
 /// Plans a target for a running master: what is done, and what is done instead where a call fails.
 /// Only an upgrade is planned for two masters, and its plan has the text that the new one is handed.
 ///
-/// `Grouped` (P4) exactly for an upgrade of several groups, and else `NoGeneration` (P3) exactly where a number of the
-/// target's generation would pass 4,294,967,295.
+/// `NoGeneration` (P3) exactly where a number of the target's generation would pass 4,294,967,295.
 /// Each target has a planner, so `Unplanned` (P2) never comes, and no plan is too large.
 pub fn plan(alloc: Global, state: &Record, target: &Target) -> Result<Plan, PlanRefusal>
     requires { IsTarget target.now }
@@ -27,8 +26,7 @@ pub fn plan(alloc: Global, state: &Record, target: &Target) -> Result<Plan, Plan
     ensures sides { IfOk result (λ plan. sides_told plan ≡ sides_of state.now target.now) }
     ensures text { IfOk result (λ plan. text_of plan ≡ text_handed state.now target.now) }
     ensures few { IfOk result (λ plan. length (trees_in plan) ≤ most_steps state.now target.now) }
-    ensures grouped { IsErrOf result PlanRefusal.Grouped ↔ IsTrue (is_grouped_upgrade target.now) }
-    ensures numbered { IsErrOf result PlanRefusal.NoGeneration ↔ IsTrue (not (is_grouped_upgrade target.now) && lacks_generation state.now target.now) }
+    ensures numbered { IsErrOf result PlanRefusal.NoGeneration ↔ IsTrue (lacks_generation state.now target.now) }
     ensures not_large { IsErrOf result PlanRefusal.TooLarge → ⊥ }
     ensures planned_here { IsErrOf result PlanRefusal.Unplanned → ⊥ }
 {

@@ -191,18 +191,18 @@ fn an_upgrade_hands_a_text_over(rt: HostRuntime) -> Result<(), Fail> {
     let grouped = in_two_groups(&settings(&["0.0.0.0:8080", "0.0.0.0:9090"], 2)?)?;
     let settings = settings(&["0.0.0.0:8080"], 2)?;
     let mut state = running(2, PidNote::InPlace)?;
-    let refused = upgrade_planner::plan(rt.alloc(), &state, &grouped).err();
-    assert_eq!(rt; refused, Some(PlanRefusal::Grouped));
     let plan = upgrade_planner::plan(rt.alloc(), &state, &settings)?;
     assert_eq!(rt; plan.len(), 46);
     let text =
-        b"handover 1\nold-pid 100\ngeneration 2 2\nlistener 3 0.0.0.0:8080\nlistener 4 0.0.0.0:9090\nwant 0.0.0.0:8080\nworkers 2\npid-file /run/a.pid\nend\n";
+        b"handover 2\nold-pid 100\ngeneration 2 2\nlistener 3 0.0.0.0:8080\nlistener 4 0.0.0.0:9090\ngroup 2\nwant 0.0.0.0:8080\npid-file /run/a.pid\nend\n";
+    assert!(rt; plan.text() == &text[..]);
+    let plan = upgrade_planner::plan(rt.alloc(), &state, &grouped)?;
+    let text =
+        b"handover 2\nold-pid 100\ngeneration 2 2\nlistener 3 0.0.0.0:8080\nlistener 4 0.0.0.0:9090\ngroup 1\nwant 0.0.0.0:8080\ngroup 1\nwant 0.0.0.0:9090\npid-file /run/a.pid\nend\n";
     assert!(rt; plan.text() == &text[..]);
     state.generation.image = u32::MAX;
     let refused = upgrade_planner::plan(rt.alloc(), &state, &settings).err();
     assert_eq!(rt; refused, Some(PlanRefusal::NoGeneration));
-    let refused = upgrade_planner::plan(rt.alloc(), &state, &grouped).err();
-    assert_eq!(rt; refused, Some(PlanRefusal::Grouped));
     Ok(())
 }
 

@@ -98,7 +98,6 @@ fn refusals_are_printed_as_their_codes(rt: HostRuntime) -> Result<(), Fail> {
         (EnactRefusal::Plan(PlanRefusal::TooLarge), "E3 P1"),
         (EnactRefusal::Plan(PlanRefusal::Unplanned), "E3 P2"),
         (EnactRefusal::Plan(PlanRefusal::NoGeneration), "E3 P3"),
-        (EnactRefusal::Plan(PlanRefusal::Grouped), "E3 P4"),
         (EnactRefusal::Plan(PlanRefusal::Memory), "E3 out of memory"),
         (EnactRefusal::MasterNamed(4_294_967_295), "E4 4294967295"),
         (EnactRefusal::NoNumbers, "E5"),

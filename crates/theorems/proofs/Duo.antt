@@ -8,6 +8,7 @@ use Rattle.vocabulary.specs.declared.names.Name.{Name}
 use Rattle.vocabulary.specs.declared.names.Name.TheVariants as name
 use Rattle.definitions.specs.Table.{Hold, Process, Master, Worker, Foreign, Caller, number_of, bears, live_master, caller_if, is_live_master, is_active, is_ready, is_named, is_draining}
 use Rattle.definitions.specs.Formed.{IsAscending}
+use Rattle.definitions.specs.Crew.{Posts, share}
 use Rattle.definitions.specs.Exits.{change, made_exited, first_changed, caller_exits, without_exited, kept_if, exited, all_exited}
 use Rattle.definitions.specs.Calls.{drop_where, is_image, is_image_row, is_of_image, without_master}
 use Rattle.theorems.proofs.Rows.{one, weigh, worth, FitsIn, change-same, every-filter_map, every-both, every-more, every-append, weigh-append, pick}
@@ -462,9 +463,9 @@ fine-with m v (Worker n q g k Draining hs) f = f
 fine-with m v (Worker n q g k Exited hs) f = f
 fine-with m v (Foreign n hs) f = f
 
--- the new master's view: it has what the old one has, and no worker
-abbrev pub new_view : ℕ → ℕ → ℕ → List Hold → Names → Names → View
-new_view m image old hs s r = record { number = m; others = λ k. k == old; image = image; holds = hs; starting = s; ready = r; held = λ h k. hs }
+-- the new master's view: its workers hold their shares of what it holds
+abbrev pub new_view : ℕ → ℕ → ℕ → Posts → List Hold → Names → Names → View
+new_view m image old posts hs s r = record { number = m; others = λ k. k == old; image = image; holds = hs; starting = s; ready = r; held = λ h k. share posts k hs }
 
 new-row : (v w : View) → v.number ≢ w.number → w.others v.number ≡ true → v.image ≢ w.image → (p : Process) → Fine v p → Row w p × (master_of w.number p ≡ 0) × ((g : Generation) (k : ℕ) → live_named w.number g k p ≡ 0)
 new-row v w ne on apart (Master n q i live hs) f = let o : Other w (Master n q i live hs) = ((λ e. ne (sym f.0 ∙ e)), subst (λ k. w.others k ≡ true) (sym f.0) on, inr (λ e. apart (sym f.1 ∙ e))) in (inr o, other-masters w (Master n q i live hs) o, λ g k. refl)

@@ -10,8 +10,7 @@ use Rattle.listener_set.specs.Numbers.{RisesFrom, is_in}
 use Rattle.vocabulary.specs.declared.table.Listener.{Listener}
 use Rattle.definitions.specs.Table.{Address, Hold, has_address}
 use Rattle.definitions.specs.Calls.{lacks_address, shared}
-use Rattle.vocabulary.specs.declared.calls.Call.TheVariants.{Fork}
-use Rattle.definitions.specs.Crew.{Posts, Crew, Group, group_of, fork_of, fds_in, share, descriptors_at, descriptors_by, posts_of, layout_in, addresses_of_group}
+use Rattle.definitions.specs.Crew.{Posts, Group, group_of, fds_in, share, descriptors_at, descriptors_by, posts_of, layout_in, addresses_of_group}
 use Rattle.definitions.specs.Record.{listener_of}
 use Rattle.theorems.proofs.Rows.{every-both, every-more}
 use Rattle.theorems.proofs.Views.{eqb-refl, eqb-off}
@@ -135,20 +134,3 @@ module _ (gs : List Group) (l : List Address) (sum : addresses_in gs ≡ length 
   -- at an address of the service a worker holds what its master does, if its group listens there
   pub share-listens : (k : ℕ) (a : Address) → has l a ≡ true → has_address a (share (posts_of gs l ls) k hs) ≡ (has_address a hs && (layout_in gs l).listens (group_of gs k) a)
   share-listens k a on = group-listens (group_of gs k) a (sole-group gs k) (λ held. on)
-
----- One group alone
-
-is-sole : (gs : List Group) → length gs ≡ 1 → (length gs == 1) ≡ true
-is-sole gs one = eqb-refl (length gs) 1 one
-
--- its workers hold what their master does
-pub share-sole : (posts : Posts) (k : ℕ) (hs : List Hold) → length posts.groups ≡ 1 → share posts k hs ≡ hs
-share-sole posts k hs one = rw (is-sole posts.groups one) refl
-
--- and are started without a set of descriptors
-pub fork-sole : (crew : Crew) (k : ℕ) → length crew.posts.groups ≡ 1 → fork_of crew k ≡ Fork crew.generation k None
-fork-sole crew k one = rw (is-sole crew.posts.groups one) refl
-
--- it listens everywhere
-pub sole-listens : (gs : List Group) (l : List Address) (k : ℕ) (a : Address) → length gs ≡ 1 → addresses_in gs ≡ length l → (layout_in gs l).listens (group_of gs k) a ≡ has l a
-sole-listens gs l k a one sum = ap (λ part. has part a) (sole-whole gs l (group_of gs k) (is-sole gs one) (sole-group gs k (is-sole gs one)) sum)

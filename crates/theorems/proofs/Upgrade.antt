@@ -78,7 +78,7 @@ module _ (c : Given) where
       let t' = with_new_row p.table (λ k. Master k c.rec.pid image true (H0 c)) in
       let two = spawned-looks (view (u c) none r) (w c m (H0 c) none none) c.rec.pid p.table.rows (λ k. refl) (λ e. ne (sym e)) (eqb-refl c.rec.pid c.rec.pid refl) (λ e. absurd (omega (arith, e))) b'.looks in
       new-goes c m ne r only rest files (after_call order [] (gives answer.Spawned t') p) aside
-      (λ hs r' files' q' lists keys common aside' written only' b''. relieves c m ne (omega (arith, next, above, c.start.record_in_range.pid)) r only hs r' only' lists keys common files' q' aside' written b'')
+      (λ hs r' files' q' lists keys laid common aside' written only' b''. relieves c m ne (omega (arith, next, above, c.start.record_in_range.pid)) r only hs r' only' lists keys laid common files' q' aside' written b'')
       (record {
         looks = two.old.looks;
         enough = b'.enough;
@@ -143,8 +143,8 @@ module _ (c : Given) where
 
 pub upgrade_headline : UpgradeHeadline
 upgrade_headline t rec st pattern a =
-    let (lone, range, ds, numbered) = a.accepts in
-    let c : Given = record { t = t; rec = rec; st = st; pattern = pattern; start = a.start; lone = lone; range = range; ds = ds; numbered = numbered } in
+    let (range, ds, numbered) = a.accepts in
+    let c : Given = record { t = t; rec = rec; st = st; pattern = pattern; start = a.start; range = range; ds = ds; numbered = numbered } in
     let at = start_at t rec.note in
     let tree = plan_tree rec (Upgrade st) in
     let all = from-along (inv c) (post c) Anyhow Unasked (co c) tree at (goes c) a.spared (are-mild-anyhow (co c) tree at) in

@@ -25,7 +25,7 @@ use Rattle.theorems.proofs.Files.{written-file, other-written, gone-file, other-
 use Rattle.theorems.proofs.Logic.{move-cases, unfailing}
 use Rattle.theorems.proofs.Rules.{IsGood, Scene, view, plus, also, Band, Only, marks-plain, weigh-sub, rule-step, rule-settle, rule-forks-any, rule-awaits-any, band-failed, band-part, band-anew, band-still, failed_at, Answers, grounded}
 use Rattle.theorems.proofs.Duo.{OneOther, alone-terminated, with_other}
-use Rattle.theorems.proofs.UpgradeStage.{Given, g, new, old_crew, R, H0, f, co, acts, inv, post, Goes, u, low-R, dR, w, Common, common0, alone_scene, good-alone, Second, pair_scene, good-pair, old-full, old-short, hold-old, serves_old, enough-none, few-new, n}
+use Rattle.theorems.proofs.UpgradeStage.{Given, g, new, old_crew, R, H0, f, co, acts, inv, post, Goes, u, low-R, dR, w, common0, alone_scene, good-alone, Second, pair_scene, Serve, good-pair, old-full, old-short, hold-old, serves_old, enough-none, few-new, n}
 
 -- what is known before the rest of the waits of a restart: what is Ready was started, and every name that was tried is counted
 record Restarted (h : Generation) (all ks done : List ℕ) (r t : Names) (count : ℕ) : Type 0 where
@@ -114,7 +114,7 @@ module _ (c : Given) where
 
   ---- The new master is terminated
 
-  module _ (m : ℕ) (ne : m ≢ c.rec.pid) (hs : List Hold) (s r : Names) (names : Names) (d : ℕ) (floor : Address → ℕ) (need : ℕ) (kind : ((a : Address) → f c a ≤ floor a) ⊎ (((a : Address) → f c a ≤ d) × Common c hs × ((h : Generation) (k : ℕ) → hs ≡ hs))) (lost : (rows : List Process) (losses : ℕ) → Second c (w c m hs s r) names d rows losses → need ≤ losses) where
+  module _ (m : ℕ) (ne : m ≢ c.rec.pid) (hs : List Hold) (s r : Names) (names : Names) (d : ℕ) (floor : Address → ℕ) (need : ℕ) (kind : ((a : Address) → f c a ≤ floor a) ⊎ Serve c (w c m hs s r) names d) (lost : (rows : List Process) (losses : ℕ) → Second c (w c m hs s r) names d rows losses → need ≤ losses) where
     abbrev two : List File → Scene c.rec.pid c.rec.generation.image
     two files = pair_scene c (w c m hs s r) ne (eqb-refl c.rec.pid c.rec.pid refl) names d floor files c.rec.note
 
@@ -122,7 +122,7 @@ module _ (c : Given) where
     v = with_other m (u c)
 
     good-two : (files : List File) → IsGood v (two files) I
-    good-two files = good-pair c v (w c m hs s r) hs names d floor kind refl (hold-old c)
+    good-two files = good-pair c v (w c m hs s r) names d floor kind refl (hold-old c)
 
     pub term-master : (rest : Tree) (files : List File) (r0 t : Names) (count k : ℕ) (ls : List ℕ) (q : Progress) → ((q' : Progress) → Band (u c) (alone_scene c c.rec.pid c.rec.generation.image (serves_old c) floor need files c.rec.note) none r0 t count k true ls q' → Goes c (co c) rest q') → Band v (two files) none r0 t count k true ls q → Goes c (co c) (does c.rec.generation.image (TermMaster (new c).image) (then_edge rest)) q
     term-master rest files r0 t count k ls q next b =
@@ -198,7 +198,7 @@ module _ (c : Given) where
       unready (Foreign n hs) = refl
 
   -- Back when the new master is gone and the old workers are too: the floor was lost.
-  pub goes-back-late : (m : ℕ) (ne : m ≢ c.rec.pid) (hs : List Hold) (s r : Names) → Common c hs → (k : ℕ) (ls : List ℕ) (files : List File) (q : Progress) → Aside c.rec.pid_path files → Band (with_other m (u c)) (pair_scene c (w c m hs s r) ne (eqb-refl c.rec.pid c.rec.pid refl) none (n c) (λ a. 0) files c.rec.note) none none (named (g c) (is_in [])) 0 k true ls q → Goes c (co c) (back_late c.rec.generation.image (new c).image (old_crew c) (R c) c.rec.retries c.rec.pid_path) q
-  goes-back-late m ne hs s r common k ls files q aside b =
-      term-master m ne hs s r none (n c) (λ a. 0) (n c) (inr (few-new c, common, λ h k. refl)) (λ rows losses h. omega (arith, h.1, none-ready m rows)) (starts_any c.rec.generation.image (old_crew c) (R c) (back_alone c.rec.generation.image (old_crew c) (R c) c.rec.retries c.rec.pid_path)) files none (named (g c) (is_in [])) 0 k ls q
+  pub goes-back-late : (m : ℕ) (ne : m ≢ c.rec.pid) (hs : List Hold) (s r : Names) (k : ℕ) (ls : List ℕ) (files : List File) (q : Progress) → Aside c.rec.pid_path files → Band (with_other m (u c)) (pair_scene c (w c m hs s r) ne (eqb-refl c.rec.pid c.rec.pid refl) none (n c) (λ a. 0) files c.rec.note) none none (named (g c) (is_in [])) 0 k true ls q → Goes c (co c) (back_late c.rec.generation.image (new c).image (old_crew c) (R c) c.rec.retries c.rec.pid_path) q
+  goes-back-late m ne hs s r k ls files q aside b =
+      term-master m ne hs s r none (n c) (λ a. 0) (n c) (inr (few-new c, λ q looks lost a h. omega (arith, few-new c a, lost, none-ready m q.table.rows))) (λ rows losses h. omega (arith, h.1, none-ready m rows)) (starts_any c.rec.generation.image (old_crew c) (R c) (back_alone c.rec.generation.image (old_crew c) (R c) c.rec.retries c.rec.pid_path)) files none (named (g c) (is_in [])) 0 k ls q
       (λ q' b'. restart k ls files q' aside b') b

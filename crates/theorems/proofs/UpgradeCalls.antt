@@ -26,13 +26,12 @@ use Rattle.theorems.proofs.Sets.{every-in, in-here, in-there, in-cases, below-of
 use Rattle.theorems.proofs.Small.{off-from, or-elim, true-false, not-is}
 use Rattle.theorems.proofs.Addresses.{stays-lacks, stays-put, any-put, stands-filter}
 use Rattle.theorems.proofs.Listeners.{fds, fds-listed, opens-on, all_closed, closed-first, has-closed, rises-closed, upgrade-added}
-use Rattle.theorems.proofs.Layouts.{fork-sole}
 use Rattle.theorems.proofs.Files.{written-file, other-written, other-oldbin}
 use Rattle.theorems.proofs.Ends.{first-keys}
 use Rattle.theorems.proofs.Logic.{Unasked, Anyhow, Behind, unfailing}
 use Rattle.theorems.proofs.Rules.{view, minus, plus, seen, Only, marks-wrong, weigh-sub}
 use Rattle.theorems.proofs.Duo.{framed-drop}
-use Rattle.theorems.proofs.UpgradeStage.{post, inv, Second, Given, g, new, new_crew, R, H0, A0, f, n, low, wanted, wanted-of, co, Goes, w, Common, common0, Lists}
+use Rattle.theorems.proofs.UpgradeStage.{post, inv, Second, Given, g, new, new_crew, R, H0, A0, f, n, low, wanted, wanted-of, co, Goes, w, Common, common0, Lists, Laid, laid-first}
 use Rattle.theorems.proofs.UpgradeBack.{Aside}
 use Rattle.theorems.proofs.UpgradeNew.{Doing, Held, bare, readied, with_starting, with_written, v, back, edges, Edge, held-plain, goes-back, apart, me, step, just-failed, try-adopt, try-close, try-open, try-fork, try-await, try-write}
 
@@ -69,14 +68,14 @@ module _ (c : Given) (m : ℕ) (ne : m ≢ c.rec.pid) (r0 : Names) (only0 : Only
       try-close c m ne r0 only0 (tries_all image (map CloseAt l ++ more) rest B) a (none_yet hs files) q aside
       (λ q' b'. closes-all l more rest (lacks_address a hs) files q' aside off.1 (common-lacks a hs off.0 common) next b') b
 
-  opens-all : (goal : Option (List Listener)) (l : List Address) (more : List Call) (rest : Tree) (hs : List Hold) (files : List File) (q : Progress) → A files → (all_opened l (map listener_of hs) ≡ goal) × RisesFrom 3 (fds hs) → Common c hs → ((hs' : List Hold) (q' : Progress) → Some (map listener_of hs') ≡ goal → ((a : Address) → has_address a hs' ≡ (has l a || has_address a hs)) → Common c hs' → H (none_yet hs' files) q' → G (tries_all image more rest B) q') → H (none_yet hs files) q → G (tries_all image (map OpenAt l ++ more) rest B) q
-  opens-all goal [] more rest hs files q aside listing common next b = next hs q listing.0 (λ a. refl) common b
+  opens-all : (goal : Option (List Listener)) (l : List Address) (more : List Call) (rest : Tree) (hs : List Hold) (files : List File) (q : Progress) → A files → (all_opened l (map listener_of hs) ≡ goal) × RisesFrom 3 (fds hs) → Common c hs → ((hs' : List Hold) (q' : Progress) → Some (map listener_of hs') ≡ goal → RisesFrom 3 (fds hs') → ((a : Address) → has_address a hs' ≡ (has l a || has_address a hs)) → Common c hs' → H (none_yet hs' files) q' → G (tries_all image more rest B) q') → H (none_yet hs files) q → G (tries_all image (map OpenAt l ++ more) rest B) q
+  opens-all goal [] more rest hs files q aside listing common next b = next hs q listing.0 listing.1 (λ a. refl) common b
   opens-all goal (x ∷ l) more rest hs files q aside listing common next b =
       try-open c m ne r0 only0 (tries_all image (map OpenAt l ++ more) rest B) x hs files q aside
       (λ h q' is fd room b'. opens-all goal l more rest (put_hold h hs) files q' aside
       (opens-on c.t.limits.descriptors h hs l goal c.ds.limit listing.1 fd room (subst (λ z. all_opened (z ∷ l) (map listener_of hs) ≡ goal) (sym is) listing.0))
       (common-put h hs common)
-      (λ hs' q'' lists keys common' b''. next hs' q'' lists (λ a. keys a ∙ ap (λ z. has l a || z) (any-put (is_at a) h hs ∙ ap (λ z. bytes_eq z a || has_address a hs) is) ∙ move (has l a) (bytes_eq x a) (has_address a hs)) common' b'') b') b
+      (λ hs' q'' lists rises keys common' b''. next hs' q'' lists rises (λ a. keys a ∙ ap (λ z. has l a || z) (any-put (is_at a) h hs ∙ ap (λ z. bytes_eq z a || has_address a hs) is) ∙ move (has l a) (bytes_eq x a) (has_address a hs)) common' b'') b') b
     where
       move : (p e o : Bool) → (p || (e || o)) ≡ ((e || p) || o)
       move true true o = refl
@@ -98,11 +97,10 @@ module _ (c : Given) (m : ℕ) (ne : m ≢ c.rec.pid) (r0 : Names) (only0 : Only
   forks-all : (ks : List ℕ) (more : List Call) (rest : Tree) (hs : List Hold) (s : Names) (files : List File) (q : Progress) → A files → ((k : ℕ) → is_in ks k ≡ true → is_in S k ≡ true) → Only (new c) S s → ((s' : Names) (q' : Progress) → Only (new c) S s' → H (forking hs s' files) q' → G (tries_all image more rest B) q') → H (forking hs s files) q → G (tries_all image (map (fork_of (new_crew c)) ks ++ more) rest B) q
   forks-all [] more rest hs s files q aside within only next b = next s q only b
   forks-all (k ∷ ks) more rest hs s files q aside within only next b =
-      subst (λ call. G (tries image call [] (tries_all image (map (fork_of (new_crew c)) ks ++ more) rest B) B) q) (sym (fork-sole (new_crew c) k c.lone))
-      (try-fork c m ne r0 only0 (tries_all image (map (fork_of (new_crew c)) ks ++ more) rest B) k (forking hs s files) q aside
+      try-fork c m ne r0 only0 (tries_all image (map (fork_of (new_crew c)) ks ++ more) rest B) k (forking hs s files) q aside
       (λ q' b'. forks-all ks more rest hs (plus s (new c) k) files q' aside (λ j e. within j (in-there k j ks e))
       (λ h j e. ⊎_elim (λ a. only h j a) (λ a. let is = bears-is (new c) k h j a in (is.0, subst (λ z. is_in S z ≡ true) (sym is.1) (within k (in-here k k ks refl)))) (or-elim (s h j) (bears (new c) k h j) e))
-      next b') b)
+      next b') b
 
   abbrev ready_so_far : List Hold → Names → List ℕ → List File → Doing c m ne r0 only0
   ready_so_far hs s done files = readied c m ne r0 only0 hs s done files
@@ -265,7 +263,7 @@ module _ (c : Given) (m : ℕ) (ne : m ≢ c.rec.pid) (r0 : Names) (only0 : Only
   calls-are a b f w p = append_assoc (Adopt ∷ a ++ b ++ f) w p ∙ append_assoc (Adopt ∷ a ++ b) f (w ++ p) ∙ append_assoc (Adopt ∷ a) b (f ++ (w ++ p))
 
   -- Adopt, close, open, fork, wait, write and count: then the rest; else back.
-  pub new-goes : (rest : Tree) (files : List File) (q : Progress) → A files → ((hs : List Hold) (r : Names) (files' : List File) (q' : Progress) → Lists c hs → ((a : Address) → has_address a hs ≡ has (wanted c) a) → Common c hs → A files' → Written c.rec.pid_path files' → Only (new c) S r → H (counted hs r files') q' → G rest q') → H (none_yet (H0 c) files) q → G (tries_all image (new_calls (new_crew c) c.rec.pid_path (A0 c) (wanted c) (n c)) (tries image (Census (new c)) S rest B) B) q
+  pub new-goes : (rest : Tree) (files : List File) (q : Progress) → A files → ((hs : List Hold) (r : Names) (files' : List File) (q' : Progress) → Lists c hs → ((a : Address) → has_address a hs ≡ has (wanted c) a) → Laid c hs → Common c hs → A files' → Written c.rec.pid_path files' → Only (new c) S r → H (counted hs r files') q' → G rest q') → H (none_yet (H0 c) files) q → G (tries_all image (new_calls (new_crew c) c.rec.pid_path (A0 c) (wanted c) (n c)) (tries image (Census (new c)) S rest B) B) q
   new-goes rest files q aside next b =
       let last = tries image (Census (new c)) S rest B in
       let writing = pid_calls c.rec.pid_path WritePid in
@@ -280,10 +278,10 @@ module _ (c : Given) (m : ℕ) (ne : m ≢ c.rec.pid) (r0 : Names) (only0 : Only
       (try-adopt c m ne r0 only0 (tries_all image (closes ++ opening) last B) (none_yet (H0 c) files) q aside
       (λ q1 b1. closes-all dropped_here opening last (H0 c) files q1 aside (dropped-off (A0 c)) (common0 c)
       (λ q2 common b2. opens-all (upgraded c.st.listeners c.rec.listeners) added_here starting last (all_closed dropped_here (H0 c)) files q2 aside first-listing common
-      (λ hs q3 lists keys common3 b3. forks-all S waiting last hs none files q3 aside (λ k e. e) (λ h k e. absurd (cc e))
+      (λ hs q3 lists rises keys common3 b3. forks-all S waiting last hs none files q3 aside (λ k e. e) (λ h k e. absurd (cc e))
       (λ s q4 only b4. awaits-all S [] writing last hs s files q4 aside (waiting-first s only)
       (λ q5 b5. writes-all c.rec.pid_path last (counted hs T files) q5 aside aside
-      (λ files' q6 aside' written b6. counts rest hs files' q6 aside' (λ r q7 only7 b7. next hs r files' q7 (sym lists) (λ a. keys a ∙ keys-of a) common3 aside' written only7 b7) b6) b5)
+      (λ files' q6 aside' written b6. counts rest hs files' q6 aside' (λ r q7 only7 b7. next hs r files' q7 (sym lists) (λ a. keys a ∙ keys-of a) (laid-first c hs (sym lists) rises) common3 aside' written only7 b7) b6) b5)
       (record {
         looks = b4.looks;
         enough = b4.enough;

@@ -327,8 +327,8 @@ leave-due c past _ t e h = absurd (cc e)
 
 pub upgrade_manner : (s : Settings) → InManner (Upgrade s)
 upgrade_manner s t r pattern a =
-    let (lone, range, ds, numbered) = a.accepts in
-    let c : Given = record { t = t; rec = r; st = s; pattern = pattern; start = a.start; lone = lone; range = range; ds = ds; numbered = numbered } in
+    let (range, ds, numbered) = a.accepts in
+    let c : Given = record { t = t; rec = r; st = s; pattern = pattern; start = a.start; range = range; ds = ds; numbered = numbered } in
     let at = start_at t r.note in
     let tree = plan_tree r (Upgrade s) in
     let ran = run_of r (Upgrade s) pattern t in

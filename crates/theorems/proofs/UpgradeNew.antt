@@ -1,18 +1,19 @@
 -- An upgrade's new master: each of its calls answers plainly, or the old master goes back.
-use Rattle.std.proofs.Common.{◌≡◌, ◌≢◌, ℕ, ◌+◌, Bool, true, false, List, [], ◌∷◌, ◌++◌, length, Option, Some, None, refl, sym, ap, ◌∙◌, subst, arith, inl, ⊎_elim, nat_lt}
+use Rattle.std.proofs.Common.{◌≡◌, ◌≢◌, ℕ, ◌+◌, Bool, true, false, List, [], ◌∷◌, ◌++◌, length, Option, Some, refl, sym, ap, ◌∙◌, subst, arith, inl, ⊎_elim, nat_lt}
 use Rattle.std.specs.Prelude.{◌&&◌, if◌then◌else◌}
 use Rattle.listener_set.specs.Numbers.{is_in}
 use Rattle.listener_set.specs.declared.generation.Generation.{Generation}
 use Rattle.vocabulary.specs.declared.table.Limits.{Limits}
 use Rattle.vocabulary.specs.declared.table.Stance.TheVariants.{Starting}
 use Rattle.vocabulary.specs.declared.calls.Call.{Call}
-use Rattle.vocabulary.specs.declared.calls.Call.TheVariants.{Adopt, CloseAt, OpenAt, Fork, AwaitReady, WritePid}
+use Rattle.vocabulary.specs.declared.calls.Call.TheVariants.{Adopt, CloseAt, OpenAt, AwaitReady, WritePid}
 use Rattle.vocabulary.specs.declared.calls.Fate.{Fate}
 use Rattle.vocabulary.specs.declared.calls.Answer.TheVariants as answer
 use Rattle.vocabulary.specs.declared.calls.Reply.TheVariants as reply
 use Rattle.vocabulary.specs.declared.plans.Order.TheVariants.{Make}
 use Rattle.definitions.specs.Table.{Address, FilePath, File, Hold, Worker, Table, Caller, bears, same_generation, is_worker, is_starting, is_exited}
 use Rattle.definitions.specs.Calls.{Stepped, gives, step_by, own_step, each_row, drop_where, with_files, with_file, with_new_row, with_new_socket, with_holds, put_hold, lacks_address, lowest_free, is_of, is_row, made_ready}
+use Rattle.definitions.specs.Crew.{fds_of, fork_of, share}
 use Rattle.definitions.specs.Exits.{change}
 use Rattle.definitions.specs.Manner.{is_leave_call}
 use Rattle.definitions.specs.Tree.{Tree, Branches, Nothing, plain_reply, replies_to, reply_of}
@@ -23,14 +24,15 @@ use Rattle.definitions.specs.Claims.{names_any}
 use Rattle.theorems.proofs.Refusals.{is_leave}
 use Rattle.theorems.proofs.Rows.{and-left, and-right, both-true}
 use Rattle.theorems.proofs.Views.{Names, named, View, Looks, finds, eqb-refl}
-use Rattle.theorems.proofs.Effects.{after_wait, after_open, none, bears-is, same-refl, looks-allows, mine-of, mine-row, mine-worker, holds-stay, ready-stays, close-looks, close-weigh, open-looks, fork-looks, fork-weigh, await-looks, await-gains, gone-looks, gone-weigh}
+use Rattle.theorems.proofs.Effects.{after_wait, after_open, after_close, none, bears-is, same-refl, looks-allows, mine-of, mine-row, mine-worker, holds-stay, ready-stays, close-looks, close-weigh, open-looks, fork-looks, fork-weigh, await-looks, await-gains, gone-looks, gone-weigh}
 use Rattle.theorems.proofs.Exits.{spares-each}
 use Rattle.theorems.proofs.Sets.{in-here, in-there}
+use Rattle.theorems.proofs.Shares.{share-lacks}
 use Rattle.theorems.proofs.Small.{or-elim}
 use Rattle.theorems.proofs.Logic.{Unasked, Course, course_after, Behind, Anyhow, adopt-cases, open-cases, fork-cases, await-cases, write-cases, unfailing}
 use Rattle.theorems.proofs.Rules.{IsGood, Scene, view, plus, minus, Band, Only, marks-plain, marks-wrong, weigh-sub, band-exits, band-inv, grounded}
 use Rattle.theorems.proofs.Duo.{Framed, framed-change, framed-drop, framed-grow, dead-none, with_other}
-use Rattle.theorems.proofs.UpgradeStage.{Given, g, new, old_crew, R, f, co, acts, inv, post, Goes, u, w, Second, hold-old, pair_scene, good-pair}
+use Rattle.theorems.proofs.UpgradeStage.{Given, g, new, old_crew, new_crew, posts, R, f, co, acts, inv, post, Goes, u, w, Second, hold-old, pair_scene, good-pair}
 use Rattle.theorems.proofs.UpgradeBack.{Aside, goes-back-from}
 
 module _ (c : Given) (m : ℕ) (ne : m ≢ c.rec.pid) (r0 : Names) (only0 : Only (g c) (R c) r0) where
@@ -63,7 +65,7 @@ module _ (c : Given) (m : ℕ) (ne : m ≢ c.rec.pid) (r0 : Names) (only0 : Only
   Held x k b ls q = Band v (sc x) none r0 (named (g c) (is_in (R c))) (length (R c)) k b ls q
 
   pub good : (x : Doing) → IsGood v (sc x) I
-  good x = good-pair c v (w c m x.hs x.s x.r) x.hs x.names x.d (f c) (inl (λ a. omega arith)) refl (hold-old c)
+  good x = good-pair c v (w c m x.hs x.s x.r) x.names x.d (f c) (inl (λ a. omega arith)) refl (hold-old c)
 
   abbrev pub back : Tree
   back = back_from c.rec.generation.image image (old_crew c) (R c) c.rec.retries c.rec.pid_path
@@ -167,7 +169,7 @@ module _ (c : Given) (m : ℕ) (ne : m ≢ c.rec.pid) (r0 : Names) (only0 : Only
       let framed = framed-change (view v none r0) m (is_of m) (with_holds (lacks_address a)) q'.table.rows apart (mine-of m, λ k zs. refl) (holds-stay (lacks_address a)) b'.looks in
       subst (λ st. Edge (CloseAt a) rest [] q' st) (sym (unfailing (co c).text image (me x) (CloseAt a) fate q'.table tt))
       (next (plain_with t' q'.ready q'.lacking q') (held-plain x (with_hs x (lacks_address a x.hs)) t' q'.ready q'.lacking q' b' b'.still.files_stay refl b'.lacking framed
-      (inl (close-looks (w c m x.hs x.s x.r) a q'.table.rows looks), omega (arith, b'.beside.1, close-weigh m x.names a q'.table.rows)))))
+      (inl (looks-allows (after_close a (w c m x.hs x.s x.r)) (w c m (lacks_address a x.hs) x.s x.r) (record { number = refl; others = λ k e. e; image = refl; holds = refl; starting = λ j k e. e; ready = λ j k e. e; held_starting = λ j k e. share-lacks (posts c) k a x.hs; held = λ j k e. share-lacks (posts c) k a x.hs }) t'.rows (close-looks (w c m x.hs x.s x.r) a q'.table.rows looks)), omega (arith, b'.beside.1, close-weigh m x.names a q'.table.rows)))))
       (λ q' b'. just-failed x q' aside b')
 
   -- Only a master without workers opens.
@@ -193,18 +195,19 @@ module _ (c : Given) (m : ℕ) (ne : m ≢ c.rec.pid) (r0 : Names) (only0 : Only
   abbrev pub with_starting : Doing → Names → Doing
   with_starting x s = record { hs = x.hs; s = s; r = x.r; names = x.names; d = x.d; files = x.files }
 
-  pub try-fork : (rest : Tree) (k : ℕ) (x : Doing) (q : Progress) → Aside c c.rec.pid_path x.files → ((q' : Progress) → Held (with_starting x (plus x.s (new c) k)) 0 false [] q' → Goes c (co c) rest q') → Held x 0 false [] q → Goes c (co c) (tries image (Fork (new c) k None) [] rest back) q
+  pub try-fork : (rest : Tree) (k : ℕ) (x : Doing) (q : Progress) → Aside c c.rec.pid_path x.files → ((q' : Progress) → Held (with_starting x (plus x.s (new c) k)) 0 false [] q' → Goes c (co c) rest q') → Held x 0 false [] q → Goes c (co c) (tries image (fork_of (new_crew c) k) [] rest back) q
   try-fork rest k x q aside next b =
-      step (Fork (new c) k None) [] rest x q refl b
+      let hold = share (posts c) k x.hs in
+      step (fork_of (new_crew c) k) [] rest x q refl b
       (λ q' b' looks fate.
       let bad = just-failed x q' aside b' in
-      fork-cases (co c).text image (me x) (new c) k None fate q'.table (λ st. Edge (Fork (new c) k None) rest [] q' st) bad bad
+      fork-cases (co c).text image (me x) (new c) k (fds_of (posts c) k) fate q'.table (λ st. Edge (fork_of (new_crew c) k) rest [] q' st) bad bad
       (λ off.
       let j = q'.table.next_process in
-      let t' = with_new_row q'.table (λ j. Worker j m (new c) k Starting x.hs) in
-      let framed = framed-grow (view v none r0) m j (new c) k x.hs q'.table.rows apart (eqb-refl m m refl) b'.looks in
+      let t' = with_new_row q'.table (λ j. Worker j m (new c) k Starting hold) in
+      let framed = framed-grow (view v none r0) m j (new c) k hold q'.table.rows apart (eqb-refl m m refl) b'.looks in
       next (plain_with t' q'.ready q'.lacking q') (held-plain x (with_starting x (plus x.s (new c) k)) t' q'.ready q'.lacking q' b' b'.still.files_stay refl b'.lacking framed
-      (inl (fork-looks (w c m x.hs x.s x.r) (new c) k j x.hs q'.table.rows refl off looks), omega (arith, b'.beside.1, fork-weigh m (new c) x.names k j x.hs q'.table.rows)))))
+      (inl (fork-looks (w c m x.hs x.s x.r) (new c) k j hold q'.table.rows refl off looks), omega (arith, b'.beside.1, fork-weigh m (new c) x.names k j hold q'.table.rows)))))
       (λ q' b'. just-failed x q' aside b')
 
   -- of the numbers that were forked, those that are Ready, and are counted

@@ -26,11 +26,11 @@ use Rattle.theorems.proofs.Files.{gone-file, other-removed, oldbin-other, no-pat
 use Rattle.theorems.proofs.Logic.{Unasked, Anyhow, Behind, course_after, remove-cases, unfailing}
 use Rattle.theorems.proofs.Rules.{IsGood, Still, Scene, view, Marks, Band, Only, marks-plain, marks-wrong, rule-step, rule-quits, rule-waits, rule-settle, band-exits, band-inv, band-anew, band-failed, failed_at, Answers, grounded}
 use Rattle.theorems.proofs.Duo.{OneOther, alone-left, dead-none, dead-weigh, asked-looks, asked-dead, with_other}
-use Rattle.theorems.proofs.UpgradeStage.{Given, g, new, old_crew, new_crew, R, H0, f, n, low, wanted, few-new, co, co_after, acts, acts-after, inv, post, Goes, u, w, x, Common, Lists, alone_scene, good-alone, pair_scene, good-pair, new-full, new-short, hold-old, serves_new, enough-new, holds-new}
+use Rattle.theorems.proofs.UpgradeStage.{Given, g, new, old_crew, new_crew, R, H0, f, n, low, wanted, few-new, co, co_after, acts, acts-after, inv, post, Goes, u, w, x, Common, Lists, Laid, alone_scene, good-alone, pair_scene, good-pair, new-full, new-short, hold-old, hold-new, level-some, serves_new, enough-new}
 use Rattle.theorems.proofs.UpgradeBack.{Aside, goes-back-late}
 use Rattle.theorems.proofs.UpgradeCalls.{Written}
 
-module _ (c : Given) (m : ℕ) (ne : m ≢ c.rec.pid) (some : 1 ≤ m) (r0 : Names) (only0 : Only (g c) (R c) r0) (hs : List Hold) (r : Names) (only : Only (new c) (numbers_below (n c)) r) (lists : Lists c hs) (keys : (a : Address) → has_address a hs ≡ has (wanted c) a) (common : Common c hs) where
+module _ (c : Given) (m : ℕ) (ne : m ≢ c.rec.pid) (some : 1 ≤ m) (r0 : Names) (only0 : Only (g c) (R c) r0) (hs : List Hold) (r : Names) (only : Only (new c) (numbers_below (n c)) r) (lists : Lists c hs) (keys : (a : Address) → has_address a hs ≡ has (wanted c) a) (laid : Laid c hs) (common : Common c hs) where
   abbrev I : Progress → Type 0
   I = inv c
 
@@ -53,7 +53,7 @@ module _ (c : Given) (m : ℕ) (ne : m ≢ c.rec.pid) (some : 1 ≤ m) (r0 : Nam
   both files = pair_scene c second ne (eqb-refl c.rec.pid c.rec.pid refl) T (n c) (λ a. 0) files c.rec.note
 
   good : (files : List File) → IsGood v (both files) I
-  good files = good-pair c v second hs T (n c) (λ a. 0) (inr (few-new c, common, λ h k. refl)) refl (hold-old c)
+  good files = good-pair c v second T (n c) (λ a. 0) (inr (few-new c, λ q looks secured. level-some c second (f c) (serves_new c) (hold-new c m hs none r laid common) T (length S) q (λ a. omega arith) (enough-new c m) looks (λ a e. omega (arith, secured, below-length (n c))))) refl (hold-old c)
 
   -- the old master's workers of these names are there, and nothing of them is counted
   abbrev Beside : List File → Names → Names → Bool → Progress → Type 0
@@ -84,13 +84,13 @@ module _ (c : Given) (m : ℕ) (ne : m ≢ c.rec.pid) (some : 1 ≤ m) (r0 : Nam
   last files note = alone_scene c m (new c).image (serves_new c) (f c) 0 files note
 
   good-last : (files : List File) (note : PidNote) → IsGood (x c m hs r) (last files note) I
-  good-last files note = good-alone c (x c m hs r) (serves_new c) (f c) 0 hs (inl (λ a. omega arith)) refl (λ a h j k on. (common a h).0) common
+  good-last files note = good-alone c (x c m hs r) (serves_new c) (f c) 0 hs (inl (λ a. omega arith)) refl (hold-new c m hs none r laid common) common
 
   settles : (files : List File) (note : PidNote) (b : Bool) (q : Progress) → FilesAre note c.rec.pid_path m files → Band (x c m hs r) (last files note) none r T (length S) 0 b [] q → Goes c (co_after c) (settle (new c).image (new_crew c) S Target c.rec.retries) q
   settles files note b q are h =
-      rule-settle (x c m hs r) (last files note) (grounded I P (co_after c) (acts-after c) (good-last files note)) Target (new_crew c) S (holds-new c m hs r) (below-distinct (n c)) (λ k e. omega (arith, below-of (n c) k e, low c)) c.rec.retries false
-      (λ r' q' k' b' up only' h' saw exact. new-full c m some hs lists keys files note are r' q' only' h'.looks h'.lacking h'.still saw exact)
-      (λ r' q' y ys only' h' saw exact. new-short c m some hs lists keys files note are r' q' y ys only' h'.looks h'.lacking (h'.marks.caused refl) h'.still h'.budget saw exact)
+      rule-settle (x c m hs r) (last files note) (grounded I P (co_after c) (acts-after c) (good-last files note)) Target (new_crew c) S (λ k. refl) (below-distinct (n c)) (λ k e. omega (arith, below-of (n c) k e, low c)) c.rec.retries false
+      (λ r' q' k' b' up only' h' saw exact. new-full c m some hs lists keys laid files note are r' q' only' h'.looks h'.lacking h'.still saw exact)
+      (λ r' q' y ys only' h' saw exact. new-short c m some hs lists keys laid files note are r' q' y ys only' h'.looks h'.lacking (h'.marks.caused refl) h'.still h'.budget saw exact)
       c.rec.retries 0 (omega arith) b (λ e. absurd (cc e)) r [] q only h
 
   -- The old master's file goes, and the new one settles.
@@ -161,7 +161,7 @@ module _ (c : Given) (m : ℕ) (ne : m ≢ c.rec.pid) (some : 1 ≤ m) (r0 : Nam
       (record { looks = h'.looks; enough = h'.enough; secured = λ a e. absurd (omega (arith, e)); budget = omega arith; lacking = h'.lacking; marks = marks-plain b p.faults p.losses (p.calls + 1) p.cause h'.marks; still = h'.still; beside = h'.beside })))
       (λ dead. subst answered_by (sym (dead-none second p.table.rows dead))
       (let framed = asked-looks (view v none none) (new c).image p.table.rows (λ e. absurd (omega (arith, e))) h'.looks in
-      goes-back-late c m ne hs none r common 0 [] files (after_call order [] (gives answer.Gone (each_row (drop_where (is_image (new c).image)) p.table)) p) aside
+      goes-back-late c m ne hs none r 0 [] files (after_call order [] (gives answer.Gone (each_row (drop_where (is_image (new c).image)) p.table)) p) aside
       (record {
         looks = framed.looks;
         enough = λ a e. absurd (omega (arith, e));

@@ -1,9 +1,9 @@
 -- An upgrade: who is on the stage, what each part keeps, and the ends.
 use Rattle.std.proofs.Common.{◌≡◌, ◌≢◌, ℕ, ◌+◌, ◌<◌, ◌≤◌, Bool, true, false, List, [], ◌∷◌, length, Some, None, refl, sym, ap, ◌∙◌, arith, ◌⊎◌, ⊎_elim}
-use Rattle.std.specs.Prelude.{map, min, if◌then◌else◌, is_some}
+use Rattle.std.specs.Prelude.{map, min, ◌&&◌, if◌then◌else◌, is_some, unwrap_or}
 use Rattle.std.proofs.lemmas.List.Sums.{length-filter}
 use Rattle.std.specs.List.{list_any}
-use Rattle.listener_set.specs.Numbers.{is_in, numbers_below}
+use Rattle.listener_set.specs.Numbers.{RisesFrom, is_in, numbers_below}
 use Rattle.listener_set.specs.AddressList.{has}
 use Rattle.listener_set.specs.declared.generation.Generation.{Generation}
 use Rattle.vocabulary.specs.declared.targets.Target.TheVariants.{Upgrade}
@@ -12,25 +12,25 @@ use Rattle.vocabulary.specs.declared.plans.End.TheVariants.{Done, RolledBack, Sh
 use Rattle.vocabulary.specs.Settings.{Settings, IsInRange}
 use Rattle.definitions.specs.Table.{Address, File, Hold, Process, Table, same_generation, has_address, is_worker, is_ready}
 use Rattle.definitions.specs.Service.{Service, service}
-use Rattle.definitions.specs.Crew.{Crew, Layout, group_of, layout_in, short_at, shortfalls_of}
+use Rattle.definitions.specs.Crew.{Posts, Crew, Layout, share, group_of, posts_of, layout_in, short_at, shortfalls_of}
 use Rattle.definitions.specs.Record.{Record, Agrees, FilesAre, addresses_of, crew_of, layout_of, listener_of}
 use Rattle.definitions.specs.Target.{Sides, upgrade_generation, want, wanted_at, sides_of, text_handed}
 use Rattle.definitions.specs.After.{crew_wanted, posts_wanted, Setup, setup_after, recorded, renewed, upgraded, next_image}
 use Rattle.definitions.specs.Tree.{Tree}
 use Rattle.definitions.specs.Run.{Pattern, Progress, Ending, At, outcome_of}
 use Rattle.definitions.specs.Claims.{AgreesAfter, IsStart, has_socket, Says, IsPaid, Kept, IsCommon, IsBlamed, HasCause, HasDescriptors, ready_with}
-use Rattle.theorems.proofs.Rows.{weigh}
-use Rattle.theorems.proofs.Views.{HoldsShare, Names, named, View, Looks, ready_in}
+use Rattle.theorems.proofs.Rows.{weigh, both-true}
+use Rattle.theorems.proofs.Views.{Names, named, View, Looks, ready_in}
 use Rattle.theorems.proofs.Effects.{none}
 use Rattle.theorems.proofs.Exits.{falls-all}
 use Rattle.theorems.proofs.Counts.{Distinct, Counted, counted-all}
-use Rattle.theorems.proofs.Sets.{filter-le, in-here, below-of, below-length}
-use Rattle.theorems.proofs.Services.{live-with, live-with-on, fewer-same, ready-floor}
+use Rattle.theorems.proofs.Sets.{filter-le, in-here, below-of, below-distinct, below-length}
+use Rattle.theorems.proofs.Services.{live-with, live-with-on, fewer-same}
 use Rattle.theorems.proofs.Begins.{first_view, begin, rising-distinct}
 use Rattle.theorems.proofs.Small.{every-is_in}
-use Rattle.theorems.proofs.Listeners.{some-held}
+use Rattle.theorems.proofs.Listeners.{fds, some-held}
 use Rattle.theorems.proofs.Shares.{shortfalls-sum}
-use Rattle.theorems.proofs.Layouts.{share-sole, sole-listens}
+use Rattle.theorems.proofs.Layouts.{told, share-listens}
 use Rattle.theorems.proofs.After.{agrees-after}
 use Rattle.theorems.proofs.Ends.{ListensBy, first-few, first-listens, next-image-is, moved-after, resized, report_at, service-of, service-short, first-keys, first-service, first-held, census-within, files-still, kept-after}
 use Rattle.theorems.proofs.Logic.{Unasked, Course, Along, Anyhow}
@@ -44,7 +44,6 @@ pub record Given : Type 0 where
   pub st : Settings
   pub pattern : Pattern
   pub start : IsStart t rec
-  pub lone : length st.groups ≡ 1
   pub range : IsInRange st
   pub ds : HasDescriptors t rec
   pub numbered : is_some (next_image rec.generation) ≡ true
@@ -56,12 +55,15 @@ module _ (c : Given) where
   abbrev pub new : Generation
   new = upgrade_generation c.rec.generation
 
-  -- the old workers, and the new ones, which are of one group
+  -- the old workers and the new ones
   abbrev pub old_crew : Crew
   old_crew = crew_of c.rec
 
   abbrev pub new_crew : Crew
   new_crew = crew_wanted c.rec (Upgrade c.st)
+
+  abbrev pub posts : Posts
+  posts = posts_wanted c.rec (Upgrade c.st)
 
   abbrev pub R : List ℕ
   R = c.rec.ready
@@ -92,24 +94,24 @@ module _ (c : Given) where
   abbrev pub f : Address → ℕ
   f a = min (ready_with a c.t) (wanted_at c.rec (Upgrade c.st) a)
 
-  -- the numbers of the old workers whose groups listen there, and the names that serve
+  -- the numbers whose groups listen at an address, and the names that serve there
   abbrev pub old_at : Address → ℕ → Bool
   old_at a k = (layout_of c.rec).listens (group_of c.rec.posts.groups k) a
+
+  abbrev pub new_at : Address → ℕ → Bool
+  new_at a k = layout.listens (group_of c.st.groups k) a
 
   abbrev pub serves_old : Address → Names
   serves_old a h k = old_at a k
 
-  -- all new workers do
   abbrev pub serves_new : Address → Names
-  serves_new a h k = true
+  serves_new a h k = new_at a k
 
   pub low : n ≤ 1024
   low = c.range.workers
 
   pub few-new : (a : Address) → f a ≤ n
-  few-new a =
-      let listens : ℕ → Bool = λ k. layout.listens (group_of c.st.groups k) a in
-      omega (arith, length-filter listens S, filter-le listens S, below-length n)
+  few-new a = omega (arith, length-filter (new_at a) S, filter-le (new_at a) S, below-length n)
 
   -- the old master executes, and then the new one
   abbrev pub co : Course
@@ -162,7 +164,7 @@ module _ (c : Given) where
 
   -- the new one
   abbrev pub w : ℕ → List Hold → Names → Names → View
-  w m hs s r = new_view m new.image c.rec.pid hs s r
+  w m hs s r = new_view m new.image c.rec.pid posts hs s r
 
   held-of : (a : Address) → is_some (old a) ≡ true → has_address a H0 ≡ true
   held-of a e = first-held c.t c.rec c.start a e
@@ -184,9 +186,9 @@ module _ (c : Given) where
   kept-by : (v : View) (hs : List Hold) → v.holds ≡ hs → Common hs → (q : Progress) → Looks v q.table.rows → Kept old target c.t q.table
   kept-by v hs is common q looks = λ a k h on. live-with-on v (has_socket a k) q.table.rows looks (ap (has_socket a k) is ∙ (common a h).1 k (sym (live-with u (λ n. refl) (has_socket a k) c.t.rows looks0) ∙ on))
 
-  -- Where all of some names hold what is held, those that are not lost are enough.
-  level-all : (v : View) (hs : List Hold) → Common hs → ((h : Generation) (k : ℕ) → v.held h k ≡ hs) → (names : Names) (count : ℕ) (q : Progress) → ((a : Address) → f a ≤ count) → Looks v q.table.rows → count ≤ ready_of v names q + q.losses → Level q
-  level-all v hs common held names count q enough looks secured = λ a h. omega (arith, enough a, secured, ready-floor v names a q.table.rows (λ j k e. ap (has_address a) (held j k) ∙ (common a h).0) looks)
+  -- each new worker holds an address that is wanted and held, where its group listens
+  abbrev pub Laid : List Hold → Type 0
+  Laid hs = (k : ℕ) (a : Address) → has wanted a ≡ true → has_address a (share posts k hs) ≡ (has_address a hs && new_at a k)
 
   -- Who serves at a common address holds it.
   abbrev pub HoldAll : View → (Address → Names) → Type 0
@@ -195,7 +197,10 @@ module _ (c : Given) where
   pub hold-old : HoldAll u serves_old
   hold-old a h j k on = first-listens c.t c.rec c.start k a ∙ on
 
-  level-some : (v : View) (floor : Address → ℕ) (serves : Address → Names) → HoldAll v serves → (names : Names) (count : ℕ) (q : Progress) → ((a : Address) → f a ≤ floor a) → Enough v.number floor serves names count → Looks v q.table.rows → ((a : Address) → 1 ≤ floor a → count ≤ ready_of v names q + q.losses) → Level q
+  pub hold-new : (m : ℕ) (hs : List Hold) (s r : Names) → Laid hs → Common hs → HoldAll (w m hs s r) serves_new
+  hold-new m hs s r laid common a h j k on = laid k a (wanted-of a h.1) ∙ both-true (has_address a hs) (new_at a k) (common a h).0 on
+
+  pub level-some : (v : View) (floor : Address → ℕ) (serves : Address → Names) → HoldAll v serves → (names : Names) (count : ℕ) (q : Progress) → ((a : Address) → f a ≤ floor a) → Enough v.number floor serves names count → Looks v q.table.rows → ((a : Address) → 1 ≤ floor a → count ≤ ready_of v names q + q.losses) → Level q
   level-some v floor serves hold names count q most enough looks secured = λ a h. floor-by (f a) (ready_with a q.table + q.losses) (at a h)
     where
       at : (a : Address) → IsCommon old target a → 1 ≤ f a → f a ≤ ready_with a q.table + q.losses
@@ -209,7 +214,7 @@ module _ (c : Given) where
 
   -- and so are the new ones
   pub enough-new : (m : ℕ) → Enough m f serves_new (named new (is_in S)) (length S)
-  enough-new m a e = record { names = named new (is_in S); many = length S; serve = λ h k on. refl; part = λ rows once. omega arith; enough = omega (arith, few-new a, below-length n) }
+  enough-new m a e = covers-part m (f a) (serves_new a) new S (new_at a) (below-distinct n) (λ k on. on) (omega (arith, length-filter (new_at a) S))
 
   -- none is asked for where there is no floor
   pub enough-none : (m : ℕ) (serves : Address → Names) (names : Names) (count : ℕ) → Enough m (λ a. 0) serves names count
@@ -261,12 +266,16 @@ module _ (c : Given) where
     fails = λ rows losses faults h. h;
   }
 
+  -- Those of so many names that are not lost are enough, and so are so many losses.
+  abbrev pub Serve : View → Names → ℕ → Type 0
+  Serve x names d = ((a : Address) → f a ≤ d) × ((q : Progress) → Looks x q.table.rows → d ≤ ready_of x names q + q.losses → Level q)
+
   -- The floor is the old one's workers', or the other one's.
-  pub good-pair : (v x : View) (hs : List Hold) (names : Names) (d : ℕ) (floor : Address → ℕ) → ((a : Address) → f a ≤ floor a) ⊎ (((a : Address) → f a ≤ d) × Common hs × ((h : Generation) (k : ℕ) → x.held h k ≡ hs)) → v.holds ≡ H0 → HoldAll v serves_old → (names' : Names) (count : ℕ) (b : Bool) (q : Progress) → Enough v.number floor serves_old names' count → Looks (view v any any) q.table.rows → ((a : Address) → 1 ≤ floor a → count ≤ ready_of v names' q + q.losses) → Marks b q.faults q.losses q.cause → Second x names d q.table.rows q.losses → inv q
-  good-pair v x hs names d floor kind is hold names' count b q enough looks secured marks second = (
+  pub good-pair : (v x : View) (names : Names) (d : ℕ) (floor : Address → ℕ) → ((a : Address) → f a ≤ floor a) ⊎ Serve x names d → v.holds ≡ H0 → HoldAll v serves_old → (names' : Names) (count : ℕ) (b : Bool) (q : Progress) → Enough v.number floor serves_old names' count → Looks (view v any any) q.table.rows → ((a : Address) → 1 ≤ floor a → count ≤ ready_of v names' q + q.losses) → Marks b q.faults q.losses q.cause → Second x names d q.table.rows q.losses → inv q
+  good-pair v x names d floor kind is hold names' count b q enough looks secured marks second = (
     kept-by (view v any any) H0 is common0 q looks,
     ⊎_elim (λ most. level-some (view v any any) floor serves_old hold names' count q most enough looks secured)
-        (λ o. ⊎_elim (λ lives. level-all x hs o.1 o.2 names d q o.0 lives second.1) (λ dead a h. omega (arith, o.0 a, second.1, dead-weigh x names q.table.rows dead)) second.0) kind,
+        (λ o. ⊎_elim (λ lives. o.1 q lives second.1) (λ dead a h. omega (arith, o.0 a, second.1, dead-weigh x names q.table.rows dead)) second.0) kind,
     (marks.clean, marks.blamed),
   )
 
@@ -314,28 +323,30 @@ module _ (c : Given) where
 
   -- the setup of the target, with these holds
   abbrev pub moved : List Hold → Setup
-  moved hs = record { listeners = map listener_of hs; posts = posts_wanted c.rec (Upgrade c.st); generation = new; wanted = n; retries = c.st.retries; timeout = c.st.timeout }
+  moved hs = record { listeners = map listener_of hs; posts = posts; generation = new; wanted = n; retries = c.st.retries; timeout = c.st.timeout }
 
   -- the listeners that the record will have
   abbrev pub Lists : List Hold → Type 0
   Lists hs = upgraded c.st.listeners c.rec.listeners ≡ Some (map listener_of hs)
 
-  moved-is : (hs : List Hold) → Lists hs → renewed c.st (posts_wanted c.rec (Upgrade c.st)) (upgraded c.st.listeners c.rec.listeners) (next_image c.rec.generation) ≡ Some (moved hs)
-  moved-is hs lists = ap (λ ls. renewed c.st (posts_wanted c.rec (Upgrade c.st)) ls (next_image c.rec.generation)) lists ∙ ap (λ o. renewed c.st (posts_wanted c.rec (Upgrade c.st)) (Some (map listener_of hs)) o) (next-image-is c.rec.generation c.numbered)
+  moved-is : (hs : List Hold) → Lists hs → renewed c.st posts (upgraded c.st.listeners c.rec.listeners) (next_image c.rec.generation) ≡ Some (moved hs)
+  moved-is hs lists = ap (λ ls. renewed c.st posts ls (next_image c.rec.generation)) lists ∙ ap (λ o. renewed c.st posts (Some (map listener_of hs)) o) (next-image-is c.rec.generation c.numbered)
 
-  -- its workers, which are of one group, hold what it holds
-  pub holds-new : (m : ℕ) (hs : List Hold) (r : Names) → HoldsShare (x m hs r) new_crew
-  holds-new m hs r k = sym (share-sole new_crew.posts k hs c.lone)
+  -- Its workers' descriptors were told from what it holds when all is closed and opened.
+  pub laid-first : (hs : List Hold) → Lists hs → RisesFrom 3 (fds hs) → Laid hs
+  laid-first hs lists rises k a on =
+      let told_from : posts ≡ posts_of c.st.groups c.st.listeners (map listener_of hs) = ap (λ o. posts_of c.st.groups c.st.listeners (unwrap_or o c.rec.listeners)) lists in
+      ap (λ p. has_address a (share p k hs)) told_from ∙ share-listens c.st.groups c.st.listeners c.range.addresses_add_up (map listener_of hs) hs (told 3 hs rises) k a on
 
-  module _ (m : ℕ) (some : 1 ≤ m) (hs : List Hold) (lists : Lists hs) (keys : (a : Address) → has_address a hs ≡ has wanted a) (files : List File) (note : PidNote) (are : FilesAre note c.rec.pid_path m files) where
+  module _ (m : ℕ) (some : 1 ≤ m) (hs : List Hold) (lists : Lists hs) (keys : (a : Address) → has_address a hs ≡ has wanted a) (laid : Laid hs) (files : List File) (note : PidNote) (are : FilesAre note c.rec.pid_path m files) where
     listens-new : (r : Names) → ListensBy (x m hs r) new layout
-    listens-new r k a on = keys a ∙ sym (sole-listens c.st.groups wanted k a c.lone c.range.addresses_add_up)
+    listens-new r k a on = laid k a (sym (keys a) ∙ on) ∙ ap (λ b. b && new_at a k) on
 
     moved-left : (r : Names) (q : Progress) → Only new S r → Looks (view (x m hs r) none r) q.table.rows → Exactly m new q → Still files note c.t.limits q.table.files q.note q.table.limits → (e : Ending) → setup_after (outcome_of sides e q.lacking) c.rec (Upgrade c.st) ≡ Some (moved hs) → AgreesAfter c.rec (Upgrade c.st) (report_at sides e q) q.table
     moved-left r q only looks exact still e is =
         moved-after c.rec (Upgrade c.st) (report_at sides e q) q.table (moved hs) m is (some-held hs wanted keys c.range.listens) c.range.groups low c.range.retries c.range.timeout_least c.range.timeout_most c.start.record_in_range some (λ e. absurd (omega (arith, e)))
         (λ k on. below-of n k (census-within (x m hs r) (λ n. refl) new S r q.table.rows q.ready only looks exact k on))
-        (agrees-after (view (x m hs r) none r) new_crew q.table _ (λ n. refl) (holds-new m hs r) (λ h k on. (only h k on).0) looks exact refl refl refl refl (files-still note q.note c.rec.pid_path m files q.table.files c.t.limits q.table.limits are still))
+        (agrees-after (view (x m hs r) none r) new_crew q.table _ (λ n. refl) (λ k. refl) (λ h k on. (only h k on).0) looks exact refl refl refl refl (files-still note q.note c.rec.pid_path m files q.table.files c.t.limits q.table.limits are still))
 
     pub new-full : (r : Names) (q : Progress) → Only new S r → Looks (view (x m hs r) none r) q.table.rows → q.lacking ≡ [] → Still files note c.t.limits q.table.files q.note q.table.limits → Saw m new S q → Exactly m new q → post (At Done) q
     new-full r q only looks full still saw exact = (

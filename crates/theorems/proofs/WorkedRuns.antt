@@ -1,16 +1,11 @@
 -- The worked examples, by computation.
-use Rattle.std.proofs.Common.{◌≡◌, ℕ, List, [], ◌∷◌, ◌++◌, refl, sym, subst, arith, ◌∙◌, ap}
-use Rattle.std.specs.Prelude.{codes}
-use Rattle.std.specs.Fmt.{decimal}
-use Rattle.std.proofs.lemmas.Fmt.{decimal_digit, decimal_step}
+use Rattle.std.proofs.Common.{◌≡◌, ℕ, List, refl, sym, subst, arith}
+use Rattle.std.proofs.lemmas.Fmt.{decimal_digit}
 use Rattle.definitions.specs.Calls.{census_of}
 use Rattle.definitions.specs.Target.{text_handed}
 use Rattle.theorems.specs.Examples.{two_ready}
-use Rattle.theorems.proofs.GroupRuns.{group_runs}
+use Rattle.theorems.proofs.GroupRuns.{hundred, group_runs}
 use Rattle.theorems.specs.WorkedRuns.{handed, same_upgrade, WorkedRuns, Upgrades, NoImage, GoneAtLast, Refused, GoneEarly, RepairedAtLast, OldFileLeft}
-
-hundred : decimal 100 ≡ codes "100"
-hundred = decimal_step 100 (omega arith) (omega arith) ∙ ap (λ ds. ds ++ 48 ∷ []) (decimal_step 10 (omega arith) (omega arith) ∙ ap (λ ds. ds ++ 48 ∷ []) (decimal_digit 1 (omega arith)))
 
 spelled : text_handed (two_ready 3) same_upgrade ≡ handed
 spelled = rw (hundred, decimal_digit 2 (omega arith), decimal_digit 3 (omega arith)) refl

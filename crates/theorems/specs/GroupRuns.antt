@@ -2,19 +2,19 @@
 use Rattle.std.specs.Prelude.{ℕ, true, ◌≡◌, List, [], ◌∷◌, Some, None}
 use Rattle.vocabulary.specs.declared.table.Stance.TheVariants.{Ready}
 use Rattle.vocabulary.specs.declared.names.Name.TheVariants as name
-use Rattle.vocabulary.specs.declared.calls.Call.TheVariants.{OpenAt, Fork, AwaitReady, Quit, Census}
+use Rattle.vocabulary.specs.declared.calls.Call.TheVariants.{OpenAt, Fork, AwaitReady, AwaitGone, Quit, Census, SpawnMaster, Adopt, Alive, Leave}
 use Rattle.vocabulary.specs.declared.calls.Answer.TheVariants as answer
-use Rattle.vocabulary.specs.declared.plans.PidNote.TheVariants.{InPlace}
+use Rattle.vocabulary.specs.declared.plans.PidNote.TheVariants.{InPlace, NoFile}
 use Rattle.vocabulary.specs.declared.plans.Side.TheVariants as side
 use Rattle.vocabulary.specs.declared.reports.Outcome.TheVariants.{Done, Degraded}
 use Rattle.vocabulary.specs.Settings.{Settings}
 use Rattle.definitions.specs.Table.{Hold, Master, Worker, Table}
 use Rattle.definitions.specs.Crew.{Group}
 use Rattle.definitions.specs.Record.{Record}
-use Rattle.definitions.specs.Target.{Workers, Reload}
+use Rattle.definitions.specs.Target.{Workers, Reload, Upgrade}
 use Rattle.definitions.specs.Run.{Pattern, Ran}
 use Rattle.definitions.specs.Claims.{run_of, IsStart}
-use Rattle.theorems.specs.Examples.{first, reloaded, port, other_port, pid_file, pid_files, two_workers, two_ready, no_fault, exits, m1, report, Gives, serving}
+use Rattle.theorems.specs.Examples.{first, reloaded, upgraded, port, other_port, pid_file, pid_files, two_workers, two_ready, no_fault, exits, m1, m2, report, Gives, serving}
 
 ---- A master with two groups
 
@@ -64,6 +64,13 @@ grouped_record ready wanted = record {
 abbrev pub three_ready : Record
 three_ready = grouped_record (0 ∷ 1 ∷ 2 ∷ []) 3
 
+-- the same without a pid file
+abbrev pub three_without_file : Table
+three_without_file = record three_workers { files = [] }
+
+abbrev pub three_ready_without_file : Record
+three_ready_without_file = record three_ready { pid_path = None; note = NoFile }
+
 ---- Its runs
 
 -- from one group to two
@@ -73,6 +80,10 @@ splits pattern = run_of (two_ready 0) (Reload grouped) pattern two_workers
 -- The last of them exits before the last count.
 abbrev pub one_lost : Pattern
 one_lost = exits 11 (name.Worker reloaded 2) no_fault
+
+-- the same groups, by a new master
+abbrev pub handed_on : Ran
+handed_on = run_of three_ready_without_file (Upgrade grouped) no_fault three_without_file
 
 pub record GroupRuns : Type 0 where
   -- The premises can be met.
@@ -88,3 +99,6 @@ pub record GroupRuns : Type 0 where
       Gives three_ready (Workers 2) no_fault three_workers (m1 (Quit first 2) answer.Fine ∷ m1 (Census first) (answer.Counted (0 ∷ 1 ∷ [])) ∷ []) (report Done None InPlace (0 ∷ 1 ∷ []))
   pub one_more :
       Gives (grouped_record (0 ∷ 1 ∷ []) 2) (Workers 3) no_fault (run_of three_ready (Workers 2) no_fault three_workers).last.table (m1 (Fork first 2 (Some (4 ∷ []))) answer.Forked ∷ m1 (AwaitReady first 2) answer.IsReady ∷ m1 (Census first) (answer.Counted (0 ∷ 1 ∷ 2 ∷ [])) ∷ []) (report Done None InPlace (0 ∷ 1 ∷ 2 ∷ []))
+  -- An upgrade: the new master has both addresses, and each of its workers gets its group's descriptor.
+  pub upgrades :
+      Gives three_ready_without_file (Upgrade grouped) no_fault three_without_file (m1 (SpawnMaster 2) answer.Spawned ∷ m2 Adopt answer.Adopted ∷ m2 (Fork upgraded 0 (Some (3 ∷ []))) answer.Forked ∷ m2 (Fork upgraded 1 (Some (3 ∷ []))) answer.Forked ∷ m2 (Fork upgraded 2 (Some (4 ∷ []))) answer.Forked ∷ m2 (AwaitReady upgraded 0) answer.IsReady ∷ m2 (AwaitReady upgraded 1) answer.IsReady ∷ m2 (AwaitReady upgraded 2) answer.IsReady ∷ m2 (Census upgraded) (answer.Counted (0 ∷ 1 ∷ 2 ∷ [])) ∷ m1 (Quit first 2) answer.Fine ∷ m1 (Quit first 1) answer.Fine ∷ m1 (Quit first 0) answer.Fine ∷ m1 (AwaitGone first 2) answer.Gone ∷ m1 (AwaitGone first 1) answer.Gone ∷ m1 (AwaitGone first 0) answer.Gone ∷ m1 (Alive 2) answer.IsAlive ∷ m1 Leave answer.Fine ∷ m2 (Census upgraded) (answer.Counted (0 ∷ 1 ∷ 2 ∷ [])) ∷ []) (report Done None NoFile (0 ∷ 1 ∷ 2 ∷ [])) × (serving handed_on port upgraded ≡ Some 2) × (serving handed_on other_port upgraded ≡ Some 1)

@@ -39,8 +39,8 @@ empty_record = record {
 -- What the new master of the upgrade is handed.
 abbrev pub handed : List ℕ
 handed =
-    codes "handover 1" ++ 10 ∷ codes "old-pid 100" ++ 10 ∷ codes "generation 2 2" ++ 10 ∷ codes "listener 3 0.0.0.0:8080" ++ 10 ∷ codes "want 0.0.0.0:8080" ++ 10
-    ∷ codes "workers 2" ++ 10 ∷ codes "pid-file /run/a.pid" ++ 10 ∷ codes "end" ++ 10 ∷ []
+    codes "handover 2" ++ 10 ∷ codes "old-pid 100" ++ 10 ∷ codes "generation 2 2" ++ 10 ∷ codes "listener 3 0.0.0.0:8080" ++ 10 ∷ codes "group 2" ++ 10
+    ∷ codes "want 0.0.0.0:8080" ++ 10 ∷ codes "pid-file /run/a.pid" ++ 10 ∷ codes "end" ++ 10 ∷ []
 
 -- The same settings by an upgrade, whose calls are handed a text.
 abbrev pub same_upgrade : Target

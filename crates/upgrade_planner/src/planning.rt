@@ -1,5 +1,5 @@
 //! The plan of an upgrade.
-ghost use Rattle.std.specs.Prelude.{◌≡◌, ◌≤◌, ◌↔◌, ◌&&◌, not, Some, length, IfOk, IsErrOf, IsOkUnless, IsTrue};
+ghost use Rattle.std.specs.Prelude.{◌≡◌, ◌≤◌, ◌↔◌, Some, length, IfOk, IsErrOf, IsOkUnless, IsTrue};
 ghost use Rattle.vocabulary.specs.declared.targets.Target.TheVariants as target;
 ghost use Rattle.definitions.specs.After as after;
 ghost use Rattle.definitions.specs.Target.{sides_of, text_handed, upgrade_generation};
@@ -38,7 +38,7 @@ fn handed(
         generation,
         listeners: state.listeners,
         want: settings.listeners,
-        workers: settings.workers,
+        groups: settings.groups,
         pid_file: state.pid_path,
     };
     write(alloc, &handover)
@@ -91,33 +91,21 @@ fn plan_to(
     Ok(draft.finish(first, state.note, &state.sides(&target), text)?)
 }
 
-/// Whether there are several groups.
-fn is_grouped(settings: &Settings) -> bool
-    ensures { result ≡ after.is_grouped_upgrade (target.Upgrade settings.now) }
-{
-    settings.groups.as_slice().len() != 1
-}
-
 /// Plans an upgrade of a running master to a new executable with these settings: what both masters do, and what they do
 /// instead where a call fails or the new master is gone. The plan's text is what the new master is handed.
 ///
-/// `Grouped` (P4) exactly where the settings have several groups, and `NoGeneration` (P3) exactly where they have one
-/// and the number of the image or of the configuration is 4,294,967,295; both are found before any memory is asked for.
-/// No plan is too large: its steps are bounded as those of the other targets are.
+/// `NoGeneration` (P3) exactly where the number of the image or of the configuration is 4,294,967,295; it is found
+/// before any memory is asked for. No plan is too large: its steps are bounded as those of the other targets are.
 pub fn plan(alloc: Global, state: &Record, settings: &Settings) -> Result<Plan, PlanRefusal>
     ensures tree { IfOk result (λ plan. planned state.now (target.Upgrade settings.now) ≡ Some (tree_of plan)) }
     ensures note { IfOk result (λ plan. note_of plan ≡ state.now.note) }
     ensures sides { IfOk result (λ plan. sides_told plan ≡ sides_of state.now (target.Upgrade settings.now)) }
     ensures text { IfOk result (λ plan. text_of plan ≡ text_handed state.now (target.Upgrade settings.now)) }
     ensures few { IfOk result (λ plan. length (trees_in plan) ≤ most_steps state.now (target.Upgrade settings.now)) }
-    ensures grouped { IsErrOf result PlanRefusal.Grouped ↔ IsTrue (after.is_grouped_upgrade (target.Upgrade settings.now)) }
-    ensures numbered { IsErrOf result PlanRefusal.NoGeneration ↔ IsTrue (not (after.is_grouped_upgrade (target.Upgrade settings.now)) && after.lacks_generation state.now (target.Upgrade settings.now)) }
+    ensures numbered { IsErrOf result PlanRefusal.NoGeneration ↔ IsTrue (after.lacks_generation state.now (target.Upgrade settings.now)) }
     ensures not_large { IsErrOf result PlanRefusal.TooLarge → ⊥ }
     ensures planned_here { IsErrOf result PlanRefusal.Unplanned → ⊥ }
 {
-    if is_grouped(settings) {
-        return Err(PlanRefusal::Grouped);
-    }
     match next_image(state.generation) {
         None => Err(PlanRefusal::NoGeneration),
         Some(generation) => plan_to(alloc, state, settings, generation),

@@ -12,7 +12,7 @@ mod table;
 mod targets;
 
 pub use calls::{Answer, Call, Fate, Reply};
-pub use handover::HandoverRefusal;
+pub use handover::{HandoverRefusal, HandoverVersion};
 pub use names::{Actor, Name};
 pub use plans::{End, Order, PidNote, Side, Sides};
 pub use reports::{Entry, Outcome, Report};

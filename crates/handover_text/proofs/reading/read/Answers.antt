@@ -3,7 +3,8 @@ use Rattle.std.specs.Prelude.{IfOk}
 use Rattle.std.specs.List.{slice_split}
 use Rattle.std.proofs.lemmas.Result.{err_from_is_err_and}
 use Rattle.plain_text.proofs.CutTexts.{cut_parts, cut_missing, cut_shorter}
-use Rattle.definitions.specs.Handover.{read_line, read_pieces, spelling}
+use Rattle.definitions.specs.Handover.{read_line, read_pieces}
+use Rattle.handover_text.specs.Ranges.{IsSpelling}
 use Rattle.handover_text.proofs.SoFar.{is_newline, number_small, pieces_last, line_taken, line_refused, taken_in_range}
 use Rattle.handover_text.proofs.Spelled.{reading_spelled}
 use Rattle.handover_text.proofs.reading.read.Goals as goal
@@ -47,4 +48,4 @@ returns-clause-exact c =
     c.finish.ensures ∙ sym e ∙ c.loop-line.invariant.0
 
 pub returns-clause-spelled : goal.returns-clause-spelled
-returns-clause-spelled c = subst (λ r. IfOk r (λ told. spelling told ≡ c.args.text.now)) (sym (returns-clause-exact c)) (reading_spelled c.args.text.now)
+returns-clause-spelled c = subst (λ r. IfOk r (λ told. IsSpelling c.args.text.now told)) (sym (returns-clause-exact c)) (reading_spelled c.args.text.now)

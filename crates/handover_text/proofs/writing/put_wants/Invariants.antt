@@ -5,5 +5,5 @@ use Rattle.handover_text.proofs.writing.put_wants.Given as goal
 
 abbrev pub invariant-loop-address : goal.invariant-loop-address
 invariant-loop-address l =
-    (l.text.items ≡ l.fn.text.items ++ flat_map want_line (take l.address-index l.all))
-    × (list_all is_address (take l.address-index l.all) ≡ true)
+    (l.text.items ≡ l.fn.text.items ++ flat_map want_line (take l.address-index l.fn.addresses))
+    × (list_all is_address (take l.address-index l.fn.addresses) ≡ true)

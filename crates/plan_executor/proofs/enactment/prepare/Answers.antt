@@ -74,7 +74,7 @@ returns-in_err-plan-clause-memory c memory =
     let agrees : Agrees c.args.kernel.now.table c.args.state.now = c.agrees.ensures.agrees.0 (search rules) in
     let p = err_from_is_err_and c.from_residual.result c.from_residual.ensures.1 in
     let wanted : IsErrOf c.plan_of.result Memory = cc in
-    record { agrees = agrees; spared = unspared c.args.state.now c.args.target.now c.plan_of.result c.plan_of.ensures.grouped c.plan_of.ensures.numbered wanted }
+    record { agrees = agrees; spared = unspared c.args.state.now c.args.target.now c.plan_of.result c.plan_of.ensures.numbered wanted }
 
 pub returns-in_err-copy-clause-memory : goal.returns-in_err-copy-clause-memory
 returns-in_err-copy-clause-memory c memory =

@@ -20,7 +20,7 @@ push-requires-clause-listed c =
 pub returns : goal.returns
 returns c =
     rw (← c.self.view_is)
-    (listener_taken c.args.number _ (listener_read c.args.rest.now) c.in-Some.listener c.push.new.self
+    (listener_taken c.args.number _ _ (listener_read c.args.rest.now) c.in-Some.listener c.push.new.self
     (sym c.in-Some.ensures)
     (sym c.are_below.ensures.value ∙ c.if-not-are_below.false)
     (sym c.holds.ensures ∙ c.if-holds.false)

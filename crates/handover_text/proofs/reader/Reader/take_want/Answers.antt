@@ -13,4 +13,4 @@ returns c =
     (λ e. both_ways c.holds.result c.if-holds.false (c.holds.ensures.held.1 (c.add.ensures.doubled.0 e)))
     (λ e. let full = (c.add.ensures.too_many.0 e).0 in omega (arith, full, room)) in
     rw (← c.self.view_is)
-    (want_taken c.args.number _ c.args.rest.now c.in-Ok.address c.add.new.self (sym c.in-Ok.ensures.exact) (sym c.holds.ensures.value ∙ c.if-holds.false) room new)
+    (want_taken c.args.number _ _ c.args.rest.now c.in-Ok.address c.add.new.self (sym c.in-Ok.ensures.exact) (sym c.holds.ensures.value ∙ c.if-holds.false) room new)

@@ -1,0 +1,2 @@
+mod Patterns
+mod Loops

@@ -1,0 +1,30 @@
+//! Groups that are read one after another.
+ghost use Rattle.std.specs.Prelude.{◌≡◌, []};
+ghost use Rattle.definitions.specs.Handover.{joined};
+ghost use Rattle.handover_text.specs.Reader.{groups_in};
+
+use listener_set::{Group, Groups, MOST_LISTENERS, WORKER_LIMIT};
+
+/// The first group, where it keeps the rules of groups.
+fn first(group: Group) -> Option<Groups>
+    ensures { result ≡ joined [] group }
+{
+    let Group { addresses, workers } = group;
+    if addresses == 0 || addresses > MOST_LISTENERS as u32 || workers > WORKER_LIMIT {
+        return None;
+    }
+    Some(Groups::one(addresses, workers))
+}
+
+/// The groups with one more behind them, where it keeps the rules of groups.
+pub(crate) fn joined(groups: Option<Groups>, group: Group) -> Option<Groups>
+    ensures { result ≡ joined (groups_in groups) group }
+{
+    let Some(mut groups) = groups else {
+        return first(group);
+    };
+    match groups.add(group) {
+        Ok(()) => Some(groups),
+        Err(_) => None,
+    }
+}
