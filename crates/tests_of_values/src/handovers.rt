@@ -237,10 +237,7 @@ const REFUSED: [(&str, Option<HandoverRefusal>); 14] = [
     ),
     ("group 0\nwant /b\nend\n", None),
     ("group 0\nwant /b\ngroup 0\nwant /c\nwant /d\nend\n", None),
-    (
-        "group 0\nwant /b\nend\n\n",
-        Some(HandoverRefusal::Trailing),
-    ),
+    ("group 0\nwant /b\nend\n\n", Some(HandoverRefusal::Trailing)),
 ];
 
 fn begun(alloc: Global, first: &str, rest: &str) -> Result<Vec<u8>, AllocError> {
@@ -253,7 +250,10 @@ fn begun(alloc: Global, first: &str, rest: &str) -> Result<Vec<u8>, AllocError> 
 #[test]
 fn a_handover_is_refused_by_its_first_faulty_line(rt: HostRuntime) -> Result<(), Fail> {
     assert_eq!(rt; read(b"handover 9\n").err(), Some(HandoverRefusal::Version));
-    assert_eq!(rt; read(b"handover 02\n").err(), Some(HandoverRefusal::Version));
+    assert_eq!(rt;
+        read(b"handover 02\n").err(),
+        Some(HandoverRefusal::Version)
+    );
     for (rest, refusal) in REFUSED_BEFORE {
         let text = begun(rt.alloc(), "handover 1", rest)?;
         assert_eq!(rt; read(text.as_slice()).err(), refusal, "{rest}");
@@ -275,7 +275,10 @@ fn a_group_is_refused_where_none_can_stand(rt: HostRuntime) -> Result<(), Fail> 
     }
     let mut more = text.clone()?;
     put(&mut more, "group 0")?;
-    assert_eq!(rt; read(more.as_slice()).err(), Some(HandoverRefusal::Line(70)));
+    assert_eq!(rt;
+        read(more.as_slice()).err(),
+        Some(HandoverRefusal::Line(70))
+    );
     put(&mut text, "end")?;
     assert!(rt; read(text.as_slice()).is_ok());
 
@@ -286,7 +289,10 @@ fn a_group_is_refused_where_none_can_stand(rt: HostRuntime) -> Result<(), Fail> 
         put(&mut groups, line.as_str())?;
     }
     put(&mut groups, "group 0")?;
-    assert_eq!(rt; read(groups.as_slice()).err(), Some(HandoverRefusal::Line(37)));
+    assert_eq!(rt;
+        read(groups.as_slice()).err(),
+        Some(HandoverRefusal::Line(37))
+    );
     Ok(())
 }
 
@@ -327,13 +333,27 @@ const fn line(number: u32) -> Option<HandoverRefusal> {
 }
 
 const VERSION: Option<HandoverRefusal> = Some(HandoverRefusal::Version);
+
 const CUT: Option<HandoverRefusal> = Some(HandoverRefusal::Cut);
+
 const TRAILING: Option<HandoverRefusal> = Some(HandoverRefusal::Trailing);
+
 const UNORDERED: Option<HandoverRefusal> = Some(HandoverRefusal::OutOfOrder(5));
 
 #[test]
-fn a_handover_without_a_line_is_refused_at_the_first_faulty_one(rt: HostRuntime) -> Result<(), Fail> {
-    let told = [VERSION, line(2), line(3), line(4), line(5), line(6), None, CUT];
+fn a_handover_without_a_line_is_refused_at_the_first_faulty_one(
+    rt: HostRuntime,
+) -> Result<(), Fail> {
+    let told = [
+        VERSION,
+        line(2),
+        line(3),
+        line(4),
+        line(5),
+        line(6),
+        None,
+        CUT,
+    ];
     assert!(rt; are_refused(rt.alloc(), &TOLD, Change::Deleted, &told)?);
     assert!(rt; are_refused(rt.alloc(), &TOLD_BEFORE, Change::Deleted, &told)?);
     let groups = [
@@ -353,7 +373,9 @@ fn a_handover_without_a_line_is_refused_at_the_first_faulty_one(rt: HostRuntime)
 }
 
 #[test]
-fn a_handover_with_a_line_twice_is_refused_at_the_first_faulty_one(rt: HostRuntime) -> Result<(), Fail> {
+fn a_handover_with_a_line_twice_is_refused_at_the_first_faulty_one(
+    rt: HostRuntime,
+) -> Result<(), Fail> {
     let told = [
         line(2),
         line(3),
@@ -383,7 +405,9 @@ fn a_handover_with_a_line_twice_is_refused_at_the_first_faulty_one(rt: HostRunti
 }
 
 #[test]
-fn a_handover_with_two_lines_swapped_is_refused_at_the_first_faulty_one(rt: HostRuntime) -> Result<(), Fail> {
+fn a_handover_with_two_lines_swapped_is_refused_at_the_first_faulty_one(
+    rt: HostRuntime,
+) -> Result<(), Fail> {
     let told = [
         VERSION,
         line(2),
