@@ -1,10 +1,23 @@
 -- Why settings are not taken up.
-use Rattle.std.specs.Prelude.{◌≡◌, ◌⊎◌}
+use Rattle.std.specs.Prelude.{◌≡◌, ◌⊎◌, ℕ, List, Option, Result, IfOk, IfErr}
 use Rattle.master_config.specs.Codes.{config_text}
 use Rattle.master_config.specs.declared.refusal.ConfigRefusal.{ConfigRefusal}
 use Rattle.supervisor.specs.declared.next.NextRefusal.{NextRefusal}
-use Rattle.supervisor.specs.declared.next.NextRefusal.TheVariants.{Memory, Refused}
+use Rattle.supervisor.specs.declared.next.NextRefusal.TheVariants.{Memory, Refused, Unreadable}
+use Rattle.vocabulary.specs.Settings.{Settings, plain_settings}
+use Rattle.prefork.specs.Starts.{AreNamed, IsOfSettings}
+use Rattle.prefork.specs.declared.fault.Fault.TheVariants as fault
 
 -- the code of a configuration's refusal, or want of memory for it
 abbrev pub IsDeclined : ConfigRefusal → NextRefusal → Type 0
 IsDeclined refusal why = (why ≡ Refused (config_text refusal)) ⊎ (why ≡ Memory)
+
+-- Why the settings of a file aren't taken up: each refusal is that of a fault with which they can't be had.
+abbrev pub IsOfNext : Option (List ℕ) → NextRefusal → Type 0
+IsOfNext path Memory = IsOfSettings path fault.Memory
+IsOfNext path Unreadable = IsOfSettings path fault.File
+IsOfNext path (Refused code) = (refusal : ConfigRefusal) × IsOfSettings path (fault.Config refusal) × (code ≡ config_text refusal)
+
+-- what a reading of the next configuration gives: the settings of the file, the plain ones where none is named, or why not
+abbrev pub IsNext : Option (List ℕ) → Result Settings NextRefusal → Type 0
+IsNext path answer = IfOk answer (AreNamed path plain_settings) × IfErr answer (IsOfNext path)

@@ -1,5 +1,5 @@
 -- How a master starts.
-use Rattle.std.specs.Prelude.{◌≡◌, ℕ, nat_lt, ◌||◌, List, [], Option, Some, None, Result, Ok, Err, unwrap_or, if◌then◌else◌}
+use Rattle.std.specs.Prelude.{◌≡◌, ◌⊎◌, ℕ, nat_lt, ◌||◌, List, [], Option, Some, None, Result, Ok, Err, unwrap_or, if◌then◌else◌}
 use Rattle.listener_set.specs.Numbers.{numbers_below}
 use Rattle.vocabulary.specs.Settings.{Settings, plain_settings}
 use Rattle.vocabulary.specs.declared.table.Limits.{Limits}
@@ -9,7 +9,8 @@ use Rattle.worker_table.specs.Beats.{Workers, followed}
 use Rattle.master_config.specs.Configuration.{Configuration, IsReadingOf}
 use Rattle.command_line.specs.Arguments as arguments
 use Rattle.prefork.specs.declared.fault.Fault.{Fault}
-use Rattle.prefork.specs.declared.fault.Fault.TheVariants.{Boot}
+use Rattle.prefork.specs.declared.fault.Fault.TheVariants.{Boot, Config}
+use Rattle.prefork.specs.Faults.{IsOfFile}
 use Rattle.kernel_model.specs.declared.boot.BootRefusal.TheVariants.{BadLimits}
 use Rattle.prefork.specs.declared.start.Start.{Start}
 use Rattle.prefork.specs.declared.rehearsal.Rehearsal.{Rehearsal}
@@ -26,6 +27,12 @@ abbrev pub AreNamed : Option (List ℕ) → Settings → Settings → Type 0
 AreNamed None others settings = settings ≡ others
 AreNamed (Some path) others settings = AreConfigured settings
 
+-- Why the settings of a file can't be had: it is named, and a text is no configuration, or else the read failed or memory is wanted.
+abbrev pub IsOfSettings : Option (List ℕ) → Fault → Type 0
+IsOfSettings None fault = ⊥
+IsOfSettings (Some path) (Config refusal) = (text : List ℕ) × IsReadingOf text (Err refusal)
+IsOfSettings (Some path) fault = IsOfFile fault
+
 -- How a master starts that options ask for: the settings of the files, or the plain ones and those of the start; as many workers
 -- as an option says, or else the start's settings; and none of them runs where the start is bare.
 pub record IsStart (options : arguments.Start) (start : Start) : Type 0 where
@@ -33,6 +40,10 @@ pub record IsStart (options : arguments.Start) (start : Start) : Type 0 where
   pub next : AreNamed options.to start.settings start.next
   pub wanted : start.wanted ≡ unwrap_or options.workers start.settings.workers
   pub running : start.running ≡ (if options.bare then 0 else start.wanted)
+
+-- Why a start can't be read: the settings of one of its files can't be had.
+abbrev pub IsOfStart : arguments.Start → Fault → Type 0
+IsOfStart options fault = IsOfSettings options.from fault ⊎ IsOfSettings options.to fault
 
 -- what the master knows of itself at first
 abbrev pub first_record : Start → Record

@@ -1,7 +1,7 @@
 //! `supervise`, `adopt` and `child`: masters and workers that run.
-ghost use Rattle.std.specs.Prelude.{◌≤◌, IfOk, option_map};
+ghost use Rattle.std.specs.Prelude.{◌≡◌, ◌≤◌, IfOk, IfErr, option_map};
 ghost use Rattle.vocabulary.specs.Settings.{plain_settings};
-ghost use Rattle.prefork.specs.Refusals.{IsDeclined};
+ghost use Rattle.prefork.specs.Refusals.{IsDeclined, IsNext, IsOfNext};
 ghost use Rattle.prefork.specs.Starts.{AreNamed};
 
 use crate::fault::Fault;
@@ -37,6 +37,8 @@ struct NextFile<'a, R: AllocGlobal + Files> {
 }
 
 impl<R: AllocGlobal + Files> NextSettings for NextFile<'_, R> {
+    ghost reads = { λ old answer new. IsNext (option_map (λ text. text.now) old.path) answer × (new ≡ old) };
+
     fn read(&mut self) -> Result<Settings, NextRefusal> {
         next_in(self.rt, self.path)
     }
@@ -44,7 +46,8 @@ impl<R: AllocGlobal + Files> NextSettings for NextFile<'_, R> {
 
 /// The settings of a file, read now; the defaults where none is named.
 fn next_in<R: AllocGlobal + Files>(rt: &R, path: Option<&str>) -> Result<Settings, NextRefusal>
-    ensures { IfOk result (AreNamed (option_map (λ text. text.now) path.entry) plain_settings) }
+    ensures ok { IfOk result (AreNamed (option_map (λ text. text.now) path.entry) plain_settings) }
+    ensures err { IfErr result (IsOfNext (option_map (λ text. text.now) path.entry)) }
 {
     match settings_in(rt, path, Settings::plain()) {
         Ok(settings) => Ok(settings),

@@ -1,7 +1,7 @@
 //! How a master starts: its configuration, and the one that a reload goes over to.
-ghost use Rattle.std.specs.Prelude.{◌≡◌, IfOk, option_map};
+ghost use Rattle.std.specs.Prelude.{◌≡◌, IfOk, IfErr, option_map};
 ghost use Rattle.command_line.specs.Arguments.{start_of};
-ghost use Rattle.prefork.specs.Starts.{AreNamed, IsStart, record_at, silent_workers};
+ghost use Rattle.prefork.specs.Starts.{AreNamed, IsOfSettings, IsOfStart, IsStart, record_at, silent_workers};
 
 use crate::fault::Fault;
 use command_line::StartOptions;
@@ -31,7 +31,8 @@ impl Start {
     /// Reads the files, that of the start first. Without one the defaults hold; the start's
     /// settings are taken up again where no other file is named.
     pub fn read<R: AllocGlobal + Files>(rt: &R, options: &StartOptions<'_>) -> Result<Start, Fault>
-        ensures { IfOk result (IsStart (start_of options.now)) }
+        ensures ok { IfOk result (IsStart (start_of options.now)) }
+        ensures err { IfErr result (IsOfStart (start_of options.now)) }
     {
         let settings = settings_in(rt, options.from, Settings::plain())?;
         let next = settings_in(rt, options.to, settings)?;
@@ -71,7 +72,8 @@ pub fn settings_in<R: AllocGlobal + Files>(
     path: Option<&str>,
     without: Settings,
 ) -> Result<Settings, Fault>
-    ensures { IfOk result (AreNamed (option_map (λ text. text.now) path.entry) without) }
+    ensures ok { IfOk result (AreNamed (option_map (λ text. text.now) path.entry) without) }
+    ensures err { IfErr result (IsOfSettings (option_map (λ text. text.now) path.entry)) }
 {
     let Some(path) = path else {
         return Ok(without);
