@@ -25,7 +25,7 @@ _prefork() {
             return
             ;;
         --events)
-            mapfile -t COMPREPLY < <(compgen -W '1' -- "$cur")
+            mapfile -t COMPREPLY < <(compgen -W '1 2' -- "$cur")
             return
             ;;
         --workers | --held | --limit | :) return ;;
@@ -35,7 +35,7 @@ _prefork() {
     case ${COMP_WORDS[1]} in
         enact) options='--from --to --workers --bare --why --held --state --help' ;;
         plan) options='--from --to --workers --bare --why --dot --help' ;;
-        explore) options='--from --to --workers --bare --why --held --events --limit --forbid --list --help' ;;
+        explore) options='--from --to --workers --bare --why --held --events --limit --forbid --list --progress --help' ;;
         certify) options='--from --to --workers --bare --why --held --help' ;;
         supervise) options='--program --from --to --verbose --why --help' ;;
         adopt) options='--program --help' ;;

@@ -12,7 +12,6 @@ use Rattle.clap.specs.declared.parser.matches.ArgMatches.{ArgMatches}
 use Rattle.clap.specs.declared.error.kind.ErrorKind.{ErrorKind}
 use Rattle.clap.specs.declared.error.kind.ErrorKind.TheVariants.{DisplayHelp, DisplayVersion, OutOfMemory}
 use Rattle.command_line.specs.Number.{Spells}
-use Rattle.command_line.specs.declared.options.AdoptOptions.{AdoptOptions}
 use Rattle.command_line.specs.declared.options.CertifyOptions.{CertifyOptions}
 use Rattle.command_line.specs.declared.options.EnactOptions.{EnactOptions}
 use Rattle.command_line.specs.declared.options.PlanOptions.{PlanOptions}
@@ -82,9 +81,9 @@ enact_app = with_rule (with_rule (with_rule (with_start (new_app (codes "enact")
 abbrev pub plan_app : App
 plan_app = with_rule (with_rule (with_start (new_app (codes "plan"))) (flag_rule (codes "dot"))) word_rule
 
--- those of a start, `[--held ADDRESS] [--list]`
+-- those of a start, `[--held ADDRESS] [--list] [--progress]`
 abbrev pub with_list : App → App
-with_list app = with_rule (with_rule (with_start app) (option_rule (codes "held"))) (flag_rule (codes "list"))
+with_list app = with_rule (with_rule (with_rule (with_start app) (option_rule (codes "held"))) (flag_rule (codes "list"))) (flag_rule (codes "progress"))
 
 -- `[--events K] [--limit N] [--forbid END]`
 abbrev pub with_runs : App → App
@@ -162,6 +161,7 @@ pub record Exploration : Type 0 where
   pub limit : Option ℕ
   pub forbid : Option Text
   pub list : Bool
+  pub progress : Bool
   pub word : Text
 
 -- what `certify` is given
@@ -209,6 +209,7 @@ exploration_of options = record {
   limit = options.limit;
   forbid = option_map (λ text. text.now) options.forbid;
   list = options.list;
+  progress = options.progress;
   word = options.word.now;
 }
 
@@ -265,6 +266,7 @@ pub record FindsExploration (rows : List Row) (values : Exploration) : Type 0 wh
   pub limit : IsNumber (first_of (codes "limit") rows) values.limit
   pub forbid : values.forbid ≡ first_of (codes "forbid") rows
   pub list : values.list ≡ is_given (first_of (codes "list") rows)
+  pub progress : values.progress ≡ is_given (first_of (codes "progress") rows)
   pub word : first_of (codes "word") rows ≡ Some values.word
 
 pub record FindsCertification (rows : List Row) (values : Certification) : Type 0 where

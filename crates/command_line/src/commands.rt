@@ -7,8 +7,8 @@ ghost use Rattle.command_line.specs.Arguments.{adopt_app, bare_app, certify_app,
 use crate::help::{
     ADOPT_HELP, ADOPT_NOTES, BARE_HELP, CERTIFY_NOTES, CHILD_NOTES, CODE_HELP, DOT_HELP,
     ENACT_NOTES, EVENTS_HELP, EXPLAIN_NOTES, EXPLORE_NOTES, FORBID_HELP, FROM_HELP, HELD_HELP,
-    LIMIT_HELP, LIST_HELP, PLAN_NOTES, PROGRAM_HELP, PROGRAM_NOTES, STATE_HELP, SUPERVISE_NOTES,
-    TO_HELP, VERBOSE_HELP, WHY_HELP, WORD_HELP, WORDS_HELP, WORKERS_HELP,
+    LIMIT_HELP, LIST_HELP, PLAN_NOTES, PROGRAM_HELP, PROGRAM_NOTES, PROGRESS_HELP, STATE_HELP,
+    SUPERVISE_NOTES, TO_HELP, VERBOSE_HELP, WHY_HELP, WORD_HELP, WORDS_HELP, WORKERS_HELP,
 };
 use clap::{Arg, ArgAction, Command};
 use std::alloc::{AllocError, Global};
@@ -89,7 +89,8 @@ fn explore<'a>(alloc: Global) -> Result<Command<'a>, AllocError>
     with_runs(alloc, with_list(alloc, command)?)?.arg(word(alloc))
 }
 
-/// The options of each subcommand that starts a master beside somebody else, and `--list`.
+/// The options of each subcommand that starts a master beside somebody else, `--list`
+/// and `--progress`.
 fn with_list<'a>(alloc: Global, command: Command<'a>) -> Result<Command<'a>, AllocError>
     requires { (out-Command command).has_globals ≡ false }
     ensures app { IfOk result (λ more. app_of more ≡ with_list (app_of command.entry)) }
@@ -97,7 +98,8 @@ fn with_list<'a>(alloc: Global, command: Command<'a>) -> Result<Command<'a>, All
 {
     with_start(alloc, command)?
         .arg(option(alloc, "held", "ADDRESS", HELD_HELP))?
-        .arg(flag(alloc, "list", LIST_HELP))
+        .arg(flag(alloc, "list", LIST_HELP))?
+        .arg(flag(alloc, "progress", PROGRESS_HELP))
 }
 
 /// The options that say which runs are tried, and which end is answered with a status of its own.

@@ -51,7 +51,7 @@ Print the table of processes, files and the service
 after the last block";
 
 pub(crate) const EVENTS_HELP: &str = "\
-How many events a run has at most: 1 [default: 1]";
+How many events a run has at most: 1 or 2 [default: 1]";
 
 pub(crate) const LIMIT_HELP: &str = "\
 Stop after that many runs, and say so";
@@ -61,6 +61,9 @@ With 'degraded': end with status 4 where a run ended so";
 
 pub(crate) const LIST_HELP: &str = "\
 Print each run: its pattern and its report";
+
+pub(crate) const PROGRESS_HELP: &str = "\
+Say on standard error how many runs were counted so far";
 
 pub(crate) const DOT_HELP: &str = "Draw the plan for Graphviz: the input of `dot`";
 
@@ -172,10 +175,13 @@ Example: a configuration is refused, and the fault's line ends with C4 workers:
 
 pub(crate) const EXPLORE_NOTES: &str = "\
 Each run is that of `enact` from the same start: under no event, and under
-each single event. An event is a failure that changes what the call at a place
-is answered, or the exit of a worker that is starting or ready, or of the new
-master before the old one leaves. The output says how many runs ended how, the
-largest shortfall, and for each end the first pattern that leads to it.
+each single event; with --events 2 also under each pair of events of which
+the run with the first one meets the second. An event is a failure that changes
+what the call at a place is answered, or the exit of a worker that is starting
+or ready, or of the new master before the old one leaves. The output says how
+many runs ended how, with the first pattern of the fewest events that leads
+there, the largest shortfall, the fewest ready workers that an address of both
+services had, and how many tables the runs passed.
 
 Exit status: 0 counted, 1 the word was refused, 2 usage, 4 a run ended
 degraded and --forbid degraded is given.

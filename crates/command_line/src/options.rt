@@ -65,6 +65,8 @@ pub struct ExploreOptions<'a> {
     pub forbid: Option<&'a str>,
     /// `--list`: each run is printed.
     pub list: bool,
+    /// `--progress`: how many runs were counted is told while they are.
+    pub progress: bool,
     /// The control word.
     pub word: &'a str,
 }
@@ -166,6 +168,7 @@ pub(crate) fn explore_options<'a>(found: &ArgMatches<'a>) -> Result<ExploreOptio
         limit,
         forbid: text_of(found, "forbid"),
         list: has_flag(found, "list"),
+        progress: has_flag(found, "progress"),
         word: word_of(found)?,
     })
 }

@@ -1,2 +1,6 @@
-mod Patterns
-mod Loops
+mod Coming
+mod Counted
+mod Ending
+mod Later
+mod Listing
+mod Meeting

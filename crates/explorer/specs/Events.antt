@@ -1,49 +1,92 @@
 -- What can go wrong at the calls of a run.
-use Rattle.std.specs.Prelude.{ℕ, ◌==◌, nat_lt, Bool, ◌&&◌, not, List, [], ◌∷◌, Option, Some, None, if◌then◌else◌}
+use Rattle.std.specs.Prelude.{ℕ, ◌==◌, ◌+◌, nat_lt, Bool, ◌&&◌, not, List, [], ◌∷◌, ◌++◌, map, Option, Some, None, if◌then◌else◌}
+use Rattle.std.specs.List.{filter, filter_map}
 use Rattle.listener_set.specs.Numbers.{is_in}
-use Rattle.vocabulary.specs.declared.names.Name.{Name}
 use Rattle.vocabulary.specs.declared.names.Name.TheVariants as name
 use Rattle.definitions.specs.Table.{Table, is_active}
+use Rattle.definitions.specs.Exits.{after_exits}
 use Rattle.definitions.specs.Calls.{Call, Fate, step_with}
 use Rattle.vocabulary.specs.declared.calls.Fate.TheVariants as fate
+use Rattle.definitions.specs.Path.{Entry}
 use Rattle.definitions.specs.Tree.{reply_of, same_reply}
 use Rattle.definitions.specs.Manner.{is_leave_call}
 use Rattle.definitions.specs.Run.{Moment, Pattern, quiet}
-use Rattle.event_pattern.specs.Pattern.{with_exit, with_fate, IsNameWithin}
+use Rattle.event_pattern.specs.Pattern.{with_exit, with_fate}
+use Rattle.kernel_model.specs.Readers.{row_of}
 use Rattle.process_table.specs.declared.process.Row.{Row}
 use Rattle.process_table.specs.declared.process.Row.TheVariants as row
 use Rattle.explorer.specs.declared.events.Mishap.{Mishap}
 use Rattle.explorer.specs.declared.events.Mishap.TheVariants.{Exit, Fail}
+use Rattle.explorer.specs.declared.events.Event.{Event}
 use Rattle.explorer.specs.declared.events.Tried.{Tried}
-use Rattle.explorer.specs.declared.events.Tried.TheVariants.{Nothing, One}
+use Rattle.explorer.specs.declared.events.Tried.TheVariants.{Nothing, One, Two}
 
 abbrev pub every_fate : List Fate
 every_fate = fate.InUse ∷ fate.TooMany ∷ fate.Denied ∷ fate.NoMemory ∷ fate.Again ∷ fate.Late ∷ fate.NoImage ∷ fate.Refused ∷ fate.IoFault ∷ []
 
--- A fate takes effect where the call is answered otherwise than by itself.
-abbrev pub takes_effect : List ℕ → ℕ → Call → Fate → Table → Bool
-takes_effect text by call f t = not (same_reply (reply_of [] (step_with text by call (Some f) t).answer) (reply_of [] (step_with text by call None t).answer))
+---- Patterns of what goes wrong
 
--- Whose exit matters: a Starting or Ready worker's, and that of a live master of one of these images.
-abbrev pub exit_of : List ℕ → Row → Option Name
-exit_of heirs (row.Worker n q g k s) = if is_active s && nat_lt k 1024 then Some (name.Worker g k) else None
-exit_of heirs (row.Master n q i live) = if live && is_in heirs i then Some (name.Master i) else None
-exit_of heirs (row.Foreign n) = None
+abbrev pub with_mishap : Mishap → Moment → Moment
+with_mishap (Exit n q) m = with_exit n m
+with_mishap (Fail f) m = with_fate f m
+
+-- This goes wrong too.
+abbrev pub with_event : Event → Pattern → Pattern
+with_event e p n = if n == e.number then with_mishap e.mishap (p n) else p n
+
+-- The pattern in which this goes wrong and nothing else.
+abbrev pub pattern_of : Tried → Pattern
+pattern_of Nothing = λ n. quiet
+pattern_of (One e) = with_event e (λ n. quiet)
+pattern_of (Two e f) = with_event f (with_event e (λ n. quiet))
+
+abbrev pub events_in : Tried → ℕ
+events_in Nothing = 0
+events_in (One e) = 1
+events_in (Two e f) = 2
+
+---- What can go wrong at a call
+
+-- A fate takes effect where the call is answered otherwise than by itself.
+abbrev pub takes_effect : List ℕ → ℕ → Call → Table → Fate → Bool
+takes_effect text by call t f = not (same_reply (reply_of [] (step_with text by call (Some f) t).answer) (reply_of [] (step_with text by call None t).answer))
+
+-- Whose exit matters, of processes with a higher number than this: a Starting or Ready worker's, and that of a live master of
+-- one of these images.
+abbrev pub exit_of : List ℕ → ℕ → Row → Option Mishap
+exit_of heirs above (row.Worker n q g k s) = if is_active s && nat_lt k 1024 && nat_lt above n then Some (Exit (name.Worker g k) n) else None
+exit_of heirs above (row.Master n q i live) = if live && is_in heirs i && nat_lt above n then Some (Exit (name.Master i) n) else None
+exit_of heirs above (row.Foreign n) = None
+
+-- The exits before a call that matter, and the fates of the call that take effect.
+abbrev pub mishaps_at : List ℕ → ℕ → Call → List ℕ → ℕ → Table → List Mishap
+mishaps_at text by call heirs above t = filter_map (exit_of heirs above) (map row_of t.rows) ++ map Fail (filter (takes_effect text by call t) every_fate)
+
+-- What more can go wrong at the call of a mishap, where the table is the one after it: of two exits before one call the process
+-- with the lower number exits first, and a call fails in one way.
+abbrev pub beside : List ℕ → ℕ → Call → List ℕ → Mishap → Table → List Mishap
+beside text by call heirs (Exit n q) t = mishaps_at text by call heirs q t
+beside text by call heirs (Fail f) t = []
+
+-- What can go wrong at call number n, behind an event where there is one.
+abbrev pub open_at : List ℕ → ℕ → Call → List ℕ → Option Event → ℕ → Table → List Mishap
+open_at text by call heirs None n t = mishaps_at text by call heirs 0 t
+open_at text by call heirs (Some e) n t =
+    if nat_lt n e.number then [] else if n == e.number then beside text by call heirs e.mishap t else mishaps_at text by call heirs 0 t
 
 -- Who has yet to take over, at a call and after it: nobody from the old master's Leave on.
 abbrev pub waiting : Call → List ℕ → List ℕ
 waiting call heirs = if is_leave_call call then [] else heirs
 
-abbrev pub with_mishap : Mishap → Moment → Moment
-with_mishap (Exit n) m = with_exit n m
-with_mishap (Fail f) m = with_fate f m
+abbrev pub event_at : ℕ → Mishap → Event
+event_at n m = record { number = n; mishap = m }
 
--- The pattern in which this goes wrong and nothing else.
-abbrev pub pattern_of : Tried → Pattern
-pattern_of Nothing n = quiet
-pattern_of (One e) n = if n == e.number then with_mishap e.mishap quiet else quiet
-
--- It can be in a pattern: calls count from 1, and a worker's number is at most 1023.
-abbrev pub IsNamed : Mishap → Type 0
-IsNamed (Exit name) = IsNameWithin name
-IsNamed (Fail f) = Unit {0}
+-- The events that these calls meet under a pattern, behind an event where there is one: the first call is number n + 1, and this
+-- is the table before it.
+abbrev pub met : List ℕ → Option Event → Pattern → List ℕ → ℕ → Table → List Entry → List Event
+met text last pattern heirs n t [] = []
+met text last pattern heirs n t (e ∷ entries) =
+    let moment = pattern (n + 1) in
+    let middle = after_exits moment.exits t in
+    map (event_at (n + 1)) (open_at text e.by e.call (waiting e.call heirs) last (n + 1) middle)
+    ++ met text last pattern (waiting e.call heirs) (n + 1) (step_with text e.by e.call moment.fate middle).table entries

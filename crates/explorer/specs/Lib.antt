@@ -1,3 +1,4 @@
 pub mod Events
 pub mod Tallies
 pub mod Explored
+pub mod Positions

@@ -1,23 +1,24 @@
 -- How runs are counted by their ends.
-use Rattle.std.specs.Prelude.{◌+◌, max, Option, Some, None}
+use Rattle.std.specs.Prelude.{◌+◌, max, nat_lt, Option, Some, None, if◌then◌else◌}
 use Rattle.std.specs.List.{sum}
 use Rattle.definitions.specs.Path.{Outcome}
 use Rattle.vocabulary.specs.declared.reports.Outcome.TheVariants as outcome
 use Rattle.vocabulary.specs.declared.plans.Side.TheVariants as side
+use Rattle.explorer.specs.Events.{events_in}
 use Rattle.explorer.specs.declared.events.Tried.{Tried}
 use Rattle.explorer.specs.declared.tally.Ended.{Ended}
 use Rattle.explorer.specs.declared.tally.Tally.{Tally}
 
--- the first one, where there is none yet
-abbrev pub first_of : Option Tried → Tried → Option Tried
-first_of None tried = Some tried
-first_of (Some first) tried = Some first
+-- the one in which fewer things go wrong, and else the first
+abbrev pub shortest_of : Option Tried → Tried → Option Tried
+shortest_of None tried = Some tried
+shortest_of (Some first) tried = if nat_lt (events_in tried) (events_in first) then Some tried else Some first
 
 abbrev pub one_more : Tried → Ended → Ended
-one_more tried e = record { count = e.count + 1; first = first_of e.first tried }
+one_more tried e = record { count = e.count + 1; shortest = shortest_of e.shortest tried }
 
 abbrev pub none_ended : Ended
-none_ended = record { count = 0; first = None }
+none_ended = record { count = 0; shortest = None }
 
 -- No run is counted.
 abbrev pub nothing_counted : Tally

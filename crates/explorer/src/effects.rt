@@ -1,29 +1,46 @@
-//! Which mishaps matter at a call.
-ghost use Rattle.std.specs.Prelude.{◌≡◌, ◌≤◌, ℕ, [], IfOk, IfSome};
+//! What can go wrong at a call.
+ghost use Rattle.std.specs.Prelude.{◌≡◌, ◌≤◌, ◌++◌, ◌∷◌, ℕ, [], map, IfOk, OnOk};
+ghost use Rattle.std.specs.List.{filter, filter_map};
+ghost use Rattle.definitions.specs.Table.{is_active};
+ghost use Rattle.definitions.specs.Exits.{after_exits};
 ghost use Rattle.definitions.specs.Calls.{step_with};
 ghost use Rattle.definitions.specs.Tree.{reply_of};
-ghost use Rattle.event_pattern.specs.Pattern.{IsNameWithin};
+ghost use Rattle.kernel_model.specs.Readers.{row_of};
 ghost use Rattle.plan_executor.specs.Naming.{listed};
-ghost use Rattle.definitions.specs.Table.{is_active};
-ghost use Rattle.explorer.specs.Events.{takes_effect, exit_of, waiting};
+ghost use Rattle.explorer.specs.Events.{every_fate, takes_effect, exit_of, mishaps_at, waiting};
 
+use crate::events::Mishap;
 use call_replies::reply_to;
 use event_pattern::Moment;
 use kernel_model::Kernel;
 use listener_set::{Numbers, WORKER_LIMIT};
 use plan_executor::{EnactRefusal, reserved_copy};
 use process_table::Row;
+use std::alloc::{AllocError, Global};
 use vocabulary::{Actor, Call, Fate, Name, Stance};
 
+/// Each way in which a call can be made to fail.
+const EVERY_FATE: [Fate; 9] = [
+    Fate::InUse,
+    Fate::TooMany,
+    Fate::Denied,
+    Fate::NoMemory,
+    Fate::Again,
+    Fate::Late,
+    Fate::NoImage,
+    Fate::Refused,
+    Fate::IoFault,
+];
+
 /// Whether a fate changes what a call is answered.
-pub(crate) fn takes_effect(
+fn takes_effect(
     kernel: &Kernel,
     by: Actor,
     call: &Call,
     text: &[u8],
     fate: Fate,
 ) -> Result<bool, EnactRefusal>
-    ensures { IfOk result (λ yes. yes ≡ takes_effect text.now by call.now fate kernel.now.table) }
+    ensures { IfOk result (λ yes. yes ≡ takes_effect text.now by call.now kernel.now.table fate) }
 {
     let mut copy = reserved_copy(kernel, 1)?;
     let moment = Moment {
@@ -34,27 +51,32 @@ pub(crate) fn takes_effect(
     Ok(reply_to(&answer, &Numbers::none()) != kernel.own_reply(by, call, text))
 }
 
-/// Whose exit matters among those who have a row, where this master has yet to take over.
-pub(crate) fn exit_of(row: &Row, heir: Option<u32>) -> Option<Name>
-    ensures name { result ≡ exit_of (listed heir) row.now }
-    ensures within { IfSome result IsNameWithin }
+/// The exit of a process, where it matters: of one with a higher number than this, where this master has yet to take over.
+fn exit_of(row: &Row, heir: Option<u32>, above: u32) -> Option<Mishap>
+    ensures { result ≡ exit_of (listed heir) above row.now }
 {
     match *row {
         Row::Worker {
+            number,
             generation,
             nr,
             stance,
             ..
         } => {
-            if is_active(stance) && nr < WORKER_LIMIT {
-                Some(Name::Worker(generation, nr))
+            if is_active(stance) && nr < WORKER_LIMIT && above < number {
+                Some(Mishap::Exit(Name::Worker(generation, nr), number))
             } else {
                 None
             }
         }
-        Row::Master { image, live, .. } => {
-            if live && heir == Some(image) {
-                Some(Name::Master(image))
+        Row::Master {
+            number,
+            image,
+            live,
+            ..
+        } => {
+            if live && heir == Some(image) && above < number {
+                Some(Mishap::Exit(Name::Master(image), number))
             } else {
                 None
             }
@@ -80,4 +102,82 @@ pub(crate) fn waiting(call: &Call, heir: Option<u32>) -> Option<u32>
         Call::Leave => None,
         _ => heir,
     }
+}
+
+fn push(mishaps: &mut Vec<Mishap>, mishap: Mishap) -> Result<(), AllocError>
+    ensures { OnOk result (mishaps.new.items ≡ mishaps.old.items ++ mishap ∷ []) }
+{
+    mishaps.push(mishap)?;
+    Ok(())
+}
+
+/// Adds the exits that matter. A kernel with 2^32 processes or more would want memory.
+fn add_exits(
+    kernel: &Kernel,
+    heir: Option<u32>,
+    above: u32,
+    mishaps: &mut Vec<Mishap>,
+) -> Result<(), EnactRefusal>
+    ensures { OnOk result (mishaps.new.items ≡ mishaps.old.items ++ filter_map (exit_of (listed heir) above) (map row_of kernel.now.table.rows)) }
+{
+    for place in 0..u32::MAX as usize {
+        let Some(row) = kernel.row(place) else {
+            return Ok(());
+        };
+        if let Some(mishap) = exit_of(&row, heir, above) {
+            push(mishaps, mishap)?;
+        }
+    }
+    Err(EnactRefusal::Memory)
+}
+
+/// Adds the failures of a call that take effect.
+fn add_fates(
+    kernel: &Kernel,
+    by: Actor,
+    call: &Call,
+    text: &[u8],
+    mishaps: &mut Vec<Mishap>,
+) -> Result<(), EnactRefusal>
+    ensures { OnOk result (mishaps.new.items ≡ mishaps.old.items ++ map Mishap.Fail (filter (takes_effect text.now by call.now kernel.now.table) every_fate)) }
+{
+    for fate in &EVERY_FATE {
+        if takes_effect(kernel, by, call, text, *fate)? {
+            push(mishaps, Mishap::Fail(*fate))?;
+        }
+    }
+    Ok(())
+}
+
+/// What can go wrong at a call, of exits those of processes with a higher number than this, where this master has yet to
+/// take over.
+pub(crate) fn mishaps_at(
+    alloc: Global,
+    kernel: &Kernel,
+    by: Actor,
+    call: &Call,
+    text: &[u8],
+    heir: Option<u32>,
+    above: u32,
+) -> Result<Vec<Mishap>, EnactRefusal>
+    ensures { IfOk result (λ mishaps. mishaps.items ≡ mishaps_at text.now by call.now (listed heir) above kernel.now.table) }
+{
+    let mut mishaps = Vec::new(alloc);
+    add_exits(kernel, heir, above, &mut mishaps)?;
+    add_fates(kernel, by, call, text, &mut mishaps)?;
+    Ok(mishaps)
+}
+
+/// The kernel after these exits. They come with a call, so one is made that asks for a master and changes nothing.
+pub(crate) fn after_exits(
+    kernel: &Kernel,
+    by: Actor,
+    exits: &[Name],
+) -> Result<Kernel, EnactRefusal>
+    ensures { IfOk result (λ k. k.table ≡ after_exits exits.now kernel.now.table) }
+{
+    let mut copy = reserved_copy(kernel, 1)?;
+    let moment = Moment { exits, fate: None };
+    copy.call(by, &Call::Alive(by.0), &[], &moment);
+    Ok(copy)
 }

@@ -1,17 +1,11 @@
 //! What goes wrong in a run.
-ghost use Rattle.std.specs.Prelude.{◌≡◌, ◌≤◌, ◌==◌, ℕ, OnOk, IfOk, if◌then◌else◌};
-ghost use Rattle.kernel_model.specs.Pattern.{moment_at};
-ghost use Rattle.explorer.specs.Events.{with_mishap, pattern_of, IsNamed};
-
-use kernel_model::Pattern;
-use std::alloc::{AllocError, Global};
 use vocabulary::{Fate, Name};
 
 /// What goes wrong at one call.
 #[derive(Clone, Copy, Debug)]
 pub enum Mishap {
-    /// Somebody exits before it.
-    Exit(Name),
+    /// The process of this name and number exits before it.
+    Exit(Name, u32),
     /// It fails so.
     Fail(Fate),
 }
@@ -23,32 +17,26 @@ pub struct Event {
     pub mishap: Mishap,
 }
 
-/// All that goes wrong in a run.
+/// All that goes wrong in a run, in its order.
 #[derive(Clone, Copy, Debug)]
 pub enum Tried {
     Nothing,
     One(Event),
+    Two(Event, Event),
 }
 
-/// Adds an event to a pattern.
-fn add(pattern: &mut Pattern, number: u32, mishap: Mishap) -> Result<(), AllocError>
-    requires number { 1 ≤ number }
-    requires named { IsNamed mishap }
-    ensures { OnOk result ((m : ℕ) → moment_at pattern.new m ≡ (if m == number then with_mishap mishap (moment_at pattern.old number) else moment_at pattern.old m)) }
-{
-    match mishap {
-        Mishap::Exit(name) => pattern.add_exit(number, name),
-        Mishap::Fail(fate) => pattern.set_fate(number, fate),
+impl Tried {
+    ghost use Rattle.std.specs.Prelude.{◌≡◌, ℕ};
+    ghost use Rattle.explorer.specs.Events.{events_in};
+
+    /// How many things go wrong.
+    pub fn count(&self) -> u32
+        ensures { result ≡ events_in self.now }
+    {
+        match self {
+            Tried::Nothing => 0,
+            Tried::One(_) => 1,
+            Tried::Two(..) => 2,
+        }
     }
-}
-
-/// The pattern of one event.
-pub(crate) fn single(alloc: Global, number: u32, mishap: Mishap) -> Result<Pattern, AllocError>
-    requires number { 1 ≤ number }
-    requires named { IsNamed mishap }
-    ensures { IfOk result (λ pattern. (m : ℕ) → moment_at pattern m ≡ pattern_of (Tried.One (record { number = number; mishap = mishap })) m) }
-{
-    let mut pattern = Pattern::new(alloc);
-    add(&mut pattern, number, mishap)?;
-    Ok(pattern)
 }

@@ -1,235 +1,225 @@
-//! All runs of a target in which at most one thing goes wrong.
-ghost use Rattle.std.specs.Prelude.{◌≡◌, ◌≤◌, map, OnOk, IfOk, IfSome};
-ghost use Rattle.definitions.specs.Target.{IsTarget};
-ghost use Rattle.kernel_model.specs.Readers.{row_of};
-ghost use Rattle.event_pattern.specs.Pattern.{IsNameWithin};
+//! All runs of a target in which at most two things go wrong.
+ghost use Rattle.std.specs.Prelude.{◌≡◌, ◌≤◌, ◌+◌, ◌∷◌, [], map, None, Some, IfOk, OnOk};
+ghost use Rattle.definitions.specs.Target.{IsTarget, text_handed};
+ghost use Rattle.definitions.specs.Exits.{after_exits};
+ghost use Rattle.definitions.specs.Run.{Progress, quiet};
+ghost use Rattle.plan_runner.specs.Walk.{trail_of, AsksFor};
 ghost use Rattle.plan_executor.specs.Naming.{listed};
-ghost use Rattle.explorer.specs.Events.{every_fate, pattern_of};
-ghost use Rattle.explorer.specs.Explored.{with_exit_of, with_fate_of, over_rows, over_fates, over_calls, with_call, with_run, explored_from};
-ghost use Rattle.definitions.specs.Claims.{run_of};
+ghost use Rattle.explorer.specs.Events.{pattern_of, with_mishap, event_at, beside, waiting};
+ghost use Rattle.explorer.specs.Explored.{with_runs, with_pairs, each_with_pairs, explored_from};
+ghost use Rattle.explorer.specs.Positions.{IsFit, IsAt, IsSameUpTo, IsLater, left, moment_of};
 
+use crate::counting::{Audience, ExploreRefusal, count_run, look_between};
 use crate::effects;
-use crate::events::{Mishap, Tried};
-use crate::running::{Audience, ExploreRefusal, count_one, run_under};
-use crate::tally::Tally;
-use event_pattern::Moment;
-use kernel_model::{Kernel, Pattern};
-use plan_executor::{EnactRefusal, heir_of, plan_of, reserved_copy};
-use plan_runner::CallLog;
+use crate::events::{Event, Mishap, Tried};
+use crate::findings::{Findings, common_addresses};
+use crate::position::Position;
+use kernel_model::Kernel;
+use plan_executor::{EnactRefusal, agrees, plan_of};
+use plan_runner::Due;
 use service_state::Record;
 use std::alloc::Global;
-use vocabulary::{Entry, Fate, Name, Target};
+use vocabulary::{Name, Target};
 
-/// Each way in which a call can be made to fail.
-const EVERY_FATE: [Fate; 9] = [
-    Fate::InUse,
-    Fate::TooMany,
-    Fate::Denied,
-    Fate::NoMemory,
-    Fate::Again,
-    Fate::Late,
-    Fate::NoImage,
-    Fate::Refused,
-    Fate::IoFault,
-];
-
-/// A run in which somebody exits, if it is somebody whose exit matters.
-fn count_exit<A: Audience>(
-    alloc: Global,
-    kernel: &Kernel,
-    state: &Record,
-    target: &Target,
-    number: u32,
-    name: Option<Name>,
-    tally: &mut Tally,
-    audience: &mut A,
-) -> Result<(), ExploreRefusal>
-    requires target { IsTarget target.now }
-    requires number { 1 ≤ number }
-    requires named { IfSome name IsNameWithin }
-    ensures { OnOk result (tally.new ≡ with_exit_of state.now target.now kernel.now.table number name tally.old) }
+/// The run in which this goes wrong, which is the same so far, after the call that is due, before which this process exits
+/// already, where one does, and at which this goes wrong.
+fn branch_with<'a>(
+    run: &Position<'a>,
+    due: &Due,
+    tried: Tried,
+    gone: Option<Name>,
+    mishap: Mishap,
+) -> Result<Position<'a>, EnactRefusal>
+    requires fit { IsFit run.now }
+    requires due { AsksFor (trail_of run.now.walk) due.now.by due.now.call }
+    requires moment { pattern_of tried (run.now.made + 1) ≡ with_mishap mishap (moment_of gone) }
+    ensures { IfOk result (IsLater (record run.now { tried = tried }) due.now (with_mishap mishap (moment_of gone))) }
 {
-    match name {
-        Some(name) => count_exiting(alloc, kernel, state, target, number, name, tally, audience),
-        None => Ok(()),
+    match (gone, mishap) {
+        (None, Mishap::Exit(name, _)) => run.branch(due, tried, &[name], None),
+        (None, Mishap::Fail(fate)) => run.branch(due, tried, &[], Some(fate)),
+        (Some(gone), Mishap::Exit(name, _)) => run.branch(due, tried, &[gone, name], None),
+        (Some(gone), Mishap::Fail(fate)) => run.branch(due, tried, &[gone], Some(fate)),
     }
 }
 
-fn count_exiting<A: Audience>(
-    alloc: Global,
-    kernel: &Kernel,
-    state: &Record,
-    target: &Target,
-    number: u32,
-    name: Name,
-    tally: &mut Tally,
+/// Counts the run in which this goes wrong, too, at the call that is due, before which this process exits already, where
+/// one does.
+fn count_pair<A: Audience>(
+    run: &Position<'_>,
+    due: &Due,
+    first: Event,
+    gone: Option<Name>,
+    mishap: Mishap,
+    low: u32,
+    found: &mut Findings,
     audience: &mut A,
 ) -> Result<(), ExploreRefusal>
-    requires target { IsTarget target.now }
-    requires number { 1 ≤ number }
-    requires named { IsNameWithin name }
-    ensures { OnOk result (tally.new ≡ with_run state.now target.now kernel.now.table (Tried.One (record { number = number; mishap = Mishap.Exit name })) tally.old) }
+    requires fit { IsFit run.now }
+    requires due { AsksFor (trail_of run.now.walk) due.now.by due.now.call }
+    requires tried { IsSameUpTo run.now.made (pattern_of run.now.tried) (pattern_of (Tried.One first)) }
+    requires first { first.number ≤ run.now.made + 1 }
+    requires moment { pattern_of (Tried.One first) (run.now.made + 1) ≡ moment_of gone }
+    ensures { (p : Progress) → IsAt run.now p → OnOk result (found.new.tally ≡ with_runs run.now.state.now run.now.target.now run.now.first.now.table (Tried.Two first (event_at (run.now.made + 1) mishap) ∷ []) found.old.tally) }
 {
-    count_one(
-        alloc,
-        kernel,
-        state,
-        target,
-        number,
-        Mishap::Exit(name),
-        tally,
-        audience,
-    )
+    let number = run.made + 1;
+    let tried = Tried::Two(first, Event { number, mishap });
+    let after = look_between(run, due, gone, mishap, low, &tried, found)?;
+    let branch = branch_with(run, due, tried, gone, mishap)?;
+    count_run(branch, after, found, audience)
 }
 
-/// A run in which a call fails so, if that takes effect.
-fn count_fate<A: Audience>(
-    alloc: Global,
-    kernel: &Kernel,
-    state: &Record,
-    target: &Target,
-    number: u32,
-    text: &[u8],
-    entry: &Entry,
-    now: &Kernel,
-    fate: Fate,
-    tally: &mut Tally,
+/// Counts the runs in which one of these goes wrong, too, at the call that is due.
+fn count_pairs<A: Audience>(
+    run: &Position<'_>,
+    due: &Due,
+    first: Event,
+    gone: Option<Name>,
+    mishaps: &[Mishap],
+    low: u32,
+    found: &mut Findings,
     audience: &mut A,
 ) -> Result<(), ExploreRefusal>
-    requires target { IsTarget target.now }
-    requires number { 1 ≤ number }
-    ensures { OnOk result (tally.new ≡ with_fate_of state.now target.now kernel.now.table number text.now entry.now.by entry.now.call now.now.table fate tally.old) }
+    requires fit { IsFit run.now }
+    requires due { AsksFor (trail_of run.now.walk) due.now.by due.now.call }
+    requires tried { IsSameUpTo run.now.made (pattern_of run.now.tried) (pattern_of (Tried.One first)) }
+    requires first { first.number ≤ run.now.made + 1 }
+    requires moment { pattern_of (Tried.One first) (run.now.made + 1) ≡ moment_of gone }
+    ensures { (p : Progress) → IsAt run.now p → OnOk result (found.new.tally ≡ with_runs run.now.state.now run.now.target.now run.now.first.now.table (map (Tried.Two first) (map (event_at (run.now.made + 1)) mishaps.now)) found.old.tally) }
 {
-    if !effects::takes_effect(now, entry.by, &entry.call, text, fate)? {
-        return Ok(());
-    }
-    count_one(
-        alloc,
-        kernel,
-        state,
-        target,
-        number,
-        Mishap::Fail(fate),
-        tally,
-        audience,
-    )
-}
-
-/// A run for each exit before a call that matters, where `now` is the kernel before it. A kernel with 2^32 processes or
-/// more would want memory.
-fn over_rows<A: Audience>(
-    alloc: Global,
-    kernel: &Kernel,
-    state: &Record,
-    target: &Target,
-    number: u32,
-    heir: Option<u32>,
-    now: &Kernel,
-    tally: &mut Tally,
-    audience: &mut A,
-) -> Result<(), ExploreRefusal>
-    requires target { IsTarget target.now }
-    requires number { 1 ≤ number }
-    ensures { OnOk result (tally.new ≡ over_rows state.now target.now kernel.now.table number (listed heir) (map row_of now.now.table.rows) tally.old) }
-{
-    for place in 0..u32::MAX as usize {
-        let Some(row) = now.row(place) else {
-            return Ok(());
-        };
-        let name = effects::exit_of(&row, heir);
-        count_exit(alloc, kernel, state, target, number, name, tally, audience)?;
-    }
-    Err(ExploreRefusal::Enact(EnactRefusal::Memory))
-}
-
-/// A run for each failure of a call that takes effect, where `now` is the kernel before it.
-fn over_fates<A: Audience>(
-    alloc: Global,
-    kernel: &Kernel,
-    state: &Record,
-    target: &Target,
-    number: u32,
-    text: &[u8],
-    entry: &Entry,
-    now: &Kernel,
-    tally: &mut Tally,
-    audience: &mut A,
-) -> Result<(), ExploreRefusal>
-    requires target { IsTarget target.now }
-    requires number { 1 ≤ number }
-    ensures { OnOk result (tally.new ≡ over_fates state.now target.now kernel.now.table number text.now entry.now.by entry.now.call now.now.table every_fate tally.old) }
-{
-    for fate in &EVERY_FATE {
-        count_fate(
-            alloc, kernel, state, target, number, text, entry, now, *fate, tally, audience,
-        )?;
+    for mishap in mishaps {
+        count_pair(run, due, first, gone, *mishap, low, found, audience)?;
     }
     Ok(())
 }
 
-/// A run for each mishap that matters at a call, where `now` is the kernel before it.
-pub fn at_call<A: Audience>(
+/// Counts the runs in which one thing more goes wrong at the call of the first one, which is due.
+fn count_beside<A: Audience>(
     alloc: Global,
-    kernel: &Kernel,
-    state: &Record,
-    target: &Target,
-    number: u32,
-    text: &[u8],
-    heir: Option<u32>,
-    entry: &Entry,
-    now: &Kernel,
-    tally: &mut Tally,
+    run: &Position<'_>,
+    due: &Due,
+    first: Event,
+    low: u32,
+    found: &mut Findings,
     audience: &mut A,
 ) -> Result<(), ExploreRefusal>
-    requires target { IsTarget target.now }
-    requires number { 1 ≤ number }
-    ensures { OnOk result (tally.new ≡ with_call state.now target.now kernel.now.table text.now (listed heir) number now.now.table entry.now tally.old) }
+    requires fit { IsFit run.now }
+    requires due { AsksFor (trail_of run.now.walk) due.now.by due.now.call }
+    requires tried { run.now.tried ≡ Tried.Nothing }
+    requires first { first.number ≡ run.now.made + 1 }
+    ensures { (p : Progress) → IsAt run.now p → OnOk result (found.new.tally ≡ with_runs run.now.state.now run.now.target.now run.now.first.now.table (map (Tried.Two first) (map (event_at (run.now.made + 1)) (beside (text_handed run.now.state.now run.now.target.now) due.now.by due.now.call (waiting due.now.call (listed run.now.heir)) first.mishap (after_exits (with_mishap first.mishap quiet).exits run.now.kernel.table)))) found.old.tally) }
 {
-    let heir = effects::waiting(&entry.call, heir);
-    over_rows(
-        alloc, kernel, state, target, number, heir, now, tally, audience,
-    )?;
-    over_fates(
-        alloc, kernel, state, target, number, text, entry, now, tally, audience,
-    )
+    match first.mishap {
+        Mishap::Exit(name, process) => {
+            let kernel = effects::after_exits(&run.kernel, due.by, &[name])?;
+            let heir = effects::waiting(&due.call, run.heir);
+            let mishaps = effects::mishaps_at(
+                alloc, &kernel, due.by, &due.call, run.text, heir, process,
+            )?;
+            count_pairs(run, due, first, Some(name), &mishaps, low, found, audience)
+        }
+        Mishap::Fail(_) => Ok(()),
+    }
 }
 
-/// A run for each mishap that matters at one of the calls of a run under no event.
-fn over_calls<A: Audience>(
+/// Counts the runs in which one thing more goes wrong, at one of the calls that are left.
+fn count_later<A: Audience>(
     alloc: Global,
-    kernel: &Kernel,
-    state: &Record,
-    target: &Target,
-    text: &[u8],
-    heir: Option<u32>,
-    log: &CallLog,
-    tally: &mut Tally,
+    mut run: Position<'_>,
+    first: Event,
+    found: &mut Findings,
     audience: &mut A,
 ) -> Result<(), ExploreRefusal>
-    requires { IsTarget target.now }
-    ensures { OnOk result (tally.new ≡ over_calls state.now target.now kernel.now.table text.now (listed heir) 0 kernel.now.table log.now.entries tally.old) }
+    requires fit { IsFit run }
+    requires tried { run.tried ≡ Tried.One first }
+    requires first { first.number ≤ run.made }
+    ensures { (p : Progress) → IsAt run.entry p → OnOk result (found.new.tally ≡ with_runs run.entry.state.now run.entry.target.now run.entry.first.now.table (map (Tried.Two first) (left run.entry p (Some first))) found.old.tally) }
 {
-    let count = log.len() as u32;
-    let mut now = reserved_copy(kernel, count)?;
-    let mut waiting = heir;
-    for place in 0..count {
-        let entry = log.entry(place as usize);
-        let number = place + 1;
-        at_call(
-            alloc, kernel, state, target, number, text, waiting, &entry, &now, tally, audience,
-        )?;
-        waiting = effects::waiting(&entry.call, waiting);
-        let quiet = Moment {
-            exits: &[],
-            fate: None,
-        };
-        now.call(entry.by, &entry.call, text, &quiet);
+    while let Some(due) = run.due() {
+        let low = found.look(&run.kernel, 0, &run.tried, run.made)?;
+        let mishaps = run.mishaps(alloc, &due, 0)?;
+        count_pairs(&run, &due, first, None, &mishaps, low, found, audience)?;
+        run.make(&due, &[], None);
+    }
+    Ok(())
+}
+
+/// Counts the run in which this goes wrong at the call that is due and, where pairs are asked for, each in which one thing
+/// more does.
+fn count_with_pairs<A: Audience>(
+    alloc: Global,
+    run: &Position<'_>,
+    due: &Due,
+    mishap: Mishap,
+    pairs: bool,
+    low: u32,
+    found: &mut Findings,
+    audience: &mut A,
+) -> Result<(), ExploreRefusal>
+    requires fit { IsFit run.now }
+    requires due { AsksFor (trail_of run.now.walk) due.now.by due.now.call }
+    requires tried { run.now.tried ≡ Tried.Nothing }
+    ensures { (p : Progress) → IsAt run.now p → OnOk result (found.new.tally ≡ with_runs run.now.state.now run.now.target.now run.now.first.now.table (with_pairs run.now.state.now run.now.target.now run.now.first.now.table pairs (event_at (run.now.made + 1) mishap)) found.old.tally) }
+{
+    let number = run.made + 1;
+    let first = Event { number, mishap };
+    let after = look_between(run, due, None, mishap, low, &Tried::One(first), found)?;
+    let whole = branch_with(run, due, Tried::One(first), None, mishap)?;
+    count_run(whole, after, found, audience)?;
+    if !pairs {
+        return Ok(());
+    }
+    count_beside(alloc, run, due, first, low, found, audience)?;
+    let behind = branch_with(run, due, Tried::One(first), None, mishap)?;
+    count_later(alloc, behind, first, found, audience)
+}
+
+/// Counts the runs in which one of these goes wrong first, at the call that is due.
+fn count_all_with_pairs<A: Audience>(
+    alloc: Global,
+    run: &Position<'_>,
+    due: &Due,
+    mishaps: &[Mishap],
+    pairs: bool,
+    low: u32,
+    found: &mut Findings,
+    audience: &mut A,
+) -> Result<(), ExploreRefusal>
+    requires fit { IsFit run.now }
+    requires due { AsksFor (trail_of run.now.walk) due.now.by due.now.call }
+    requires tried { run.now.tried ≡ Tried.Nothing }
+    ensures { (p : Progress) → IsAt run.now p → OnOk result (found.new.tally ≡ with_runs run.now.state.now run.now.target.now run.now.first.now.table (each_with_pairs run.now.state.now run.now.target.now run.now.first.now.table pairs (map (event_at (run.now.made + 1)) mishaps.now)) found.old.tally) }
+{
+    for mishap in mishaps {
+        count_with_pairs(alloc, run, due, *mishap, pairs, low, found, audience)?;
+    }
+    Ok(())
+}
+
+/// Counts the runs in which something goes wrong at one of the calls that are left.
+fn over_calls<A: Audience>(
+    alloc: Global,
+    mut run: Position<'_>,
+    pairs: bool,
+    found: &mut Findings,
+    audience: &mut A,
+) -> Result<(), ExploreRefusal>
+    requires fit { IsFit run }
+    requires tried { run.tried ≡ Tried.Nothing }
+    ensures { (p : Progress) → IsAt run.entry p → OnOk result (found.new.tally ≡ with_runs run.entry.state.now run.entry.target.now run.entry.first.now.table (each_with_pairs run.entry.state.now run.entry.target.now run.entry.first.now.table pairs (left run.entry p None)) found.old.tally) }
+{
+    while let Some(due) = run.due() {
+        let low = found.look(&run.kernel, 0, &run.tried, run.made)?;
+        let mishaps = run.mishaps(alloc, &due, 0)?;
+        count_all_with_pairs(alloc, &run, &due, &mishaps, pairs, low, found, audience)?;
+        run.make(&due, &[], None);
     }
     Ok(())
 }
 
 /// Counts the run of a target under no event, and a run for each event that this run meets: each exit that matters
-/// before one of its calls, and each failure of the call that takes effect. Each is `enact`'s, on a copy of the kernel.
+/// before one of its calls, and each failure of the call that takes effect; where pairs are asked for, also a run for each
+/// pair of these of which the run with the first one meets the second. Each report is that of `enact` under the pattern.
 ///
 /// The audience hears of each run, and may end them. What was counted until then, or until memory was refused, stays
 /// counted. A target that can't be carried out is refused as `enact` refuses it.
@@ -238,52 +228,20 @@ pub fn explore<A: Audience>(
     kernel: &Kernel,
     state: &Record,
     target: &Target,
-    tally: &mut Tally,
+    pairs: bool,
+    found: &mut Findings,
     audience: &mut A,
 ) -> Result<(), ExploreRefusal>
     requires { IsTarget target.now }
-    ensures { OnOk result (tally.new ≡ explored_from state.now target.now kernel.now.table tally.old) }
+    ensures { OnOk result (found.new.tally ≡ explored_from state.now target.now kernel.now.table pairs found.old.tally) }
 {
+    if !agrees(state, kernel) {
+        return Err(ExploreRefusal::Enact(EnactRefusal::RecordDisagrees));
+    }
     let plan = plan_of(alloc, state, target)?;
-    let log = count_quiet(alloc, kernel, state, target, tally, audience)?;
-    let heir = heir_of(state, target);
-    over_calls(
-        alloc,
-        kernel,
-        state,
-        target,
-        plan.text(),
-        heir,
-        &log,
-        tally,
-        audience,
-    )
-}
-
-/// Counts the run under no event, and gives its calls.
-#[tactic(auto, using(crate::proofs::Patterns::same_report, crate::proofs::Patterns::same_entries))]
-fn count_quiet<A: Audience>(
-    alloc: Global,
-    kernel: &Kernel,
-    state: &Record,
-    target: &Target,
-    tally: &mut Tally,
-    audience: &mut A,
-) -> Result<CallLog, ExploreRefusal>
-    requires { IsTarget target.now }
-    ensures counted { OnOk result (tally.new ≡ with_run state.now target.now kernel.now.table Tried.Nothing tally.old) }
-    ensures entries { IfOk result (λ log. log.entries ≡ (run_of state.now target.now (pattern_of Tried.Nothing) kernel.now.table).entries) }
-{
-    if !audience.wants_more() {
-        return Err(ExploreRefusal::Enough);
-    }
-    let pattern = Pattern::new(alloc);
-    let enacted = run_under(alloc, kernel, state, target, &pattern)?;
-    let tried = Tried::Nothing;
-    tally.count(&tried, &enacted.report.outcome)?;
-    if audience.hear(&tried, &enacted.report) {
-        Ok(enacted.log)
-    } else {
-        Err(ExploreRefusal::Enough)
-    }
+    found.begin(common_addresses(alloc, kernel, state, target)?);
+    let whole = Position::start(kernel, state, target, &plan)?;
+    count_run(whole, 0, found, audience)?;
+    let run = Position::start(kernel, state, target, &plan)?;
+    over_calls(alloc, run, pairs, found, audience)
 }

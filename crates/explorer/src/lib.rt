@@ -1,13 +1,17 @@
-//! How a target ends whatever goes wrong: its run under no event, and under each event that this run meets.
+//! How a target ends whatever goes wrong: its run under no event, under each event that this run meets, and under each
+//! pair of these.
 #![tactic(auto)]
 
+mod counting;
 mod effects;
 mod events;
 mod exploring;
-mod running;
+mod findings;
+mod position;
 mod tally;
 
+pub use counting::{Audience, ExploreRefusal};
 pub use events::{Event, Mishap, Tried};
-pub use exploring::{at_call, explore};
-pub use running::{Audience, ExploreRefusal};
+pub use exploring::explore;
+pub use findings::{Findings, Least};
 pub use tally::{Ended, Tally};

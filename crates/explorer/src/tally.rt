@@ -1,16 +1,16 @@
 //! Runs, counted by their ends.
-ghost use Rattle.std.specs.Prelude.{◌≡◌, OnOk};
-ghost use Rattle.explorer.specs.Tallies.{one_more, none_ended, nothing_counted, counted};
+ghost use Rattle.std.specs.Prelude.{◌≡◌, OnOk, Some};
+ghost use Rattle.explorer.specs.Tallies.{shortest_of, one_more, none_ended, nothing_counted, counted};
 
 use crate::events::Tried;
 use std::alloc::AllocError;
 use vocabulary::{Outcome, Side};
 
-/// How many runs ended so, and the first of them.
+/// How many runs ended so, and the first of those in which fewest things went wrong.
 #[derive(Clone, Copy, Debug)]
 pub struct Ended {
     pub count: u64,
-    pub first: Option<Tried>,
+    pub shortest: Option<Tried>,
 }
 
 /// How many runs ended how, and the largest shortfall that one of them reported.
@@ -30,7 +30,7 @@ impl Ended {
     {
         Ended {
             count: 0,
-            first: None,
+            shortest: None,
         }
     }
 
@@ -38,10 +38,17 @@ impl Ended {
         ensures { OnOk result (self.new ≡ one_more tried.now self.old) }
     {
         self.count = self.count.checked_add(1).ok_or(AllocError)?;
-        if self.first.is_none() {
-            self.first = Some(*tried);
-        }
+        self.shortest = Some(shortest_of(self.shortest, *tried));
         Ok(())
+    }
+}
+
+fn shortest_of(first: Option<Tried>, tried: Tried) -> Tried
+    ensures { Some result ≡ shortest_of first tried }
+{
+    match first {
+        Some(first) if tried.count() >= first.count() => first,
+        _ => tried,
     }
 }
 

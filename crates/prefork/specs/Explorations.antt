@@ -1,5 +1,5 @@
 -- What is counted of the runs of a word.
-use Rattle.std.specs.Prelude.{◌≡◌, Some, ⊤}
+use Rattle.std.specs.Prelude.{◌≡◌, Bool, Some, ⊤}
 use Rattle.vocabulary.specs.declared.targets.Target.{Target}
 use Rattle.definitions.specs.Table.{Table}
 use Rattle.definitions.specs.Record.{Record}
@@ -13,14 +13,14 @@ use Rattle.prefork.specs.declared.exploration.Explored.TheVariants.{All, Cut, To
 use Rattle.prefork.specs.declared.rehearsal.Rehearsal.{Rehearsal}
 
 -- Where all runs of a target are counted, the tally has each of them once.
-abbrev pub AreCounted : Record → Target → Table → Tally → Tally → Explored → Type 0
-AreCounted r target t before after All = after ≡ explored_from r target t before
-AreCounted r target t before after Cut = ⊤
-AreCounted r target t before after (Told body) = ⊤
+abbrev pub AreCounted : Record → Target → Table → Bool → Tally → Tally → Explored → Type 0
+AreCounted r target t pairs before after All = after ≡ explored_from r target t pairs before
+AreCounted r target t pairs before after Cut = ⊤
+AreCounted r target t pairs before after (Told body) = ⊤
 
 -- Where all runs of a word are counted, they are those of the target that it asks for.
-abbrev pub IsExplored : Rehearsal → Word → Tally → Tally → Explored → Type 0
-IsExplored m word before after All =
-    (r : Record) × (target : Target) × (m.record ≡ Some r) × (asked_by word r m.workers (Some m.next) ≡ Act target) × (after ≡ explored_from r target m.kernel.table before)
-IsExplored m word before after Cut = ⊤
-IsExplored m word before after (Told body) = ⊤
+abbrev pub IsExplored : Rehearsal → Word → Bool → Tally → Tally → Explored → Type 0
+IsExplored m word pairs before after All =
+    (r : Record) × (target : Target) × (m.record ≡ Some r) × (asked_by word r m.workers (Some m.next) ≡ Act target) × (after ≡ explored_from r target m.kernel.table pairs before)
+IsExplored m word pairs before after Cut = ⊤
+IsExplored m word pairs before after (Told body) = ⊤

@@ -21,7 +21,7 @@ use crate::start::Start;
 use crate::why;
 use command_line::{CertifyOptions, EnactOptions, ExploreOptions, PlanOptions, Request};
 use control_words::Word;
-use explorer::Tally;
+use explorer::Findings;
 use kernel_model::Pattern;
 use std::alloc::{AllocError, Global};
 use std::io::{Read, Write};
@@ -63,7 +63,7 @@ fn answer<R: AllocGlobal + Files + Processes + OwnNumber, I: Read, O: Write, E: 
     match command_line::read(rt.alloc(), args)? {
         Request::Enact(options) => enact(rt, &options, input, given, output),
         Request::Plan(options) => plan(rt, &options, output),
-        Request::Explore(options) => explore(rt, &options, output),
+        Request::Explore(options) => explore(rt, &options, output, errors),
         Request::Certify(options) => certify(rt, &options, input, given, output),
         Request::Supervise(options) => supervise(rt, &options, input, output, errors),
         Request::Adopt(options) => adopt(rt, &options, input, output),
@@ -176,16 +176,15 @@ fn plan<R: AllocGlobal + Files, O: Write>(
 }
 
 /// `explore`: writes how a word ends under each event that can matter.
-fn explore<R: AllocGlobal + Files, O: Write>(
+fn explore<R: AllocGlobal + Files, O: Write, E: Write>(
     rt: &R,
     options: &ExploreOptions<'_>,
     output: &mut O,
+    errors: &mut E,
 ) -> Result<u8, Fault> {
     let alloc = rt.alloc();
     let is_forbidden = forbids(options.forbid)?;
-    if !matches!(options.events, None | Some(1)) {
-        return Err(Fault::Usage);
-    }
+    let pairs = asks_for_pairs(options.events)?;
     let word = control_words::read(options.word.as_bytes()).map_err(|refusal| Fault::Word(
         1, refusal,
     ))?;
@@ -194,13 +193,22 @@ fn explore<R: AllocGlobal + Files, O: Write>(
     if let Some(address) = options.held {
         rehearsal.hold(address)?;
     }
-    let mut tally = Tally::new();
-    let mut listing = Listing::new(alloc, output, options.list, options.limit);
-    let explored = rehearsal.explore(alloc, word, &mut tally, &mut listing)?;
+    let mut found = Findings::new(alloc);
+    let mut listing = Listing::new(alloc, output, errors, options);
+    let explored = rehearsal.explore(alloc, word, pairs, &mut found, &mut listing)?;
     listing.finish()?;
-    let (text, status) = summary(alloc, &explored, &tally, is_forbidden)?;
+    let (text, status) = summary(alloc, &explored, &found, is_forbidden)?;
     write(output, text.as_slice())?;
     Ok(status)
+}
+
+/// Whether runs with two events are asked for; there are none with more.
+fn asks_for_pairs(events: Option<u32>) -> Result<bool, Fault> {
+    match events {
+        None | Some(1) => Ok(false),
+        Some(2) => Ok(true),
+        Some(_) => Err(Fault::Usage),
+    }
 }
 
 /// Whether an end is forbidden that is degraded; no other can be.

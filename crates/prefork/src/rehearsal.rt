@@ -18,7 +18,7 @@ use crate::fault::Fault;
 use crate::start::{Start, silent_workers};
 use certifier::{BlockMismatch, Mismatch, certify_beginning, certify_blocks};
 use control_words::Word;
-use explorer::{Audience, ExploreRefusal, Tally, explore};
+use explorer::{Audience, ExploreRefusal, Findings, explore};
 use kernel_model::{Kernel, Pattern};
 use listener_set::{Address, WORKER_LIMIT};
 use plan_executor::{EnactRefusal, run_words};
@@ -174,21 +174,31 @@ impl Rehearsal {
         shown_of(alloc, &self.kernel, &record, &target, begun)
     }
 
-    /// Counts how a word ends under no event and under each event that this run meets. The audience hears of each run.
+    /// Counts how a word ends under no event and under each event that this run meets and, where pairs are asked for, under
+    /// each pair of these. The audience hears of each run.
     pub fn explore<A: Audience>(
         &mut self,
         alloc: Global,
         word: Word,
-        tally: &mut Tally,
+        pairs: bool,
+        found: &mut Findings,
         audience: &mut A,
     ) -> Result<Explored, AllocError>
-        ensures { IfOk result (IsExplored self.old word tally.old tally.new) }
+        ensures { IfOk result (IsExplored self.old word pairs found.old.tally found.new.tally) }
     {
         let Some(record) = self.record else {
             return Ok(Explored::Told(Body::Nothing));
         };
         match asked_by(word, &record, &self.workers, Some(&self.next)) {
-            Asked::Act(target) => counted(alloc, &self.kernel, &record, &target, tally, audience),
+            Asked::Act(target) => counted(
+                alloc,
+                &self.kernel,
+                &record,
+                &target,
+                pairs,
+                found,
+                audience,
+            ),
             Asked::Beat(heard) => Ok(Explored::Told(note(&mut self.workers, heard))),
             Asked::Nothing => Ok(Explored::Told(Body::Nothing)),
             Asked::Refused(code) => Ok(Explored::Told(Body::Refused(code))),
@@ -203,19 +213,21 @@ impl Rehearsal {
     }
 }
 
-/// Counts how a target ends under no event and under each event that this run meets.
+/// Counts how a target ends under no event, under each event that this run meets, and under each pair where these are
+/// asked for.
 fn counted<A: Audience>(
     alloc: Global,
     kernel: &Kernel,
     state: &Record,
     target: &Target,
-    tally: &mut Tally,
+    pairs: bool,
+    found: &mut Findings,
     audience: &mut A,
 ) -> Result<Explored, AllocError>
     requires { IsTarget target.now }
-    ensures { IfOk result (AreCounted state.now target.now kernel.now.table tally.old tally.new) }
+    ensures { IfOk result (AreCounted state.now target.now kernel.now.table pairs found.old.tally found.new.tally) }
 {
-    match explore(alloc, kernel, state, target, tally, audience) {
+    match explore(alloc, kernel, state, target, pairs, found, audience) {
         Ok(()) => Ok(Explored::All),
         Err(ExploreRefusal::Enough) => Ok(Explored::Cut),
         Err(ExploreRefusal::Enact(EnactRefusal::Memory)) => Err(AllocError),

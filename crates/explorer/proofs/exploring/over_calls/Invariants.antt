@@ -1,12 +1,26 @@
-use Rattle.std.proofs.Common.{◌≡◌, ◌+◌, drop}
-use Rattle.plan_executor.specs.Naming.{listed}
-use Rattle.explorer.specs.Explored.{over_calls}
+use Rattle.std.proofs.Common.{◌≡◌, None}
+use Rattle.definitions.specs.Run.{Progress}
+use Rattle.plan_runner.specs.Fit.{height_next}
+use Rattle.plan_runner.specs.Walk.{trail_of}
+use Rattle.explorer.specs.declared.events.Tried.TheVariants.{Nothing}
+use Rattle.explorer.specs.Explored.{with_runs, each_with_pairs}
+use Rattle.explorer.specs.Positions.{IsFit, IsAt, left}
 use Rattle.explorer.proofs.exploring.over_calls.Given as goal
 
-abbrev pub invariant-loop-place : goal.invariant-loop-place
-invariant-loop-place g l = record {
-  tallied :
-      over_calls l.state l.target l.kernel.table l.text (listed l.waiting) l.place l.now.table (drop l.place l.log.entries) l.tally
-      ≡ over_calls l.state l.target l.kernel.table l.text (listed l.fn.heir) 0 l.kernel.table l.log.entries l.fn.tally;
-  room : l.now.room + l.place ≡ l.count;
-}
+abbrev pub invariant-loop-due : goal.invariant-loop-due
+invariant-loop-due g l =
+    let r = l.fn.run.state.now in
+    let to = l.fn.run.target.now in
+    let t = l.fn.run.first.now.table in
+    record {
+      fit : IsFit l.run;
+      first : l.run.first.now ≡ l.fn.run.first.now;
+      state : l.run.state.now ≡ r;
+      target : l.run.target.now ≡ to;
+      tried : l.run.tried ≡ Nothing;
+      counts : (p : Progress) → IsAt l.fn.run p → (q : Progress) × IsAt l.run q ×
+          (with_runs r to t (each_with_pairs r to t l.pairs (left l.run q None)) l.found.tally ≡ with_runs r to t (each_with_pairs r to t l.pairs (left l.fn.run p None)) l.fn.found.tally);
+    }
+
+abbrev pub decreases-loop-due : goal.decreases-loop-due
+decreases-loop-due g l = height_next (trail_of l.run.walk).rest

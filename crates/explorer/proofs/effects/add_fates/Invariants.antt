@@ -1,0 +1,10 @@
+use Rattle.std.proofs.Common.{◌≡◌, ◌++◌, map, drop}
+use Rattle.std.specs.List.{filter}
+use Rattle.explorer.specs.declared.events.Mishap.TheVariants.{Fail}
+use Rattle.explorer.specs.Events.{every_fate, takes_effect}
+use Rattle.explorer.proofs.effects.add_fates.Given as goal
+
+abbrev pub invariant-loop-fate : goal.invariant-loop-fate
+invariant-loop-fate l =
+    let test = takes_effect l.text l.by l.call l.kernel.table in
+    l.mishaps.items ++ map Fail (filter test (drop l.fate-index every_fate)) ≡ l.fn.mishaps.items ++ map Fail (filter test every_fate)

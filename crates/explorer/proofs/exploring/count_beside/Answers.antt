@@ -1,0 +1,23 @@
+use Rattle.std.proofs.Common.{◌≡◌, ◌+◌, List, OnOk, map, sym, ap, subst, ◌∙◌}
+use Rattle.definitions.specs.Exits.{after_exits}
+use Rattle.definitions.specs.Run.{quiet}
+use Rattle.definitions.specs.Target.{text_handed}
+use Rattle.plan_executor.specs.Naming.{listed}
+use Rattle.explorer.specs.declared.events.Mishap.{Mishap}
+use Rattle.explorer.specs.declared.events.Tried.TheVariants.{Two}
+use Rattle.explorer.specs.Events.{event_at, mishaps_at, beside, waiting, with_mishap}
+use Rattle.explorer.specs.Explored.{with_runs}
+use Rattle.explorer.proofs.exploring.count_beside.Goals as goal
+
+pub returns-in_ok-mishaps-in-Exit : goal.returns-in_ok-mishaps-in-Exit
+returns-in_ok-mishaps-in-Exit g c = λ p at.
+    let run = c.args.run.now in
+    let due = c.args.due.now in
+    let text = text_handed run.state.now run.target.now in
+    let waits = waiting due.call (listed run.heir) in
+    let there : c.deref.result.now ≡ beside text due.by due.call waits c.args.first.mishap (after_exits (with_mishap c.args.first.mishap quiet).exits run.kernel.table) =
+    c.deref.ensures.value
+    ∙ c.in_ok-mishaps-in-Exit.ensures
+    ∙ (λ i. mishaps_at (at.text i) due.by due.call (c.waiting-heir.ensures i) c.in-Exit.process (c.in_ok-kernel-in-Exit.ensures i))
+    ∙ ap (λ (m : Mishap). beside text due.by due.call waits m (after_exits (with_mishap m quiet).exits run.kernel.table)) (sym c.in-Exit.is) in
+    subst (λ (ms : List Mishap). OnOk c.count_pairs.result (c.count_pairs.new.found.tally ≡ with_runs run.state.now run.target.now run.first.now.table (map (Two c.args.first) (map (event_at (run.made + 1)) ms)) c.args.found.now.tally)) there (c.count_pairs.ensures p at)

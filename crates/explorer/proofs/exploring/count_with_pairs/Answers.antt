@@ -1,0 +1,83 @@
+use Rattle.std.proofs.Common.{◌≡◌, ◌+◌, ◌++◌, ◌∷◌, [], Bool, true, false, List, Some, OnOk, map, refl, subst, sym, ap, ◌∙◌, arith}
+use Rattle.std.specs.Prelude.{if◌then◌else◌}
+use Rattle.vocabulary.specs.declared.calls.Answer.TheVariants.{MasterGone}
+use Rattle.definitions.specs.Table.{Table}
+use Rattle.definitions.specs.Exits.{after_exits}
+use Rattle.definitions.specs.Run.{Moment, quiet}
+use Rattle.definitions.specs.Target.{text_handed}
+use Rattle.plan_runner.specs.Walk.{trail_of}
+use Rattle.plan_runner.proofs.Paths.{asks_height}
+use Rattle.plan_executor.specs.Naming.{listed}
+use Rattle.explorer.specs.declared.events.Event.{Event}
+use Rattle.explorer.specs.declared.events.Mishap.{Mishap}
+use Rattle.explorer.specs.declared.events.Tried.{Tried}
+use Rattle.explorer.specs.declared.events.Tried.TheVariants.{One, Two}
+use Rattle.explorer.specs.declared.tally.Tally.{Tally}
+use Rattle.explorer.specs.Events.{pattern_of, event_at, with_mishap, beside, waiting, met}
+use Rattle.explorer.specs.Explored.{with_runs, with_pairs, events_after}
+use Rattle.explorer.specs.Positions.{IsSameUpTo, left, rest_run, after_due}
+use Rattle.explorer.proofs.Counted.{with_runs-map}
+use Rattle.explorer.proofs.Later.{elsewhere}
+use Rattle.explorer.proofs.Meeting.{same-before, open-beside}
+use Rattle.explorer.proofs.exploring.count_with_pairs.Goals as goal
+
+pub overflow_add-number : goal.overflow_add-number
+overflow_add-number g c =
+    let t = trail_of c.args.run.now.walk in
+    let left = asks_height t.rest t.lacking _ (c.requires.due MasterGone) in
+    omega (arith, left, c.requires.fit.room, c.requires.fit.countable)
+
+pub returns-then-not-pairs : goal.returns-then-not-pairs
+returns-then-not-pairs g c = λ p at.
+    let run = c.args.run.now in
+    let r = run.state.now in
+    let to = run.target.now in
+    let t = run.first.now.table in
+    let first = event_at (run.made + 1) c.args.mishap in
+    let is = c.in_ok-whole.ensures in
+    let same : IsSameUpTo run.made (pattern_of run.tried) (pattern_of (One first)) =
+    λ m le. same-before first (λ _. quiet) run.made (omega arith) m le ∙ sym (ap (λ (x : Tried). pattern_of x m) c.requires.tried) in
+    c.in_ok-count_run.ensures _ (is.at p (elsewhere run p (One first) same at))
+    ∙ (λ i. with_runs (is.state i) (is.target i) ((is.first i).table) (is.tried i ∷ []) (c.look_between.ensures i))
+    ∙ ap (λ (b : Bool). with_runs r to t (One first ∷ (if b then map (Two first) (events_after r to t (One first)) else [])) c.args.found.now.tally) (sym off) where
+      off : c.args.pairs ≡ false
+      off = cc
+
+pub returns : goal.returns
+returns g c = λ p at.
+    let run = c.args.run.now in
+    let due = c.args.due.now in
+    let r = run.state.now in
+    let to = run.target.now in
+    let t = run.first.now.table in
+    let text = text_handed r to in
+    let waits = waiting due.call (listed run.heir) in
+    let n = run.made + 1 in
+    let first = event_at n c.args.mishap in
+    let m : Moment = with_mishap c.args.mishap quiet in
+    let same : IsSameUpTo run.made (pattern_of run.tried) (pattern_of (One first)) =
+    λ k le. same-before first (λ _. quiet) run.made (omega arith) k le ∙ sym (ap (λ (x : Tried). pattern_of x k) c.requires.tried) in
+    let there = elsewhere run p (One first) same at in
+    let is = c.in_ok-whole.ensures in
+    let on = c.in_ok-behind.ensures in
+    let behind = c.in_ok-behind.behind in
+    let onto = after_due (record run { tried = One first }) m p in
+    let here : List Mishap = beside text due.by due.call waits c.args.mishap (after_exits m.exits run.kernel.table) in
+    let events : events_after r to t (One first) ≡ map (event_at n) here ++ left behind onto (Some first) =
+    there.come.meets (pattern_of (One first)) first (λ k le. refl) (omega arith)
+    ∙ ap (λ (x : Table). met text (Some first) (pattern_of (One first)) (listed run.heir) run.made x (rest_run text (trail_of run.walk).rest (pattern_of (One first)) p).entries) at.table
+    ∙ on.left p (Some first) there
+    ∙ ap (λ (ms : List Mishap). map (event_at n) ms ++ left behind onto (Some first)) (open-beside text due.by due.call waits first n (after_exits m.exits run.kernel.table) refl) in
+    let one : c.count_run.new.found.tally ≡ with_runs r to t (One first ∷ []) c.args.found.now.tally =
+    c.in_ok-count_run.ensures _ (is.at p there) ∙ (λ i. with_runs (is.state i) (is.target i) ((is.first i).table) (is.tried i ∷ []) (c.look_between.ensures i)) in
+    let two : c.count_beside.new.found.tally ≡ with_runs r to t (map (Two first) (map (event_at n) here)) (with_runs r to t (One first ∷ []) c.args.found.now.tally) =
+    c.in_ok-count_beside.ensures p at ∙ ap (with_runs r to t (map (Two first) (map (event_at n) here))) one in
+    let whole : with_runs behind.state.now behind.target.now behind.first.now.table (map (Two first) (left behind onto (Some first))) c.count_beside.new.found.tally
+    ≡ with_runs r to t (with_pairs r to t c.args.pairs first) c.args.found.now.tally =
+    (λ i. with_runs (on.state i) (on.target i) ((on.first i).table) (map (Two first) (left behind onto (Some first))) (two i))
+    ∙ sym (with_runs-map r to t (Two first) (map (event_at n) here) (left behind onto (Some first)) (with_runs r to t (One first ∷ []) c.args.found.now.tally))
+    ∙ ap (λ (es : List Event). with_runs r to t (One first ∷ map (Two first) es) c.args.found.now.tally) (sym events)
+    ∙ ap (λ (b : Bool). with_runs r to t (One first ∷ (if b then map (Two first) (events_after r to t (One first)) else [])) c.args.found.now.tally) (sym asked) in
+    subst (λ (x : Tally). OnOk c.count_later.result (c.count_later.new.found.tally ≡ x)) whole (c.count_later.ensures onto (on.at p there)) where
+      asked : c.args.pairs ≡ true
+      asked = cc

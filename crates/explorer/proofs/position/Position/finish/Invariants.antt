@@ -1,0 +1,21 @@
+use Rattle.std.proofs.Common.{◌≡◌, ◌≤◌}
+use Rattle.definitions.specs.Run.{Progress}
+use Rattle.plan_runner.specs.Fit.{height_next}
+use Rattle.plan_runner.specs.Walk.{trail_of}
+use Rattle.explorer.specs.Positions.{IsFit, IsAt}
+use Rattle.explorer.proofs.position.Position.finish.Given as goal
+
+abbrev pub invariant-loop-due : goal.invariant-loop-due
+invariant-loop-due l = record {
+  fit : IsFit l.self;
+  first : l.self.first.now ≡ l.fn.self.first.now;
+  state : l.self.state.now ≡ l.fn.self.state.now;
+  target : l.self.target.now ≡ l.fn.self.target.now;
+  tried : l.self.tried ≡ l.fn.self.tried;
+  made : l.fn.self.made ≤ l.self.made;
+  found : l.found.tally ≡ l.fn.found.tally;
+  at : (p : Progress) → IsAt l.fn.self p → (q : Progress) × IsAt l.self q;
+}
+
+abbrev pub decreases-loop-due : goal.decreases-loop-due
+decreases-loop-due l = height_next (trail_of l.self.walk).rest

@@ -1,0 +1,12 @@
+use Rattle.std.proofs.Common.{ap, ◌∙◌}
+use Rattle.definitions.specs.Calls.{Stepped}
+use Rattle.definitions.specs.Exits.{after_exits}
+use Rattle.definitions.specs.Tree.{is_listed}
+use Rattle.plan_executor.proofs.Replaying.{step-listed}
+use Rattle.explorer.proofs.position.answered.Goals as goal
+
+pub returns-clause-listed : goal.returns-clause-listed
+returns-clause-listed c =
+    let due = c.args.due.now in
+    ap (λ (s : Stepped). is_listed due.call s.answer) c.call-answer.ensures.step
+    ∙ step-listed c.args.text.now due.by due.call c.args.fate (after_exits c.args.exits.now c.args.kernel.now.table)

@@ -1,0 +1,111 @@
+//! Runs, carried out and counted.
+ghost use Rattle.std.specs.Prelude.{◌≡◌, ◌∷◌, [], OnOk};
+ghost use Rattle.definitions.specs.Run.{Progress};
+ghost use Rattle.explorer.specs.Events.{pattern_of};
+ghost use Rattle.explorer.specs.Explored.{with_runs};
+ghost use Rattle.explorer.specs.Positions.{IsFit, IsAt, IsQuietFrom};
+
+use crate::effects;
+use crate::events::{Mishap, Tried};
+use crate::findings::{Findings, low_after, low_without};
+use crate::position::Position;
+use plan_executor::EnactRefusal;
+use plan_runner::Due;
+use std::alloc::AllocError;
+use vocabulary::{Name, Report};
+
+/// Why not all runs are counted.
+#[derive(Clone, Copy, Debug)]
+pub enum ExploreRefusal {
+    /// The target can't be carried out, or memory was refused.
+    Enact(EnactRefusal),
+    /// The audience has had enough.
+    Enough,
+}
+
+impl From<EnactRefusal> for ExploreRefusal {
+    ghost use Rattle.explorer.specs.declared.counting.ExploreRefusal.TheVariants.{Enact};
+
+    ghost from_gives = { λ refusal e. e ≡ Enact refusal };
+
+    fn from(refusal: EnactRefusal) -> ExploreRefusal {
+        ExploreRefusal::Enact(refusal)
+    }
+}
+
+impl From<AllocError> for ExploreRefusal {
+    ghost use Rattle.plan_executor.specs.declared.enactment.EnactRefusal.TheVariants.{Memory};
+    ghost use Rattle.explorer.specs.declared.counting.ExploreRefusal.TheVariants.{Enact};
+
+    ghost from_gives = { λ _ e. e ≡ Enact Memory };
+
+    fn from(_error: AllocError) -> ExploreRefusal {
+        ExploreRefusal::Enact(EnactRefusal::Memory)
+    }
+}
+
+/// Who is told of each run.
+pub trait Audience {
+    /// Whether there is to be one run more.
+    fn wants_more(&self) -> bool;
+
+    /// Hears of a run; whether there may be more.
+    fn hear(&mut self, tried: &Tried, report: &Report) -> bool;
+}
+
+/// Carries the rest of a run out, in which nothing more goes wrong, and counts the run. Each address that both services
+/// name has at least so many Ready workers before it.
+pub(crate) fn count_run<A: Audience>(
+    run: Position<'_>,
+    low: u32,
+    found: &mut Findings,
+    audience: &mut A,
+) -> Result<(), ExploreRefusal>
+    requires fit { IsFit run }
+    requires quiet { IsQuietFrom run.made (pattern_of run.tried) }
+    ensures { (p : Progress) → IsAt run.entry p → OnOk result (found.new.tally ≡ with_runs run.entry.state.now run.entry.target.now run.entry.first.now.table (run.entry.tried ∷ []) found.old.tally) }
+{
+    if !audience.wants_more() {
+        return Err(ExploreRefusal::Enough);
+    }
+    let tried = run.tried;
+    let report = run.finish(low, found)?;
+    found.tally.count(&tried, &report.outcome)?;
+    if audience.hear(&tried, &report) {
+        Ok(())
+    } else {
+        Err(ExploreRefusal::Enough)
+    }
+}
+
+/// Looks at the table between the exits of a moment and its call, where this process exits already, where one does, and
+/// this goes wrong at the call that is due. Gives how many Ready workers each address has at least after the call.
+pub(crate) fn look_between(
+    run: &Position<'_>,
+    due: &Due,
+    gone: Option<Name>,
+    mishap: Mishap,
+    low: u32,
+    tried: &Tried,
+    found: &mut Findings,
+) -> Result<u32, ExploreRefusal>
+    ensures { found.new.tally ≡ found.old.tally }
+{
+    let low = match gone {
+        Some(gone) => low_without(gone, low),
+        None => low,
+    };
+    let Mishap::Exit(name, _) = mishap else {
+        return Ok(low_after(&due.call, low));
+    };
+    let low = low_without(name, low);
+    if !found.may_have_fewer(low) {
+        return Ok(low_after(&due.call, low));
+    }
+    let kernel = match gone {
+        Some(gone) => effects::after_exits(&run.kernel, due.by, &[gone, name])?,
+        None => effects::after_exits(&run.kernel, due.by, &[name])?,
+    };
+    let low = found.look(&kernel, low, tried, run.made)?;
+    Ok(low_after(&due.call, low))
+}

@@ -1,0 +1,167 @@
+//! What runs come to: how they end, and how few workers served on the way.
+ghost use Rattle.std.specs.Prelude.{◌≡◌, false};
+ghost use Rattle.definitions.specs.After.{lacks_generation};
+ghost use Rattle.explorer.specs.Tallies.{nothing_counted};
+
+use crate::events::Tried;
+use crate::tally::Tally;
+use kernel_model::Kernel;
+use listener_set::Address;
+use service_counts::{Count, Service};
+use service_state::{Record, want};
+use std::alloc::{AllocError, Global};
+use vocabulary::{Call, Name, Target};
+
+/// The fewest Ready workers that an address had in a table, and which run had come there, after so many calls.
+#[derive(Clone, Copy, Debug)]
+pub struct Least {
+    pub ready: u32,
+    pub address: Address,
+    pub tried: Tried,
+    pub made: u32,
+}
+
+/// What was found of the runs so far.
+#[derive(Drop)]
+pub struct Findings {
+    /// How they ended.
+    pub tally: Tally,
+    /// The fewest workers at an address that both services name, where there is one.
+    pub least: Option<Least>,
+    /// How many tables they passed. The one in which a run begins to differ is the other's too.
+    pub tables: u64,
+    common: Vec<Address>,
+}
+
+impl Findings {
+    /// Before the first run.
+    pub fn new(alloc: Global) -> Findings
+        ensures { result.tally ≡ nothing_counted }
+    {
+        Findings {
+            tally: Tally::new(),
+            least: None,
+            tables: 0,
+            common: Vec::new(alloc),
+        }
+    }
+
+    /// Takes the addresses that both services name.
+    pub(crate) fn begin(&mut self, common: Vec<Address>)
+        ensures { self.new.tally ≡ self.old.tally }
+    {
+        self.common = common;
+    }
+
+    /// How few workers there must be at an address to be the fewest so far.
+    fn bound(&self) -> u32 {
+        match &self.least {
+            Some(least) => least.ready,
+            None => u32::MAX,
+        }
+    }
+
+    /// Whether a table must be counted in which each of the addresses has at least so many Ready workers.
+    pub(crate) fn may_have_fewer(&self, low: u32) -> bool {
+        low < self.bound()
+    }
+
+    /// Looks at a table that a run has come to, in which each of the addresses has at least so many Ready workers. They are
+    /// counted where there may be fewer than ever. Gives how many there are at least.
+    pub(crate) fn look(
+        &mut self,
+        kernel: &Kernel,
+        low: u32,
+        tried: &Tried,
+        made: u32,
+    ) -> Result<u32, AllocError>
+        ensures { self.new.tally ≡ self.old.tally }
+    {
+        self.tables = self.tables.saturating_add(1);
+        if self.common.is_empty() || !self.may_have_fewer(low) {
+            return Ok(low);
+        }
+        let service = kernel.service()?;
+        let Some((address, ready)) = fewest_at(&self.common, &service) else {
+            return Ok(low);
+        };
+        if self.may_have_fewer(ready) {
+            self.least = Some(Least {
+                ready,
+                address,
+                tried: *tried,
+                made,
+            });
+        }
+        Ok(ready)
+    }
+}
+
+/// The first of the addresses that has the fewest workers, and how many these are.
+fn fewest_at(addresses: &[Address], service: &Service) -> Option<(Address, u32)> {
+    let mut fewest = u32::MAX;
+    for address in addresses {
+        fewest = fewest.min(ready_at(service, address));
+    }
+    let address = addresses
+        .iter()
+        .find(|address| ready_at(service, address) == fewest)?;
+    Some((*address, fewest))
+}
+
+/// How many workers serve an address.
+fn ready_at(service: &Service, address: &Address) -> u32 {
+    for entry in service.entries() {
+        if entry.address.bytes() == address.bytes() {
+            return workers_in(&entry.counts);
+        }
+    }
+    0
+}
+
+fn workers_in(counts: &[Count]) -> u32 {
+    let mut sum = 0u32;
+    for count in counts {
+        sum = sum.saturating_add(count.workers);
+    }
+    sum
+}
+
+/// How many Ready workers each address has at least after a call, if it had so many before. Of one name there is one at
+/// most, and what others do takes none away.
+pub(crate) fn low_after(call: &Call, low: u32) -> u32 {
+    match call {
+        Call::Quit(..) | Call::Kill(..) => low.saturating_sub(1),
+        Call::CloseAt(_) | Call::Alive(_) | Call::Leave | Call::TermMaster(_) => 0,
+        _ => low,
+    }
+}
+
+/// The same after an exit.
+pub(crate) fn low_without(name: Name, low: u32) -> u32 {
+    match name {
+        Name::Worker(..) => low.saturating_sub(1),
+        Name::Draining(..) => low,
+        Name::Master(_) => 0,
+    }
+}
+
+/// The addresses that the service before and the one that a target wants both name.
+pub(crate) fn common_addresses(
+    alloc: Global,
+    kernel: &Kernel,
+    state: &Record,
+    target: &Target,
+) -> Result<Vec<Address>, AllocError>
+    requires { lacks_generation state.now target.now ≡ false }
+{
+    let before = kernel.service()?;
+    let wanted = want(alloc, state, target)?;
+    let mut common = Vec::new(alloc);
+    for entry in before.entries() {
+        if wanted.has(&entry.address) {
+            common.push(entry.address)?;
+        }
+    }
+    Ok(common)
+}

@@ -1,0 +1,175 @@
+//! Runs on their way.
+ghost use Rattle.std.specs.Prelude.{◌≡◌, ◌≤◌, ◌<◌, ◌+◌, ℕ, IsTrue, IfOk, IfSome, IfNone};
+ghost use Rattle.definitions.specs.Exits.{after_exits};
+ghost use Rattle.definitions.specs.Calls.{step_with};
+ghost use Rattle.definitions.specs.Tree.{is_listed};
+ghost use Rattle.definitions.specs.Path.{IsOver};
+ghost use Rattle.definitions.specs.Run.{Progress};
+ghost use Rattle.plan_runner.specs.Walk.{trail_of, AsksFor};
+ghost use Rattle.plan_executor.specs.Naming.{listed};
+ghost use Rattle.explorer.specs.Events.{pattern_of, mishaps_at, waiting};
+ghost use Rattle.explorer.specs.Explored.{report_under};
+ghost use Rattle.explorer.specs.Positions.{IsFit, IsAt, IsQuietFrom, IsPlanOf, IsStartOf, IsLater};
+
+use crate::effects;
+use crate::events::{Mishap, Tried};
+use crate::findings::{Findings, low_after};
+use event_pattern::Moment;
+use kernel_model::Kernel;
+use plan_executor::{EnactRefusal, heir_of, reserved_copy};
+use plan_runner::{Due, Walk};
+use rollback_plan::Plan;
+use service_state::Record;
+use std::alloc::{AllocError, Global};
+use vocabulary::{Entry, Fate, Name, Report, Target};
+
+/// The run of a target in which this goes wrong, after so many calls: the kernel as they left it, how far the plan was
+/// followed, and the master that has yet to take over.
+#[derive(Drop)]
+pub(crate) struct Position<'a> {
+    pub(crate) first: &'a Kernel,
+    pub(crate) state: &'a Record,
+    pub(crate) target: &'a Target,
+    pub(crate) text: &'a [u8],
+    pub(crate) tried: Tried,
+    pub(crate) made: u32,
+    pub(crate) walk: Walk<'a>,
+    pub(crate) kernel: Kernel,
+    pub(crate) heir: Option<u32>,
+}
+
+impl<'a> Position<'a> {
+    /// Before the first call, where nothing goes wrong. The plan is the target's.
+    pub(crate) fn start(
+        first: &'a Kernel,
+        state: &'a Record,
+        target: &'a Target,
+        plan: &'a Plan,
+    ) -> Result<Position<'a>, EnactRefusal>
+        requires { IsPlanOf state.now target.now plan.now }
+        ensures { IfOk result (IsStartOf first.now.table state.now target.now) }
+    {
+        Ok(Position {
+            first,
+            state,
+            target,
+            text: plan.text(),
+            tried: Tried::Nothing,
+            made: 0,
+            walk: Walk::new(plan),
+            kernel: reserved_copy(first, plan.longest())?,
+            heir: heir_of(state, target),
+        })
+    }
+
+    /// The call that is due; none where the run is over.
+    pub(crate) fn due(&self) -> Option<Due>
+        ensures some { IfSome result (λ due. AsksFor (trail_of self.now.walk) due.by due.call) }
+        ensures none { IfNone result (IsOver (trail_of self.now.walk).rest) }
+    {
+        self.walk.due()
+    }
+
+    /// What can go wrong at the call that is due, of exits those of processes with a higher number than this.
+    pub(crate) fn mishaps(
+        &self,
+        alloc: Global,
+        due: &Due,
+        above: u32,
+    ) -> Result<Vec<Mishap>, EnactRefusal>
+        ensures { IfOk result (λ mishaps. mishaps.items ≡ mishaps_at self.now.text.now due.now.by due.now.call (waiting due.now.call (listed self.now.heir)) above self.now.kernel.table) }
+    {
+        let heir = effects::waiting(&due.call, self.heir);
+        effects::mishaps_at(
+            alloc,
+            &self.kernel,
+            due.by,
+            &due.call,
+            self.text,
+            heir,
+            above,
+        )
+    }
+
+    /// Makes the call that is due, in its moment of the run: these exit before it, and so it fails.
+    pub(crate) fn make(&mut self, due: &Due, exits: &[Name], fate: Option<Fate>)
+        requires fit { IsFit self.old }
+        requires due { AsksFor (trail_of self.old.walk) due.now.by due.now.call }
+        requires moment { pattern_of self.old.tried (self.old.made + 1) ≡ record { exits = exits.now; fate = fate } }
+        ensures { IsLater self.old due.now (record { exits = exits.now; fate = fate }) self.new }
+    {
+        let entry = answered(&mut self.kernel, due, self.text, exits, fate);
+        self.walk = self.walk.after(&entry);
+        self.made += 1;
+        self.heir = effects::waiting(&due.call, self.heir);
+    }
+
+    /// The run in which this goes wrong, which is the same so far, after the call that is due: these exit before it, and so
+    /// it fails.
+    pub(crate) fn branch(
+        &self,
+        due: &Due,
+        tried: Tried,
+        exits: &[Name],
+        fate: Option<Fate>,
+    ) -> Result<Position<'a>, EnactRefusal>
+        requires fit { IsFit self.now }
+        requires due { AsksFor (trail_of self.now.walk) due.now.by due.now.call }
+        requires moment { pattern_of tried (self.now.made + 1) ≡ record { exits = exits.now; fate = fate } }
+        ensures { IfOk result (IsLater (record self.now { tried = tried }) due.now (record { exits = exits.now; fate = fate })) }
+    {
+        let mut kernel = reserved_copy(&self.kernel, self.kernel.room())?;
+        let entry = answered(&mut kernel, due, self.text, exits, fate);
+        Ok(Position {
+            first: self.first,
+            state: self.state,
+            target: self.target,
+            text: self.text,
+            tried,
+            made: self.made + 1,
+            walk: self.walk.after(&entry),
+            kernel,
+            heir: effects::waiting(&due.call, self.heir),
+        })
+    }
+
+    /// Makes all calls that are left, in whose moments nothing goes wrong, and gives the report of the run. What is found
+    /// on the way is noted; each address has at least so many Ready workers before them.
+    pub(crate) fn finish(mut self, low: u32, found: &mut Findings) -> Result<Report, AllocError>
+        requires fit { IsFit self }
+        requires quiet { IsQuietFrom self.made (pattern_of self.tried) }
+        ensures report { (p : Progress) → IsAt self.entry p → IfOk result (λ report. report ≡ report_under self.entry.state.now self.entry.target.now self.entry.first.now.table self.entry.tried) }
+        ensures found { found.new.tally ≡ found.old.tally }
+    {
+        let mut low = found.look(&self.kernel, low, &self.tried, self.made)?;
+        while let Some(due) = self.due() {
+            self.make(&due, &[], None);
+            let after = low_after(&due.call, low);
+            low = found.look(&self.kernel, after, &self.tried, self.made)?;
+        }
+        Ok(self.walk.report())
+    }
+}
+
+/// A call, before which these exit and which so fails, with its answer.
+fn answered(
+    kernel: &mut Kernel,
+    due: &Due,
+    text: &[u8],
+    exits: &[Name],
+    fate: Option<Fate>,
+) -> Entry
+    requires { 1 ≤ kernel.old.room }
+    ensures entry { result ≡ record { by = due.now.by; call = due.now.call; answer = result.answer } }
+    ensures step { record { answer = result.answer; table = kernel.new.table } ≡ step_with text.now due.now.by due.now.call fate (after_exits exits.now kernel.old.table) }
+    ensures listed { IsTrue (is_listed due.now.call result.answer) }
+    ensures room { kernel.new.room + 1 ≡ kernel.old.room }
+{
+    let moment = Moment { exits, fate };
+    let answer = kernel.call(due.by, &due.call, text, &moment);
+    Entry {
+        by: due.by,
+        call: due.call,
+        answer,
+    }
+}
