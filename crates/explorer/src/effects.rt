@@ -1,10 +1,8 @@
 //! What can go wrong at a call.
-ghost use Rattle.std.specs.Prelude.{◌≡◌, ◌≤◌, ◌++◌, ◌∷◌, ℕ, [], map, IfOk, OnOk};
+ghost use Rattle.std.specs.Prelude.{◌≡◌, ◌++◌, ◌∷◌, [], map, IfOk, OnOk};
 ghost use Rattle.std.specs.List.{filter, filter_map};
 ghost use Rattle.definitions.specs.Table.{is_active};
 ghost use Rattle.definitions.specs.Exits.{after_exits};
-ghost use Rattle.definitions.specs.Calls.{step_with};
-ghost use Rattle.definitions.specs.Tree.{reply_of};
 ghost use Rattle.kernel_model.specs.Readers.{row_of};
 ghost use Rattle.plan_executor.specs.Naming.{listed};
 ghost use Rattle.explorer.specs.Events.{every_fate, takes_effect, exit_of, mishaps_at, waiting};

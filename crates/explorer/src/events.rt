@@ -26,7 +26,7 @@ pub enum Tried {
 }
 
 impl Tried {
-    ghost use Rattle.std.specs.Prelude.{◌≡◌, ℕ};
+    ghost use Rattle.std.specs.Prelude.{◌≡◌};
     ghost use Rattle.explorer.specs.Events.{events_in};
 
     /// How many things go wrong.
