@@ -18,7 +18,7 @@ use Rattle.plan_executor.specs.Lawful.{trail_at}
 use Rattle.plan_executor.proofs.Running.{run_on, goes-branch, behind}
 use Rattle.explorer.specs.declared.events.Event.{Event}
 use Rattle.explorer.specs.Events.{met, open_at, beside, mishaps_at, event_at, waiting}
-use Rattle.explorer.specs.Positions.{rest_run, IsSameUpTo, HasCome, onward, moved}
+use Rattle.explorer.specs.Positions.{rest_run, IsSameUpTo, HasCome, onward, moved, rest_moved}
 
 rest-onward : (text : List ℕ) (found : Option (Option PidNote × Tree)) (q : Pattern) (p : Progress) → run_on text found q p ≡ rest_run text (rest_after found) q (onward found p)
 rest-onward text None q p = refl
@@ -118,6 +118,7 @@ come-step r target t pattern n heirs by order set branches p m come is =
 -- The call of the entry is made in the moment: what follows of the trail, of the table and of the run.
 pub record Goes (r : Record) (target : Target) (rest : Option Tree) (p : Progress) (m : Moment) (e : Entry) : Type 0 where
   pub trail : advance (trail_at rest p) e ≡ trail_at (rest_after (follow rest e.answer)) (moved (text_handed r target) rest m p)
+  pub onto : rest_after (follow rest e.answer) ≡ rest_moved (text_handed r target) rest m p
   pub table : (moved (text_handed r target) rest m p).table ≡ (step_with (text_handed r target) e.by e.call m.fate (after_exits m.exits p.table)).table
   pub come : (t : Table) (pattern : Pattern) (n : ℕ) (heirs : List ℕ) → HasCome r target t pattern n rest heirs p → pattern (n + 1) ≡ m →
       HasCome r target t pattern (n + 1) (rest_after (follow rest e.answer)) (waiting e.call heirs) (moved (text_handed r target) rest m p)
@@ -134,6 +135,7 @@ goes r target (Some (Does by order set branches)) p m e asks answer =
     let same : e ≡ entry_in text by order set branches p m = λ i. record { by = asks.0 i; call = asks.1 i; answer = (answer ∙ ap (λ (s : Stepped). s.answer) mine) i } in
     subst (λ (x : Entry). Goes r target (Some (Does by order set branches)) p m x) (sym same) (record {
       trail = trail-behind text by order set branches p m;
+      onto = refl;
       table = further-table text by order set branches p m;
       come = λ t pattern n heirs come is. come-step r target t pattern n heirs by order set branches p m come is;
       entries = λ q is. ap (λ (ran : Ran). ran.entries) (runs-on text by order set branches p q m is);

@@ -56,6 +56,7 @@ later before due m walk kernel waits answer fit asks moment is =
       made = refl;
       fit = record { room = omega (arith, is.lower, fit.room, is.room); countable = omega (arith, is.room, fit.countable) };
       lower = is.lower;
+      rest = λ p at. ap (λ (t : Trail). t.rest) (trails p at) ∙ (on p at).onto;
       at = λ p at.
           let g = on p at in
           let w = trails p at in

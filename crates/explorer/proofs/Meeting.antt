@@ -24,7 +24,7 @@ before n m lt same = omega (arith, lt, same)
 behind : (n m : ℕ) → n < m → m ≢ n
 behind n m lt same = omega (arith, lt, same)
 
-other : (e : Event) (q : Pattern) (m : ℕ) → m ≢ e.number → with_event e q m ≡ q m
+pub other : (e : Event) (q : Pattern) (m : ℕ) → m ≢ e.number → with_event e q m ≡ q m
 other e q m not = ap (λ (b : Bool). if b then with_mishap e.mishap (q m) else q m) (eqb-off m e.number not)
 
 pub at-event : (e : Event) (q : Pattern) (m : ℕ) → m ≡ e.number → with_event e q m ≡ with_mishap e.mishap (q m)

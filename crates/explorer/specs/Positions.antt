@@ -6,6 +6,7 @@ use Rattle.vocabulary.specs.declared.targets.Target.{Target}
 use Rattle.definitions.specs.Table.{Table}
 use Rattle.definitions.specs.Record.{Record}
 use Rattle.definitions.specs.Exits.{after_exits}
+use Rattle.definitions.specs.Path.{rest_after}
 use Rattle.definitions.specs.Tree.{Tree, Ends, Does, branch, reply_of}
 use Rattle.definitions.specs.Plans.{plan_tree}
 use Rattle.definitions.specs.Target.{sides_of, text_handed}
@@ -86,6 +87,13 @@ moved text (Some (Does by order set branches)) moment p =
     let s = answered text by order moment.fate middle in
     onward (branch branches (reply_of set s.answer)) (after_call order set s middle)
 
+-- what is left of the plan then
+abbrev pub rest_moved : List ℕ → Option Tree → Moment → Progress → Option Tree
+rest_moved text None moment p = None
+rest_moved text (Some (Ends end)) moment p = None
+rest_moved text (Some (Does by order set branches)) moment p =
+    rest_after (branch branches (reply_of set (answered text by order moment.fate (after_moment moment.exits p)).answer))
+
 abbrev pub after_due : Position → Moment → Progress → Progress
 after_due run moment p = moved (text_handed run.state.now run.target.now) (trail_of run.walk).rest moment p
 
@@ -103,6 +111,7 @@ pub record IsLater (before : Position) (due : Due) (moment : Moment) (after : Po
   pub made : after.made ≡ before.made + 1
   pub fit : IsFit after
   pub lower : height_next (trail_of after.walk).rest + 1 ≤ height_next (trail_of before.walk).rest
+  pub rest : (p : Progress) → IsAt before p → (trail_of after.walk).rest ≡ rest_moved (text_handed before.state.now before.target.now) (trail_of before.walk).rest moment p
   pub at : (p : Progress) → IsAt before p → IsAt after (after_due before moment p)
   pub left : (p : Progress) (last : Option Event) → IsAt before p → left before p last ≡ open_now before due moment last ++ left after (after_due before moment p) last
 

@@ -2,6 +2,7 @@
 ghost use Rattle.std.specs.Prelude.{◌≡◌, ◌∷◌, [], OnOk};
 ghost use Rattle.definitions.specs.Run.{Progress};
 ghost use Rattle.explorer.specs.Events.{pattern_of};
+ghost use Rattle.explorer.specs.Tallies.{counted};
 ghost use Rattle.explorer.specs.Explored.{with_runs};
 ghost use Rattle.explorer.specs.Positions.{IsFit, IsAt, IsQuietFrom};
 
@@ -53,6 +54,23 @@ pub trait Audience {
     fn hear(&mut self, tried: &Tried, report: &Report) -> bool;
 }
 
+/// Counts a run that reports this.
+pub(crate) fn count_report<A: Audience>(
+    tried: &Tried,
+    report: &Report,
+    found: &mut Findings,
+    audience: &mut A,
+) -> Result<(), ExploreRefusal>
+    ensures { OnOk result (found.new.tally ≡ counted tried.now report.now.outcome found.old.tally) }
+{
+    found.tally.count(tried, &report.outcome)?;
+    if audience.hear(tried, report) {
+        Ok(())
+    } else {
+        Err(ExploreRefusal::Enough)
+    }
+}
+
 /// Carries the rest of a run out, in which nothing more goes wrong, and counts the run. Each address that both services
 /// name has at least so many Ready workers before it.
 pub(crate) fn count_run<A: Audience>(
@@ -70,12 +88,7 @@ pub(crate) fn count_run<A: Audience>(
     }
     let tried = run.tried;
     let report = run.finish(low, found)?;
-    found.tally.count(&tried, &report.outcome)?;
-    if audience.hear(&tried, &report) {
-        Ok(())
-    } else {
-        Err(ExploreRefusal::Enough)
-    }
+    count_report(&tried, &report, found, audience)
 }
 
 /// Looks at the table between the exits of a moment and its call, where this process exits already, where one does, and

@@ -102,10 +102,10 @@ pub(crate) fn waiting(call: &Call, heir: Option<u32>) -> Option<u32>
     }
 }
 
-fn push(mishaps: &mut Vec<Mishap>, mishap: Mishap) -> Result<(), AllocError>
-    ensures { OnOk result (mishaps.new.items ≡ mishaps.old.items ++ mishap ∷ []) }
+pub(crate) fn push<T: Copy>(items: &mut Vec<T>, item: T) -> Result<(), AllocError>
+    ensures { OnOk result (items.new.items ≡ items.old.items ++ item ∷ []) }
 {
-    mishaps.push(mishap)?;
+    items.push(item)?;
     Ok(())
 }
 

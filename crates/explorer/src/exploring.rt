@@ -1,18 +1,21 @@
 //! All runs of a target in which at most two things go wrong.
 ghost use Rattle.std.specs.Prelude.{◌≡◌, ◌≤◌, ◌+◌, ◌∷◌, [], map, None, Some, IfOk, OnOk};
+ghost use Rattle.std.specs.List.{AllByRecursion};
 ghost use Rattle.definitions.specs.Target.{IsTarget, text_handed};
 ghost use Rattle.definitions.specs.Exits.{after_exits};
 ghost use Rattle.definitions.specs.Run.{Progress, quiet};
 ghost use Rattle.plan_runner.specs.Walk.{trail_of, AsksFor};
 ghost use Rattle.plan_executor.specs.Naming.{listed};
 ghost use Rattle.explorer.specs.Events.{pattern_of, with_mishap, event_at, beside, waiting};
-ghost use Rattle.explorer.specs.Explored.{with_runs, with_pairs, each_with_pairs, explored_from};
+ghost use Rattle.explorer.specs.Explored.{report_under, with_runs, with_pairs, each_with_pairs, explored_from};
+ghost use Rattle.explorer.specs.Known.{IsKnownAt, IsPassed};
 ghost use Rattle.explorer.specs.Positions.{IsFit, IsAt, IsSameUpTo, IsLater, left, moment_of};
 
-use crate::counting::{Audience, ExploreRefusal, count_run, look_between};
+use crate::counting::{Audience, ExploreRefusal, count_report, count_run, look_between};
 use crate::effects;
 use crate::events::{Event, Mishap, Tried};
 use crate::findings::{Findings, common_addresses};
+use crate::known::{self, Known, Rest};
 use crate::position::Position;
 use kernel_model::Kernel;
 use plan_executor::{EnactRefusal, agrees, plan_of};
@@ -144,59 +147,103 @@ fn count_later<A: Audience>(
     Ok(())
 }
 
+/// What the run comes to in which this goes wrong at the call that is due: what is known of it, or else what is found by
+/// carrying it out.
+fn ended(
+    run: &Position<'_>,
+    due: &Due,
+    event: Event,
+    known: &[Known],
+    low: u32,
+    found: &mut Findings,
+) -> Result<Rest, ExploreRefusal>
+    requires fit { IsFit run.now }
+    requires due { AsksFor (trail_of run.now.walk) due.now.by due.now.call }
+    requires tried { run.now.tried ≡ Tried.Nothing }
+    requires number { event.number ≡ run.now.made + 1 }
+    ensures report { (p : Progress) → IsAt run.now p → AllByRecursion (IsKnownAt run.now (run.now.made + 1)) known.now → IfOk result (λ rest. rest.report ≡ report_under run.now.state.now run.now.target.now run.now.first.now.table (Tried.One event)) }
+    ensures found { found.new.tally ≡ found.old.tally }
+{
+    let tried = Tried::One(event);
+    let after = look_between(run, due, None, event.mishap, low, &tried, found)?;
+    if let Some(rest) = known::find(known, event.mishap) {
+        let tables = rest.tables.saturating_sub(1);
+        found.pass(tables);
+        return Ok(Rest { tables, ..rest });
+    }
+    let whole = branch_with(run, due, tried, None, event.mishap)?;
+    let before = found.tables;
+    let report = whole.finish(after, found)?;
+    let tables = found.tables.saturating_sub(before);
+    Ok(Rest { report, tables })
+}
+
 /// Counts the run in which this goes wrong at the call that is due and, where pairs are asked for, each in which one thing
-/// more does.
+/// more does. Gives what the run comes to.
 fn count_with_pairs<A: Audience>(
     alloc: Global,
     run: &Position<'_>,
     due: &Due,
     mishap: Mishap,
+    known: &[Known],
     pairs: bool,
     low: u32,
     found: &mut Findings,
     audience: &mut A,
-) -> Result<(), ExploreRefusal>
+) -> Result<Rest, ExploreRefusal>
     requires fit { IsFit run.now }
     requires due { AsksFor (trail_of run.now.walk) due.now.by due.now.call }
     requires tried { run.now.tried ≡ Tried.Nothing }
-    ensures { (p : Progress) → IsAt run.now p → OnOk result (found.new.tally ≡ with_runs run.now.state.now run.now.target.now run.now.first.now.table (with_pairs run.now.state.now run.now.target.now run.now.first.now.table pairs (event_at (run.now.made + 1) mishap)) found.old.tally) }
+    ensures report { (p : Progress) → IsAt run.now p → AllByRecursion (IsKnownAt run.now (run.now.made + 1)) known.now → IfOk result (λ rest. rest.report ≡ report_under run.now.state.now run.now.target.now run.now.first.now.table (Tried.One (event_at (run.now.made + 1) mishap))) }
+    ensures counted { (p : Progress) → IsAt run.now p → AllByRecursion (IsKnownAt run.now (run.now.made + 1)) known.now → OnOk result (found.new.tally ≡ with_runs run.now.state.now run.now.target.now run.now.first.now.table (with_pairs run.now.state.now run.now.target.now run.now.first.now.table pairs (event_at (run.now.made + 1) mishap)) found.old.tally) }
 {
+    if !audience.wants_more() {
+        return Err(ExploreRefusal::Enough);
+    }
     let number = run.made + 1;
     let first = Event { number, mishap };
-    let after = look_between(run, due, None, mishap, low, &Tried::One(first), found)?;
-    let whole = branch_with(run, due, Tried::One(first), None, mishap)?;
-    count_run(whole, after, found, audience)?;
+    let rest = ended(run, due, first, known, low, found)?;
+    count_report(&Tried::One(first), &rest.report, found, audience)?;
     if !pairs {
-        return Ok(());
+        return Ok(rest);
     }
     count_beside(alloc, run, due, first, low, found, audience)?;
     let behind = branch_with(run, due, Tried::One(first), None, mishap)?;
-    count_later(alloc, behind, first, found, audience)
+    count_later(alloc, behind, first, found, audience)?;
+    Ok(rest)
 }
 
-/// Counts the runs in which one of these goes wrong first, at the call that is due.
+/// Counts the runs in which one of these goes wrong first, at the call that is due. Gives what is known of those in which
+/// it goes wrong at the next call.
 fn count_all_with_pairs<A: Audience>(
     alloc: Global,
     run: &Position<'_>,
     due: &Due,
     mishaps: &[Mishap],
+    known: &[Known],
     pairs: bool,
     low: u32,
     found: &mut Findings,
     audience: &mut A,
-) -> Result<(), ExploreRefusal>
+) -> Result<Vec<Known>, ExploreRefusal>
     requires fit { IsFit run.now }
     requires due { AsksFor (trail_of run.now.walk) due.now.by due.now.call }
     requires tried { run.now.tried ≡ Tried.Nothing }
-    ensures { (p : Progress) → IsAt run.now p → OnOk result (found.new.tally ≡ with_runs run.now.state.now run.now.target.now run.now.first.now.table (each_with_pairs run.now.state.now run.now.target.now run.now.first.now.table pairs (map (event_at (run.now.made + 1)) mishaps.now)) found.old.tally) }
+    ensures known { (p : Progress) → IsAt run.now p → AllByRecursion (IsKnownAt run.now (run.now.made + 1)) known.now → IfOk result (λ next. AllByRecursion (IsPassed run.now due.now.call) next.items) }
+    ensures counted { (p : Progress) → IsAt run.now p → AllByRecursion (IsKnownAt run.now (run.now.made + 1)) known.now → OnOk result (found.new.tally ≡ with_runs run.now.state.now run.now.target.now run.now.first.now.table (each_with_pairs run.now.state.now run.now.target.now run.now.first.now.table pairs (map (event_at (run.now.made + 1)) mishaps.now)) found.old.tally) }
 {
+    let mut next = Vec::new(alloc);
     for mishap in mishaps {
-        count_with_pairs(alloc, run, due, *mishap, pairs, low, found, audience)?;
+        let rest = count_with_pairs(alloc, run, due, *mishap, known, pairs, low, found, audience)?;
+        if let Some(item) = known::of_next(&due.call, *mishap, rest) {
+            effects::push(&mut next, item)?;
+        }
     }
-    Ok(())
+    Ok(next)
 }
 
-/// Counts the runs in which something goes wrong at one of the calls that are left.
+/// Counts the runs in which something goes wrong at one of the calls that are left. Most exits make no difference to a call:
+/// what is known of the run in which a worker exits before it is so of the one in which it exits before the next.
 fn over_calls<A: Audience>(
     alloc: Global,
     mut run: Position<'_>,
@@ -208,10 +255,13 @@ fn over_calls<A: Audience>(
     requires tried { run.tried ≡ Tried.Nothing }
     ensures { (p : Progress) → IsAt run.entry p → OnOk result (found.new.tally ≡ with_runs run.entry.state.now run.entry.target.now run.entry.first.now.table (each_with_pairs run.entry.state.now run.entry.target.now run.entry.first.now.table pairs (left run.entry p None)) found.old.tally) }
 {
+    let mut known = Vec::new(alloc);
     while let Some(due) = run.due() {
         let low = found.look(&run.kernel, 0, &run.tried, run.made)?;
         let mishaps = run.mishaps(alloc, &due, 0)?;
-        count_all_with_pairs(alloc, &run, &due, &mishaps, pairs, low, found, audience)?;
+        known = count_all_with_pairs(
+            alloc, &run, &due, &mishaps, &known, pairs, low, found, audience,
+        )?;
         run.make(&due, &[], None);
     }
     Ok(())

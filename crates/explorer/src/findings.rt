@@ -66,6 +66,13 @@ impl Findings {
         low < self.bound()
     }
 
+    /// Passes so many tables, which another run passes too.
+    pub(crate) fn pass(&mut self, tables: u64)
+        ensures { self.new.tally ≡ self.old.tally }
+    {
+        self.tables = self.tables.saturating_add(tables);
+    }
+
     /// Looks at a table that a run has come to, in which each of the addresses has at least so many Ready workers. They are
     /// counted where there may be fewer than ever. Gives how many there are at least.
     pub(crate) fn look(

@@ -7,6 +7,7 @@ mod effects;
 mod events;
 mod exploring;
 mod findings;
+mod known;
 mod position;
 mod tally;
 

@@ -1,13 +1,14 @@
-use Rattle.std.proofs.Common.{ap, ◌∙◌}
+use Rattle.std.proofs.Common.{◌≡◌, OnOk, ap, subst, ◌∙◌}
 use Rattle.vocabulary.specs.declared.reports.Report.{Report}
 use Rattle.explorer.specs.declared.tally.Tally.{Tally}
 use Rattle.explorer.specs.Tallies.{counted}
 use Rattle.explorer.specs.Explored.{report_under}
 use Rattle.explorer.proofs.counting.count_run.Goals as goal
 
-pub returns-then-hear : goal.returns-then-hear
-returns-then-hear g c = λ p at.
+pub returns : goal.returns
+returns g c = λ p at.
     let run = c.args.run in
-    c.in_ok-count.ensures
-    ∙ ap (λ (r : Report). counted run.tried r.outcome c.finish.new.found.tally) (c.in_ok-report.ensures.report p at)
-    ∙ ap (λ (x : Tally). counted run.tried (report_under run.state.now run.target.now run.first.now.table run.tried).outcome x) c.finish.ensures.found
+    subst (λ (x : Tally). OnOk c.count_report.result (c.count_report.new.found.tally ≡ x))
+    (ap (λ (r : Report). counted run.tried r.outcome c.finish.new.found.tally) (c.in_ok-report.ensures.report p at)
+    ∙ ap (λ (x : Tally). counted run.tried (report_under run.state.now run.target.now run.first.now.table run.tried).outcome x) c.finish.ensures.found)
+    c.count_report.ensures

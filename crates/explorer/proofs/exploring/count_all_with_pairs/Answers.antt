@@ -1,21 +1,43 @@
-use Rattle.std.proofs.Common.{◌+◌, map, sym, ap, ◌∙◌, arith}
+use Rattle.std.proofs.Common.{◌+◌, map, sym, ap, subst, ◌∙◌, arith}
 use Rattle.std.proofs.lemmas.List.{drop_all}
 use Rattle.explorer.specs.Events.{event_at}
-use Rattle.explorer.specs.Explored.{with_runs, each_with_pairs}
+use Rattle.std.specs.List.{AllByRecursion}
+use Rattle.theorems.proofs.Rows.{every-append}
+use Rattle.explorer.specs.declared.events.Mishap.{Mishap}
+use Rattle.explorer.specs.declared.events.Tried.TheVariants.{One}
+use Rattle.explorer.specs.declared.known.Rest.{Rest}
+use Rattle.explorer.specs.Known.{IsPassed}
+use Rattle.explorer.specs.Explored.{report_under, with_runs, each_with_pairs}
 use Rattle.explorer.proofs.Counted.{firsts-turn}
 use Rattle.explorer.proofs.exploring.count_all_with_pairs.Goals as goal
+use Rattle.explorer.proofs.exploring.count_all_with_pairs.Goals.{in-Some+in_ok-push, in_default}
 
 pub loop-mishap-preserved : goal.loop-mishap-preserved
-loop-mishap-preserved g c = λ p at.
+loop-mishap-preserved g c = λ p at all.
     let run = c.args.run.now in
-    firsts-turn run.state.now run.target.now run.first.now.table c.args.pairs (run.made + 1) c.args.mishaps.now c.loop-mishap.mishap-index _ c.loop-mishap.found.tally c.count_with_pairs.new.found.tally c.loop-mishap-test.true (c.in_ok-count_with_pairs.ensures p at)
-    ∙ c.loop-mishap.invariant p at
+    let kept = c.loop-mishap.invariant p at all in
+    record {
+      known = elim c.match-of_next.branch [
+        | in-Some+in_ok-push w ↦
+            let is = w.in-Some.ensures in
+            let report = ap (λ (x : Rest). x.report) (sym is.2) ∙ c.in_ok-rest.ensures.report p at all ∙ ap (λ (m : Mishap). report_under run.state.now run.target.now run.first.now.table (One (event_at (run.made + 1) m))) is.1 in
+            subst (AllByRecursion (IsPassed run c.args.due.now.call)) (sym (ap (λ v. v.items) w.next-is ∙ w.in_ok-push.ensures))
+            (every-append (IsPassed run c.args.due.now.call) c.loop-mishap.next.items _ kept.known (is.0, report))
+        | in_default w ↦ subst (AllByRecursion (IsPassed run c.args.due.now.call)) (sym (ap (λ v. v.items) w.next-is)) kept.known
+      ];
+      counts =
+          firsts-turn run.state.now run.target.now run.first.now.table c.args.pairs (run.made + 1) c.args.mishaps.now c.loop-mishap.mishap-index _ c.loop-mishap.found.tally c.count_with_pairs.new.found.tally c.loop-mishap-test.true (c.in_ok-rest.ensures.counted p at all)
+          ∙ kept.counts;
+    }
 
-pub returns : goal.returns
-returns g c = λ p at.
+pub returns-clause-known : goal.returns-clause-known
+returns-clause-known g c = λ p at all. (c.loop-mishap.invariant p at all).known
+
+pub returns-clause-counted : goal.returns-clause-counted
+returns-clause-counted g c = λ p at all.
     let run = c.args.run.now in
     let r = run.state.now in
     let to = run.target.now in
     let t = run.first.now.table in
     sym (ap (λ ms. with_runs r to t (each_with_pairs r to t c.args.pairs (map (event_at (run.made + 1)) ms)) c.loop-mishap.found.tally) (drop_all c.loop-mishap.mishap-index c.args.mishaps.now (omega (arith, c.loop-mishap-test.false))))
-    ∙ c.loop-mishap.invariant p at
+    ∙ (c.loop-mishap.invariant p at all).counts

@@ -1,6 +1,7 @@
 use Rattle.std.proofs.Common.{◌≡◌, ◌+◌, ◌++◌, ◌∷◌, [], Bool, true, false, List, Some, OnOk, map, refl, subst, sym, ap, ◌∙◌, arith}
 use Rattle.std.specs.Prelude.{if◌then◌else◌}
 use Rattle.vocabulary.specs.declared.calls.Answer.TheVariants.{MasterGone}
+use Rattle.vocabulary.specs.declared.reports.Report.{Report}
 use Rattle.definitions.specs.Table.{Table}
 use Rattle.definitions.specs.Exits.{after_exits}
 use Rattle.definitions.specs.Run.{Moment, quiet}
@@ -14,7 +15,8 @@ use Rattle.explorer.specs.declared.events.Tried.{Tried}
 use Rattle.explorer.specs.declared.events.Tried.TheVariants.{One, Two}
 use Rattle.explorer.specs.declared.tally.Tally.{Tally}
 use Rattle.explorer.specs.Events.{pattern_of, event_at, with_mishap, beside, waiting, met}
-use Rattle.explorer.specs.Explored.{with_runs, with_pairs, events_after}
+use Rattle.explorer.specs.Tallies.{counted}
+use Rattle.explorer.specs.Explored.{report_under, with_runs, with_pairs, events_after}
 use Rattle.explorer.specs.Positions.{IsSameUpTo, left, rest_run, after_due}
 use Rattle.explorer.proofs.Counted.{with_runs-map}
 use Rattle.explorer.proofs.Later.{elsewhere}
@@ -27,24 +29,22 @@ overflow_add-number g c =
     let left = asks_height t.rest t.lacking _ (c.requires.due MasterGone) in
     omega (arith, left, c.requires.fit.room, c.requires.fit.countable)
 
-pub returns-then-not-pairs : goal.returns-then-not-pairs
-returns-then-not-pairs g c = λ p at.
+pub returns-then-not-pairs-clause-counted : goal.returns-then-not-pairs-clause-counted
+returns-then-not-pairs-clause-counted g c = λ p at all.
     let run = c.args.run.now in
     let r = run.state.now in
     let to = run.target.now in
     let t = run.first.now.table in
     let first = event_at (run.made + 1) c.args.mishap in
-    let is = c.in_ok-whole.ensures in
-    let same : IsSameUpTo run.made (pattern_of run.tried) (pattern_of (One first)) =
-    λ m le. same-before first (λ _. quiet) run.made (omega arith) m le ∙ sym (ap (λ (x : Tried). pattern_of x m) c.requires.tried) in
-    c.in_ok-count_run.ensures _ (is.at p (elsewhere run p (One first) same at))
-    ∙ (λ i. with_runs (is.state i) (is.target i) ((is.first i).table) (is.tried i ∷ []) (c.look_between.ensures i))
+    c.in_ok-count_report.ensures
+    ∙ ap (λ (x : Report). counted (One first) x.outcome c.ended.new.found.tally) (c.in_ok-rest.ensures.report p at all)
+    ∙ ap (counted (One first) (report_under r to t (One first)).outcome) c.ended.ensures.found
     ∙ ap (λ (b : Bool). with_runs r to t (One first ∷ (if b then map (Two first) (events_after r to t (One first)) else [])) c.args.found.now.tally) (sym off) where
       off : c.args.pairs ≡ false
       off = cc
 
-pub returns : goal.returns
-returns g c = λ p at.
+pub returns-clause-counted : goal.returns-clause-counted
+returns-clause-counted g c = λ p at all.
     let run = c.args.run.now in
     let due = c.args.due.now in
     let r = run.state.now in
@@ -58,7 +58,6 @@ returns g c = λ p at.
     let same : IsSameUpTo run.made (pattern_of run.tried) (pattern_of (One first)) =
     λ k le. same-before first (λ _. quiet) run.made (omega arith) k le ∙ sym (ap (λ (x : Tried). pattern_of x k) c.requires.tried) in
     let there = elsewhere run p (One first) same at in
-    let is = c.in_ok-whole.ensures in
     let on = c.in_ok-behind.ensures in
     let behind = c.in_ok-behind.behind in
     let onto = after_due (record run { tried = One first }) m p in
@@ -68,8 +67,10 @@ returns g c = λ p at.
     ∙ ap (λ (x : Table). met text (Some first) (pattern_of (One first)) (listed run.heir) run.made x (rest_run text (trail_of run.walk).rest (pattern_of (One first)) p).entries) at.table
     ∙ on.left p (Some first) there
     ∙ ap (λ (ms : List Mishap). map (event_at n) ms ++ left behind onto (Some first)) (open-beside text due.by due.call waits first n (after_exits m.exits run.kernel.table) refl) in
-    let one : c.count_run.new.found.tally ≡ with_runs r to t (One first ∷ []) c.args.found.now.tally =
-    c.in_ok-count_run.ensures _ (is.at p there) ∙ (λ i. with_runs (is.state i) (is.target i) ((is.first i).table) (is.tried i ∷ []) (c.look_between.ensures i)) in
+    let one : c.count_report.new.found.tally ≡ with_runs r to t (One first ∷ []) c.args.found.now.tally =
+    c.in_ok-count_report.ensures
+    ∙ ap (λ (x : Report). counted (One first) x.outcome c.ended.new.found.tally) (c.in_ok-rest.ensures.report p at all)
+    ∙ ap (counted (One first) (report_under r to t (One first)).outcome) c.ended.ensures.found in
     let two : c.count_beside.new.found.tally ≡ with_runs r to t (map (Two first) (map (event_at n) here)) (with_runs r to t (One first ∷ []) c.args.found.now.tally) =
     c.in_ok-count_beside.ensures p at ∙ ap (with_runs r to t (map (Two first) (map (event_at n) here))) one in
     let whole : with_runs behind.state.now behind.target.now behind.first.now.table (map (Two first) (left behind onto (Some first))) c.count_beside.new.found.tally
@@ -78,6 +79,12 @@ returns g c = λ p at.
     ∙ sym (with_runs-map r to t (Two first) (map (event_at n) here) (left behind onto (Some first)) (with_runs r to t (One first ∷ []) c.args.found.now.tally))
     ∙ ap (λ (es : List Event). with_runs r to t (One first ∷ map (Two first) es) c.args.found.now.tally) (sym events)
     ∙ ap (λ (b : Bool). with_runs r to t (One first ∷ (if b then map (Two first) (events_after r to t (One first)) else [])) c.args.found.now.tally) (sym asked) in
-    subst (λ (x : Tally). OnOk c.count_later.result (c.count_later.new.found.tally ≡ x)) whole (c.count_later.ensures onto (on.at p there)) where
+    c.in_ok-count_later.ensures onto (on.at p there) ∙ whole where
       asked : c.args.pairs ≡ true
       asked = cc
+
+pub returns-clause-report : goal.returns-clause-report
+returns-clause-report g c = λ p at all. c.in_ok-rest.ensures.report p at all
+
+pub returns-then-not-pairs-clause-report : goal.returns-then-not-pairs-clause-report
+returns-then-not-pairs-clause-report g c = λ p at all. c.in_ok-rest.ensures.report p at all

@@ -1,9 +1,12 @@
-use Rattle.std.proofs.Common.{◌≡◌, None}
+use Rattle.std.proofs.Common.{◌≡◌, ◌+◌, ℕ, None}
+use Rattle.std.specs.List.{AllByRecursion}
+use Rattle.vocabulary.specs.declared.calls.Call.{Call}
 use Rattle.definitions.specs.Run.{Progress}
 use Rattle.plan_runner.specs.Fit.{height_next}
-use Rattle.plan_runner.specs.Walk.{trail_of}
+use Rattle.plan_runner.specs.Walk.{trail_of, AsksFor}
 use Rattle.explorer.specs.declared.events.Tried.TheVariants.{Nothing}
 use Rattle.explorer.specs.Explored.{with_runs, each_with_pairs}
+use Rattle.explorer.specs.Known.{IsKnownAt}
 use Rattle.explorer.specs.Positions.{IsFit, IsAt, left}
 use Rattle.explorer.proofs.exploring.over_calls.Given as goal
 
@@ -18,6 +21,7 @@ invariant-loop-due g l =
       state : l.run.state.now ≡ r;
       target : l.run.target.now ≡ to;
       tried : l.run.tried ≡ Nothing;
+      known : (p : Progress) → IsAt l.fn.run p → (by : ℕ) (call : Call) → AsksFor (trail_of l.run.walk) by call → AllByRecursion (IsKnownAt l.run (l.run.made + 1)) l.known.items;
       counts : (p : Progress) → IsAt l.fn.run p → (q : Progress) × IsAt l.run q ×
           (with_runs r to t (each_with_pairs r to t l.pairs (left l.run q None)) l.found.tally ≡ with_runs r to t (each_with_pairs r to t l.pairs (left l.fn.run p None)) l.fn.found.tally);
     }
