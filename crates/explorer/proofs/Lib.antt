@@ -4,3 +4,5 @@ mod Ending
 mod Later
 mod Listing
 mod Meeting
+mod Numbers
+mod Once
