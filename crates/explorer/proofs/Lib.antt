@@ -5,4 +5,6 @@ mod Later
 mod Listing
 mod Meeting
 mod Moving
+mod Numbers
+mod Once
 mod Passing

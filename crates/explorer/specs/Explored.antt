@@ -1,5 +1,6 @@
 -- What the runs of a target come to, under no event, each single one that its run meets, and each pair of those.
-use Rattle.std.specs.Prelude.{Bool, List, [], ◌∷◌, ◌++◌, map, Option, Some, None, if◌then◌else◌}
+use Rattle.std.specs.Prelude.{ℕ, ◌≡◌, ◌≢◌, ◌≤◌, ◌<◌, Bool, List, [], ◌∷◌, ◌++◌, map, Option, Some, None, if◌then◌else◌, ◌⊎◌, ⊤}
+use Rattle.std.specs.List.{AllPairs, AllByRecursion}
 use Rattle.vocabulary.specs.declared.targets.Target.{Target}
 use Rattle.definitions.specs.Table.{Table}
 use Rattle.definitions.specs.Record.{Record}
@@ -7,11 +8,13 @@ use Rattle.definitions.specs.Path.{Report}
 use Rattle.definitions.specs.Run.{report_of}
 use Rattle.definitions.specs.Target.{sides_of, text_handed}
 use Rattle.definitions.specs.Claims.{run_of, heirs_of}
+use Rattle.explorer.specs.declared.events.Mishap.{Mishap}
+use Rattle.explorer.specs.declared.events.Mishap.TheVariants.{Exit, Fail}
 use Rattle.explorer.specs.declared.events.Event.{Event}
 use Rattle.explorer.specs.declared.events.Tried.{Tried}
 use Rattle.explorer.specs.declared.events.Tried.TheVariants.{Nothing, One, Two}
 use Rattle.explorer.specs.declared.tally.Tally.{Tally}
-use Rattle.explorer.specs.Events.{pattern_of, met}
+use Rattle.explorer.specs.Events.{pattern_of, events_in, met}
 use Rattle.explorer.specs.Tallies.{counted}
 
 -- What the run of a target reports where this goes wrong.
@@ -40,6 +43,34 @@ each_with_pairs r target t pairs (e ∷ es) = with_pairs r target t pairs e ++ e
 -- All runs of a target: under no event, under each that this run meets, and under each pair of those.
 abbrev pub all_tried : Record → Target → Table → Bool → List Tried
 all_tried r target t pairs = Nothing ∷ each_with_pairs r target t pairs (events_after r target t Nothing)
+
+---- That none comes twice
+
+-- What goes wrong beside an exit before the same call: the exit of a process with a higher number, or the call's failure.
+abbrev pub IsBeside : Mishap → Mishap → Type 0
+IsBeside (Exit n p) (Exit m q) = p < q
+IsBeside (Exit n p) (Fail f) = ⊤
+IsBeside (Fail f) m = ⊥
+
+-- The second event comes behind the first: at a later call, or beside it.
+abbrev pub IsBehind : Event → Event → Type 0
+IsBehind e f = (e.number < f.number) ⊎ ((e.number ≡ f.number) × IsBeside e.mishap f.mishap)
+
+abbrev pub IsInOrder : Tried → Type 0
+IsInOrder Nothing = ⊤
+IsInOrder (One e) = ⊤
+IsInOrder (Two e f) = IsBehind e f
+
+-- how many events a run has at most
+abbrev pub most_events : Bool → ℕ
+most_events pairs = if pairs then 2 else 1
+
+-- No two of these runs are the same, nor do two have the same events in another order: each has its events in the one order that
+-- they can have. Each has so many at most.
+pub record AreOnce (most : ℕ) (runs : List Tried) : Type 0 where
+  pub distinct : AllPairs (λ a b. a ≢ b) runs
+  pub in_order : AllByRecursion IsInOrder runs
+  pub few : AllByRecursion (λ tried. events_in tried ≤ most) runs
 
 ---- How they are counted
 

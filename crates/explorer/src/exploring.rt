@@ -7,7 +7,7 @@ ghost use Rattle.definitions.specs.Run.{Progress, quiet};
 ghost use Rattle.plan_runner.specs.Walk.{trail_of, AsksFor};
 ghost use Rattle.plan_executor.specs.Naming.{listed};
 ghost use Rattle.explorer.specs.Events.{pattern_of, with_mishap, event_at, beside, waiting};
-ghost use Rattle.explorer.specs.Explored.{report_under, with_runs, with_pairs, each_with_pairs, explored_from};
+ghost use Rattle.explorer.specs.Explored.{report_under, with_runs, with_pairs, each_with_pairs, all_tried, most_events, AreOnce, explored_from};
 ghost use Rattle.explorer.specs.Known.{IsKnownAt, IsPassed};
 ghost use Rattle.explorer.specs.Positions.{IsFit, IsAt, IsSameUpTo, IsLater, left, moment_of};
 
@@ -283,7 +283,8 @@ pub fn explore<A: Audience>(
     audience: &mut A,
 ) -> Result<(), ExploreRefusal>
     requires { IsTarget target.now }
-    ensures { OnOk result (found.new.tally ≡ explored_from state.now target.now kernel.now.table pairs found.old.tally) }
+    ensures counted { OnOk result (found.new.tally ≡ explored_from state.now target.now kernel.now.table pairs found.old.tally) }
+    ensures once { OnOk result (AreOnce (most_events pairs) (all_tried state.now target.now kernel.now.table pairs)) }
 {
     if !agrees(state, kernel) {
         return Err(ExploreRefusal::Enact(EnactRefusal::RecordDisagrees));

@@ -4,6 +4,7 @@ ghost use Rattle.definitions.specs.Exits.{after_exits};
 ghost use Rattle.definitions.specs.Calls.{step_with};
 ghost use Rattle.definitions.specs.Tree.{is_listed};
 ghost use Rattle.definitions.specs.Path.{IsOver};
+ghost use Rattle.definitions.specs.Formed.{IsFormed};
 ghost use Rattle.definitions.specs.Run.{Progress};
 ghost use Rattle.plan_runner.specs.Walk.{trail_of, AsksFor};
 ghost use Rattle.plan_executor.specs.Naming.{listed};
@@ -47,7 +48,8 @@ impl<'a> Position<'a> {
         plan: &'a Plan,
     ) -> Result<Position<'a>, EnactRefusal>
         requires { IsPlanOf state.now target.now plan.now }
-        ensures { IfOk result (IsStartOf first.now.table state.now target.now) }
+        ensures start { IfOk result (IsStartOf first.now.table state.now target.now) }
+        ensures formed { IfOk result (λ _. IsFormed first.now.table) }
     {
         Ok(Position {
             first,
