@@ -6,3 +6,4 @@ mod Listing
 mod Meeting
 mod Numbers
 mod Once
+mod Refusing

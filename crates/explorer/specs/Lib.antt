@@ -2,3 +2,4 @@ pub mod Events
 pub mod Tallies
 pub mod Explored
 pub mod Positions
+pub mod Refusals
