@@ -8,3 +8,4 @@ mod Moving
 mod Numbers
 mod Once
 mod Passing
+mod Refusing

@@ -3,3 +3,4 @@ pub mod Tallies
 pub mod Explored
 pub mod Positions
 pub mod Known
+pub mod Refusals

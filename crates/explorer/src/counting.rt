@@ -10,38 +10,26 @@ use crate::effects;
 use crate::events::{Mishap, Tried};
 use crate::findings::{Findings, low_after, low_without};
 use crate::position::Position;
-use plan_executor::EnactRefusal;
 use plan_runner::Due;
 use std::alloc::AllocError;
 use vocabulary::{Name, Report};
 
-/// Why not all runs are counted.
+/// Why the counting of runs stops before their end.
 #[derive(Clone, Copy, Debug)]
 pub enum ExploreRefusal {
-    /// The target can't be carried out, or memory was refused.
-    Enact(EnactRefusal),
+    /// Memory was refused.
+    Memory,
     /// The audience has had enough.
     Enough,
 }
 
-impl From<EnactRefusal> for ExploreRefusal {
-    ghost use Rattle.explorer.specs.declared.counting.ExploreRefusal.TheVariants.{Enact};
-
-    ghost from_gives = { λ refusal e. e ≡ Enact refusal };
-
-    fn from(refusal: EnactRefusal) -> ExploreRefusal {
-        ExploreRefusal::Enact(refusal)
-    }
-}
-
 impl From<AllocError> for ExploreRefusal {
-    ghost use Rattle.plan_executor.specs.declared.enactment.EnactRefusal.TheVariants.{Memory};
-    ghost use Rattle.explorer.specs.declared.counting.ExploreRefusal.TheVariants.{Enact};
+    ghost use Rattle.explorer.specs.declared.counting.ExploreRefusal.TheVariants.{Memory};
 
-    ghost from_gives = { λ _ e. e ≡ Enact Memory };
+    ghost from_gives = { λ _ e. e ≡ Memory };
 
     fn from(_error: AllocError) -> ExploreRefusal {
-        ExploreRefusal::Enact(EnactRefusal::Memory)
+        ExploreRefusal::Memory
     }
 }
 
@@ -101,7 +89,7 @@ pub(crate) fn look_between(
     low: u32,
     tried: &Tried,
     found: &mut Findings,
-) -> Result<u32, ExploreRefusal>
+) -> Result<u32, AllocError>
     ensures { found.new.tally ≡ found.old.tally }
 {
     let low = match gone {

@@ -12,7 +12,7 @@ use call_replies::reply_to;
 use event_pattern::Moment;
 use kernel_model::Kernel;
 use listener_set::{Numbers, WORKER_LIMIT};
-use plan_executor::{EnactRefusal, reserved_copy};
+use plan_executor::reserved_copy;
 use process_table::Row;
 use std::alloc::{AllocError, Global};
 use vocabulary::{Actor, Call, Fate, Name, Stance};
@@ -30,6 +30,16 @@ const EVERY_FATE: [Fate; 9] = [
     Fate::IoFault,
 ];
 
+/// A copy of a kernel that had room for as many calls, or has made some of them: so no number is lacking, only memory can be.
+pub(crate) fn copied(kernel: &Kernel, calls: u32) -> Result<Kernel, AllocError>
+    ensures { IfOk result (λ k. k ≡ record { table = kernel.now.table; room = calls }) }
+{
+    match reserved_copy(kernel, calls) {
+        Ok(copy) => Ok(copy),
+        Err(_) => Err(AllocError),
+    }
+}
+
 /// Whether a fate changes what a call is answered.
 fn takes_effect(
     kernel: &Kernel,
@@ -37,10 +47,10 @@ fn takes_effect(
     call: &Call,
     text: &[u8],
     fate: Fate,
-) -> Result<bool, EnactRefusal>
+) -> Result<bool, AllocError>
     ensures { IfOk result (λ yes. yes ≡ takes_effect text.now by call.now kernel.now.table fate) }
 {
-    let mut copy = reserved_copy(kernel, 1)?;
+    let mut copy = copied(kernel, 1)?;
     let moment = Moment {
         exits: &[],
         fate: Some(fate),
@@ -115,7 +125,7 @@ fn add_exits(
     heir: Option<u32>,
     above: u32,
     mishaps: &mut Vec<Mishap>,
-) -> Result<(), EnactRefusal>
+) -> Result<(), AllocError>
     ensures { OnOk result (mishaps.new.items ≡ mishaps.old.items ++ filter_map (exit_of (listed heir) above) (map row_of kernel.now.table.rows)) }
 {
     for place in 0..u32::MAX as usize {
@@ -126,7 +136,7 @@ fn add_exits(
             push(mishaps, mishap)?;
         }
     }
-    Err(EnactRefusal::Memory)
+    Err(AllocError)
 }
 
 /// Adds the failures of a call that take effect.
@@ -136,7 +146,7 @@ fn add_fates(
     call: &Call,
     text: &[u8],
     mishaps: &mut Vec<Mishap>,
-) -> Result<(), EnactRefusal>
+) -> Result<(), AllocError>
     ensures { OnOk result (mishaps.new.items ≡ mishaps.old.items ++ map Mishap.Fail (filter (takes_effect text.now by call.now kernel.now.table) every_fate)) }
 {
     for fate in &EVERY_FATE {
@@ -157,7 +167,7 @@ pub(crate) fn mishaps_at(
     text: &[u8],
     heir: Option<u32>,
     above: u32,
-) -> Result<Vec<Mishap>, EnactRefusal>
+) -> Result<Vec<Mishap>, AllocError>
     ensures { IfOk result (λ mishaps. mishaps.items ≡ mishaps_at text.now by call.now (listed heir) above kernel.now.table) }
 {
     let mut mishaps = Vec::new(alloc);
@@ -167,14 +177,10 @@ pub(crate) fn mishaps_at(
 }
 
 /// The kernel after these exits. They come with a call, so one is made that asks for a master and changes nothing.
-pub(crate) fn after_exits(
-    kernel: &Kernel,
-    by: Actor,
-    exits: &[Name],
-) -> Result<Kernel, EnactRefusal>
+pub(crate) fn after_exits(kernel: &Kernel, by: Actor, exits: &[Name]) -> Result<Kernel, AllocError>
     ensures { IfOk result (λ k. k.table ≡ after_exits exits.now kernel.now.table) }
 {
-    let mut copy = reserved_copy(kernel, 1)?;
+    let mut copy = copied(kernel, 1)?;
     let moment = Moment { exits, fate: None };
     copy.call(by, &Call::Alive(by.0), &[], &moment);
     Ok(copy)

@@ -1,11 +1,13 @@
 //! All runs of a target in which at most two things go wrong.
-ghost use Rattle.std.specs.Prelude.{◌≡◌, ◌≤◌, ◌+◌, ◌∷◌, [], map, None, Some, IfOk, OnOk};
+ghost use Rattle.std.specs.Prelude.{◌≡◌, ◌≤◌, ◌+◌, ◌↔◌, ◌⊎◌, ◌∷◌, [], map, None, Some, IfOk, OnOk, IsErrOf};
 ghost use Rattle.std.specs.List.{AllByRecursion};
 ghost use Rattle.definitions.specs.Target.{IsTarget, text_handed};
 ghost use Rattle.definitions.specs.Exits.{after_exits};
-ghost use Rattle.definitions.specs.Run.{Progress, quiet};
+ghost use Rattle.definitions.specs.Run.{Pattern, Progress, quiet};
 ghost use Rattle.plan_runner.specs.Walk.{trail_of, AsksFor};
 ghost use Rattle.plan_executor.specs.Naming.{listed};
+ghost use Rattle.plan_executor.specs.Refusals.{IsPlannable, IsRefused};
+ghost use Rattle.plan_executor.specs.declared.enactment.EnactRefusal.{EnactRefusal as Refusal};
 ghost use Rattle.explorer.specs.Events.{pattern_of, with_mishap, event_at, beside, waiting};
 ghost use Rattle.explorer.specs.Explored.{report_under, with_runs, with_pairs, each_with_pairs, all_tried, most_events, AreOnce, explored_from};
 ghost use Rattle.explorer.specs.Known.{IsKnownAt, IsPassed};
@@ -21,8 +23,51 @@ use kernel_model::Kernel;
 use plan_executor::{EnactRefusal, agrees, plan_of};
 use plan_runner::Due;
 use service_state::Record;
-use std::alloc::Global;
+use std::alloc::{AllocError, Global};
 use vocabulary::{Name, Target};
+
+/// Why the runs of a target are not all counted.
+#[derive(Clone, Copy, Debug)]
+pub enum Unexplored {
+    /// The target can't be carried out, or memory was refused.
+    Enact(EnactRefusal),
+    /// The audience has had enough.
+    Enough,
+}
+
+impl From<EnactRefusal> for Unexplored {
+    ghost use Rattle.explorer.specs.declared.exploring.Unexplored.TheVariants.{Enact};
+
+    ghost from_gives = { λ refusal e. e ≡ Enact refusal };
+
+    fn from(refusal: EnactRefusal) -> Unexplored {
+        Unexplored::Enact(refusal)
+    }
+}
+
+impl From<AllocError> for Unexplored {
+    ghost use Rattle.plan_executor.specs.declared.enactment.EnactRefusal.TheVariants.{Memory};
+    ghost use Rattle.explorer.specs.declared.exploring.Unexplored.TheVariants.{Enact};
+
+    ghost from_gives = { λ _ e. e ≡ Enact Memory };
+
+    fn from(_error: AllocError) -> Unexplored {
+        Unexplored::Enact(EnactRefusal::Memory)
+    }
+}
+
+impl From<ExploreRefusal> for Unexplored {
+    ghost use Rattle.explorer.specs.Refusals.{unexplored};
+
+    ghost from_gives = { λ refusal e. e ≡ unexplored refusal };
+
+    fn from(refusal: ExploreRefusal) -> Unexplored {
+        match refusal {
+            ExploreRefusal::Memory => Unexplored::Enact(EnactRefusal::Memory),
+            ExploreRefusal::Enough => Unexplored::Enough,
+        }
+    }
+}
 
 /// The run in which this goes wrong, which is the same so far, after the call that is due, before which this process exits
 /// already, where one does, and at which this goes wrong.
@@ -32,7 +77,7 @@ fn branch_with<'a>(
     tried: Tried,
     gone: Option<Name>,
     mishap: Mishap,
-) -> Result<Position<'a>, EnactRefusal>
+) -> Result<Position<'a>, AllocError>
     requires fit { IsFit run.now }
     requires due { AsksFor (trail_of run.now.walk) due.now.by due.now.call }
     requires moment { pattern_of tried (run.now.made + 1) ≡ with_mishap mishap (moment_of gone) }
@@ -272,7 +317,8 @@ fn over_calls<A: Audience>(
 /// pair of these of which the run with the first one meets the second. Each report is that of `enact` under the pattern.
 ///
 /// The audience hears of each run, and may end them. What was counted until then, or until memory was refused, stays
-/// counted. A target that can't be carried out is refused as `enact` refuses it.
+/// counted. A target is refused exactly where `enact` refuses it whatever the pattern, and so: E2, E3, E5. Want of memory is
+/// told only where neither E2 nor E3 is due.
 pub fn explore<A: Audience>(
     alloc: Global,
     kernel: &Kernel,
@@ -281,18 +327,23 @@ pub fn explore<A: Audience>(
     pairs: bool,
     found: &mut Findings,
     audience: &mut A,
-) -> Result<(), ExploreRefusal>
+) -> Result<(), Unexplored>
     requires { IsTarget target.now }
     ensures counted { OnOk result (found.new.tally ≡ explored_from state.now target.now kernel.now.table pairs found.old.tally) }
     ensures once { OnOk result (AreOnce (most_events pairs) (all_tried state.now target.now kernel.now.table pairs)) }
+    ensures exact { (why : Refusal)
+        → IsErrOf result (Unexplored.Enact EnactRefusal.Memory) ⊎ (IsErrOf result (Unexplored.Enact why) ↔ ((pattern : Pattern) → IsRefused kernel.now.table state.now target.now pattern why)) }
+    ensures memory { IsErrOf result (Unexplored.Enact EnactRefusal.Memory) → IsPlannable kernel.now.table state.now target.now }
 {
     if !agrees(state, kernel) {
-        return Err(ExploreRefusal::Enact(EnactRefusal::RecordDisagrees));
+        return Err(Unexplored::Enact(EnactRefusal::RecordDisagrees));
     }
     let plan = plan_of(alloc, state, target)?;
-    found.begin(common_addresses(alloc, kernel, state, target)?);
+    let common = common_addresses(alloc, kernel, state, target)?;
     let whole = Position::start(kernel, state, target, &plan)?;
-    count_run(whole, 0, found, audience)?;
     let run = Position::start(kernel, state, target, &plan)?;
-    over_calls(alloc, run, pairs, found, audience)
+    found.begin(common);
+    count_run(whole, 0, found, audience)?;
+    over_calls(alloc, run, pairs, found, audience)?;
+    Ok(())
 }

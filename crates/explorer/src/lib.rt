@@ -11,8 +11,8 @@ mod known;
 mod position;
 mod tally;
 
-pub use counting::{Audience, ExploreRefusal};
+pub use counting::Audience;
 pub use events::{Event, Mishap, Tried};
-pub use exploring::explore;
+pub use exploring::{Unexplored, explore};
 pub use findings::{Findings, Least};
 pub use tally::{Ended, Tally};

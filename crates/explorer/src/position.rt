@@ -1,11 +1,13 @@
 //! Runs on their way.
-ghost use Rattle.std.specs.Prelude.{◌≡◌, ◌≤◌, ◌<◌, ◌+◌, IsTrue, IfOk, IfSome, IfNone};
+ghost use Rattle.std.specs.Prelude.{◌≡◌, ◌≤◌, ◌<◌, ◌+◌, ◌⊎◌, IsTrue, IfOk, IfErr, IfSome, IfNone};
 ghost use Rattle.definitions.specs.Exits.{after_exits};
 ghost use Rattle.definitions.specs.Calls.{step_with};
-ghost use Rattle.definitions.specs.Tree.{is_listed};
+ghost use Rattle.definitions.specs.Tree.{height, is_listed};
 ghost use Rattle.definitions.specs.Path.{IsOver};
 ghost use Rattle.definitions.specs.Formed.{IsFormed};
+ghost use Rattle.definitions.specs.Plans.{plan_tree};
 ghost use Rattle.definitions.specs.Run.{Progress};
+ghost use Rattle.kernel_model.specs.Room.{LacksNumbers};
 ghost use Rattle.plan_runner.specs.Walk.{trail_of, AsksFor};
 ghost use Rattle.plan_executor.specs.Naming.{listed};
 ghost use Rattle.explorer.specs.Events.{pattern_of, mishaps_at, waiting};
@@ -50,6 +52,9 @@ impl<'a> Position<'a> {
         requires { IsPlanOf state.now target.now plan.now }
         ensures start { IfOk result (IsStartOf first.now.table state.now target.now) }
         ensures formed { IfOk result (λ _. IsFormed first.now.table) }
+        ensures numbers { IfOk result (λ _. LacksNumbers first.now.table (height (plan_tree state.now target.now)) → ⊥) }
+        ensures refused { IfErr result (λ why.
+            (why ≡ EnactRefusal.Memory) ⊎ ((why ≡ EnactRefusal.NoNumbers) × LacksNumbers first.now.table (height (plan_tree state.now target.now)))) }
     {
         Ok(Position {
             first,
@@ -78,7 +83,7 @@ impl<'a> Position<'a> {
         alloc: Global,
         due: &Due,
         above: u32,
-    ) -> Result<Vec<Mishap>, EnactRefusal>
+    ) -> Result<Vec<Mishap>, AllocError>
         ensures { IfOk result (λ mishaps. mishaps.items ≡ mishaps_at self.now.text.now due.now.by due.now.call (waiting due.now.call (listed self.now.heir)) above self.now.kernel.table) }
     {
         let heir = effects::waiting(&due.call, self.heir);
@@ -114,13 +119,13 @@ impl<'a> Position<'a> {
         tried: Tried,
         exits: &[Name],
         fate: Option<Fate>,
-    ) -> Result<Position<'a>, EnactRefusal>
+    ) -> Result<Position<'a>, AllocError>
         requires fit { IsFit self.now }
         requires due { AsksFor (trail_of self.now.walk) due.now.by due.now.call }
         requires moment { pattern_of tried (self.now.made + 1) ≡ record { exits = exits.now; fate = fate } }
         ensures { IfOk result (IsLater (record self.now { tried = tried }) due.now (record { exits = exits.now; fate = fate })) }
     {
-        let mut kernel = reserved_copy(&self.kernel, self.kernel.room())?;
+        let mut kernel = effects::copied(&self.kernel, self.kernel.room())?;
         let entry = answered(&mut kernel, due, self.text, exits, fate);
         Ok(Position {
             first: self.first,

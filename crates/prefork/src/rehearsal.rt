@@ -18,7 +18,7 @@ use crate::fault::Fault;
 use crate::start::{Start, silent_workers};
 use certifier::{BlockMismatch, Mismatch, certify_beginning, certify_blocks};
 use control_words::Word;
-use explorer::{Audience, ExploreRefusal, Findings, explore};
+use explorer::{Audience, Findings, Unexplored, explore};
 use kernel_model::{Kernel, Pattern};
 use listener_set::{Address, WORKER_LIMIT};
 use plan_executor::{EnactRefusal, run_words};
@@ -229,9 +229,9 @@ fn counted<A: Audience>(
 {
     match explore(alloc, kernel, state, target, pairs, found, audience) {
         Ok(()) => Ok(Explored::All),
-        Err(ExploreRefusal::Enough) => Ok(Explored::Cut),
-        Err(ExploreRefusal::Enact(EnactRefusal::Memory)) => Err(AllocError),
-        Err(ExploreRefusal::Enact(refusal)) => {
+        Err(Unexplored::Enough) => Ok(Explored::Cut),
+        Err(Unexplored::Enact(EnactRefusal::Memory)) => Err(AllocError),
+        Err(Unexplored::Enact(refusal)) => {
             Ok(Explored::Told(Body::Refused(CodeText::from(refusal))))
         }
     }

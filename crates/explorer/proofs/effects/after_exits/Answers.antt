@@ -18,4 +18,4 @@ returns c =
     let t = after_exits c.args.exits.now c.in_ok-copy.copy.table in
     ap (λ (s : Stepped). s.table) c.call.ensures.step
     ∙ asks [] c.args.by c.by.inside.0 t (sym c.by.view_is)
-    ∙ ap (λ (s : State). after_exits c.args.exits.now s.table) c.in_ok-copy.ensures.same
+    ∙ ap (λ (s : State). after_exits c.args.exits.now s.table) c.in_ok-copy.ensures

@@ -1,11 +1,17 @@
-use Rattle.std.proofs.Common.{◌≡◌, ◌∷◌, [], None, OnOk, subst, ◌∙◌}
-use Rattle.std.proofs.lemmas.Result.{on_ok_weaker}
+use Rattle.std.proofs.Common.{rules, ◌≡◌, ◌∷◌, [], None, Err, inr, refl, sym, ◌∙◌}
+use Rattle.std.proofs.lemmas.Result.{err_from_is_err_and}
+use mathlib.Core.Bool.{true≢false}
+use Rattle.definitions.specs.Record.{Agrees}
 use Rattle.definitions.specs.Run.{start_at}
+use Rattle.plan_executor.specs.declared.enactment.EnactRefusal.TheVariants.{RecordDisagrees}
+use Rattle.plan_executor.proofs.Exact.{planless, short}
 use Rattle.explorer.specs.declared.events.Tried.TheVariants.{Nothing}
-use Rattle.explorer.specs.declared.tally.Tally.{Tally}
+use Rattle.explorer.specs.declared.exploring.Unexplored.TheVariants.{Enact}
 use Rattle.explorer.specs.Explored.{with_runs, each_with_pairs, explored_from}
 use Rattle.explorer.specs.Positions.{left}
+use Rattle.explorer.specs.Refusals.{unexplored}
 use Rattle.explorer.proofs.Once.{all-once}
+use Rattle.explorer.proofs.Refusing.{told-refused, told-begun, told-stopped}
 use Rattle.explorer.proofs.exploring.explore.Goals as goal
 
 pub returns-clause-counted : goal.returns-clause-counted
@@ -21,8 +27,53 @@ returns-clause-counted g c =
     c.in_ok-count_run.ensures start w.at ∙ (λ i. with_runs (w.of.state i) (w.of.target i) (w.of.first i) (w.tried i ∷ []) (c.begin.ensures i)) in
     let whole : with_runs run.state.now run.target.now run.first.now.table (each_with_pairs run.state.now run.target.now run.first.now.table c.args.pairs (left run start None)) c.count_run.new.found.tally ≡ explored_from r to t c.args.pairs c.args.found.now.tally =
     (λ i. with_runs (is.of.state i) (is.of.target i) (is.of.first i) (each_with_pairs (is.of.state i) (is.of.target i) (is.of.first i) c.args.pairs (is.meets i)) (quiet i)) in
-    subst (λ (x : Tally). OnOk c.over_calls.result (c.over_calls.new.found.tally ≡ x)) whole (c.over_calls.ensures start is.at)
+    c.in_ok-over_calls.ensures start is.at ∙ whole
 
 pub returns-clause-once : goal.returns-clause-once
 returns-clause-once g c =
-    on_ok_weaker c.over_calls.result (λ counted. all-once c.args.state.now c.args.target.now c.args.kernel.now.table c.args.pairs c.in_ok-whole.ensures.formed) (returns-clause-counted g c)
+    all-once c.args.state.now c.args.target.now c.args.kernel.now.table c.args.pairs c.in_ok-whole.ensures.formed
+
+---- Which refusal is told
+
+pub returns-then-not-agrees-clause-exact : goal.returns-then-not-agrees-clause-exact
+returns-then-not-agrees-clause-exact g c =
+    told-refused c.args.kernel.now.table c.args.state.now c.args.target.now RecordDisagrees (Err (Enact RecordDisagrees))
+    (inr (λ pattern h. let yes = c.agrees.ensures.agrees.1 h in absurd (true≢false (sym yes ∙ c.if-not-agrees.true)))) refl
+
+pub returns-in_err-plan-clause-exact : goal.returns-in_err-plan-clause-exact
+returns-in_err-plan-clause-exact g c =
+    let agrees : Agrees c.args.kernel.now.table c.args.state.now = c.agrees.ensures.agrees.0 (search rules) in
+    let why = c.in_err-plan.field-0.0 in
+    let p = err_from_is_err_and c.from_residual.result c.from_residual.ensures.1 in
+    let is : c.from_residual.result ≡ Err (Enact why) = cc in
+    told-refused c.args.kernel.now.table c.args.state.now c.args.target.now why c.from_residual.result
+    (planless c.args.kernel.now.table c.args.state.now c.args.target.now why agrees c.in_err-plan.ensures.refused) is
+
+pub returns-in_err-whole-clause-exact : goal.returns-in_err-whole-clause-exact
+returns-in_err-whole-clause-exact g c =
+    let agrees : Agrees c.args.kernel.now.table c.args.state.now = c.agrees.ensures.agrees.0 (search rules) in
+    let why = c.in_err-whole.field-0.0 in
+    let p = err_from_is_err_and c.from_residual-in_err-whole.result c.from_residual-in_err-whole.ensures.1 in
+    let is : c.from_residual-in_err-whole.result ≡ Err (Enact why) = cc in
+    told-refused c.args.kernel.now.table c.args.state.now c.args.target.now why c.from_residual-in_err-whole.result
+    (short c.args.kernel.now.table c.args.state.now c.args.target.now why agrees c.in_ok-plan.ensures.planned c.in_err-whole.ensures.refused) is
+
+pub returns-in_err-count_run-clause-exact : goal.returns-in_err-count_run-clause-exact
+returns-in_err-count_run-clause-exact g c =
+    let agrees : Agrees c.args.kernel.now.table c.args.state.now = c.agrees.ensures.agrees.0 (search rules) in
+    let why = c.in_err-count_run.field-0.0 in
+    let p = err_from_is_err_and c.from_residual-in_err-count_run.result c.from_residual-in_err-count_run.ensures.1 in
+    let is : c.from_residual-in_err-count_run.result ≡ Err (unexplored why) = cc in
+    told-stopped c.args.kernel.now.table c.args.state.now c.args.target.now agrees c.in_ok-plan.ensures.planned c.in_ok-whole.ensures.numbers why c.from_residual-in_err-count_run.result is
+
+pub returns-in_err-over_calls-clause-exact : goal.returns-in_err-over_calls-clause-exact
+returns-in_err-over_calls-clause-exact g c =
+    let agrees : Agrees c.args.kernel.now.table c.args.state.now = c.agrees.ensures.agrees.0 (search rules) in
+    let why = c.in_err-over_calls.field-0.0 in
+    let p = err_from_is_err_and c.from_residual-in_err-over_calls.result c.from_residual-in_err-over_calls.ensures.1 in
+    let is : c.from_residual-in_err-over_calls.result ≡ Err (unexplored why) = cc in
+    told-stopped c.args.kernel.now.table c.args.state.now c.args.target.now agrees c.in_ok-plan.ensures.planned c.in_ok-whole.ensures.numbers why c.from_residual-in_err-over_calls.result is
+
+pub returns-clause-exact : goal.returns-clause-exact
+returns-clause-exact g c =
+    told-begun c.args.kernel.now.table c.args.state.now c.args.target.now (c.agrees.ensures.agrees.0 (search rules)) c.in_ok-plan.ensures.planned c.in_ok-whole.ensures.numbers

@@ -15,7 +15,7 @@ pub answered-entry-requires : goal.answered-entry-requires
 answered-entry-requires c =
     let t = trail_of c.args.self.now.walk in
     let left = asks_height t.rest t.lacking _ (c.requires.due MasterGone) in
-    let same = ap (λ (s : State). s.room) c.in_ok-kernel.ensures.same in
+    let same = ap (λ (s : State). s.room) c.in_ok-kernel.ensures in
     omega (arith, left, c.requires.fit.room, same, c.room.ensures)
 
 pub after-requires-clause-asks : goal.after-requires-clause-asks
@@ -30,8 +30,8 @@ returns c =
     let due = c.args.due.now in
     later (record old { tried = c.args.tried }) due m c.after.result c.answered-entry.new.kernel c.waiting.result c.answered-entry.result.answer
     (record { room = c.requires.fit.room; countable = c.requires.fit.countable }) c.requires.due c.requires.moment (record {
-      step = c.answered-entry.ensures.step ∙ ap (λ (s : State). step_with old.text.now due.by due.call m.fate (after_exits m.exits s.table)) c.in_ok-kernel.ensures.same;
-      room = c.answered-entry.ensures.room ∙ ap (λ (s : State). s.room) c.in_ok-kernel.ensures.same ∙ c.room.ensures;
+      step = c.answered-entry.ensures.step ∙ ap (λ (s : State). step_with old.text.now due.by due.call m.fate (after_exits m.exits s.table)) c.in_ok-kernel.ensures;
+      room = c.answered-entry.ensures.room ∙ ap (λ (s : State). s.room) c.in_ok-kernel.ensures ∙ c.room.ensures;
       trail = c.after.ensures.trail ∙ ap (advance (trail_of old.walk)) c.answered-entry.ensures.entry;
       sides = c.after.ensures.sides;
       lower = c.after.ensures.lower;
