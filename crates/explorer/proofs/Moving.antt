@@ -56,7 +56,7 @@ mutual
       let s = answered text by order m.fate middle in
       ap (stepping text by order set branches p a) (same (p.calls + 1) (omega arith))
       ∙ ap (with_entry (record { by = by; call = call_of order middle.lacking; answer = s.answer }) p middle)
-          (same-goes text branches (reply_of set s.answer) a b (after_call order set s middle) (λ k lt. same k (omega (arith, lt))))
+      (same-goes text branches (reply_of set s.answer) a b (after_call order set s middle) (λ k lt. same k (omega (arith, lt))))
 
   same-goes : (text : List ℕ) (bs : Branches) (r : Reply) (a b : Pattern) (p : Progress) → ((m : ℕ) → p.calls < m → a m ≡ b m) → goes_with text bs r a p ≡ goes_with text bs r b p
   same-goes text Nothing r a b p same = refl
@@ -174,13 +174,13 @@ later-exit r to t n heirs (Some (Does by order set branches)) p e ls next g k q 
     let at-first : a (p.calls + 1) ≡ leaving text g k = at-event first (λ _. quiet) (p.calls + 1) (omega (arith, come.calls)) in
     let before : b (p.calls + 1) ≡ quiet = quiet-but second (p.calls + 1) (omega (arith, come.calls)) in
     let one = alike-on _ _ _ (come.ends a (same-before first (λ _. quiet) n (omega arith)))
-        (behind-entry _ _ _ (run_with text tree a p) _ (runs-on text by order set branches p a (leaving text g k) at-first)) in
+    (behind-entry _ _ _ (run_with text tree a p) _ (runs-on text by order set branches p a (leaving text g k) at-first)) in
     let two = alike-on _ _ _ (come.ends b (same-before second (λ _. quiet) n (omega arith)))
-        (behind-entry _ _ _ (run_with text tree b p) _ (runs-on text by order set branches p b quiet before)) in
+    (behind-entry _ _ _ (run_with text tree b p) _ (runs-on text by order set branches p b quiet before)) in
     let onto : rest_run text (rest_after (found text by order set branches p (leaving text g k))) a (further text by order set branches p (leaving text g k)) ≡ rest_run text rest a (after_moment (name.Worker g k ∷ []) x) =
     λ i. rest_run text (rest_after (found-same text g k by order set branches p passes' i)) a (further-same text g k by order set branches p passes' i) in
     let join = joined text g k rest ls next x a b more (quiet-but first (x.calls + 1) (omega (arith, calls, come.calls))) (at-event second (λ _. quiet) (x.calls + 1) (omega (arith, calls, come.calls)))
-        (λ m lt. quiet-but first m (omega (arith, lt, calls, come.calls)) ∙ sym (quiet-but second m (omega (arith, lt, calls, come.calls)))) in
+    (λ m lt. quiet-but first m (omega (arith, lt, calls, come.calls)) ∙ sym (quiet-but second m (omega (arith, lt, calls, come.calls)))) in
     reports (sides_of r to) _ _ (alike-on _ _ _ (alike-on _ _ _ one (alike _ _ onto)) (alike-on _ _ _ join (alike-back _ _ two)))
 
 -- What is known of an exit before the call that is due is so of the exit before the next one, where the call passes the worker by.

@@ -272,8 +272,11 @@ module _ (r : Record) (target : Target) (t : Table) (pairs : Bool) where
     with-differ e =
         let es = second e in
         cond_both pairs (map (Two e) es) [] (λ xs. AllByRecursion (λ y. One e ≢ y) xs × Differ xs)
-        (λ is. (all-map (λ y. One e ≢ y) (Two e) es (everywhere (λ f. One e ≢ Two e f) (λ f same. cc) es), differ-map (Two e) (λ x y same. cc) es
-        (met-differ (text_handed r target) (Some e) (pattern_of (One e)) (heirs_of r target) 0 t (run_of r target (pattern_of (One e)) t).entries rises).0))
+        (λ is. (
+          all-map (λ y. One e ≢ y) (Two e) es (everywhere (λ f. One e ≢ Two e f) (λ f same. cc) es),
+          differ-map (Two e) (λ x y same. cc) es
+              (met-differ (text_handed r target) (Some e) (pattern_of (One e)) (heirs_of r target) 0 t (run_of r target (pattern_of (One e)) t).entries rises).0,
+        ))
         (λ is. (tt, tt))
 
     each-differ : (es : List Event) → Differ es → Differ (each_with_pairs r target t pairs es)

@@ -26,6 +26,7 @@ apart g h k j a b other is = both (bears h j a b) refl
   where
     same : (x y z : ℕ) → (x == y) ≡ true → (x == z) ≡ true → (z == y) ≡ true
     same x y z e f = eqb-refl z y (sym (eqb-is x z f) ∙ eqb-is x y e)
+
     both : (c : Bool) → bears h j a b ≡ c → c ≡ false
     both false e = refl
     both true e =
@@ -92,13 +93,13 @@ module _ (g : Generation) (k : ℕ) where
   swap-change : (test : Process → Bool) (m : Process → Process) → IsOfOthers test → Renames test m → Swaps (change test m)
   swap-change test m others renames p = pick (λ x. change test m x ≡ option_map gone (change test m p)) (is_named is_active g k p) (made_exited p) p
       (λ e. ap (λ (b : Bool). Some (if b then m (made_exited p) else made_exited p)) (others.exited p e)
-          ∙ sym (ap (λ (b : Bool). Some (gone (if b then m p else p))) (others.named p e) ∙ ap Some (goes p e)))
+      ∙ sym (ap (λ (b : Bool). Some (gone (if b then m p else p))) (others.named p e) ∙ ap Some (goes p e)))
       (λ e. pick (λ x. Some x ≡ Some (gone x)) (test p) (m p) p (λ is. ap Some (sym (stays (m p) (renames p is)))) (λ is. ap Some (sym (stays p e))))
 
   swap-drop : (test : Process → Bool) → IsOfOthers test → Swaps (drop_where test)
   swap-drop test others p = pick (λ x. drop_where test x ≡ option_map gone (drop_where test p)) (is_named is_active g k p) (made_exited p) p
       (λ e. ap (λ (b : Bool). if b then None else Some (made_exited p)) (others.exited p e)
-          ∙ sym (ap (λ (b : Bool). option_map gone (if b then None else Some p)) (others.named p e) ∙ ap Some (goes p e)))
+      ∙ sym (ap (λ (b : Bool). option_map gone (if b then None else Some p)) (others.named p e) ∙ ap Some (goes p e)))
       (λ e. pick (λ o. o ≡ option_map gone o) (test p) None (Some p) (λ is. refl) (λ is. ap Some (sym (stays p e))))
 
   ---- Lists of rows
@@ -186,6 +187,7 @@ module _ (g : Generation) (k : ℕ) where
         named (Worker n q a b s hs) e = off (stance s) _ (off (q == c.number) _ (apart g h k j a b other (and-right (is_active s) (bears g k a b) e)))
         named (Master n q i live hs) e = refl
         named (Foreign n hs) e = refl
+
         exited : (p : Process) → is_named is_active g k p ≡ true → is_worker stance c.number h j (made_exited p) ≡ false
         exited (Worker n q a b s hs) e = off (stance Exited) _ (off (q == c.number) _ (apart g h k j a b other (and-right (is_active s) (bears g k a b) e)))
         exited (Master n q i live hs) e = refl
