@@ -1,11 +1,11 @@
 //! `--why`: what is said of a fault behind its line, for people.
 use crate::explaining::meaning_of;
-use crate::fault::Fault;
 use crate::instead::line_instead;
 use call_text::TextRefusal;
 use certifier::Mismatch;
 use command_line::{Request, StartOptions, complaint};
 use explanations::Explanation;
+use faults::Fault;
 use master_config::{ConfigRefusal, Key};
 use std::alloc::Global;
 use std::fs;

@@ -20,12 +20,12 @@ use Rattle.word_runner.specs.declared.asking.Asked.{Asked}
 use Rattle.word_runner.specs.declared.asking.Asked.TheVariants as asks
 use Rattle.word_runner.specs.Asking.{asked_by, IsNoted}
 use Rattle.control_words.specs.declared.words.Word.{Word}
-use Rattle.prefork.specs.Starts.{first_record, record_at, silent_workers}
-use Rattle.prefork.specs.declared.start.Start.{Start}
+use Rattle.rehearsal.specs.Starts.{first_record, record_at, silent_workers}
+use Rattle.rehearsal.specs.declared.start.Start.{Start}
 use Rattle.word_runner.specs.Status.{body_status}
-use Rattle.prefork.specs.declared.planning.Form.{Form}
-use Rattle.prefork.specs.declared.planning.Form.TheVariants.{Text, Picture}
-use Rattle.prefork.specs.declared.planning.Outlook.{Outlook}
+use Rattle.rehearsal.specs.declared.planning.Form.{Form}
+use Rattle.rehearsal.specs.declared.planning.Form.TheVariants.{Text, Picture}
+use Rattle.rehearsal.specs.declared.planning.Outlook.{Outlook}
 
 -- a plan, as a line for each step or as a picture
 abbrev pub shown : Form → Plan → List ℕ

@@ -1,9 +1,9 @@
 //! `certify`: blocks, compared with plans and kernel.
 ghost use Rattle.std.specs.Prelude.{IfOk, IfErr};
-ghost use Rattle.prefork.specs.Certificates.{AreExplained, IsOfBlock};
+ghost use Rattle.rehearsal.specs.Certificates.{AreExplained, IsOfBlock};
 
-use crate::fault::Fault;
 use crate::rehearsal::Rehearsal;
+use faults::Fault;
 use pattern_text::write_patterns;
 use std::alloc::Global;
 use word_runner::Block;

@@ -1,8 +1,8 @@
 //! Faults of the program: a line on standard error and a status.
 ghost use Rattle.std.specs.Prelude.{◌≡◌, Some};
 ghost use Rattle.std.specs.IoError.{error_kind};
-ghost use Rattle.prefork.specs.Faults.{command_fault, config_fault, boot_fault, foreign_fault, pattern_fault, transcript_fault, supervisor_fault, block_fault, IsOfKind, fault_text, fault_status};
-ghost use Rattle.prefork.specs.declared.fault.Fault.TheVariants.{Memory};
+ghost use Rattle.faults.specs.Faults.{command_fault, config_fault, boot_fault, foreign_fault, pattern_fault, transcript_fault, block_fault, IsOfKind, fault_text, fault_status};
+ghost use Rattle.faults.specs.declared.fault.Fault.TheVariants.{Memory};
 
 use call_text::TextRefusal;
 use certifier::Mismatch;
@@ -14,7 +14,6 @@ use master_config::ConfigRefusal;
 use std::alloc::AllocError;
 use std::io::{ErrorKind, Write};
 use std::{fmt, io};
-use supervisor::SupervisorFault;
 
 /// Why the program stops before its work is done.
 #[derive(Debug, Drop)]
@@ -167,18 +166,6 @@ impl From<AllocError> for Fault {
 
     fn from(_error: AllocError) -> Fault {
         Fault::Memory
-    }
-}
-
-/// Want of memory, or a file, of a master that ran.
-impl From<SupervisorFault> for Fault {
-    ghost from_gives = { λ why fault. fault ≡ supervisor_fault why };
-
-    fn from(fault: SupervisorFault) -> Fault {
-        match fault {
-            SupervisorFault::Memory => Fault::Memory,
-            SupervisorFault::File => Fault::File,
-        }
     }
 }
 

@@ -3,9 +3,9 @@ use Rattle.std.proofs.lemmas.Result.{err_from_is_err_and}
 use Rattle.master_config.specs.Configuration.{Reads}
 use Rattle.master_config.specs.declared.refusal.ConfigRefusal.{ConfigRefusal}
 use Rattle.master_config.specs.declared.refusal.ConfigRefusal.TheVariants.{NotToml, UnknownKey, WrongKind, OutOfRange, BadAddress, Doubled, NoListener, BadPid, BadCommand, Mixed, Group, Memory}
-use Rattle.prefork.specs.Faults.{config_fault}
-use Rattle.prefork.specs.Starts.{IsOfSettings}
-use Rattle.prefork.proofs.start.settings_in.Goals as goal
+use Rattle.faults.specs.Faults.{config_fault}
+use Rattle.rehearsal.specs.Starts.{IsOfSettings}
+use Rattle.rehearsal.proofs.start.settings_in.Goals as goal
 
 -- a text that is refused is the fault, unless memory was wanted
 refused : (path text : List ℕ) (refusal : ConfigRefusal) → Reads text (Err refusal) → IsOfSettings (Some path) (config_fault refusal)

@@ -1,10 +1,10 @@
 //! How a master starts: its configuration, and the one that a reload goes over to.
 ghost use Rattle.std.specs.Prelude.{◌≡◌, IfOk, IfErr, option_map};
 ghost use Rattle.command_line.specs.Arguments.{start_of};
-ghost use Rattle.prefork.specs.Starts.{AreNamed, IsOfSettings, IsOfStart, IsStart, record_at, silent_workers};
+ghost use Rattle.rehearsal.specs.Starts.{AreNamed, IsOfSettings, IsOfStart, IsStart, record_at, silent_workers};
 
-use crate::fault::Fault;
 use command_line::StartOptions;
+use faults::Fault;
 use kernel_model::BootRefusal;
 use listener_set::{Numbers, WORKER_LIMIT};
 use service_state::Record;
@@ -58,7 +58,7 @@ impl Start {
 }
 
 /// The table of a master's ready workers, none of which has beaten yet.
-pub fn silent_workers(alloc: Global, state: &Record) -> Result<WorkerTable, AllocError>
+pub(crate) fn silent_workers(alloc: Global, state: &Record) -> Result<WorkerTable, AllocError>
     ensures { IfOk result (λ workers. workers ≡ silent_workers state.now) }
 {
     let mut workers = WorkerTable::new(alloc)?;

@@ -6,10 +6,10 @@ use Rattle.word_runner.specs.declared.block.Block.{Block}
 use Rattle.pattern_text.specs.PatternsText.{patterns_of}
 use Rattle.pattern_text.specs.PatternsWriting.{patterns_text}
 use Rattle.certifier.specs.Blocks.{AreTaken, StopsAtBlock}
-use Rattle.prefork.specs.declared.fault.Fault.{Fault}
-use Rattle.prefork.specs.declared.fault.Fault.TheVariants.{Certify, Memory}
-use Rattle.prefork.specs.declared.rehearsal.Rehearsal.{Rehearsal}
-use Rattle.prefork.specs.Rehearsals.{standing_of}
+use Rattle.faults.specs.declared.fault.Fault.{Fault}
+use Rattle.faults.specs.declared.fault.Fault.TheVariants.{Certify, Memory}
+use Rattle.rehearsal.specs.declared.rehearsal.Rehearsal.{Rehearsal}
+use Rattle.rehearsal.specs.Rehearsals.{standing_of}
 
 -- The text is that of patterns that explain the blocks, one each, from where a rehearsal stood to where it stands. What is written
 -- of one pattern or more is read again as these.

@@ -20,9 +20,9 @@ use Rattle.certifier.specs.Certified.{IsBeginning}
 use Rattle.certifier.specs.Explained.{IsNoBeginning}
 use Rattle.certifier.specs.declared.mismatch.Mismatch.{Mismatch}
 use Rattle.plan_executor.specs.Words.{Moments, EnactsAt, DeclinesAt}
-use Rattle.prefork.specs.declared.fault.Fault.{Fault}
-use Rattle.prefork.specs.declared.fault.Fault.TheVariants.{Address, Foreign, Memory}
-use Rattle.prefork.specs.declared.rehearsal.Rehearsal.{Rehearsal}
+use Rattle.faults.specs.declared.fault.Fault.{Fault}
+use Rattle.faults.specs.declared.fault.Fault.TheVariants.{Address, Foreign, Memory}
+use Rattle.rehearsal.specs.declared.rehearsal.Rehearsal.{Rehearsal}
 
 -- nobody holds the address, and a number is left for who is to hold it
 pub record IsFree (address : List ℕ) (kernel : State) : Type 0 where

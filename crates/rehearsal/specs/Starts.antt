@@ -8,12 +8,12 @@ use Rattle.definitions.specs.Start.{booted}
 use Rattle.worker_table.specs.Beats.{Workers, followed}
 use Rattle.master_config.specs.Configuration.{Configuration, IsReadingOf}
 use Rattle.command_line.specs.Arguments as arguments
-use Rattle.prefork.specs.declared.fault.Fault.{Fault}
-use Rattle.prefork.specs.declared.fault.Fault.TheVariants.{Boot, Config}
-use Rattle.prefork.specs.Faults.{IsOfFile}
+use Rattle.faults.specs.declared.fault.Fault.{Fault}
+use Rattle.faults.specs.declared.fault.Fault.TheVariants.{Boot, Config}
+use Rattle.faults.specs.Faults.{IsOfFile}
 use Rattle.kernel_model.specs.declared.boot.BootRefusal.TheVariants.{BadLimits}
-use Rattle.prefork.specs.declared.start.Start.{Start}
-use Rattle.prefork.specs.declared.rehearsal.Rehearsal.{Rehearsal}
+use Rattle.rehearsal.specs.declared.start.Start.{Start}
+use Rattle.rehearsal.specs.declared.rehearsal.Rehearsal.{Rehearsal}
 
 -- settings that a text of a file says
 pub record AreConfigured (settings : Settings) : Type 0 where

@@ -1,13 +1,13 @@
 //! `plan`: what a control word would do.
 ghost use Rattle.std.specs.Prelude.{◌≡◌, IfOk, IfErr};
 ghost use Rattle.definitions.specs.Target.{IsTarget};
-ghost use Rattle.prefork.specs.Faults.{IsDue};
-ghost use Rattle.prefork.specs.Outlooks.{shown, Tells, IsPlanned, IsForeseen};
-ghost use Rattle.prefork.specs.Starts.{record_at};
+ghost use Rattle.faults.specs.Faults.{IsDue};
+ghost use Rattle.rehearsal.specs.Outlooks.{shown, Tells, IsPlanned, IsForeseen};
+ghost use Rattle.rehearsal.specs.Starts.{record_at};
 
-use crate::fault::Fault;
 use crate::start::{Start, silent_workers};
 use control_words::Word;
+use faults::Fault;
 use plan_text::{write_graph, write_plan};
 use rollback_plan::Plan;
 use service_state::Record;
@@ -50,7 +50,7 @@ pub fn look_ahead(alloc: Global, start: &Start, word: Word, form: Form) -> Resul
 }
 
 /// What a word comes to that has no plan, and the status that it has when it is carried out.
-fn told(alloc: Global, body: &Body) -> Result<Outlook, AllocError>
+pub fn told(alloc: Global, body: &Body) -> Result<Outlook, AllocError>
     ensures { IfOk result (Tells body.now) }
 {
     let mut text = Vec::new(alloc);

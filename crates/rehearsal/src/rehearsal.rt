@@ -5,28 +5,28 @@ ghost use Rattle.definitions.specs.Run.{Moment};
 ghost use Rattle.table_text.specs.TableText.{IsTextOf};
 ghost use Rattle.word_runner.specs.declared.block.Block.{Block as Done};
 ghost use Rattle.certifier.specs.Blocks.{AreTaken, StopsAtBlock};
-ghost use Rattle.prefork.specs.Faults.{IsDue};
-ghost use Rattle.prefork.specs.Starts.{IsStarted, limits, record_at};
+ghost use Rattle.faults.specs.Faults.{IsDue};
+ghost use Rattle.rehearsal.specs.Starts.{IsStarted, limits, record_at};
 ghost use Rattle.definitions.specs.Start.{booted};
-ghost use Rattle.prefork.specs.declared.fault.Fault.TheVariants.{Memory};
+ghost use Rattle.faults.specs.declared.fault.Fault.TheVariants.{Memory};
 ghost use Rattle.definitions.specs.Target.{IsTarget};
-ghost use Rattle.prefork.specs.Explorations.{AreCounted, IsExplored};
-ghost use Rattle.prefork.specs.Rehearsals.{Held, IsOfHeld, standing_of, IsRehearsed, IsShownOf, IsShownBy};
+ghost use Rattle.rehearsal.specs.Explorations.{IsExplored};
+ghost use Rattle.rehearsal.specs.Rehearsals.{Held, IsOfHeld, standing_of, IsRehearsed, IsShownOf, IsShownBy};
 
-use crate::exploration::Explored;
-use crate::fault::Fault;
+use crate::exploring::{Explored, counted};
 use crate::start::{Start, silent_workers};
 use certifier::{BlockMismatch, Mismatch, certify_beginning, certify_blocks};
 use control_words::Word;
-use explorer::{Audience, ExploreRefusal, Findings, explore};
+use explorer::{Audience, Findings};
+use faults::Fault;
 use kernel_model::{Kernel, Pattern};
 use listener_set::{Address, WORKER_LIMIT};
-use plan_executor::{EnactRefusal, run_words};
+use plan_executor::run_words;
 use plan_runner::CallLog;
 use service_state::Record;
 use std::alloc::{AllocError, Global};
 use vocabulary::{Limits, Settings, Target};
-use word_runner::{Asked, Block, Body, CodeText, asked_by, note};
+use word_runner::{Asked, Block, Body, asked_by, note};
 use worker_table::WorkerTable;
 
 /// What the modelled kernel of a rehearsal allows.
@@ -35,14 +35,17 @@ const LIMITS: Limits = Limits {
     descriptors: 64,
 };
 
-/// A running master on the modelled kernel, with its record as long as it runs and the beats of
-/// its workers.
+/// A running master on the modelled kernel.
 #[derive(Drop)]
 pub struct Rehearsal {
-    kernel: Kernel,
-    record: Option<Record>,
-    workers: WorkerTable,
-    next: Settings,
+    /// The kernel that it runs on.
+    pub kernel: Kernel,
+    /// What it knows of itself, as long as it runs.
+    pub record: Option<Record>,
+    /// Its workers, with their beats.
+    pub workers: WorkerTable,
+    /// The settings that HUP and USR2 go over to.
+    pub next: Settings,
 }
 
 /// The kernel of a start with some settings, where so many workers run.
@@ -210,30 +213,6 @@ impl Rehearsal {
         ensures { IfOk result (λ text. IsTextOf self.now.kernel.table text.items) }
     {
         self.kernel.table_text()
-    }
-}
-
-/// Counts how a target ends under no event, under each event that this run meets, and under each pair where these are
-/// asked for.
-fn counted<A: Audience>(
-    alloc: Global,
-    kernel: &Kernel,
-    state: &Record,
-    target: &Target,
-    pairs: bool,
-    found: &mut Findings,
-    audience: &mut A,
-) -> Result<Explored, AllocError>
-    requires { IsTarget target.now }
-    ensures { IfOk result (AreCounted state.now target.now kernel.now.table pairs found.old.tally found.new.tally) }
-{
-    match explore(alloc, kernel, state, target, pairs, found, audience) {
-        Ok(()) => Ok(Explored::All),
-        Err(ExploreRefusal::Enough) => Ok(Explored::Cut),
-        Err(ExploreRefusal::Enact(EnactRefusal::Memory)) => Err(AllocError),
-        Err(ExploreRefusal::Enact(refusal)) => {
-            Ok(Explored::Told(Body::Refused(CodeText::from(refusal))))
-        }
     }
 }
 
