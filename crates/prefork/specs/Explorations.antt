@@ -1,26 +1,26 @@
--- What is counted of the runs of a word.
-use Rattle.std.specs.Prelude.{◌≡◌, Bool, Some, ⊤}
-use Rattle.vocabulary.specs.declared.targets.Target.{Target}
-use Rattle.definitions.specs.Table.{Table}
-use Rattle.definitions.specs.Record.{Record}
-use Rattle.control_words.specs.declared.words.Word.{Word}
-use Rattle.word_runner.specs.Asking.{asked_by}
-use Rattle.word_runner.specs.declared.asking.Asked.TheVariants.{Act}
+-- What is written of explored runs.
+use Rattle.std.specs.Prelude.{◌≡◌, ℕ, nat_lt, Bool, false, true, ◌&&◌, ◌||◌, Option, if◌then◌else◌}
 use Rattle.explorer.specs.declared.tally.Tally.{Tally}
-use Rattle.explorer.specs.Explored.{explored_from}
-use Rattle.prefork.specs.declared.exploration.Explored.{Explored}
-use Rattle.prefork.specs.declared.exploration.Explored.TheVariants.{All, Cut, Told}
-use Rattle.prefork.specs.declared.rehearsal.Rehearsal.{Rehearsal}
+use Rattle.explorer.specs.declared.findings.Least.{Least}
+use Rattle.exploration_text.specs.SummaryText.{summary_text}
+use Rattle.rehearsal.specs.Outlooks.{Tells}
+use Rattle.rehearsal.specs.declared.planning.Outlook.{Outlook}
+use Rattle.rehearsal.specs.declared.exploring.Explored.{Explored}
+use Rattle.rehearsal.specs.declared.exploring.Explored.TheVariants.{All, Cut, Told}
 
--- Where all runs of a target are counted, the tally has each of them once.
-abbrev pub AreCounted : Record → Target → Table → Bool → Tally → Tally → Explored → Type 0
-AreCounted r target t pairs before after All = after ≡ explored_from r target t pairs before
-AreCounted r target t pairs before after Cut = ⊤
-AreCounted r target t pairs before after (Told body) = ⊤
+abbrev pub is_degraded : Tally → Bool
+is_degraded tally = nat_lt 0 tally.degraded_old.count || nat_lt 0 tally.degraded_target.count
 
--- Where all runs of a word are counted, they are those of the target that it asks for.
-abbrev pub IsExplored : Rehearsal → Word → Bool → Tally → Tally → Explored → Type 0
-IsExplored m word pairs before after All =
-    (r : Record) × (target : Target) × (m.record ≡ Some r) × (asked_by word r m.workers (Some m.next) ≡ Act target) × (after ≡ explored_from r target m.kernel.table pairs before)
-IsExplored m word pairs before after Cut = ⊤
-IsExplored m word pairs before after (Told body) = ⊤
+-- 4 where a run ended degraded and that is forbidden
+abbrev pub status_of : Tally → Bool → ℕ
+status_of tally is_forbidden = if is_forbidden && is_degraded tally then 4 else 0
+
+pub record Counts (tally : Tally) (least : Option Least) (tables : ℕ) (is_cut is_forbidden : Bool) (outlook : Outlook) : Type 0 where
+  pub text : outlook.text.items ≡ summary_text tally least tables is_cut
+  pub status : outlook.status ≡ status_of tally is_forbidden
+
+-- what was counted, or what the word came to instead
+abbrev pub IsSummary : Explored → Tally → Option Least → ℕ → Bool → Outlook → Type 0
+IsSummary All tally least tables is_forbidden outlook = Counts tally least tables false is_forbidden outlook
+IsSummary Cut tally least tables is_forbidden outlook = Counts tally least tables true is_forbidden outlook
+IsSummary (Told body) tally least tables is_forbidden outlook = Tells body outlook

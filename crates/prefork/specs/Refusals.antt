@@ -5,8 +5,8 @@ use Rattle.master_config.specs.declared.refusal.ConfigRefusal.{ConfigRefusal}
 use Rattle.supervisor.specs.declared.next.NextRefusal.{NextRefusal}
 use Rattle.supervisor.specs.declared.next.NextRefusal.TheVariants.{Memory, Refused, Unreadable}
 use Rattle.vocabulary.specs.Settings.{Settings, plain_settings}
-use Rattle.prefork.specs.Starts.{AreNamed, IsOfSettings}
-use Rattle.prefork.specs.declared.fault.Fault.TheVariants as fault
+use Rattle.rehearsal.specs.Starts.{AreNamed, IsOfSettings}
+use Rattle.faults.specs.declared.fault.Fault.TheVariants as fault
 
 -- the code of a configuration's refusal, or want of memory for it
 abbrev pub IsDeclined : ConfigRefusal → NextRefusal → Type 0

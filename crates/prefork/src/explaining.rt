@@ -1,6 +1,6 @@
 //! `explain`: what the codes mean.
-use crate::fault::Fault;
 use explanations::{Explanation, FAULTS, WORDS, explanation_of};
+use faults::Fault;
 use std::alloc::{AllocError, Global};
 
 /// The column at which meanings begin in the list of all codes.

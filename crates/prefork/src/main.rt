@@ -1,19 +1,15 @@
 //! `prefork`: a preforking master, whose plans are proved.
 #![tactic(auto)]
 
-mod certifying;
 mod explaining;
 mod exploration;
-mod fault;
 mod instead;
-mod planning;
+mod lines;
 mod program;
-mod rehearsal;
 mod serving;
-mod start;
 mod why;
 
-use fault::Fault;
+use faults::Fault;
 pub use program::run;
 pub use serving::OwnNumber;
 use std::env::Env;

@@ -5,24 +5,22 @@ ghost use Rattle.pattern_text.specs.PatternsText.{patterns_of};
 ghost use Rattle.std.specs.Io.KnownBytes.{Appends};
 ghost use Rattle.table_text.specs.TableText.{IsTextOf};
 ghost use Rattle.word_runner.specs.declared.block.Block.{Block as Done};
-ghost use Rattle.prefork.specs.Faults.{IsOfFile, IsOfPatterns};
+ghost use Rattle.faults.specs.Faults.{IsOfFile};
+ghost use Rattle.prefork.specs.Input.{IsOfPatterns};
 ghost use Rattle.prefork.specs.Output.{blocks_text, IsState};
-ghost use Rattle.prefork.specs.Rehearsals.{IsRehearsed};
+ghost use Rattle.rehearsal.specs.Rehearsals.{IsRehearsed};
 ghost use Rattle.word_runner.specs.Status.{gravest};
 
-use crate::certifying::certify_all;
 use crate::explaining::explain;
 use crate::exploration::{Listing, summary};
-use crate::fault::Fault;
-use crate::planning::{self, Form};
-use crate::rehearsal::Rehearsal;
 use crate::serving::{OwnNumber, adopt, child, supervise};
-use crate::start::Start;
 use crate::why;
 use command_line::{CertifyOptions, EnactOptions, ExploreOptions, PlanOptions, Request};
 use control_words::Word;
 use explorer::Findings;
+use faults::Fault;
 use kernel_model::Pattern;
+use rehearsal::{Form, Rehearsal, Start, certify_all, look_ahead};
 use std::alloc::{AllocError, Global};
 use std::io::{Read, Write};
 use std::process::Processes;
@@ -170,7 +168,7 @@ fn plan<R: AllocGlobal + Files, O: Write>(
     } else {
         Form::Text
     };
-    let outlook = planning::look_ahead(alloc, &start, word, form)?;
+    let outlook = look_ahead(alloc, &start, word, form)?;
     write(output, outlook.text.as_slice())?;
     Ok(outlook.status)
 }
@@ -197,9 +195,9 @@ fn explore<R: AllocGlobal + Files, O: Write, E: Write>(
     let mut listing = Listing::new(alloc, output, errors, options);
     let explored = rehearsal.explore(alloc, word, pairs, &mut found, &mut listing)?;
     listing.finish()?;
-    let (text, status) = summary(alloc, &explored, &found, is_forbidden)?;
-    write(output, text.as_slice())?;
-    Ok(status)
+    let outlook = summary(alloc, &explored, &found, is_forbidden)?;
+    write(output, outlook.text.as_slice())?;
+    Ok(outlook.status)
 }
 
 /// Whether runs with two events are asked for; there are none with more.

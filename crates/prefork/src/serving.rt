@@ -1,23 +1,24 @@
 //! `supervise`, `adopt` and `child`: masters and workers that run.
 ghost use Rattle.std.specs.Prelude.{◌≡◌, ◌≤◌, IfOk, IfErr, option_map};
 ghost use Rattle.vocabulary.specs.Settings.{plain_settings};
+ghost use Rattle.prefork.specs.Faults.{supervisor_fault};
 ghost use Rattle.prefork.specs.Refusals.{IsDeclined, IsNext, IsOfNext};
-ghost use Rattle.prefork.specs.Starts.{AreNamed};
+ghost use Rattle.rehearsal.specs.Starts.{AreNamed};
 
-use crate::fault::Fault;
-use crate::start::settings_in;
 use child_processes::OsFamily;
 use child_programs::{Served, serve_master, serve_worker};
 use command_line::{AdoptOptions, SuperviseOptions};
+use faults::Fault;
 use log::sink::Writer;
 use log::{LevelFilter, Logged};
 use master_config::{Config, ConfigRefusal};
+use rehearsal::settings_in;
 use std::alloc::Global;
 use std::io::{Read, Write};
 use std::process::Processes;
 use std::rt::Files;
 use std::{env, fs};
-use supervisor::{NextRefusal, NextSettings, Start, supervise_on};
+use supervisor::{NextRefusal, NextSettings, Start, SupervisorFault, supervise_on};
 use vocabulary::Settings;
 use word_runner::CodeText;
 
@@ -98,7 +99,17 @@ pub fn supervise<R: AllocGlobal + Files + Processes + OwnNumber, I: Read, O: Wri
     };
     let mut supervised = supervise_on(alloc, family, &start, &mut next, input, output, &log);
     supervised.family.finish();
-    Ok(supervised.status?)
+    supervised.status.map_err(fault_of)
+}
+
+/// Want of memory, or a file, of a master that ran.
+fn fault_of(fault: SupervisorFault) -> Fault
+    ensures { result ≡ supervisor_fault fault }
+{
+    match fault {
+        SupervisorFault::Memory => Fault::Memory,
+        SupervisorFault::File => Fault::File,
+    }
 }
 
 /// The configuration of the start; the defaults where no file is named.

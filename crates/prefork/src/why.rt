@@ -1,12 +1,12 @@
 //! `--why`: what is said of a fault behind its line, for people.
 use crate::explaining::meaning_of;
-use crate::fault::Fault;
 use crate::instead::line_instead;
+use crate::lines::{line_of_block, line_of_refusal};
 use call_text::TextRefusal;
 use certifier::Mismatch;
 use command_line::{Request, StartOptions, complaint};
 use explanations::Explanation;
-use master_config::{ConfigRefusal, Key};
+use faults::Fault;
 use std::alloc::Global;
 use std::fs;
 use std::io::Write;
@@ -203,43 +203,12 @@ fn tell_file<R: AllocGlobal + Files, E: Write>(
         return false;
     };
     let _ = write!(errors, "  {option} {path}");
-    if let Some(key) = key_of(&refusal) {
-        tell_key(text.as_slice(), key, errors);
+    if let Some(line) = line_of_refusal(text.as_slice(), &refusal) {
+        let _ = write!(errors, ", line {}: ", line.number);
+        let _ = errors.write_all(line.text);
     }
     let _ = errors.write_all(b"\n");
     true
-}
-
-/// The key that a refusal is about, where it is about one.
-fn key_of(refusal: &ConfigRefusal) -> Option<Key> {
-    match refusal {
-        ConfigRefusal::WrongKind(key) | ConfigRefusal::OutOfRange(key) => Some(*key),
-        ConfigRefusal::BadAddress(..) | ConfigRefusal::Doubled(_) | ConfigRefusal::NoListener => {
-            Some(Key::Listeners)
-        }
-        ConfigRefusal::BadPid => Some(Key::Pid),
-        ConfigRefusal::BadCommand => Some(Key::Command),
-        ConfigRefusal::Mixed | ConfigRefusal::Group(..) => Some(Key::Groups),
-        _ => None,
-    }
-}
-
-/// The line in which a key stands, with its number.
-fn tell_key<E: Write>(text: &[u8], key: Key, errors: &mut E) {
-    for (place, line) in text.split(|byte| *byte == b'\n').enumerate() {
-        if line.trim_ascii_start().starts_with(key.name().as_bytes()) {
-            let _ = write!(errors, ", line {}: ", place + 1);
-            let _ = errors.write_all(line);
-            return;
-        }
-    }
-}
-
-/// A line of standard input, with its number from 1.
-#[derive(Clone, Copy)]
-struct Line<'a> {
-    number: usize,
-    text: &'a [u8],
 }
 
 /// The line of a block that is not as it should be: an entry, or else the block's last line.
@@ -248,7 +217,7 @@ fn tell_block<E: Write>(given: &[u8], number: usize, mismatch: &Mismatch, errors
         Mismatch::Step(entry) => *entry,
         _ => usize::MAX,
     };
-    if let Some(line) = line_of(given, number, wanted) {
+    if let Some(line) = line_of_block(given, number, wanted) {
         let _ = write!(errors, "  standard input, line {}: ", line.number);
         tell_text(Some(line.text), errors);
     }
@@ -269,27 +238,4 @@ fn tell_instead<R: AllocGlobal + Files, E: Write>(
             tell_text(Some(line.as_slice()), errors);
         }
     }
-}
-
-/// The line at a place of a block, behind its first line, or the last that the block has before that. Blocks are counted
-/// from 1, and begin with `word` or `unread`.
-fn line_of(given: &[u8], number: usize, place: usize) -> Option<Line<'_>> {
-    let mut begun: usize = 0;
-    let mut behind: usize = 0;
-    let mut found = None;
-    for (index, text) in given.split(|byte| *byte == b'\n').enumerate() {
-        if text.starts_with(b"word ") || text.starts_with(b"unread ") {
-            begun = begun.saturating_add(1);
-            behind = 0;
-        } else {
-            behind = behind.saturating_add(1);
-        }
-        if begun == number && behind <= place && !text.is_empty() {
-            found = Some(Line {
-                number: index.saturating_add(1),
-                text,
-            });
-        }
-    }
-    found
 }

@@ -1,0 +1,11 @@
+//! Texts of explored runs: a run that is listed, and what all of them came to.
+//!
+//! Each text is a function to bytes in `specs/`. Writers put it behind what was written before.
+#![tactic(auto)]
+
+mod events;
+mod runs;
+mod summary;
+
+pub use runs::write_run;
+pub use summary::write_summary;

@@ -1,0 +1,33 @@
+//! Runs, as they are listed.
+ghost use Rattle.std.specs.Prelude.{◌≡◌, ◌++◌, IfOk};
+ghost use Rattle.exploration_text.specs.RunText.{events_text, run_text};
+
+use crate::events::write_line;
+use call_text::write_report;
+use explorer::Tried;
+use std::alloc::AllocError;
+use vocabulary::Report;
+
+/// A line for each event, in the order of the run.
+fn write_events(out: &mut Vec<u8>, tried: &Tried) -> Result<(), AllocError>
+    ensures { IfOk result (λ _. out.new.items ≡ out.old.items ++ events_text tried.now) }
+{
+    match tried {
+        Tried::Nothing => Ok(()),
+        Tried::One(event) => write_line(out, event),
+        Tried::Two(first, second) => {
+            write_line(out, first)?;
+            write_line(out, second)
+        }
+    }
+}
+
+/// Puts a run behind what was written: a line for each of its events, and the line of its report. The only refusal is want of
+/// memory.
+pub fn write_run(out: &mut Vec<u8>, tried: &Tried, report: &Report) -> Result<(), AllocError>
+    ensures { IfOk result (λ _. out.new.items ≡ out.old.items ++ run_text tried.now report.now) }
+{
+    write_events(out, tried)?;
+    write_report(out, report)?;
+    out.extend_from_slice(b"\n")
+}

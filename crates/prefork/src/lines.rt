@@ -1,0 +1,117 @@
+//! Lines that a fault is about.
+use master_config::{ConfigRefusal, GroupFault, Key};
+
+/// How a group begins that is written as a table of its own.
+const HEADING: &[u8] = b"[[groups]]";
+
+/// A line of a text, with its number from 1.
+#[derive(Clone, Copy)]
+pub struct Line<'a> {
+    pub number: usize,
+    pub text: &'a [u8],
+}
+
+/// The line of a configuration in which the key stands that a refusal is about, where it is about one: of a group's key,
+/// the line behind the heading of the group, or the heading itself where the group has no such line.
+pub fn line_of_refusal<'a>(text: &'a [u8], refusal: &ConfigRefusal) -> Option<Line<'a>> {
+    if let ConfigRefusal::Group(index, fault) = refusal {
+        let found = line_of_group(text, *index, key_of_group(fault));
+        if found.is_some() {
+            return found;
+        }
+    }
+    match key_of(refusal) {
+        Some(key) => line_of_key(text, key),
+        None => None,
+    }
+}
+
+/// The key that a refusal is about, where it is about one.
+fn key_of(refusal: &ConfigRefusal) -> Option<Key> {
+    match refusal {
+        ConfigRefusal::WrongKind(key) | ConfigRefusal::OutOfRange(key) => Some(*key),
+        ConfigRefusal::BadAddress(..) | ConfigRefusal::Doubled(_) | ConfigRefusal::NoListener => {
+            Some(Key::Listeners)
+        }
+        ConfigRefusal::BadPid => Some(Key::Pid),
+        ConfigRefusal::BadCommand => Some(Key::Command),
+        ConfigRefusal::Mixed | ConfigRefusal::Group(..) => Some(Key::Groups),
+        _ => None,
+    }
+}
+
+/// The key of a group that its fault is about, where it is about one.
+fn key_of_group(fault: &GroupFault) -> Option<Key> {
+    match fault {
+        GroupFault::WrongKind(key) | GroupFault::OutOfRange(key) => Some(*key),
+        GroupFault::BadAddress(..) | GroupFault::Doubled(_) | GroupFault::NoListener => {
+            Some(Key::Listeners)
+        }
+        GroupFault::UnknownKey => None,
+    }
+}
+
+/// The first line that begins with a key, or with a heading of its name.
+fn line_of_key(text: &[u8], key: Key) -> Option<Line<'_>> {
+    for (place, line) in text.split(|byte| *byte == b'\n').enumerate() {
+        if names(line, key) {
+            return Some(Line {
+                number: place.saturating_add(1),
+                text: line,
+            });
+        }
+    }
+    None
+}
+
+/// The last line behind the heading of the group at an index, counted from 0, that begins with a key, or else the heading.
+fn line_of_group(text: &[u8], index: usize, key: Option<Key>) -> Option<Line<'_>> {
+    let mut begun: usize = 0;
+    let mut found = None;
+    for (place, line) in text.split(|byte| *byte == b'\n').enumerate() {
+        let is_heading = line.trim_ascii_start().starts_with(HEADING);
+        if is_heading {
+            begun = begun.saturating_add(1);
+        }
+        let is_its = is_heading || key.is_some_and(|key| names(line, key));
+        if begun == index.saturating_add(1) && is_its {
+            found = Some(Line {
+                number: place.saturating_add(1),
+                text: line,
+            });
+        }
+    }
+    found
+}
+
+/// Whether a line begins with a key, or with a heading of its name.
+fn names(line: &[u8], key: Key) -> bool {
+    let start = line
+        .iter()
+        .position(|byte| !matches!(*byte, b' ' | b'\t' | b'['))
+        .unwrap_or(line.len());
+    line[start..].starts_with(key.name().as_bytes())
+}
+
+/// The line at a place of a block, behind its first line, or the last that the block has before that. Blocks are counted
+/// from 1, and begin with `word` or `unread`.
+pub fn line_of_block(given: &[u8], number: usize, place: usize) -> Option<Line<'_>> {
+    let mut begun: usize = 0;
+    let mut behind: usize = 0;
+    let mut found = None;
+    for (index, text) in given.split(|byte| *byte == b'\n').enumerate() {
+        if text.starts_with(b"word ") || text.starts_with(b"unread ") {
+            begun = begun.saturating_add(1);
+            behind = 0;
+        } else {
+            behind = behind.saturating_add(1);
+        }
+        if begun == number && behind <= place && !text.is_empty() {
+            found = Some(Line {
+                number: index.saturating_add(1),
+                text,
+            });
+        }
+    }
+    found
+}

@@ -1,0 +1,5 @@
+pub mod Certificates
+pub mod Explorations
+pub mod Outlooks
+pub mod Rehearsals
+pub mod Starts

@@ -1,0 +1,15 @@
+//! A master on the modelled kernel: started by files and options, it carries words out, certifies blocks, explores what a word
+//! comes to, and plans what a word would do.
+#![tactic(auto)]
+
+mod certifying;
+mod exploring;
+mod planning;
+mod rehearsal;
+mod start;
+
+pub use certifying::certify_all;
+pub use exploring::Explored;
+pub use planning::{Form, Outlook, look_ahead, told};
+pub use rehearsal::Rehearsal;
+pub use start::{Start, settings_in};
