@@ -74,7 +74,12 @@ class Trials:
         self.kept = tempfile.TemporaryDirectory(prefix="edits-", ignore_cleanup_errors=True)
 
     def start(self):
-        for lane in self.lanes:
+        """One check at a time while crates are proved: more would slow the proofs down, even at this priority."""
+        self.lanes[0].start()
+
+    def start_all(self):
+        """As many checks side by side as there are processors, once the proofs have ended."""
+        for lane in self.lanes[1:]:
             lane.start()
 
     def proved(self, name):

@@ -1,3 +1,4 @@
+pub mod Beginnings
 pub mod Explorations
 pub mod Faults
 pub mod Input

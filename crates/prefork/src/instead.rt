@@ -1,9 +1,9 @@
 //! How a run would have gone on where a block is none of the master's.
+use crate::beginning::begin;
 use certifier::Mismatch;
 use command_line::CertifyOptions;
 use faults::Fault;
 use plan_runner::CallLog;
-use rehearsal::{Rehearsal, Start};
 use std::alloc::{AllocError, Global};
 use std::rt::Files;
 use transcript::{read_transcripts, write_transcript};
@@ -23,11 +23,7 @@ pub fn line_instead<R: AllocGlobal + Files>(
     let Some(Block::Heard(word, body)) = blocks.get(number.wrapping_sub(1)) else {
         return Ok(None);
     };
-    let start = Start::read(rt, &options.start)?;
-    let mut rehearsal = Rehearsal::start(alloc, &start)?;
-    if let Some(address) = options.held {
-        rehearsal.hold(address)?;
-    }
+    let mut rehearsal = begin(rt, &options.start, options.held)?;
     match rehearsal.certify(alloc, &blocks[..number.wrapping_sub(1)]) {
         Ok(_) => (),
         Err(_) => return Ok(None),

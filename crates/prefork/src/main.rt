@@ -1,6 +1,7 @@
 //! `prefork`: a preforking master, whose plans are proved.
 #![tactic(auto)]
 
+mod beginning;
 mod explaining;
 mod exploration;
 mod instead;
@@ -11,7 +12,6 @@ mod why;
 
 use faults::Fault;
 pub use program::run;
-pub use serving::OwnNumber;
 use std::env::Env;
 use std::process::ExitCode;
 use std::{env, io, process};
@@ -26,14 +26,15 @@ fn main(rt: HostRuntime) -> ExitCode {
     };
     let mut input = rt.reader();
     let mut output = io::writer(&stdout);
-    ExitCode::from(run(&rt, args.as_slice(), &mut input, &mut output, &mut errors))
-}
-
-impl OwnNumber for HostRuntime {
-    fn own_number(&self) -> u32 {
-        // The system counts processes from 1.
-        process::id(self.process()).max(1)
-    }
+    let number = process::id(rt.process());
+    ExitCode::from(run(
+        &rt,
+        number,
+        args.as_slice(),
+        &mut input,
+        &mut output,
+        &mut errors,
+    ))
 }
 
 /// The words of the command line, of which the first is the program's name.

@@ -11,9 +11,10 @@ ghost use Rattle.prefork.specs.Output.{blocks_text, IsState};
 ghost use Rattle.rehearsal.specs.Rehearsals.{IsRehearsed};
 ghost use Rattle.word_runner.specs.Status.{gravest};
 
+use crate::beginning::begin;
 use crate::explaining::explain;
 use crate::exploration::{Listing, summary};
-use crate::serving::{OwnNumber, adopt, child, supervise};
+use crate::serving::{adopt, child, supervise};
 use crate::why;
 use command_line::{CertifyOptions, EnactOptions, ExploreOptions, PlanOptions, Request};
 use control_words::Word;
@@ -30,16 +31,18 @@ use word_runner::{Block, gravest};
 
 /// Runs the program, and gives its exit status.
 ///
-/// Faults are one line on standard error; blocks of words that were done are written first.
-pub fn run<R: AllocGlobal + Files + Processes + OwnNumber, I: Read, O: Write, E: Write>(
+/// Faults are one line on standard error; blocks of words that were done are written first. `number` is that of its own
+/// process.
+pub fn run<R: AllocGlobal + Files + Processes, I: Read, O: Write, E: Write>(
     rt: &R,
+    number: u32,
     args: &[String],
     input: &mut I,
     output: &mut O,
     errors: &mut E,
 ) -> u8 {
     let mut given = Vec::new(rt.alloc());
-    match answer(rt, args, input, &mut given, output, errors) {
+    match answer(rt, number, args, input, &mut given, output, errors) {
         Ok(status) => status,
         Err(fault) => {
             let status = fault.tell(errors);
@@ -50,8 +53,9 @@ pub fn run<R: AllocGlobal + Files + Processes + OwnNumber, I: Read, O: Write, E:
 }
 
 /// Answers the arguments. What is read of standard input is left in `given`.
-fn answer<R: AllocGlobal + Files + Processes + OwnNumber, I: Read, O: Write, E: Write>(
+fn answer<R: AllocGlobal + Files + Processes, I: Read, O: Write, E: Write>(
     rt: &R,
+    number: u32,
     args: &[String],
     input: &mut I,
     given: &mut Vec<u8>,
@@ -63,8 +67,8 @@ fn answer<R: AllocGlobal + Files + Processes + OwnNumber, I: Read, O: Write, E: 
         Request::Plan(options) => plan(rt, &options, output),
         Request::Explore(options) => explore(rt, &options, output, errors),
         Request::Certify(options) => certify(rt, &options, input, given, output),
-        Request::Supervise(options) => supervise(rt, &options, input, output, errors),
-        Request::Adopt(options) => adopt(rt, &options, input, output),
+        Request::Supervise(options) => supervise(rt, number, &options, input, output, errors),
+        Request::Adopt(options) => adopt(rt, number, &options, input, output),
         Request::Child => Ok(child(input, output)),
         Request::Explain(options) => {
             let text = explain(rt.alloc(), options.code)?;
@@ -100,11 +104,7 @@ fn enact<R: AllocGlobal + Files, I: Read, O: Write>(
 ) -> Result<u8, Fault> {
     let alloc = rt.alloc();
     let words = read_words(alloc, &options.words)?;
-    let start = Start::read(rt, &options.start)?;
-    let mut rehearsal = Rehearsal::start(alloc, &start)?;
-    if let Some(address) = options.held {
-        rehearsal.hold(address)?;
-    }
+    let mut rehearsal = begin(rt, &options.start, options.held)?;
     let patterns = read_patterns(alloc, input, given)?;
     let mut text = Vec::new(alloc);
     let done = rehearse(alloc, &mut rehearsal, &words, &patterns, &mut text);
@@ -140,11 +140,7 @@ fn certify<R: AllocGlobal + Files, I: Read, O: Write>(
     output: &mut O,
 ) -> Result<u8, Fault> {
     let alloc = rt.alloc();
-    let start = Start::read(rt, &options.start)?;
-    let mut rehearsal = Rehearsal::start(alloc, &start)?;
-    if let Some(address) = options.held {
-        rehearsal.hold(address)?;
-    }
+    let mut rehearsal = begin(rt, &options.start, options.held)?;
     input.read_to_end(given)?;
     let blocks = read_transcripts(alloc, given.as_slice()).map_err(Fault::of_transcript)?;
     let text = certify_all(alloc, &mut rehearsal, blocks.as_slice())?;
@@ -186,11 +182,7 @@ fn explore<R: AllocGlobal + Files, O: Write, E: Write>(
     let word = control_words::read(options.word.as_bytes()).map_err(|refusal| Fault::Word(
         1, refusal,
     ))?;
-    let start = Start::read(rt, &options.start)?;
-    let mut rehearsal = Rehearsal::start(alloc, &start)?;
-    if let Some(address) = options.held {
-        rehearsal.hold(address)?;
-    }
+    let mut rehearsal = begin(rt, &options.start, options.held)?;
     let mut found = Findings::new(alloc);
     let mut listing = Listing::new(alloc, output, errors, options);
     let explored = rehearsal.explore(alloc, word, pairs, &mut found, &mut listing)?;

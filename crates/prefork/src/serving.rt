@@ -1,9 +1,7 @@
 //! `supervise`, `adopt` and `child`: masters and workers that run.
-ghost use Rattle.std.specs.Prelude.{◌≡◌, ◌≤◌, IfOk, IfErr, option_map};
-ghost use Rattle.vocabulary.specs.Settings.{plain_settings};
+ghost use Rattle.std.specs.Prelude.{◌≡◌, option_map};
 ghost use Rattle.prefork.specs.Faults.{supervisor_fault};
-ghost use Rattle.prefork.specs.Refusals.{IsDeclined, IsNext, IsOfNext};
-ghost use Rattle.rehearsal.specs.Starts.{AreNamed};
+ghost use Rattle.prefork.specs.Refusals.{IsDeclined, IsNext, IsRefusalFor};
 
 use child_processes::OsFamily;
 use child_programs::{Served, serve_master, serve_worker};
@@ -22,13 +20,6 @@ use supervisor::{NextRefusal, NextSettings, Start, SupervisorFault, supervise_on
 use vocabulary::Settings;
 use word_runner::CodeText;
 
-/// What knows the number of its own process.
-pub trait OwnNumber {
-    /// The number, at least 1.
-    fn own_number(&self) -> u32
-        ensures { 1 ≤ result };
-}
-
 /// The configuration that a reload goes over to: a file, read anew each time.
 #[derive(Drop)]
 struct NextFile<'a, R: AllocGlobal + Files> {
@@ -41,20 +32,21 @@ impl<R: AllocGlobal + Files> NextSettings for NextFile<'_, R> {
     ghost reads = { λ old answer new. IsNext (option_map (λ text. text.now) old.path) answer × (new ≡ old) };
 
     fn read(&mut self) -> Result<Settings, NextRefusal> {
-        next_in(self.rt, self.path)
+        match settings_in(self.rt, self.path, Settings::plain()) {
+            Ok(settings) => Ok(settings),
+            Err(fault) => Err(refusal_for(self.rt.alloc(), &fault)),
+        }
     }
 }
 
-/// The settings of a file, read now; the defaults where none is named.
-fn next_in<R: AllocGlobal + Files>(rt: &R, path: Option<&str>) -> Result<Settings, NextRefusal>
-    ensures ok { IfOk result (AreNamed (option_map (λ text. text.now) path.entry) plain_settings) }
-    ensures err { IfErr result (IsOfNext (option_map (λ text. text.now) path.entry)) }
+/// Why settings that can't be had are not taken up.
+fn refusal_for(alloc: Global, fault: &Fault) -> NextRefusal
+    ensures { IsRefusalFor fault.now result }
 {
-    match settings_in(rt, path, Settings::plain()) {
-        Ok(settings) => Ok(settings),
-        Err(Fault::Config(refusal)) => Err(declined(rt.alloc(), &refusal)),
-        Err(Fault::Memory) => Err(NextRefusal::Memory),
-        Err(_) => Err(NextRefusal::Unreadable),
+    match fault {
+        Fault::Config(refusal) => declined(alloc, refusal),
+        Fault::Memory => NextRefusal::Memory,
+        _ => NextRefusal::Unreadable,
     }
 }
 
@@ -72,9 +64,10 @@ fn declined(alloc: Global, refusal: &ConfigRefusal) -> NextRefusal
 }
 
 /// `supervise`: a master whose workers and new masters are processes. What is left of its children when it ends is ended
-/// with it.
-pub fn supervise<R: AllocGlobal + Files + Processes + OwnNumber, I: Read, O: Write, E: Write>(
+/// with it. `number` is that of its own process; the system counts processes from 1.
+pub fn supervise<R: AllocGlobal + Files + Processes, I: Read, O: Write, E: Write>(
     rt: &R,
+    number: u32,
     options: &SuperviseOptions<'_>,
     input: &mut I,
     output: &mut O,
@@ -95,7 +88,7 @@ pub fn supervise<R: AllocGlobal + Files + Processes + OwnNumber, I: Read, O: Wri
     };
     let start = Start {
         settings: config.settings,
-        pid: rt.own_number(),
+        pid: number.max(1),
     };
     let mut supervised = supervise_on(alloc, family, &start, &mut next, input, output, &log);
     supervised.family.finish();
@@ -121,9 +114,11 @@ fn config_in<R: AllocGlobal + Files>(rt: &R, path: Option<&str>) -> Result<Confi
     Ok(master_config::read(rt.alloc(), text.as_slice())?)
 }
 
-/// `adopt`: the new master of an upgrade. Its workers are the program that is named, or its own executable.
-pub fn adopt<R: AllocGlobal + Files + Processes + OwnNumber, I: Read, O: Write>(
+/// `adopt`: the new master of an upgrade. Its workers are the program that is named, or its own executable. `number` is
+/// that of its own process.
+pub fn adopt<R: AllocGlobal + Files + Processes, I: Read, O: Write>(
     rt: &R,
+    number: u32,
     options: &AdoptOptions<'_>,
     input: &mut I,
     output: &mut O,
@@ -133,7 +128,7 @@ pub fn adopt<R: AllocGlobal + Files + Processes + OwnNumber, I: Read, O: Write>(
         Some(program) => OsFamily::new(alloc, rt, program, &[])?,
         None => OsFamily::new(alloc, rt, env::current_exe(rt)?.as_str(), &[])?,
     };
-    let served = serve_master(alloc, family, rt.own_number(), &mut *input, output);
+    let served = serve_master(alloc, family, number.max(1), &mut *input, output);
     Ok(finished(served))
 }
 
