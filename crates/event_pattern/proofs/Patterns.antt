@@ -1,6 +1,6 @@
 -- Patterns by the moments that are not quiet.
-use Rattle.std.proofs.Common.{◌≡◌, ℕ, zero, suc, ◌+◌, ◌<◌, ◌≤◌, true, false, cond, not, nat_eq, nat_le, ltb, List, [], ◌∷◌, map, length, get_or, set, refl, sym, ap, ◌∙◌, inl, inr, arith}
-use Rattle.std.specs.List.{position_or_len, insert}
+use Rattle.std.proofs.Common.{◌≡◌, ℕ, zero, suc, ◌+◌, ◌<◌, ◌≤◌, ◌||◌, true, false, cond, not, nat_eq, nat_le, ltb, List, [], ◌∷◌, map, length, get_or, set, refl, sym, ap, ◌∙◌, inl, inr, arith}
+use Rattle.std.specs.List.{list_any, position_or_len, insert}
 use Rattle.std.specs.List.Sorted.{IsNonDecreasingBy, IsPartitionPoint}
 use Rattle.std.proofs.Math.ListN.{get_or-map}
 use Rattle.std.proofs.lemmas.List.Sums.{position_or_len_is}
@@ -9,7 +9,7 @@ use Rattle.std.proofs.lemmas.List.{length-map, map-set, map-append, take-map, dr
 use Rattle.std.proofs.lemmas.Bool.Decides.{nat_tests}
 use Rattle.definitions.specs.Run.{Moment, quiet}
 use Rattle.event_pattern.specs.declared.pattern.Event.{Event}
-use Rattle.event_pattern.specs.Pattern.{moment_at, AreNamesWithin, IsEvent, RiseFrom, IsPattern}
+use Rattle.event_pattern.specs.Pattern.{moment_at, AreNamesWithin, IsEvent, RiseFrom, IsPattern, is_masters, names_master}
 use Rattle.event_pattern.specs.Events.{seen_event, IsListed, IsUnlisted}
 
 -- the place of the first moment with that number or a higher one
@@ -230,3 +230,10 @@ module _ (es : List Event) (n k : ℕ) (pattern : IsPattern (map seen_event es))
 
     pub pattern-added : 1 ≤ n → IsEvent (seen_event new).1 → AreNamesWithin new.exits.items → IsPattern (map seen_event (insert es k new))
     pattern-added le event names = rw (map-insert new, same) (RiseFrom-insert n (seen_event new).1 (map seen_event es) 1 le event names pattern absent)
+
+---- Masters
+
+-- they are named by the events as by what is seen of them
+pub any_seen : (es : List Event) → list_any (λ e. list_any is_masters (seen_event e).1.exits) es ≡ names_master (map seen_event es)
+any_seen [] = refl
+any_seen (e ∷ es) = ap (λ b. list_any is_masters (seen_event e).1.exits || b) (any_seen es)

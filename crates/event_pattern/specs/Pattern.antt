@@ -1,5 +1,6 @@
 -- Patterns by the moments that are not quiet.
-use Rattle.std.specs.Prelude.{ℕ, ◌≡◌, ◌≤◌, ◌<◌, ◌+◌, ◌==◌, List, [], ◌∷◌, ◌++◌, Some, if◌then◌else◌}
+use Rattle.std.specs.Prelude.{ℕ, Bool, true, false, ◌≡◌, ◌≤◌, ◌<◌, ◌+◌, ◌==◌, List, [], ◌∷◌, ◌++◌, Some, if◌then◌else◌}
+use Rattle.std.specs.List.{list_any}
 use Rattle.vocabulary.specs.declared.names.Name.{Name}
 use Rattle.vocabulary.specs.declared.names.Name.TheVariants.{Worker, Draining, Master}
 use Rattle.vocabulary.specs.declared.calls.Fate.{Fate}
@@ -22,6 +23,15 @@ seen_moment m = record { exits = m.exits.now; fate = m.fate }
 
 abbrev pub seen_entry : ℕ × Lent → ℕ × Moment
 seen_entry e = (e.0, seen_moment e.1)
+
+abbrev pub is_masters : Name → Bool
+is_masters (Master i) = true
+is_masters (Worker g k) = false
+is_masters (Draining g k) = false
+
+-- A master exits at some moment.
+abbrev pub names_master : List (ℕ × Moment) → Bool
+names_master es = list_any (λ e. list_any is_masters e.1.exits) es
 
 -- a worker's number is at most 1023
 abbrev pub IsNameWithin : Name → Type 0

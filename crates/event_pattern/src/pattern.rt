@@ -3,7 +3,8 @@ ghost use Rattle.std.specs.Prelude.{◌≡◌, ◌==◌, ◌≤◌, ◌↔◌, n
 ghost use Rattle.std.specs.Option.{option_map};
 ghost use Rattle.std.specs.List.{position_or_len};
 ghost use Rattle.std.specs.List.Sorted.{IsNonDecreasingBy};
-ghost use Rattle.event_pattern.specs.Pattern.{moment_at, with_exit, with_fate, seen_entry, seen_moment, IsPattern, IsNameWithin};
+ghost use Rattle.std.specs.List.{list_any};
+ghost use Rattle.event_pattern.specs.Pattern.{moment_at, with_exit, with_fate, seen_entry, seen_moment, IsPattern, IsNameWithin, is_masters, names_master};
 ghost use Rattle.event_pattern.specs.Events.{seen_event, IsListed, IsUnlisted};
 
 use crate::moments::Moment;
@@ -27,6 +28,27 @@ impl Event {
             exits: &self.exits,
             fate: self.fate,
         }
+    }
+
+    fn names_master(&self) -> bool
+        ensures { result ≡ list_any is_masters (seen_event self.now).1.exits }
+    {
+        self.exits.iter().any(is_masters)
+    }
+}
+
+fn any_names_master(events: &[Event]) -> bool
+    ensures { result ≡ list_any (λ e. list_any is_masters (seen_event e).1.exits) events.now }
+{
+    events.iter().any(Event::names_master)
+}
+
+fn is_masters(name: &Name) -> bool
+    ensures { result ≡ is_masters name.now }
+{
+    match name {
+        Name::Master(_) => true,
+        Name::Worker(..) | Name::Draining(..) => false,
     }
 }
 
@@ -137,6 +159,14 @@ impl Pattern {
         ensures { IsTrue result ↔ (self.now ≡ []) }
     {
         self.events.is_empty()
+    }
+
+    /// Whether a master exits at any moment.
+    #[tactic(auto, using(crate::proofs::Patterns::any_seen))]
+    pub fn names_master(&self) -> bool
+        ensures { result ≡ names_master self.now }
+    {
+        any_names_master(&self.events)
     }
 
     /// The i-th moment that is not quiet, counted from 0, with its number. The numbers rise.

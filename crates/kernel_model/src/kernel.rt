@@ -1,5 +1,5 @@
 //! The modelled kernel.
-ghost use Rattle.std.specs.Prelude.{true, false, ◌≡◌, ◌≤◌, ◌+◌, ◌↔◌, max, length, IsTrue, OnOk, OnErr, IfOk, IsErrOf};
+ghost use Rattle.std.specs.Prelude.{true, false, ◌≡◌, ◌≤◌, ◌+◌, ◌↔◌, length, IsTrue, OnOk, OnErr, IfOk, IsErrOf};
 ghost use Rattle.std.specs.Option.{option_map};
 ghost use Rattle.definitions.specs.Table.{is_held, live_master};
 ghost use Rattle.definitions.specs.Exits.{after_exits};
@@ -79,19 +79,17 @@ impl Kernel {
         self.store.lacks_numbers(calls)
     }
 
-    /// Reserves memory and numbers for that many calls, where there is room for less. B3 where fewer than that many process
-    /// or socket numbers are left, up to 4,294,967,295.
+    /// Reserves memory and numbers for exactly that many calls. B3 where `lacks_numbers` says so.
     pub fn reserve(&mut self, calls: u32) -> Result<(), ReserveRefusal>
-        ensures ok { OnOk result (self.new ≡ record { table = self.old.table; room = max self.old.room calls }) }
+        ensures ok { OnOk result (self.new ≡ record { table = self.old.table; room = calls }) }
+        ensures formed { IsFormed self.old.table }
+        ensures descriptors { self.old.table.limits.descriptors ≤ 64 }
         ensures no_numbers { IsErrOf result ReserveRefusal.NoNumbers ↔ LacksNumbers self.old.table calls }
         ensures err { OnErr result (self.new ≡ self.old) }
     {
         let _ = &self.room;
         if self.store.lacks_numbers(calls) {
             return Err(ReserveRefusal::NoNumbers);
-        }
-        if calls <= self.room {
-            return Ok(());
         }
         self.store.grow(calls).map_err(|_| ReserveRefusal::Memory)?;
         self.room = calls;
@@ -122,8 +120,7 @@ impl Kernel {
         Ok(())
     }
 
-    /// The same table in memory of its own, with room for that many calls. B3 where fewer than that many process or socket
-    /// numbers are left, up to 4,294,967,295.
+    /// The same table in memory of its own, with room for exactly that many calls. B3 as for `reserve`.
     pub fn copy(&self, calls: u32) -> Result<Self, ReserveRefusal>
         ensures same { IfOk result (λ k. k ≡ record { table = self.now.table; room = calls }) }
         ensures formed { IsFormed self.now.table }

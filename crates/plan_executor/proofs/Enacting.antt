@@ -12,10 +12,11 @@ use Rattle.vocabulary.specs.declared.plans.PidNote.{PidNote}
 use Rattle.vocabulary.specs.declared.plans.Sides.{Sides}
 use Rattle.vocabulary.specs.declared.reports.Entry.{Entry}
 use Rattle.vocabulary.specs.declared.reports.Report.{Report}
-use Rattle.kernel_model.specs.Pattern.{moment_at}
 use Rattle.kernel_model.specs.State.{State}
+use Rattle.plan_runner.specs.Log.{Told}
+use Rattle.rollback_plan.specs.declared.plan.Plan.{Plan}
 use Rattle.definitions.specs.Plans.{plan_tree}
-use Rattle.definitions.specs.Run.{Moment, Pattern, Replays}
+use Rattle.definitions.specs.Run.{Pattern, Replays}
 use Rattle.rollback_plan.specs.Plans.{tree_of, note_of, sides_told, text_of}
 use Rattle.definitions.specs.Path.{KeepsPathLaw}
 use Rattle.definitions.specs.After.{next_record, next_config, next_image}
@@ -23,12 +24,8 @@ use Rattle.word_runner.specs.declared.enactor.Enacted.{Enacted}
 use Rattle.plan_executor.specs.Lawful.{IsWholeRun}
 use Rattle.plan_executor.specs.Enacted.{EndsSo, IsEnacted}
 use Rattle.plan_executor.specs.Range.{HasRange}
-use Rattle.plan_executor.specs.Refusals.{NamesMaster}
 use Rattle.plan_executor.proofs.Reporting.{whole-run}
-use Rattle.plan_executor.specs.Patterned.{CallsLed}
-use Rattle.plan_executor.specs.Prepared.{IsPrepared}
-use Rattle.plan_executor.specs.declared.enactment.Prepared.{Prepared}
-use Rattle.plan_executor.specs.declared.patterned.Patterned.{Patterned}
+use Rattle.plan_executor.specs.Prepared.{IsPlanFor, IsReady}
 use Rattle.definitions.specs.Claims.{IsAccepted, heirs_of, refused_among, refusal_of, InManner, WorkersHeadline, MendHeadline, ReopenHeadline, ReopenFloor, ReloadHeadline, UpgradeHeadline, StopHeadline}
 use Rattle.vocabulary.specs.Settings.{Settings}
 
@@ -80,23 +77,17 @@ pub record IsMade (first : Table) (r : Record) (target : Target) (pattern : Patt
   pub law : KeepsPathLaw (plan_tree r target) r.note (sides_of r target) entries report
   pub replays : Replays (text_handed r target) pattern 0 first entries last
 
--- what is executed of what was prepared, on its copy
-pub made : (first : State) (r : Record) (target : Target) (p : Prepared) (moments : List (ℕ × Moment)) (calls then : Patterned) (entries : List Entry) (report : Report) →
-    IsPrepared first r target p → calls.kernel ≡ p.copy → calls.pattern.now ≡ moments → calls.text.now ≡ text_of p.plan → calls.number ≡ 0 →
-    KeepsPathLaw (tree_of p.plan) (note_of p.plan) (sides_told p.plan) entries report → CallsLed calls entries then → IsMade first.table r target (moment_at moments) entries then.kernel.table report
-made first r target p moments calls then entries report is kernel pattern text number law led =
-    let copied : calls.kernel ≡ record { table = first.table; room = height (plan_tree r target) } = kernel ∙ is.copy in
-    let last = then.kernel.table in
+-- what is executed of a target's plan
+pub made : (r : Record) (target : Target) (plan : Plan) (pattern : Pattern) (first last : Table) (entries : List Entry) (report : Report) →
+    IsPlanFor r target plan → KeepsPathLaw (tree_of plan) (note_of plan) (sides_told plan) entries report → Replays (text_of plan) pattern 0 first entries last →
+    IsMade first r target pattern entries last report
+made r target plan pattern first last entries report is law replays =
     record {
       law =
           subst (λ (tree : Tree). KeepsPathLaw tree r.note (sides_of r target) entries report) is.tree
-          (subst (λ (note : PidNote). KeepsPathLaw (tree_of p.plan) note (sides_of r target) entries report) is.note
-          (subst (λ (sides : Sides). KeepsPathLaw (tree_of p.plan) (note_of p.plan) sides entries report) is.sides law));
-      replays =
-          subst (λ handed. Replays handed (moment_at moments) 0 first.table entries last) (text ∙ is.text)
-          (subst (λ ms. Replays calls.text.now (moment_at ms) 0 first.table entries last) pattern
-          (subst (λ n. Replays calls.text.now (moment_at calls.pattern.now) n first.table entries last) number
-          (subst (λ (s : State). Replays calls.text.now (moment_at calls.pattern.now) calls.number s.table entries last) copied led.replays)));
+          (subst (λ (note : PidNote). KeepsPathLaw (tree_of plan) note (sides_of r target) entries report) is.note
+          (subst (λ (sides : Sides). KeepsPathLaw (tree_of plan) (note_of plan) sides entries report) is.sides law));
+      replays = subst (λ handed. Replays handed pattern 0 first entries last) is.text replays;
     }
 
 -- What is found among the calls is so of the run.
@@ -104,20 +95,21 @@ refusal-is : (r : Record) (target : Target) (pattern : Pattern) (first last : Ta
 refusal-is r target pattern first last entries report found whole naming =
     ap (refused_among (r.generation.image ∷ []) (heirs_of r target) pattern 0) whole.entries_are ∙ naming
 
-pub enacted : (first last : State) (r : Record) (target : Target) (pattern : Pattern) (p : Prepared) (e : Enacted) →
-    IsPrepared first r target p → EndsSo target → IsMade first.table r target pattern e.log.entries last.table e.report →
-    last.room + length e.log.entries ≡ height (plan_tree r target) →
-    refused_among (r.generation.image ∷ []) (heirs_of r target) pattern 0 e.log.entries ≡ None → e.after ≡ next_record r target e.report last.table →
-    IsEnacted first last r target pattern e
-enacted first last r target pattern p e is ends runs room spared after =
+pub found-is : (r : Record) (target : Target) (pattern : Pattern) (first last : Table) (entries : List Entry) (report : Report) (found : Option ℕ) → IsMade first r target pattern entries last report → refused_among (r.generation.image ∷ []) (heirs_of r target) pattern 0 entries ≡ found → refusal_of r target pattern first ≡ found
+found-is r target pattern first last entries report found runs naming = refusal-is r target pattern first last entries report found (whole-run r target pattern first last entries report runs.law runs.replays) naming
+
+pub enacted : (first last : State) (r : Record) (target : Target) (pattern : Pattern) (plan : Plan) (log : Told) (e : Enacted) →
+    IsReady first r target plan log → EndsSo target → IsMade first.table r target pattern e.log.entries last.table e.report →
+    last.room + length e.log.entries ≡ height (plan_tree r target) → refusal_of r target pattern first.table ≡ None →
+    e.after ≡ next_record r target e.report last.table → IsEnacted first last r target pattern e
+enacted first last r target pattern plan log e is ends runs room spared after =
     let whole = whole-run r target pattern first.table last.table e.log.entries e.report runs.law runs.replays in
-    let none = refusal-is r target pattern first.table last.table e.log.entries e.report None whole spared in
-    let kept = ends first.table r pattern is.start is.descriptors is.has_plan none in
+    let kept = ends first.table r pattern is.start is.descriptors is.planned.has_plan spared in
     record {
       agrees = is.start.agrees;
-      has_plan = is.has_plan;
+      has_plan = is.planned.has_plan;
       numbers = is.numbers;
-      spared = none;
+      spared = spared;
       is_run = whole;
       room = room;
       after = after;
@@ -126,16 +118,20 @@ enacted first last r target pattern p e is ends runs room spared after =
       manner = kept.manner;
     }
 
--- The first moment that kills an executing master is refused.
-pub named : (first : State) (last : Table) (r : Record) (target : Target) (pattern : Pattern) (p : Prepared) (entries : List Entry) (report : Report) (moment : ℕ) →
-    IsPrepared first r target p → IsMade first.table r target pattern entries last report →
-    refused_among (r.generation.image ∷ []) (heirs_of r target) pattern 0 entries ≡ Some moment →
-    NamesMaster first.table r target pattern moment
-named first last r target pattern p entries report moment is runs naming =
-    let whole = whole-run r target pattern first.table last entries report runs.law runs.replays in
-    record {
-      agrees = is.start.agrees;
-      has_plan = is.has_plan;
-      numbers = is.numbers;
-      first = refusal-is r target pattern first.table last entries report (Some moment) whole naming;
+-- of the first state its table alone matters
+pub enacted-from : (first ready last : State) (r : Record) (target : Target) (pattern : Pattern) (e : Enacted) → ready.table ≡ first.table → IsEnacted ready last r target pattern e → IsEnacted first last r target pattern e
+enacted-from first ready last r target pattern e same h = subst (λ (t : Table). IsEnacted (record { table = t; room = first.room }) last r target pattern e) same here
+  where
+    here : IsEnacted (record { table = ready.table; room = first.room }) last r target pattern e
+    here = record {
+      agrees = h.agrees;
+      has_plan = h.has_plan;
+      numbers = h.numbers;
+      spared = h.spared;
+      is_run = h.is_run;
+      room = h.room;
+      after = h.after;
+      ends = h.ends;
+      floor = h.floor;
+      manner = h.manner;
     }

@@ -102,9 +102,14 @@ pub short : (t : Table) (r : Record) (target : Target) (because : EnactRefusal) 
 short t r target because agrees plan (inl memory) = inl memory
 short t r target because agrees plan (inr h) = inr (λ pattern. subst (IsRefused t r target pattern) (sym h.0) (record { agrees = agrees; has_plan = plan; lacks = h.1 }))
 
-pub unprepared-exact : (t : Table) (r : Record) (target : Target) (pattern : Pattern) (because : EnactRefusal) → IsUnprepared t r target because → IsExact t r target pattern (Err because)
-unprepared-exact t r target pattern because (inl memory) why = inl (ap Err memory)
-unprepared-exact t r target pattern because (inr is) why = inr (only-refused t r target pattern because (is pattern) why)
+-- so it is under a pattern
+pub unprepared-so : (t : Table) (r : Record) (target : Target) (pattern : Pattern) (because : EnactRefusal) → IsUnprepared t r target because → (because ≡ Memory) ⊎ IsRefused t r target pattern because
+unprepared-so t r target pattern because (inl memory) = inl memory
+unprepared-so t r target pattern because (inr is) = inr (is pattern)
+
+pub refused-exact : (t : Table) (r : Record) (target : Target) (pattern : Pattern) (because : EnactRefusal) → (because ≡ Memory) ⊎ IsRefused t r target pattern because → IsExact t r target pattern (Err because)
+refused-exact t r target pattern because (inl memory) why = inl (ap Err memory)
+refused-exact t r target pattern because (inr is) why = inr (only-refused t r target pattern because is why)
 
 -- where a planner wants memory it refuses nothing
 pub unspared : {T : Type 0} (r : Record) (target : Target) (result : Result T EnactRefusal) → (IsErrOf result (Plan planner.NoGeneration) ↔ (lacks_generation r target ≡ true)) → IsErrOf result Memory → (p : PlanRefusal) → HasNoPlan r target p → ⊥

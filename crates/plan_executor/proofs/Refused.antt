@@ -1,5 +1,5 @@
 -- Whose exits are looked at, call by call.
-use Rattle.std.proofs.Common.{◌≡◌, ℕ, ◌+◌, ◌<◌, ◌||◌, nat_eq, Bool, true, false, cond, List, [], ◌∷◌, ◌++◌, Some, length, drop, get_or, refl, sym, ◌∙◌, ap}
+use Rattle.std.proofs.Common.{◌≡◌, ℕ, ◌+◌, ◌<◌, ◌||◌, nat_eq, Bool, true, false, cond, List, [], ◌∷◌, ◌++◌, None, Some, length, drop, get_or, refl, sym, ◌∙◌, ap}
 use Rattle.std.specs.Prelude.{◌&&◌, if◌then◌else◌}
 use Rattle.std.specs.List.{list_any}
 use Rattle.vocabulary.specs.declared.names.Name.{Name}
@@ -8,6 +8,8 @@ use Rattle.std.proofs.lemmas.List.{drop_more}
 use Rattle.vocabulary.specs.declared.reports.Entry.{Entry}
 use Rattle.listener_set.specs.Numbers.{is_in}
 use Rattle.definitions.specs.Run.{Moment, Pattern}
+use Rattle.kernel_model.specs.Pattern.{moment_at, is_masters, names_master}
+use mathlib.Core.Bool.{true≢false}
 use Rattle.definitions.specs.Claims.{names_any, executing_at, executing_after, refused_among}
 use Rattle.plan_executor.specs.Naming.{is_exit_of}
 
@@ -67,3 +69,28 @@ looked executing heirs pattern entries place e moment names lt is at found =
     ap (refused_among executing heirs pattern place) (drop_more entries place e lt ∙ ap (λ x. x ∷ rest) (sym is))
     ∙ ap (λ b. cond b (Some (place + 1)) (refused_among (executing_after e.call executing heirs) heirs pattern (place + 1) rest))
     (ap (λ (m : Moment). names_any (executing_at e.call executing heirs) m.exits) (sym at) ∙ found)
+
+---- Where no master is named
+
+-- the exits of a moment
+none-named : (images : List ℕ) (es : List Name) → list_any is_masters es ≡ false → names_any images es ≡ false
+none-named images [] h = refl
+none-named images (name.Master i ∷ es) h = absurd (true≢false h)
+none-named images (name.Worker g k ∷ es) h = none-named images es h
+none-named images (name.Draining g k ∷ es) h = none-named images es h
+
+none-at : (images : List ℕ) (es : List (ℕ × Moment)) (n : ℕ) → names_master es ≡ false → names_any images (moment_at es n).exits ≡ false
+none-at images [] n h = refl
+none-at images (e ∷ es) n h = go (nat_eq e.0 n) (list_any is_masters e.1.exits) (none-named images e.1.exits) (none-at images es n) h
+  where
+    go : (same here : Bool) → (here ≡ false → names_any images e.1.exits ≡ false) → (names_master es ≡ false → names_any images (moment_at es n).exits ≡ false) → (here || names_master es) ≡ false → names_any images (cond same e.1 (moment_at es n)).exits ≡ false
+    go same true here behind none = absurd (true≢false none)
+    go true false here behind none = here refl
+    go false false here behind none = behind none
+
+-- nobody's exit is refused
+pub unrefused : (executing heirs : List ℕ) (es : List (ℕ × Moment)) (n : ℕ) (entries : List Entry) → names_master es ≡ false → refused_among executing heirs (moment_at es) n entries ≡ None
+unrefused executing heirs es n [] h = refl
+unrefused executing heirs es n (e ∷ entries) h =
+    ap (λ b. cond b (Some (n + 1)) (refused_among (executing_after e.call executing heirs) heirs (moment_at es) (n + 1) entries)) (none-at (executing_at e.call executing heirs) es (n + 1) h)
+    ∙ unrefused (executing_after e.call executing heirs) heirs es (n + 1) entries h

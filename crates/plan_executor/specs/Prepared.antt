@@ -8,20 +8,25 @@ use Rattle.definitions.specs.Plans.{plan_tree}
 use Rattle.definitions.specs.Claims.{IsStart, HasDescriptors}
 use Rattle.kernel_model.specs.Room.{LacksNumbers}
 use Rattle.kernel_model.specs.State.{State}
+use Rattle.plan_runner.specs.Log.{Told}
+use Rattle.rollback_plan.specs.declared.plan.Plan.{Plan}
 use Rattle.rollback_plan.specs.Plans.{tree_of, note_of, sides_told, text_of}
 use Rattle.plan_executor.specs.Refusals.{HasPlan}
-use Rattle.plan_executor.specs.declared.enactment.Prepared.{Prepared}
 
--- The record is true of the kernel, the plan is the target's, and there are numbers and room for its longest path: on a copy
--- of the kernel, and in a log that is empty.
-pub record IsPrepared (first : State) (r : Record) (target : Target) (p : Prepared) : Type 0 where
+-- The target has a plan, and this is it.
+pub record IsPlanFor (r : Record) (target : Target) (plan : Plan) : Type 0 where
+  pub has_plan : HasPlan r target
+  pub tree : tree_of plan ≡ plan_tree r target
+  pub note : note_of plan ≡ r.note
+  pub sides : sides_told plan ≡ sides_of r target
+  pub text : text_of plan ≡ text_handed r target
+
+-- The record is true of the kernel, the plan is the target's, and there are numbers and room for its longest path, in the kernel
+-- and in a log that is empty.
+pub record IsReady (first : State) (r : Record) (target : Target) (plan : Plan) (log : Told) : Type 0 where
   pub start : IsStart first.table r
   pub descriptors : HasDescriptors first.table r
-  pub has_plan : HasPlan r target
-  pub tree : tree_of p.plan ≡ plan_tree r target
-  pub note : note_of p.plan ≡ r.note
-  pub sides : sides_told p.plan ≡ sides_of r target
-  pub text : text_of p.plan ≡ text_handed r target
+  pub planned : IsPlanFor r target plan
   pub numbers : LacksNumbers first.table (height (plan_tree r target)) → ⊥
-  pub copy : p.copy ≡ record { table = first.table; room = height (plan_tree r target) }
-  pub log : p.log ≡ record { entries = []; room = height (plan_tree r target) }
+  pub room : first.room ≡ height (plan_tree r target)
+  pub empty : log ≡ record { entries = []; room = height (plan_tree r target) }

@@ -9,6 +9,8 @@ use Rattle.definitions.specs.Plans.{plan_tree}
 use Rattle.definitions.specs.Run.{Pattern}
 use Rattle.definitions.specs.Claims.{refusal_of}
 use Rattle.kernel_model.specs.Room.{LacksNumbers}
+use Rattle.kernel_model.specs.declared.refusal.ReserveRefusal.{ReserveRefusal}
+use Rattle.kernel_model.specs.declared.refusal.ReserveRefusal.TheVariants as reserve
 use Rattle.reload_planner.specs.declared.refusal.PlanRefusal.{PlanRefusal}
 use Rattle.reload_planner.specs.declared.refusal.PlanRefusal.TheVariants as planner
 use Rattle.plan_executor.specs.declared.enactment.EnactRefusal.{EnactRefusal}
@@ -56,3 +58,8 @@ IsRefused t r target pattern RecordDisagrees = Agrees t r → ⊥
 IsRefused t r target pattern (Plan refusal) = IsUnplanned t r target refusal
 IsRefused t r target pattern NoNumbers = IsShortOfNumbers t r target
 IsRefused t r target pattern (MasterNamed moment) = NamesMaster t r target pattern moment
+
+-- what a kernel's refusal of room comes to
+abbrev pub without_room : ReserveRefusal → EnactRefusal
+without_room reserve.NoNumbers = NoNumbers
+without_room reserve.Memory = Memory

@@ -1,53 +1,57 @@
-//! A target for which all is prepared, carried out.
-ghost use Rattle.std.specs.Prelude.{◌≡◌, ◌↔◌, OnErr, IfOk, IsErrOf};
+//! A target for which all is ready, carried out.
+ghost use Rattle.std.specs.Prelude.{◌≡◌, ◌+◌, ◌≤◌, [], None, length};
+ghost use Rattle.definitions.specs.Claims.{refusal_of};
+ghost use Rattle.definitions.specs.Path.{KeepsPathLaw};
+ghost use Rattle.definitions.specs.Run.{Replays};
 ghost use Rattle.definitions.specs.Target.{IsTarget};
+ghost use Rattle.definitions.specs.Tree.{height};
 ghost use Rattle.kernel_model.specs.Pattern.{moment_at};
+ghost use Rattle.rollback_plan.specs.Plans.{tree_of, note_of, sides_told, text_of};
 ghost use Rattle.plan_executor.specs.Enacted.{IsEnacted};
-ghost use Rattle.plan_executor.specs.Prepared.{IsPrepared};
-ghost use Rattle.plan_executor.specs.Refusals.{IsRefused};
-ghost use Rattle.plan_executor.specs.declared.enactment.EnactRefusal.{EnactRefusal as Refusal};
+ghost use Rattle.plan_executor.specs.Prepared.{IsReady};
 
-use crate::EnactRefusal;
 use crate::enactment::Prepared;
 use crate::keeping::ends_as_reported;
-use crate::naming::refused_among;
 use crate::patterned::Patterned;
-use crate::succession::{heir_of, record_left};
+use crate::succession::record_left;
 use kernel_model::{Kernel, Pattern};
-use plan_runner::execute;
+use plan_runner::{CallLog, execute};
+use rollback_plan::Plan;
 use service_state::Record;
-use vocabulary::Target;
+use vocabulary::{Report, Target};
 use word_runner::Enacted;
 
-/// Carries a plan out on the copy, and takes the copy over unless a moment of the run kills an executing master.
-///
-/// It takes no memory, so that E4 is its only refusal.
+/// Makes the calls of a plan on a kernel under a pattern, from its first moment on, and writes them down. It takes no
+/// memory.
+pub(crate) fn run(plan: &Plan, kernel: &mut Kernel, pattern: &Pattern, log: &mut CallLog) -> Report
+    requires calls { height (tree_of plan.now) ≤ kernel.old.room }
+    requires room { height (tree_of plan.now) ≤ log.old.room }
+    requires empty { log.old.entries ≡ [] }
+    ensures path_law { KeepsPathLaw (tree_of plan.now) (note_of plan.now) (sides_told plan.now) log.new.entries result }
+    ensures replays { Replays (text_of plan.now) (moment_at pattern.now) 0 kernel.old.table log.new.entries kernel.new.table }
+    ensures room_left { kernel.new.room + length log.new.entries ≡ kernel.old.room }
+{
+    let mut calls = Patterned::new(kernel, pattern, plan.text());
+    execute(plan, &mut calls, log)
+}
+
+/// Carries a plan out on a kernel that has room for it, under a pattern that spares the executing masters. Nothing can be
+/// refused here.
 pub(crate) fn carry_out(
     prepared: Prepared,
     kernel: &mut Kernel,
     state: &Record,
     target: &Target,
     pattern: &Pattern,
-) -> Result<Enacted, EnactRefusal>
+) -> Enacted
     requires target { IsTarget target.now }
-    requires prepared { IsPrepared kernel.old state.now target.now prepared }
-    ensures ok { IfOk result (IsEnacted kernel.old kernel.new state.now target.now (moment_at pattern.now)) }
-    ensures exact { (why : Refusal) → IsErrOf result why ↔ IsRefused kernel.old.table state.now target.now (moment_at pattern.now) why }
-    ensures err { OnErr result (kernel.new ≡ kernel.old) }
+    requires ready { IsReady kernel.old state.now target.now prepared.plan prepared.log }
+    requires spared { refusal_of state.now target.now (moment_at pattern.now) kernel.old.table ≡ None }
+    ensures { IsEnacted kernel.old kernel.new state.now target.now (moment_at pattern.now) result }
 {
-    let Prepared {
-        plan,
-        copy,
-        mut log,
-    } = prepared;
-    let mut calls = Patterned::new(copy, pattern, plan.text());
-    let report = execute(&plan, &mut calls, &mut log);
-    let heir = heir_of(state, target);
-    if let Some(moment) = refused_among(pattern, state.generation.image, heir, &log) {
-        return Err(EnactRefusal::MasterNamed(moment));
-    }
+    let Prepared { plan, mut log } = prepared;
+    let report = run(&plan, kernel, pattern, &mut log);
     ends_as_reported(target);
-    *kernel = calls.into_kernel();
     let after = record_left(state, target, &report, kernel);
-    Ok(Enacted { log, report, after })
+    Enacted { log, report, after }
 }

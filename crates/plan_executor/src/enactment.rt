@@ -1,22 +1,23 @@
 //! A target, planned and carried out on the modelled kernel.
-ghost use Rattle.std.specs.Prelude.{◌≡◌, ◌≤◌, ◌↔◌, ◌⊎◌, OnErr, IfOk, IfErr, IsErrOf, IsTrue};
+ghost use Rattle.std.specs.Prelude.{◌≡◌, ◌≤◌, ◌↔◌, ◌⊎◌, None, OnOk, OnErr, IfOk, IfErr, IsErrOf, IsTrue};
+ghost use Rattle.definitions.specs.Claims.{refusal_of};
 ghost use Rattle.definitions.specs.Formed.{IsFormed};
 ghost use Rattle.definitions.specs.Record.{Agrees};
 ghost use Rattle.definitions.specs.Plans.{plan_tree};
-ghost use Rattle.definitions.specs.Run.{Pattern as Moments};
 ghost use Rattle.definitions.specs.Target.{IsTarget, sides_of, text_handed};
 ghost use Rattle.kernel_model.specs.Pattern.{moment_at};
 ghost use Rattle.kernel_model.specs.Room.{LacksNumbers};
 ghost use Rattle.rollback_plan.specs.Plans.{tree_of, note_of, sides_told, text_of};
 ghost use Rattle.reload_planner.specs.declared.refusal.PlanRefusal.{PlanRefusal as Unplannable};
 ghost use Rattle.plan_executor.specs.Enacted.{IsEnacted};
-ghost use Rattle.plan_executor.specs.Prepared.{IsPrepared};
+ghost use Rattle.plan_executor.specs.Prepared.{IsReady};
 ghost use Rattle.definitions.specs.After.{lacks_generation};
 ghost use Rattle.plan_executor.specs.Refusals.{HasPlan, HasNoPlan, IsPlannable, IsRefused};
 ghost use Rattle.plan_executor.specs.declared.enactment.EnactRefusal.{EnactRefusal as Refusal};
 
 use crate::agreement::agrees;
 use crate::carrying::carry_out;
+use crate::trial::spare;
 use kernel_model::{Kernel, Pattern, ReserveRefusal};
 use plan_runner::CallLog;
 use rollback_plan::Plan;
@@ -51,17 +52,30 @@ impl From<AllocError> for EnactRefusal {
     }
 }
 
+impl From<ReserveRefusal> for EnactRefusal {
+    ghost use Rattle.plan_executor.specs.Refusals.{without_room};
+
+    ghost from_gives = { λ refusal e. e ≡ without_room refusal };
+
+    fn from(refusal: ReserveRefusal) -> EnactRefusal {
+        match refusal {
+            ReserveRefusal::NoNumbers => EnactRefusal::NoNumbers,
+            ReserveRefusal::Memory => EnactRefusal::Memory,
+        }
+    }
+}
+
 /// Plans a target for a running state and carries the plan out on the modelled kernel, under a
 /// pattern of failing calls and exits.
 ///
-/// All memory is taken before the first call, on a copy: a refusal leaves the kernel as it was.
-/// Refusals in their order: E2 the record disagrees with the kernel; E3 there is no plan, with the
-/// planner's own refusal; E5 fewer process or socket numbers are left than the plan's longest path
-/// has steps; E4 a moment of the run kills an executing master, and the first such is named: the
-/// master of the record up to its Leave, and the new one of an upgrade from that Leave on. E1 may
-/// come in place of the last two, and never where E2 or E3 is due. After a run the kernel has room
-/// for as many calls as the longest path has steps, less those that were made, and the record is
-/// that of the master that reigns then.
+/// All memory is taken before the first call: a refusal leaves the kernel as it was. Refusals in
+/// their order: E2 the record disagrees with the kernel; E3 there is no plan, with the planner's own
+/// refusal; E5 fewer process or socket numbers are left than the plan's longest path has steps; E4 a
+/// moment of the run kills an executing master, and the first such is named: the master of the
+/// record up to its Leave, and the new one of an upgrade from that Leave on. E1 may come in place of
+/// the last two, and never where E2 or E3 is due. After a run the kernel has room for as many calls
+/// as the longest path has steps, less those that were made, and the record is that of the master
+/// that reigns then.
 pub fn enact(
     alloc: Global,
     kernel: &mut Kernel,
@@ -77,40 +91,44 @@ pub fn enact(
     ensures memory { IsErrOf result EnactRefusal.Memory → IsPlannable kernel.old.table state.now target.now }
     ensures err { OnErr result (kernel.new ≡ kernel.old) }
 {
-    let prepared = prepare(alloc, kernel, state, target)?;
-    carry_out(prepared, kernel, state, target, pattern)
+    let prepared = prepare(alloc, kernel, state, target, pattern)?;
+    Ok(carry_out(prepared, kernel, state, target, pattern))
 }
 
-/// All that carrying a target out needs: its plan, and room for as many calls as the plan's longest path has steps, on a
-/// copy of the kernel and in a log.
+/// All that carrying a target out needs beside a kernel with room for as many calls as the plan's longest path has steps:
+/// the plan, and a log with room for as many.
 #[derive(Drop)]
 pub(crate) struct Prepared {
     pub(crate) plan: Plan,
-    pub(crate) copy: Kernel,
     pub(crate) log: CallLog,
 }
 
-/// Makes ready all that carrying a target out needs. Memory is taken here and nowhere after.
+/// Makes ready all that carrying a target out needs. Memory is taken here and nowhere after; the kernel's room, which is
+/// all that changes of it, is reserved last.
 fn prepare(
     alloc: Global,
-    kernel: &Kernel,
+    kernel: &mut Kernel,
     state: &Record,
     target: &Target,
+    pattern: &Pattern,
 ) -> Result<Prepared, EnactRefusal>
     requires { IsTarget target.now }
-    ensures ok { IfOk result (IsPrepared kernel.now state.now target.now) }
-    ensures disagrees { IsErrOf result EnactRefusal.RecordDisagrees ↔ (Agrees kernel.now.table state.now → ⊥) }
-    ensures refused { IfErr result (λ why. (why ≡ EnactRefusal.Memory) ⊎ ((pattern : Moments) → IsRefused kernel.now.table state.now target.now pattern why)) }
-    ensures memory { IsErrOf result EnactRefusal.Memory → IsPlannable kernel.now.table state.now target.now }
+    ensures ready { IfOk result (λ p. IsReady kernel.new state.now target.now p.plan p.log) }
+    ensures table { OnOk result (kernel.new.table ≡ kernel.old.table) }
+    ensures spared { OnOk result (refusal_of state.now target.now (moment_at pattern.now) kernel.old.table ≡ None) }
+    ensures disagrees { IsErrOf result EnactRefusal.RecordDisagrees ↔ (Agrees kernel.old.table state.now → ⊥) }
+    ensures refused { IfErr result (λ why. (why ≡ EnactRefusal.Memory) ⊎ IsRefused kernel.old.table state.now target.now (moment_at pattern.now) why) }
+    ensures memory { IsErrOf result EnactRefusal.Memory → IsPlannable kernel.old.table state.now target.now }
+    ensures err { OnErr result (kernel.new ≡ kernel.old) }
 {
     if !agrees(state, kernel) {
         return Err(EnactRefusal::RecordDisagrees);
     }
     let plan = plan_of(alloc, state, target)?;
-    let longest = plan.longest();
-    let copy = reserved_copy(kernel, longest)?;
-    let log = CallLog::with_room(alloc, longest)?;
-    Ok(Prepared { plan, copy, log })
+    spare(alloc, kernel, state, target, pattern, &plan)?;
+    let log = CallLog::with_room(alloc, plan.longest())?;
+    reserve(kernel, plan.longest())?;
+    Ok(Prepared { plan, log })
 }
 
 /// The plan of a target. Want of memory is told only where nothing else is refused.
@@ -143,9 +161,20 @@ pub fn reserved_copy(kernel: &Kernel, calls: u32) -> Result<Kernel, EnactRefusal
         (why ≡ EnactRefusal.Memory) ⊎ ((why ≡ EnactRefusal.NoNumbers) × LacksNumbers kernel.now.table calls)) }
     ensures exact { IsErrOf result EnactRefusal.NoNumbers ↔ LacksNumbers kernel.now.table calls }
 {
-    match kernel.copy(calls) {
-        Ok(copy) => Ok(copy),
-        Err(ReserveRefusal::NoNumbers) => Err(EnactRefusal::NoNumbers),
-        Err(ReserveRefusal::Memory) => Err(EnactRefusal::Memory),
-    }
+    Ok(kernel.copy(calls)?)
+}
+
+/// Reserves room for so many calls, no more and no fewer.
+fn reserve(kernel: &mut Kernel, calls: u32) -> Result<(), EnactRefusal>
+    ensures ok { OnOk result (kernel.new ≡ record { table = kernel.old.table; room = calls }) }
+    ensures formed { IsFormed kernel.old.table }
+    ensures descriptors { kernel.old.table.limits.descriptors ≤ 64 }
+    ensures numbers { OnOk result (LacksNumbers kernel.old.table calls → ⊥) }
+    ensures refused { IfErr result (λ why.
+        (why ≡ EnactRefusal.Memory) ⊎ ((why ≡ EnactRefusal.NoNumbers) × LacksNumbers kernel.old.table calls)) }
+    ensures exact { IsErrOf result EnactRefusal.NoNumbers ↔ LacksNumbers kernel.old.table calls }
+    ensures err { OnErr result (kernel.new ≡ kernel.old) }
+{
+    kernel.reserve(calls)?;
+    Ok(())
 }

@@ -10,6 +10,7 @@ mod naming;
 mod patterned;
 mod rehearsal;
 mod succession;
+mod trial;
 
 pub use agreement::agrees;
 pub use enactment::{EnactRefusal, enact, plan_of, reserved_copy};

@@ -8,21 +8,24 @@ use vocabulary::{Actor, Answer, Call};
 /// A kernel whose calls come with the moments of a pattern, the first with moment 1, and are each handed a text.
 #[derive(Drop)]
 pub(crate) struct Patterned<'a> {
-    kernel: Kernel,
+    kernel: &'a mut Kernel,
     pattern: &'a Pattern,
     text: &'a [u8],
     number: u32,
-    ghost countable: { number + kernel.room < 2 ^ 32 },
+    ghost countable: { number + kernel.now.room < 2 ^ 32 },
 }
 
 impl<'a> Patterned<'a> {
     /// A kernel before the first moment of a pattern, whose calls are each handed the text.
-    pub(crate) fn new(kernel: Kernel, pattern: &'a Pattern, text: &'a [u8]) -> Patterned<'a>
-        ensures kernel { result.kernel ≡ kernel }
+    pub(crate) fn new(kernel: &'a mut Kernel, pattern: &'a Pattern, text: &'a [u8]) -> Patterned<'a>
+        ensures same_kernel { result.kernel.ghost_name ≡ kernel.entry.ghost_name }
+        ensures kernel { result.kernel.now ≡ kernel.old }
         ensures pattern { result.pattern.now ≡ pattern.now }
         ensures text { result.text.now ≡ text.now }
         ensures number { result.number ≡ 0 }
     {
+        // Only a reading tells that the room is a number of 32 bits.
+        let _ = kernel.room();
         Patterned {
             kernel,
             pattern,
@@ -30,25 +33,12 @@ impl<'a> Patterned<'a> {
             number: 0,
         }
     }
-
-    /// The kernel as the calls have left it.
-    pub(crate) fn into_kernel(self) -> Kernel
-        ensures { result ≡ self.entry.kernel }
-    {
-        let Patterned {
-            kernel,
-            pattern: _,
-            text: _,
-            number: _,
-        } = self;
-        kernel
-    }
 }
 
 impl Calls for Patterned<'_> {
     ghost use Rattle.plan_executor.specs.Patterned.{CallsLed, CallsLed-none};
 
-    ghost room = { λ p. p.kernel.room };
+    ghost room = { λ p. p.kernel.now.room };
 
     ghost follows = { CallsLed };
 

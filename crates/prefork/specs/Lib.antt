@@ -1,4 +1,3 @@
-pub mod Beginnings
 pub mod Explorations
 pub mod Faults
 pub mod Input

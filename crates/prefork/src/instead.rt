@@ -1,9 +1,9 @@
 //! How a run would have gone on where a block is none of the master's.
-use crate::beginning::begin;
 use certifier::Mismatch;
 use command_line::CertifyOptions;
 use faults::Fault;
 use plan_runner::CallLog;
+use rehearsal::begin;
 use std::alloc::{AllocError, Global};
 use std::rt::Files;
 use transcript::{read_transcripts, write_transcript};

@@ -1,7 +1,6 @@
 //! `prefork`: a preforking master, whose plans are proved.
 #![tactic(auto)]
 
-mod beginning;
 mod explaining;
 mod exploration;
 mod instead;

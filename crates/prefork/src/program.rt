@@ -11,7 +11,6 @@ ghost use Rattle.prefork.specs.Output.{blocks_text, IsState};
 ghost use Rattle.rehearsal.specs.Rehearsals.{IsRehearsed};
 ghost use Rattle.word_runner.specs.Status.{gravest};
 
-use crate::beginning::begin;
 use crate::explaining::explain;
 use crate::exploration::{Listing, summary};
 use crate::serving::{adopt, child, supervise};
@@ -21,7 +20,7 @@ use control_words::Word;
 use explorer::Findings;
 use faults::Fault;
 use kernel_model::Pattern;
-use rehearsal::{Form, Rehearsal, Start, certify_all, look_ahead};
+use rehearsal::{Form, Rehearsal, Start, begin, certify_all, look_ahead};
 use std::alloc::{AllocError, Global};
 use std::io::{Read, Write};
 use std::process::Processes;
@@ -266,7 +265,18 @@ fn write_blocks(alloc: Global, blocks: &[Block], text: &mut Vec<u8>) -> Result<(
     ensures { OnOk result (text.new.items ≡ text.old.items ++ blocks_text blocks.now) }
 {
     for block in blocks {
-        text.extend_from_slice(transcript::write_transcript(alloc, block)?.as_slice())?;
+        append(text, transcript::write_transcript(alloc, block)?)?;
     }
     Ok(())
+}
+
+/// Appends a text. The first is taken over as it is: a long one does not stand in memory twice.
+fn append(text: &mut Vec<u8>, more: Vec<u8>) -> Result<(), AllocError>
+    ensures { OnOk result (text.new.items ≡ text.old.items ++ more.items) }
+{
+    if text.is_empty() {
+        *text = more;
+        return Ok(());
+    }
+    Ok(text.extend_from_slice(more.as_slice())?)
 }

@@ -1,3 +1,4 @@
+pub mod Beginnings
 pub mod Certificates
 pub mod Explorations
 pub mod Outlooks

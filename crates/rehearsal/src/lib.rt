@@ -2,12 +2,14 @@
 //! comes to, and plans what a word would do.
 #![tactic(auto)]
 
+mod beginning;
 mod certifying;
 mod exploring;
 mod planning;
 mod rehearsal;
 mod start;
 
+pub use beginning::begin;
 pub use certifying::certify_all;
 pub use exploring::Explored;
 pub use planning::{Form, Outlook, look_ahead, told};

@@ -145,7 +145,7 @@ fn limits_and_numbers_are_refused(rt: HostRuntime) -> Result<(), Fail> {
     );
     assert_eq!(rt; kernel.reserve(8), Ok(()));
     assert_eq!(rt; kernel.reserve(4), Ok(()));
-    assert_eq!(rt; kernel.room(), 8);
+    assert_eq!(rt; kernel.room(), 4);
     assert_eq!(rt; kernel.copy(0)?.room(), 0);
     assert_eq!(rt; kernel.copy(3)?.row(2), kernel.row(2));
     Ok(())

@@ -2,8 +2,8 @@ use Rattle.std.proofs.Common.{◌≡◌, inr, sym, subst, Err}
 use Rattle.std.proofs.lemmas.Result.{err_from_is_err_and}
 use Rattle.kernel_model.specs.Pattern.{moment_at}
 use Rattle.plan_executor.specs.declared.enactment.EnactRefusal.{EnactRefusal}
-use Rattle.plan_executor.specs.declared.enactment.EnactRefusal.TheVariants.{RecordDisagrees}
-use Rattle.plan_executor.proofs.Exact.{IsExact, unprepared-exact}
+use Rattle.plan_executor.proofs.Enacting.{enacted-from}
+use Rattle.plan_executor.proofs.Exact.{IsExact, refused-exact, only-enacted}
 use Rattle.plan_executor.proofs.enactment.enact.Goals as goal
 
 pub returns-in_err-prepared-clause-exact : goal.returns-in_err-prepared-clause-exact
@@ -16,10 +16,12 @@ returns-in_err-prepared-clause-exact c =
     let why = c.in_err-prepared.field-0.0 in
     let same : why ≡ p.0 = cc in
     subst (IsExact t r target pattern) (sym p.1)
-    (subst (λ (e : EnactRefusal). IsExact t r target pattern (Err e)) same (unprepared-exact t r target pattern why c.in_err-prepared.ensures.refused))
+    (subst (λ (e : EnactRefusal). IsExact t r target pattern (Err e)) same (refused-exact t r target pattern why c.in_err-prepared.ensures.refused))
 
-pub returns-clause-disagrees : goal.returns-clause-disagrees
-returns-clause-disagrees c = c.carry_out.ensures.exact RecordDisagrees
+pub returns-clause-ok : goal.returns-clause-ok
+returns-clause-ok c =
+    enacted-from c.args.kernel.now c.prepare.new.kernel c.carry_out.new.kernel c.args.state.now c.args.target.now (moment_at c.args.pattern.now) c.carry_out.result c.in_ok-prepared.ensures.table c.carry_out.ensures
 
 pub returns-clause-exact : goal.returns-clause-exact
-returns-clause-exact c why = inr (c.carry_out.ensures.exact why)
+returns-clause-exact c why =
+    inr (only-enacted c.args.kernel.now c.carry_out.new.kernel c.args.state.now c.args.target.now (moment_at c.args.pattern.now) c.carry_out.result (returns-clause-ok c) why)

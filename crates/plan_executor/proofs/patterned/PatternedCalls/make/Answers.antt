@@ -15,14 +15,14 @@ returns-clause-listed c =
     let call = c.args.call.now in
     let fate = c.moment-moment.result.fate in
     let exits = c.moment-moment.result.exits.now in
-    let answer : c.call.result ≡ (step_with c.args.self.now.text.now c.args.by call fate (after_exits exits c.args.self.now.kernel.table)).answer = ap (λ (s : Stepped). s.answer) c.call.ensures.step in
-    subst (λ (a : Answer). is_listed call a ≡ true) (sym answer) (step-listed c.args.self.now.text.now c.args.by call fate (after_exits exits c.args.self.now.kernel.table))
+    let answer : c.call.result ≡ (step_with c.args.self.now.text.now c.args.by call fate (after_exits exits c.args.self.now.kernel.now.table)).answer = ap (λ (s : Stepped). s.answer) c.call.ensures.step in
+    subst (λ (a : Answer). is_listed call a ≡ true) (sym answer) (step-listed c.args.self.now.text.now c.args.by call fate (after_exits exits c.args.self.now.kernel.now.table))
 
 pub returns-clause-follows : goal.returns-clause-follows
 returns-clause-follows c first entries h =
     let call = c.args.call.now in
     let e : Entry = record { by = c.args.by; call = call; answer = c.call.result } in
-    let last = c.args.self.now.kernel.table in
+    let last = c.args.self.now.kernel.now.table in
     let k = c.args.self.now.number + 1 in
     let at = moment_at first.pattern.now in
     let text = first.text.now in
@@ -35,11 +35,12 @@ returns-clause-follows c first entries h =
     c.call.ensures.step ∙ (ap (λ (m : Moment). step_with c.args.self.now.text.now c.args.by call m.fate (after_exits m.exits last)) moment
     ∙ ap (λ handed. step_with handed c.args.by call (at k).fate (after_exits (at k).exits last)) h.text) in
     record {
+      same_kernel = h.same_kernel;
       pattern = h.pattern;
       text = h.text;
       number = omega (arith, number, longer);
       room = omega (arith, room, took, longer);
       replays =
-          subst (Replays text at first.number first.kernel.table (entries ++ e ∷ [])) (sym (ap (λ (s : Stepped). s.table) stepped))
-          (replays-push text at entries first.number k first.kernel.table last e h.replays (omega (arith, number)) (sym (ap (λ (s : Stepped). s.answer) stepped)));
+          subst (Replays text at first.number first.kernel.now.table (entries ++ e ∷ [])) (sym (ap (λ (s : Stepped). s.table) stepped))
+          (replays-push text at entries first.number k first.kernel.now.table last e h.replays (omega (arith, number)) (sym (ap (λ (s : Stepped). s.answer) stepped)));
     }

@@ -1,11 +1,11 @@
 //! How a master on the modelled kernel begins: as options and files say.
 ghost use Rattle.std.specs.Prelude.{IfOk, IfErr, OnOk, option_map};
 ghost use Rattle.command_line.specs.Arguments.{start_of};
-ghost use Rattle.prefork.specs.Beginnings.{HasBegun, HoldsNamed, IsOfBeginning, IsOfNamed};
+ghost use Rattle.rehearsal.specs.Beginnings.{HasBegun, HoldsNamed, IsOfBeginning, IsOfNamed};
 
+use crate::{Rehearsal, Start};
 use command_line::StartOptions;
 use faults::Fault;
-use rehearsal::{Rehearsal, Start};
 use std::rt::Files;
 
 /// Reads the files and boots the master, and lets a foreign process hold the address that is named.

@@ -1,0 +1,70 @@
+//! Whether a pattern spares the executing masters.
+ghost use Rattle.std.specs.Prelude.{◌≡◌, ◌⊎◌, [], None, OnOk, IfErr};
+ghost use Rattle.definitions.specs.Claims.{refusal_of};
+ghost use Rattle.definitions.specs.Record.{Agrees};
+ghost use Rattle.definitions.specs.Tree.{height};
+ghost use Rattle.kernel_model.specs.Pattern.{moment_at};
+ghost use Rattle.kernel_model.specs.Room.{LacksNumbers};
+ghost use Rattle.rollback_plan.specs.Plans.{tree_of};
+ghost use Rattle.plan_executor.specs.Prepared.{IsPlanFor};
+ghost use Rattle.plan_executor.specs.Refusals.{IsRefused};
+
+use crate::carrying::run;
+use crate::enactment::{EnactRefusal, reserved_copy};
+use crate::naming::refused_among;
+use crate::succession::heir_of;
+use kernel_model::{Kernel, Pattern};
+use plan_runner::CallLog;
+use rollback_plan::Plan;
+use service_state::Record;
+use std::alloc::Global;
+use vocabulary::Target;
+
+/// Refuses a pattern under which an executing master exits, with the first such moment of the run: E4. A pattern that
+/// names no master spares them; any other is tried on a copy of the kernel, for which E5 and E1 may come first.
+pub(crate) fn spare(
+    alloc: Global,
+    kernel: &Kernel,
+    state: &Record,
+    target: &Target,
+    pattern: &Pattern,
+    plan: &Plan,
+) -> Result<(), EnactRefusal>
+    requires agrees { Agrees kernel.now.table state.now }
+    requires plan { IsPlanFor state.now target.now plan.now }
+    ensures spared { OnOk result (refusal_of state.now target.now (moment_at pattern.now) kernel.now.table ≡ None) }
+    ensures refused { IfErr result (λ why. (why ≡ EnactRefusal.Memory) ⊎ IsRefused kernel.now.table state.now target.now (moment_at pattern.now) why) }
+{
+    if !pattern.names_master() {
+        return Ok(());
+    }
+    let mut copy = reserved_copy(kernel, plan.longest())?;
+    let mut log = CallLog::with_room(alloc, plan.longest())?;
+    spare_on(&mut copy, state, target, pattern, plan, &mut log)
+}
+
+/// Runs the plan, and refuses a pattern under which an executing master exits. It takes no memory, so that E4 is its
+/// only refusal.
+fn spare_on(
+    copy: &mut Kernel,
+    state: &Record,
+    target: &Target,
+    pattern: &Pattern,
+    plan: &Plan,
+    log: &mut CallLog,
+) -> Result<(), EnactRefusal>
+    requires agrees { Agrees copy.old.table state.now }
+    requires plan { IsPlanFor state.now target.now plan.now }
+    requires numbers { LacksNumbers copy.old.table (height (tree_of plan.now)) → ⊥ }
+    requires room { copy.old.room ≡ height (tree_of plan.now) }
+    requires empty { log.old ≡ record { entries = []; room = height (tree_of plan.now) } }
+    ensures spared { OnOk result (refusal_of state.now target.now (moment_at pattern.now) copy.old.table ≡ None) }
+    ensures refused { IfErr result (IsRefused copy.old.table state.now target.now (moment_at pattern.now)) }
+{
+    run(plan, copy, pattern, log);
+    let heir = heir_of(state, target);
+    match refused_among(pattern, state.generation.image, heir, log) {
+        Some(moment) => Err(EnactRefusal::MasterNamed(moment)),
+        None => Ok(()),
+    }
+}
