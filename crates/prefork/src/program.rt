@@ -52,6 +52,9 @@ pub fn run<R: AllocGlobal + Files + Processes, I: Read, O: Write, E: Write>(
 }
 
 /// Answers the arguments. What is read of standard input is left in `given`.
+///
+/// No subcommand is inlined here, nor what tells of faults above: settings have 8 KB each, so that the frames of all of
+/// them would take 0.15 MB of each run.
 fn answer<R: AllocGlobal + Files + Processes, I: Read, O: Write, E: Write>(
     rt: &R,
     number: u32,
@@ -94,6 +97,7 @@ fn write<O: Write>(output: &mut O, text: &[u8]) -> Result<(), Fault>
 /// `enact`: carries the words out on a modelled kernel under the patterns of standard input, the
 /// i-th pattern with the i-th word, and writes a block for each, and the state last where it is
 /// asked for.
+#[inline(never)]
 fn enact<R: AllocGlobal + Files, I: Read, O: Write>(
     rt: &R,
     options: &EnactOptions<'_>,
@@ -131,6 +135,7 @@ fn show_state(rehearsal: &Rehearsal, is_wanted: bool, text: &mut Vec<u8>) -> Res
 
 /// `certify`: compares the blocks of standard input with plans and kernel, and writes the patterns
 /// that explain them, a section for each.
+#[inline(never)]
 fn certify<R: AllocGlobal + Files, I: Read, O: Write>(
     rt: &R,
     options: &CertifyOptions<'_>,
@@ -148,6 +153,7 @@ fn certify<R: AllocGlobal + Files, I: Read, O: Write>(
 }
 
 /// `plan`: writes what a word would do.
+#[inline(never)]
 fn plan<R: AllocGlobal + Files, O: Write>(
     rt: &R,
     options: &PlanOptions<'_>,
@@ -169,6 +175,7 @@ fn plan<R: AllocGlobal + Files, O: Write>(
 }
 
 /// `explore`: writes how a word ends under each event that can matter.
+#[inline(never)]
 fn explore<R: AllocGlobal + Files, O: Write, E: Write>(
     rt: &R,
     options: &ExploreOptions<'_>,

@@ -65,6 +65,7 @@ fn declined(alloc: Global, refusal: &ConfigRefusal) -> NextRefusal
 
 /// `supervise`: a master whose workers and new masters are processes. What is left of its children when it ends is ended
 /// with it. `number` is that of its own process; the system counts processes from 1.
+#[inline(never)]
 pub fn supervise<R: AllocGlobal + Files + Processes, I: Read, O: Write, E: Write>(
     rt: &R,
     number: u32,
@@ -116,6 +117,7 @@ fn config_in<R: AllocGlobal + Files>(rt: &R, path: Option<&str>) -> Result<Confi
 
 /// `adopt`: the new master of an upgrade. Its workers are the program that is named, or its own executable. `number` is
 /// that of its own process.
+#[inline(never)]
 pub fn adopt<R: AllocGlobal + Files + Processes, I: Read, O: Write>(
     rt: &R,
     number: u32,

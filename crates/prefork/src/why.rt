@@ -14,6 +14,7 @@ use std::rt::Files;
 
 /// Where the arguments ask for it, says where a fault was found, what stood there, and what its codes mean. `given` is what was read of standard input.
 /// What can't be found out any more, since memory or a file is refused, isn't said.
+#[inline(never)]
 pub fn tell<R: AllocGlobal + Files, E: Write>(
     rt: &R,
     args: &[String],

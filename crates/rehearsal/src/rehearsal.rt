@@ -70,6 +70,7 @@ fn booted(alloc: Global, settings: &Settings, running: u32) -> Result<Kernel, Fa
 
 impl Rehearsal {
     /// Boots a master with its ready workers.
+    #[inline(never)]
     pub fn start(alloc: Global, start: &Start) -> Result<Rehearsal, Fault>
         ensures ok { IfOk result (IsStarted start.now) }
         ensures err { IfErr result (IsDue (record_at start.now)) }
