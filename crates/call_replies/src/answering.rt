@@ -28,6 +28,8 @@ pub fn reply_to(answer: &Answer, set: &Numbers) -> Reply
         Answer::Refused => Reply::Refused,
         Answer::IoFault => Reply::IoFault,
         Answer::IsAlive => Reply::IsAlive,
+        Answer::Go => Reply::Go,
+        Answer::Back => Reply::Back,
         Answer::MasterGone => Reply::MasterGone,
     }
 }

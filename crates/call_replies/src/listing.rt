@@ -42,6 +42,8 @@ const ADOPTING: [Reply; 3] = [Reply::Adopted, Reply::Refused, Reply::MasterGone]
 
 const FILING: [Reply; 3] = [Reply::Fine, Reply::IoFault, Reply::MasterGone];
 
+const ASKING: [Reply; 3] = [Reply::Go, Reply::Back, Reply::MasterGone];
+
 const LIVING: [Reply; 3] = [Reply::IsAlive, Reply::Gone, Reply::MasterGone];
 
 /// The replies to a call, the plain one first and that the master is gone last.
@@ -58,6 +60,7 @@ pub fn replies_to(call: &Call) -> &'static [Reply]
         Call::Adopt => &ADOPTING,
         Call::WritePid(_) | Call::MovePid(..) | Call::RemovePid(_) => &FILING,
         Call::Alive(_) => &LIVING,
+        Call::Ask(_) => &ASKING,
         Call::CloseAt(_)
         | Call::Quit(..)
         | Call::Kill(..)

@@ -55,6 +55,8 @@ listed-is_listed call answer.Adopted = among_before call reply.Adopted refl
 listed-is_listed call answer.Refused = among_before call reply.Refused refl
 listed-is_listed call answer.IoFault = among_before call reply.IoFault refl
 listed-is_listed call answer.IsAlive = among_before call reply.IsAlive refl
+listed-is_listed call answer.Go = among_before call reply.Go refl
+listed-is_listed call answer.Back = among_before call reply.Back refl
 listed-is_listed call answer.MasterGone =
     list_any-append (λ x. same_reply x MasterGone) (replies_to call) (MasterGone ∷ []) ∙ or_true (among (replies_to call) MasterGone)
 
@@ -78,6 +80,8 @@ word_found text answer.Adopted e = (tt, sym (same_bytes (codes "adopted") text e
 word_found text answer.Refused e = (tt, sym (same_bytes (codes "refused") text e))
 word_found text answer.IoFault e = (tt, sym (same_bytes (codes "io-fault") text e))
 word_found text answer.IsAlive e = (tt, sym (same_bytes (codes "alive") text e))
+word_found text answer.Go e = (tt, sym (same_bytes (codes "go") text e))
+word_found text answer.Back e = (tt, sym (same_bytes (codes "back") text e))
 word_found text answer.MasterGone e = (tt, sym (same_bytes (codes "master-gone") text e))
 
 find_passes : {A : Type 0} (p : A → Bool) (all : List A) (v : A) → find p all ≡ Some v → p v ≡ true
@@ -138,6 +142,8 @@ answer_only answer.Adopted h = word_only answer.Adopted (codes "adopted") refl r
 answer_only answer.Refused h = word_only answer.Refused (codes "refused") refl refl
 answer_only answer.IoFault h = word_only answer.IoFault (codes "io-fault") refl refl
 answer_only answer.IsAlive h = word_only answer.IsAlive (codes "alive") refl refl
+answer_only answer.Go h = word_only answer.Go (codes "go") refl refl
+answer_only answer.Back h = word_only answer.Back (codes "back") refl refl
 answer_only answer.MasterGone h = word_only answer.MasterGone (codes "master-gone") refl refl
 
 pub answers_to : (call : Call) → IsReader (IsAnswerTo call) answer_text (answer_to call)

@@ -38,6 +38,7 @@ verb_again verb.RemovePid = refl
 verb_again verb.Alive = refl
 verb_again verb.Usr1 = refl
 verb_again verb.TermMaster = refl
+verb_again verb.Ask = refl
 
 verb_lacks : (v : Verb) → lacks 32 (verb_text v) ≡ true
 verb_lacks verb.Open = refl
@@ -55,6 +56,7 @@ verb_lacks verb.RemovePid = refl
 verb_lacks verb.Alive = refl
 verb_lacks verb.Usr1 = refl
 verb_lacks verb.TermMaster = refl
+verb_lacks verb.Ask = refl
 
 -- ---- a call that is read
 -- what was read behind a verb
@@ -89,6 +91,7 @@ about_found verb.RemovePid rest c e = arm _ _ _ path_reads (λ p. call.RemovePid
 about_found verb.Alive rest c e = arm _ _ _ number_reads (λ i. call.Alive i) (codes "alive ") (λ i h. (h, refl)) rest c e
 about_found verb.Usr1 rest c e = named (λ g k. call.Usr1 g k) (codes "usr1 ") (λ g k h. (h, refl)) rest c e
 about_found verb.TermMaster rest c e = arm _ _ _ number_reads (λ i. call.TermMaster i) (codes "term-master ") (λ i h. (h, refl)) rest c e
+about_found verb.Ask rest c e = arm _ _ _ number_reads (λ i. call.Ask i) (codes "ask ") (λ i h. (h, refl)) rest c e
 
 bare_found : (text : List ℕ) (c : Call) → bare_of text ≡ Some c → IsCall c × (text ≡ call_text c)
 bare_found text c e = at (bytes_eq text (codes "adopt")) refl (bytes_eq text (codes "leave")) refl
@@ -151,6 +154,7 @@ call_only (call.Alive i) h = behind_verb verb.Alive (decimal i) _ (ap (option_ma
 call_only call.Leave h = refl
 call_only (call.Usr1 g k) h = behind_verb verb.Usr1 (worker_text g k) _ (worker_only (λ g k. call.Usr1 g k) g k h)
 call_only (call.TermMaster i) h = behind_verb verb.TermMaster (decimal i) _ (ap (option_map (λ i. call.TermMaster i)) (number_reads.only i h))
+call_only (call.Ask i) h = behind_verb verb.Ask (decimal i) _ (ap (option_map (λ i. call.Ask i)) (number_reads.only i h))
 
 pub call_reads : IsReader IsCall call_text call_of
 call_reads = record { found = call_found; only = call_only }

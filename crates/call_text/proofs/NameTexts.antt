@@ -81,6 +81,7 @@ fate_again fate.Late = refl
 fate_again fate.NoImage = refl
 fate_again fate.Refused = refl
 fate_again fate.IoFault = refl
+fate_again fate.Back = refl
 
 pub fate_reads : IsReader (λ (f : Fate). ⊤) fate_text fate_of
 fate_reads = record { found = λ text f e. (tt, find_found fate_text text all_fates f e); only = λ f _. fate_again f }

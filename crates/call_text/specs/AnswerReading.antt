@@ -23,7 +23,7 @@ is_answer text a = bytes_eq (answer_word a) text
 abbrev pub plain_answers : List Answer
 plain_answers =
     answer.InUse ∷ answer.TooMany ∷ answer.Denied ∷ answer.NoMemory ∷ answer.Fine ∷ answer.Forked ∷ answer.Again ∷ answer.IsReady ∷ answer.Gone
-    ∷ answer.Late ∷ answer.Spawned ∷ answer.NoImage ∷ answer.Adopted ∷ answer.Refused ∷ answer.IoFault ∷ answer.IsAlive ∷ answer.MasterGone ∷ []
+    ∷ answer.Late ∷ answer.Spawned ∷ answer.NoImage ∷ answer.Adopted ∷ answer.Refused ∷ answer.IoFault ∷ answer.IsAlive ∷ answer.Go ∷ answer.Back ∷ answer.MasterGone ∷ []
 
 abbrev pub plain_of : List ℕ → Option Answer
 plain_of text = find (is_answer text) plain_answers

@@ -27,6 +27,7 @@ verb_text verb.RemovePid = codes "remove-pid"
 verb_text verb.Alive = codes "alive"
 verb_text verb.Usr1 = codes "usr1"
 verb_text verb.TermMaster = codes "term-master"
+verb_text verb.Ask = codes "ask"
 
 abbrev pub is_verb : List ℕ → Verb → Bool
 is_verb text v = bytes_eq (verb_text v) text
@@ -34,7 +35,7 @@ is_verb text v = bytes_eq (verb_text v) text
 abbrev pub all_verbs : List Verb
 all_verbs =
     verb.Open ∷ verb.Close ∷ verb.Fork ∷ verb.AwaitReady ∷ verb.Quit ∷ verb.Kill ∷ verb.Census ∷ verb.AwaitGone ∷ verb.SpawnMaster ∷ verb.WritePid
-    ∷ verb.MovePid ∷ verb.RemovePid ∷ verb.Alive ∷ verb.Usr1 ∷ verb.TermMaster ∷ []
+    ∷ verb.MovePid ∷ verb.RemovePid ∷ verb.Alive ∷ verb.Usr1 ∷ verb.TermMaster ∷ verb.Ask ∷ []
 
 abbrev pub verb_of : List ℕ → Option Verb
 verb_of text = find (is_verb text) all_verbs
@@ -89,6 +90,7 @@ about verb.RemovePid rest = option_map (λ p. call.RemovePid p) (path_of rest)
 about verb.Alive rest = option_map (λ i. call.Alive i) (number_of rest)
 about verb.Usr1 rest = option_map (λ w. call.Usr1 w.0 w.1) (worker_of rest)
 about verb.TermMaster rest = option_map (λ i. call.TermMaster i) (number_of rest)
+about verb.Ask rest = option_map (λ i. call.Ask i) (number_of rest)
 
 -- a call of one word
 abbrev pub bare_of : List ℕ → Option Call

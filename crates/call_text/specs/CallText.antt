@@ -4,7 +4,7 @@ use Rattle.std.specs.Fmt.{decimal}
 use Rattle.listener_set.specs.declared.generation.Generation.{Generation}
 use Rattle.crews.specs.Crews.{Posts, Crew, is_sole}
 use Rattle.vocabulary.specs.declared.calls.Call.{Call}
-use Rattle.vocabulary.specs.declared.calls.Call.TheVariants.{OpenAt, CloseAt, Fork, AwaitReady, Quit, Kill, Census, AwaitGone, SpawnMaster, Adopt, WritePid, MovePid, RemovePid, Alive, Leave, Usr1, TermMaster}
+use Rattle.vocabulary.specs.declared.calls.Call.TheVariants.{OpenAt, CloseAt, Fork, AwaitReady, Quit, Kill, Census, AwaitGone, SpawnMaster, Adopt, WritePid, MovePid, RemovePid, Alive, Leave, Usr1, TermMaster, Ask}
 use Rattle.vocabulary.specs.declared.calls.Answer.{Answer}
 use Rattle.vocabulary.specs.declared.calls.Answer.TheVariants as answer
 use Rattle.vocabulary.specs.declared.plans.Order.{Order}
@@ -40,6 +40,7 @@ call_text (Alive i) = codes "alive " ++ decimal i
 call_text Leave = codes "leave"
 call_text (Usr1 g nr) = codes "usr1 " ++ worker_text g nr
 call_text (TermMaster i) = codes "term-master " ++ decimal i
+call_text (Ask n) = codes "ask " ++ decimal n
 
 abbrev pub master_text : ℕ → List ℕ
 master_text by = codes "m" ++ decimal by
@@ -91,6 +92,8 @@ answer_word answer.Adopted = codes "adopted"
 answer_word answer.Refused = codes "refused"
 answer_word answer.IoFault = codes "io-fault"
 answer_word answer.IsAlive = codes "alive"
+answer_word answer.Go = codes "go"
+answer_word answer.Back = codes "back"
 answer_word answer.MasterGone = codes "master-gone"
 
 -- what follows the word, if something does

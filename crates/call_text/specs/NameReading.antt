@@ -31,7 +31,7 @@ abbrev pub is_fate : List ℕ → Fate → Bool
 is_fate text f = bytes_eq (fate_text f) text
 
 abbrev pub all_fates : List Fate
-all_fates = fate.InUse ∷ fate.TooMany ∷ fate.Denied ∷ fate.NoMemory ∷ fate.Again ∷ fate.Late ∷ fate.NoImage ∷ fate.Refused ∷ fate.IoFault ∷ []
+all_fates = fate.InUse ∷ fate.TooMany ∷ fate.Denied ∷ fate.NoMemory ∷ fate.Again ∷ fate.Late ∷ fate.NoImage ∷ fate.Refused ∷ fate.IoFault ∷ fate.Back ∷ []
 
 -- the fate with a word
 abbrev pub fate_of : List ℕ → Option Fate

@@ -9,7 +9,7 @@ use Rattle.listener_set.specs.DescriptorSets.{AreDescriptorNumbers}
 use Rattle.vocabulary.specs.declared.names.Name.{Name}
 use Rattle.vocabulary.specs.declared.names.Name.TheVariants as name
 use Rattle.vocabulary.specs.declared.calls.Call.{Call}
-use Rattle.vocabulary.specs.declared.calls.Call.TheVariants.{OpenAt, CloseAt, Fork, AwaitReady, Quit, Kill, Census, AwaitGone, SpawnMaster, Adopt, WritePid, MovePid, RemovePid, Alive, Leave, Usr1, TermMaster}
+use Rattle.vocabulary.specs.declared.calls.Call.TheVariants.{OpenAt, CloseAt, Fork, AwaitReady, Quit, Kill, Census, AwaitGone, SpawnMaster, Adopt, WritePid, MovePid, RemovePid, Alive, Leave, Usr1, TermMaster, Ask}
 use Rattle.vocabulary.specs.declared.calls.Answer.{Answer}
 use Rattle.vocabulary.specs.declared.calls.Answer.TheVariants as answer
 use Rattle.vocabulary.specs.declared.reports.Report.{Report}
@@ -62,6 +62,7 @@ IsCall (Alive i) = IsNumber i
 IsCall Leave = ⊤
 IsCall (Usr1 g nr) = IsWorker g nr
 IsCall (TermMaster i) = IsNumber i
+IsCall (Ask n) = IsNumber n
 
 -- a call with the master that makes it
 abbrev pub IsCallLine : ℕ × Call → Type 0

@@ -21,6 +21,7 @@ fate_text fate.Late = codes "late"
 fate_text fate.NoImage = codes "no-image"
 fate_text fate.Refused = codes "refused"
 fate_text fate.IoFault = codes "io-fault"
+fate_text fate.Back = codes "back"
 
 abbrev pub reply_text : Reply → List ℕ
 reply_text reply.Opened = codes "opened"
@@ -42,6 +43,8 @@ reply_text reply.Adopted = codes "adopted"
 reply_text reply.Refused = codes "refused"
 reply_text reply.IoFault = codes "io-fault"
 reply_text reply.IsAlive = codes "alive"
+reply_text reply.Go = codes "go"
+reply_text reply.Back = codes "back"
 reply_text reply.MasterGone = codes "master-gone"
 
 abbrev pub end_text : End → List ℕ

@@ -35,6 +35,8 @@ fn answer_word(answer: &Answer) -> &'static str
         Answer::Refused => "refused",
         Answer::IoFault => "io-fault",
         Answer::IsAlive => "alive",
+        Answer::Go => "go",
+        Answer::Back => "back",
         Answer::MasterGone => "master-gone",
     }
 }
@@ -79,7 +81,7 @@ fn is_listed(call: &Call, answer: &Answer) -> bool
 }
 
 /// The answers of one word.
-const PLAIN: [Answer; 17] = [
+const PLAIN: [Answer; 19] = [
     Answer::InUse,
     Answer::TooMany,
     Answer::Denied,
@@ -96,6 +98,8 @@ const PLAIN: [Answer; 17] = [
     Answer::Refused,
     Answer::IoFault,
     Answer::IsAlive,
+    Answer::Go,
+    Answer::Back,
     Answer::MasterGone,
 ];
 

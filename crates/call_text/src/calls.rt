@@ -112,14 +112,14 @@ fn write_fork_missing<S: Sink>(out: &mut S, crew: &Crew) -> Result<(), S::Refusa
     out.put(group_part(&crew.posts).as_bytes())
 }
 
-/// A verb and the number of an image.
+/// A verb and a number.
 #[tactic(auto, using(plain_text::proofs::KeptTexts::kept_on))]
-fn write_image<S: Sink>(out: &mut S, verb: &str, image: u32) -> Result<(), S::Refusal>
-    ensures text { IfOk result (λ _. S.text out.new ≡ kept S.most (S.text out.old ++ (verb.now ++ decimal image))) }
-    ensures short { IfOk result (λ _. length (decimal image) ≤ 20) }
+fn write_numbered<S: Sink>(out: &mut S, verb: &str, number: u32) -> Result<(), S::Refusal>
+    ensures text { IfOk result (λ _. S.text out.new ≡ kept S.most (S.text out.old ++ (verb.now ++ decimal number))) }
+    ensures short { IfOk result (λ _. length (decimal number) ≤ 20) }
 {
     out.put(verb.as_bytes())?;
-    write_number(out, u64::from(image))
+    write_number(out, u64::from(number))
 }
 
 /// A call without its master.
@@ -136,15 +136,16 @@ fn write_verb<S: Sink>(out: &mut S, call: &Call) -> Result<(), S::Refusal>
         Call::Kill(generation, nr) => write_named(out, "kill ", *generation, *nr),
         Call::Census(generation) => write_generation(out, "census ", *generation),
         Call::AwaitGone(generation, nr) => write_named(out, "await-gone ", *generation, *nr),
-        Call::SpawnMaster(image) => write_image(out, "spawn-master ", *image),
+        Call::SpawnMaster(image) => write_numbered(out, "spawn-master ", *image),
         Call::Adopt => out.put(b"adopt"),
         Call::WritePid(path) => write_about(out, "write-pid ", path.bytes()),
         Call::MovePid(from, to) => write_paths(out, "move-pid ", from, to),
         Call::RemovePid(path) => write_about(out, "remove-pid ", path.bytes()),
-        Call::Alive(image) => write_image(out, "alive ", *image),
+        Call::Alive(image) => write_numbered(out, "alive ", *image),
         Call::Leave => out.put(b"leave"),
         Call::Usr1(generation, nr) => write_named(out, "usr1 ", *generation, *nr),
-        Call::TermMaster(image) => write_image(out, "term-master ", *image),
+        Call::TermMaster(image) => write_numbered(out, "term-master ", *image),
+        Call::Ask(question) => write_numbered(out, "ask ", *question),
     }
 }
 

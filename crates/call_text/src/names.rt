@@ -83,7 +83,7 @@ pub fn read_name(text: &[u8]) -> Option<Name>
 }
 
 /// All fates.
-const FATES: [Fate; 9] = [
+const FATES: [Fate; 10] = [
     Fate::InUse,
     Fate::TooMany,
     Fate::Denied,
@@ -93,6 +93,7 @@ const FATES: [Fate; 9] = [
     Fate::NoImage,
     Fate::Refused,
     Fate::IoFault,
+    Fate::Back,
 ];
 
 fn is_fate(fate: Fate, text: &[u8]) -> bool

@@ -28,9 +28,10 @@ pub(crate) enum Verb {
     Alive,
     Usr1,
     TermMaster,
+    Ask,
 }
 
-const VERBS: [Verb; 15] = [
+const VERBS: [Verb; 16] = [
     Verb::Open,
     Verb::Close,
     Verb::Fork,
@@ -46,6 +47,7 @@ const VERBS: [Verb; 15] = [
     Verb::Alive,
     Verb::Usr1,
     Verb::TermMaster,
+    Verb::Ask,
 ];
 
 fn verb_text(verb: Verb) -> &'static str
@@ -67,6 +69,7 @@ fn verb_text(verb: Verb) -> &'static str
         Verb::Alive => "alive",
         Verb::Usr1 => "usr1",
         Verb::TermMaster => "term-master",
+        Verb::Ask => "ask",
     }
 }
 
@@ -103,6 +106,7 @@ fn read_about(verb: Verb, rest: &[u8]) -> Option<Call>
         Verb::Alive => read_number(rest).map(|image| Call::Alive(image)),
         Verb::Usr1 => read_worker(rest).map(|worker| Call::Usr1(worker.0, worker.1)),
         Verb::TermMaster => read_number(rest).map(|image| Call::TermMaster(image)),
+        Verb::Ask => read_number(rest).map(|question| Call::Ask(question)),
     }
 }
 

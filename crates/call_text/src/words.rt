@@ -18,6 +18,7 @@ pub fn fate_text(fate: Fate) -> &'static str
         Fate::NoImage => "no-image",
         Fate::Refused => "refused",
         Fate::IoFault => "io-fault",
+        Fate::Back => "back",
     }
 }
 
@@ -45,6 +46,8 @@ pub fn reply_text(reply: Reply) -> &'static str
         Reply::Refused => "refused",
         Reply::IoFault => "io-fault",
         Reply::IsAlive => "alive",
+        Reply::Go => "go",
+        Reply::Back => "back",
         Reply::MasterGone => "master-gone",
     }
 }

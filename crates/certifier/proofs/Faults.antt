@@ -10,7 +10,7 @@ use denote.Enum.Bare.{true_same}
 use Rattle.vocabulary.specs.contracts.calls.Reply.{the_type}
 use Rattle.listener_set.specs.Numbers.{is_in}
 use Rattle.vocabulary.specs.declared.calls.Call.{Call}
-use Rattle.vocabulary.specs.declared.calls.Call.TheVariants.{OpenAt, Fork, AwaitReady, Census, AwaitGone, SpawnMaster, Adopt, WritePid, MovePid, RemovePid}
+use Rattle.vocabulary.specs.declared.calls.Call.TheVariants.{OpenAt, Fork, AwaitReady, Census, AwaitGone, SpawnMaster, Adopt, WritePid, MovePid, RemovePid, Ask}
 use Rattle.vocabulary.specs.declared.calls.Answer.{Answer}
 use Rattle.vocabulary.specs.declared.calls.Answer.TheVariants as answer
 use Rattle.vocabulary.specs.declared.calls.Fate.{Fate}
@@ -145,6 +145,7 @@ module _ (text : List ℕ) (image : ℕ) (c : Caller) (t : Table) where
   is-fault (WritePid path) fate.IoFault a h = is-it (WritePid path) fate.IoFault answer.IoFault a h (record { named = refl; nobody = λ by. refl; no_count = refl; itself = other answer.IoFault answer.Fine _ refl })
   is-fault (MovePid from to) fate.IoFault a h = is-it (MovePid from to) fate.IoFault answer.IoFault a h (record { named = refl; nobody = λ by. refl; no_count = refl; itself = moving (owner_at from t.files) from to })
   is-fault (RemovePid path) fate.IoFault a h = is-it (RemovePid path) fate.IoFault answer.IoFault a h (record { named = refl; nobody = λ by. refl; no_count = refl; itself = other answer.IoFault answer.Fine _ refl })
+  is-fault (Ask n) fate.Back a h = is-it (Ask n) fate.Back answer.Back a h (record { named = refl; nobody = λ by. refl; no_count = refl; itself = other answer.Back answer.Go _ refl })
   is-fault _ _ a h = absurd (none-some a h)
 
 ---- What is shown of a step under a fate

@@ -22,6 +22,7 @@ fate_of answer.Late = Some fate.Late
 fate_of answer.NoImage = Some fate.NoImage
 fate_of answer.Refused = Some fate.Refused
 fate_of answer.IoFault = Some fate.IoFault
+fate_of answer.Back = Some fate.Back
 fate_of _ = None
 
 -- who is found gone: the worker that is waited for, whose number is below 1024, or the master that is asked about

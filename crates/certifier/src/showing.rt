@@ -24,6 +24,7 @@ fn fate_of(answer: &Answer) -> Option<Fate>
         Answer::NoImage => Some(Fate::NoImage),
         Answer::Refused => Some(Fate::Refused),
         Answer::IoFault => Some(Fate::IoFault),
+        Answer::Back => Some(Fate::Back),
         _ => None,
     }
 }

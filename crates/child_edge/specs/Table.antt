@@ -4,7 +4,7 @@ use Rattle.std.specs.List.{list_any}
 use Rattle.handover_text.specs.Listeners.{only_under}
 use Rattle.definitions.specs.Table.{Address, Generation}
 use Rattle.definitions.specs.After.{listens_on, opened_from}
-use Rattle.definitions.specs.Calls.{Call, OpenAt, CloseAt, Fork, AwaitReady, Quit, Kill, Census, AwaitGone, SpawnMaster, Adopt, WritePid, MovePid, RemovePid, Alive, Leave, Usr1, TermMaster, Answer}
+use Rattle.definitions.specs.Calls.{Call, OpenAt, CloseAt, Fork, AwaitReady, Quit, Kill, Census, AwaitGone, SpawnMaster, Adopt, WritePid, MovePid, RemovePid, Alive, Leave, Usr1, TermMaster, Ask, Answer}
 use Rattle.vocabulary.specs.declared.calls.Answer.TheVariants as answer
 use Rattle.call_text.specs.CallText.{call_line}
 use Rattle.call_text.specs.AnswerReading.{answer_to}
@@ -185,6 +185,7 @@ own_turn s (Alive image) = living s image s.child
 own_turn s Leave = leaving s
 own_turn s (Usr1 g nr) = says_each (ServingNamed g nr) (codes "usr1") s.workers (answers s answer.Fine)
 own_turn s (TermMaster image) = terminating s image s.child
+own_turn s (Ask question) = answers s answer.Back
 
 ---- The calls of another image, which its child master makes
 

@@ -47,5 +47,6 @@ pub(crate) fn make<F: Family>(family: &mut F, state: &mut EdgeState, call: &Call
         Call::Leave => workers::leave(family, state),
         Call::Usr1(generation, nr) => workers::usr1(family, state, *generation, *nr),
         Call::TermMaster(image) => masters::terminate(family, state, *image),
+        Call::Ask(_) => Answer::Back,
     }
 }

@@ -76,32 +76,37 @@ HUP         go over to the configuration of --to
 USR1        reopen the logs
 USR2        go over to a new master, of the new executable and
             configuration
+USR2 attended
+            the same, and ask the operator twice: go on, or back?
 QUIT        stop, once requests in progress are finished
 INT, TERM   stop at once
 beat K NOW  worker K is alive at the moment NOW
 tick NOW    kill each worker whose last beat is too old and start
             it anew, and start those that are missing
-A beat or a tick is one argument: quote it.";
+Quote a word with spaces: 'beat 0 60', 'tick 60', 'USR2 attended'.";
 
 pub(crate) const WORD_HELP: &str = "One control word, as those of `prefork enact --help`";
 
 pub(crate) const ENACT_NOTES: &str = "\
-Standard input says what goes wrong; empty input (</dev/null) means that
-nothing does.
+Standard input says which calls fail and which processes exit. Redirect it from
+/dev/null to inject no faults.
 Each line begins with the number of a call, from 1, or is 'next':
   2 fail late     call 2 is answered 'late', if it can be
   2 exit w1.1.0   worker 0 of generation 1.1 exits just before call 2
   next            what follows is for the next control word
 Fates: in-use, too-many, denied, no-memory, again, late, no-image, refused,
-io-fault. Call numbers do not fall; a 'fail' comes after the exits of its call.
+io-fault, back. Call numbers do not fall; a 'fail' comes after the exits of its
+call. The questions of 'USR2 attended' are the calls 'ask 1' and 'ask 2'. The
+operator answers 'go', unless the pattern has a 'fail back' for that call.
 
 For each word the output has the calls in order, and then one line:
   done            the service that was asked for runs
-  rolled-back     the plan failed, and what ran before runs again
+  rolled-back     what ran before runs again
   degraded        some workers are missing, on the old or the target's side
   lost            the master that carried out the plan is gone
-with the first call that went wrong and where the pid file is. A word without
-a plan has the line 'nothing', or 'refused' with a code.
+This line also has the cause, which is the first call that failed or that the
+operator answered 'back', and says where the pid file is. A word without a plan
+has the line 'nothing', or 'refused' with a code.
 
 Exit status: 0 done, 1 a word was refused or lost or nothing could be run,
 2 usage, 3 rolled back, 4 degraded; of several, 1 comes before 4 and 4 before 3.
@@ -116,11 +121,12 @@ started. Each block is compared with the plan of its word and with the modelled
 kernel, in the state that the blocks before it left.
 
 Where all blocks are accepted the output has the patterns, a section for each
-block, under which `prefork enact` prints the same blocks: who exited before
-which call, and which call failed. Else there is no output, and the fault's line
-has the block's number, counted from 1, and a code: Y1 N entry N is none of the
-plan's or the kernel's, Y2 another report, Y3 the block ends too early, Y4 the
-word could not be carried out. `prefork explain Y1` says more.
+block, under which `prefork enact` prints the same blocks: which process exited
+before which call, and which call failed or was answered 'back'. Otherwise there
+is no output, and the fault's line has the block's number, counted from 1, and a
+code: Y1 N entry N is none of the plan's or the kernel's, Y2 another report, Y3
+the block ends too early, Y4 the word could not be carried out. `prefork explain
+Y1` says more.
 
 Exit status: 0 accepted, 5 a block is not, 1 nothing could be compared, 2 usage.
 
@@ -128,10 +134,14 @@ Example: what is printed is accepted:
   prefork enact --workers 2 TTIN </dev/null | prefork certify --workers 2";
 
 pub(crate) const SUPERVISE_NOTES: &str = "\
-Standard input has a control word on each line, as those of `prefork enact
---help`; its end means QUIT. The master writes its pid file, starts its workers
-as on 'tick 0', and then does word after word. HUP and USR2 read the file of
---to anew.
+Standard input has a control word on each line, without quotes; `prefork enact
+--help` lists them. The end of the input means QUIT. The master writes its pid
+file, starts its workers as on 'tick 0', and then carries out one word after
+another. HUP, USR2 and 'USR2 attended' read the file of --to anew.
+
+This version takes no answers from the operator. The master itself answers each
+question of 'USR2 attended' with 'back', so it rolls that word back at the first
+question.
 
 For each word the output has a block, as `prefork enact` prints them, before the
 next line is read. At a tick each worker is asked for a beat, and each that comes
@@ -177,11 +187,11 @@ pub(crate) const EXPLORE_NOTES: &str = "\
 Each run is that of `enact` from the same start: under no event, and under
 each single event; with --events 2 also under each pair of events of which
 the run with the first one meets the second. An event is a failure that changes
-what the call at a place is answered, or the exit of a worker that is starting
-or ready, or of the new master before the old one leaves. The output says how
-many runs ended how, with the first pattern of the fewest events that leads
-there, the largest shortfall, the fewest ready workers that an address of both
-services had, and how many tables the runs passed.
+the answer of a call, the answer 'back' to a question, or the exit of a worker
+that is starting or ready, or of the new master before the old one leaves. The
+output says how many runs ended how, with the first pattern of the fewest events
+that leads there, the largest shortfall, the fewest ready workers that an
+address of both services had, and how many tables the runs passed.
 
 Exit status: 0 counted, 1 the word was refused, 2 usage, 4 a run ended
 degraded and --forbid degraded is given.

@@ -12,7 +12,7 @@ use Rattle.std.proofs.lemmas.List.Sums.{split_at_first, passes_at_first}
 use Rattle.plain_text.specs.NumberText.{number_of, number64_of}
 use Rattle.plain_text.proofs.NumberTextLemmas.{both, decimal-number_of, decimal-number64_of, number_of-decimal, number64_of-decimal, digits-decimal}
 use Rattle.control_words.specs.declared.words.Word.{Word}
-use Rattle.control_words.specs.declared.words.Word.TheVariants.{Hup, Quit, Int, Term, Usr1, Usr2, Winch, Ttin, Ttou, Beat, Tick}
+use Rattle.control_words.specs.declared.words.Word.TheVariants.{Hup, Quit, Int, Term, Usr1, Usr2, Usr2Attended, Winch, Ttin, Ttou, Beat, Tick}
 use Rattle.control_words.specs.declared.refusal.WordRefusal.{WordRefusal}
 use Rattle.control_words.specs.declared.refusal.WordRefusal.TheVariants.{Unknown, BadNumber}
 use Rattle.control_words.specs.Words.{word_name, word_text, IsWord, signals, signal_of, is_space, beat_of, beat_in, tick_of, tick_in, or_refused, reading}
@@ -56,6 +56,7 @@ reading-written Int h = refl
 reading-written Term h = refl
 reading-written Usr1 h = refl
 reading-written Usr2 h = refl
+reading-written Usr2Attended h = refl
 reading-written Winch h = refl
 reading-written Ttin h = refl
 reading-written Ttou h = refl
@@ -123,7 +124,7 @@ found_written line (w ∷ ws) all word h = at (bytes_eq (word_name w) line) refl
     at false e later h = later h
 
 signal_written : (line : List ℕ) (word : Word) → signal_of line ≡ Some word → (line ≡ word_text word) × IsWord word
-signal_written line word h = found_written line signals ((refl, tt), ((refl, tt), ((refl, tt), ((refl, tt), ((refl, tt), ((refl, tt), ((refl, tt), ((refl, tt), ((refl, tt), tt))))))))) word h
+signal_written line word h = found_written line signals ((refl, tt), ((refl, tt), ((refl, tt), ((refl, tt), ((refl, tt), ((refl, tt), ((refl, tt), ((refl, tt), ((refl, tt), ((refl, tt), tt)))))))))) word h
 
 accepted : (refusal : WordRefusal) (found : Option Word) (word : Word) → or_refused refusal found ≡ Ok word → found ≡ Some word
 accepted refusal None word h = cc

@@ -8,7 +8,7 @@ use Rattle.definitions.specs.Record.{Record}
 use Rattle.vocabulary.specs.declared.targets.Target.{Target}
 use Rattle.vocabulary.specs.declared.targets.Target.TheVariants as target
 use Rattle.control_words.specs.declared.words.Word.{Word}
-use Rattle.control_words.specs.declared.words.Word.TheVariants.{Hup, Quit, Int, Term, Usr1, Usr2, Winch, Ttin, Ttou, Beat, Tick}
+use Rattle.control_words.specs.declared.words.Word.TheVariants.{Hup, Quit, Int, Term, Usr1, Usr2, Usr2Attended, Winch, Ttin, Ttou, Beat, Tick}
 use Rattle.control_words.specs.declared.refusal.WordRefusal.{WordRefusal}
 use Rattle.control_words.specs.declared.refusal.WordRefusal.TheVariants.{Unknown, BadNumber, AtMost, NoConfig, PidChanged}
 
@@ -21,6 +21,7 @@ word_name Int = codes "INT"
 word_name Term = codes "TERM"
 word_name Usr1 = codes "USR1"
 word_name Usr2 = codes "USR2"
+word_name Usr2Attended = codes "USR2 attended"
 word_name Winch = codes "WINCH"
 word_name Ttin = codes "TTIN"
 word_name Ttou = codes "TTOU"
@@ -43,7 +44,7 @@ IsWord word = ⊤
 
 -- the words that are a name alone
 abbrev pub signals : List Word
-signals = Hup ∷ Quit ∷ Int ∷ Term ∷ Usr1 ∷ Usr2 ∷ Winch ∷ Ttin ∷ Ttou ∷ []
+signals = Hup ∷ Quit ∷ Int ∷ Term ∷ Usr1 ∷ Usr2 ∷ Usr2Attended ∷ Winch ∷ Ttin ∷ Ttou ∷ []
 
 abbrev pub signal_of : List ℕ → Option Word
 signal_of line = find (λ word. bytes_eq (word_name word) line) signals
@@ -122,6 +123,7 @@ target_of Int r overdue settings = Ok (Some (target.Stop true))
 target_of Term r overdue settings = Ok (Some (target.Stop true))
 target_of Usr1 r overdue settings = Ok (Some target.Reopen)
 target_of Usr2 r overdue settings = taken_up target.Upgrade (settings_for r settings)
+target_of Usr2Attended r overdue settings = taken_up target.Attended (settings_for r settings)
 target_of Winch r overdue settings = Ok (Some (target.Workers 0))
 target_of Ttin r overdue settings = one_more r.wanted
 target_of Ttou r overdue settings = one_less r.wanted

@@ -43,6 +43,7 @@ pub fn target_of(
     match word {
         Word::Hup => Ok(Some(Target::Reload(settings_for(state, settings)?))),
         Word::Usr2 => Ok(Some(Target::Upgrade(settings_for(state, settings)?))),
+        Word::Usr2Attended => Ok(Some(Target::Attended(settings_for(state, settings)?))),
         Word::Usr1 => Ok(Some(Target::Reopen)),
         Word::Quit => Ok(Some(Target::Stop { quick: false })),
         Word::Int | Word::Term => Ok(Some(Target::Stop { quick: true })),

@@ -18,6 +18,8 @@ pub enum Word {
     Usr1,
     /// `USR2`: go over to a new master, of the new executable and configuration.
     Usr2,
+    /// `USR2 attended`: the same, but the operator is asked twice whether to go on or back.
+    Usr2Attended,
     /// `WINCH`: no workers.
     Winch,
     /// `TTIN`: one worker more.
@@ -31,13 +33,14 @@ pub enum Word {
 }
 
 /// The words that are a name alone.
-const SIGNALS: [Word; 9] = [
+const SIGNALS: [Word; 10] = [
     Word::Hup,
     Word::Quit,
     Word::Int,
     Word::Term,
     Word::Usr1,
     Word::Usr2,
+    Word::Usr2Attended,
     Word::Winch,
     Word::Ttin,
     Word::Ttou,
@@ -57,6 +60,7 @@ impl Word {
             Word::Term => "TERM",
             Word::Usr1 => "USR1",
             Word::Usr2 => "USR2",
+            Word::Usr2Attended => "USR2 attended",
             Word::Winch => "WINCH",
             Word::Ttin => "TTIN",
             Word::Ttou => "TTOU",

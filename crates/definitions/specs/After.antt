@@ -63,6 +63,7 @@ listeners_then r (target.Mend overdue) = r.listeners
 listeners_then r target.Reopen = r.listeners
 listeners_then r (target.Reload s) = unwrap_or (with_added s.listeners r.listeners) r.listeners
 listeners_then r (target.Upgrade s) = unwrap_or (upgraded s.listeners r.listeners) r.listeners
+listeners_then r (target.Attended s) = unwrap_or (upgraded s.listeners r.listeners) r.listeners
 listeners_then r (target.Stop quick) = r.listeners
 
 abbrev pub posts_wanted : Record → Target → Posts
@@ -71,6 +72,7 @@ posts_wanted r (target.Mend overdue) = r.posts
 posts_wanted r target.Reopen = r.posts
 posts_wanted r (target.Reload s) = posts_of s.groups s.listeners (listeners_then r (target.Reload s))
 posts_wanted r (target.Upgrade s) = posts_of s.groups s.listeners (listeners_then r (target.Upgrade s))
+posts_wanted r (target.Attended s) = posts_of s.groups s.listeners (listeners_then r (target.Attended s))
 posts_wanted r (target.Stop quick) = r.posts
 
 -- the workers that a target wants, as they are started
@@ -114,6 +116,7 @@ lacks_generation r (target.Mend overdue) = false
 lacks_generation r target.Reopen = false
 lacks_generation r (target.Reload s) = is_none (next_config r.generation)
 lacks_generation r (target.Upgrade s) = is_none (next_image r.generation)
+lacks_generation r (target.Attended s) = is_none (next_image r.generation)
 lacks_generation r (target.Stop quick) = false
 
 -- the service of new settings
@@ -129,6 +132,7 @@ target_setup r (target.Mend overdue) = Some (setup_of r)
 target_setup r target.Reopen = Some (setup_of r)
 target_setup r (target.Reload s) = renewed s (posts_wanted r (target.Reload s)) (reloaded s.listeners r.listeners) (next_config r.generation)
 target_setup r (target.Upgrade s) = renewed s (posts_wanted r (target.Upgrade s)) (upgraded s.listeners r.listeners) (next_image r.generation)
+target_setup r (target.Attended s) = renewed s (posts_wanted r (target.Attended s)) (upgraded s.listeners r.listeners) (next_image r.generation)
 target_setup r (target.Stop quick) = None
 
 -- the service that ran before; nothing runs after a stop
@@ -138,6 +142,7 @@ old_setup r (target.Mend overdue) = Some (setup_of r)
 old_setup r target.Reopen = Some (setup_of r)
 old_setup r (target.Reload s) = Some (setup_of r)
 old_setup r (target.Upgrade s) = Some (setup_of r)
+old_setup r (target.Attended s) = Some (setup_of r)
 old_setup r (target.Stop quick) = None
 
 -- the service that an outcome names

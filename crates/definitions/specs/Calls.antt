@@ -7,7 +7,7 @@ use Rattle.definitions.specs.Handover.{Handover, HandoverRefusal, reading}
 use Rattle.definitions.specs.Table.{FilePath, File, owner_at, is_draining, Address, Generation, Hold, Starting, Ready, Draining, Process, Master, Worker, Foreign, Table, with_rows, is_starting, is_ready, is_active, is_exited, is_any, is_worker, is_own, is_at, is_held, Caller, live_master}
 use Rattle.definitions.specs.Exits.{change}
 pub use Rattle.vocabulary.specs.declared.calls.Call.{Call}
-pub use Rattle.vocabulary.specs.declared.calls.Call.TheVariants.{OpenAt, CloseAt, Fork, AwaitReady, Quit, Kill, Census, AwaitGone, SpawnMaster, Adopt, WritePid, MovePid, RemovePid, Alive, Leave, Usr1, TermMaster}
+pub use Rattle.vocabulary.specs.declared.calls.Call.TheVariants.{OpenAt, CloseAt, Fork, AwaitReady, Quit, Kill, Census, AwaitGone, SpawnMaster, Adopt, WritePid, MovePid, RemovePid, Alive, Leave, Usr1, TermMaster, Ask}
 pub use Rattle.vocabulary.specs.declared.calls.Answer.{Answer}
 pub use Rattle.vocabulary.specs.declared.calls.Answer.TheVariants as answer
 pub use Rattle.vocabulary.specs.declared.calls.Fate.{Fate}
@@ -273,6 +273,7 @@ own_step text image c (Alive i) t = asked_alive (live_master i t.rows) i t
 own_step text image c Leave t = departed c t
 own_step text image c (Usr1 g k) t = gives answer.Fine t
 own_step text image c (TermMaster i) t = terminated i t
+own_step text image c (Ask n) t = gives answer.Go t
 
 abbrev pub fault_if : Bool → Answer → Option Answer
 fault_if true a = Some a
@@ -295,6 +296,7 @@ fault_of c Adopt fate.Refused t = Some answer.Refused
 fault_of c (WritePid path) fate.IoFault t = Some answer.IoFault
 fault_of c (MovePid from to) fate.IoFault t = Some answer.IoFault
 fault_of c (RemovePid path) fate.IoFault t = Some answer.IoFault
+fault_of c (Ask n) fate.Back t = Some answer.Back
 fault_of c _ _ t = None
 
 abbrev pub fault_at : Caller → Call → Option Fate → Table → Option Answer

@@ -10,7 +10,7 @@ use Rattle.definitions.specs.Formed.{IsFormed}
 use Rattle.definitions.specs.Service.{Service, is_live_with, service, IsSame}
 use Rattle.definitions.specs.Record.{Listener, Record, IsRecord, Agrees, layout_of, PidNote, InPlace, AtOldbin, OldbinLeft, Left, NoFile, oldbin}
 use Rattle.definitions.specs.Crew.{Layout, short_at}
-use Rattle.definitions.specs.Target.{Target, Workers, Mend, Reopen, Reload, Upgrade, Stop, want, wanted_at, layout_wanted, sides_of, upgrade_generation, text_handed}
+use Rattle.definitions.specs.Target.{Target, Workers, Mend, Reopen, Reload, Upgrade, Attended, Stop, want, wanted_at, layout_wanted, sides_of, upgrade_generation, text_handed}
 use Rattle.definitions.specs.Tree.{Tree, height}
 use Rattle.definitions.specs.Plans.{plan_tree}
 use Rattle.definitions.specs.Path.{Report, Outcome, Entry}
@@ -21,7 +21,7 @@ use Rattle.definitions.specs.Manner.{Manner, is_leave_call}
 use Rattle.vocabulary.specs.Settings.{Settings, IsInRange}
 use Rattle.definitions.specs.Calls.{Call, Answer, RemovePid}
 use Rattle.vocabulary.specs.declared.calls.Answer.TheVariants as answer
-use Rattle.definitions.specs.Run.{report_of, run_with, Pattern, Progress, start_at, Ran}
+use Rattle.definitions.specs.Run.{report_of, run_with, Pattern, Progress, faults_since, start_at, Ran}
 
 ---- Where a run starts
 
@@ -58,6 +58,7 @@ refused_among executing heirs pattern n (e ∷ entries) =
 -- An upgrade's new master takes over.
 abbrev pub heirs_of : Record → Target → List ℕ
 heirs_of r (Upgrade s) = (upgrade_generation r.generation).image ∷ []
+heirs_of r (Attended s) = (upgrade_generation r.generation).image ∷ []
 heirs_of r (Workers n) = []
 heirs_of r (Mend overdue) = []
 heirs_of r Reopen = []
@@ -145,6 +146,7 @@ IsSucceeded r (Mend overdue) ran = AgreesAfter r (Mend overdue) (report_of (side
 IsSucceeded r Reopen ran = AgreesAfter r Reopen (report_of (sides_of r Reopen) ran) ran.last.table
 IsSucceeded r (Reload s) ran = AgreesAfter r (Reload s) (report_of (sides_of r (Reload s)) ran) ran.last.table
 IsSucceeded r (Upgrade s) ran = AgreesAfter r (Upgrade s) (report_of (sides_of r (Upgrade s)) ran) ran.last.table
+IsSucceeded r (Attended s) ran = AgreesAfter r (Attended s) (report_of (sides_of r (Attended s)) ran) ran.last.table
 IsSucceeded r (Stop quick) ran =
     (next_record r (Stop quick) (report_of (sides_of r (Stop quick)) ran) ran.last.table ≡ None) × (list_any is_own ran.last.table.rows ≡ false) × StopNote ran.last.note r.pid_path ran
 
@@ -177,11 +179,17 @@ ready_with a t = count_by (is_ready_with a) t.rows
 abbrev pub Floor : Service → Service → Table → (Address → ℕ) → Progress → Type 0
 Floor old target first wanted p = (a : Address) → IsCommon old target a → min (ready_with a first) (wanted a) ≤ ready_with a p.table + p.losses
 
+-- The same for an attended upgrade, except that once the operator went back at the second question, when the old workers were
+-- gone, the faults since then count beside the losses: each may have kept an old worker from being started again.
+abbrev pub AttendedFloor : Service → Service → Table → (Address → ℕ) → Progress → Type 0
+AttendedFloor old target first wanted p =
+    (a : Address) → IsCommon old target a → min (ready_with a first) (wanted a) ≤ ready_with a p.table + p.losses + faults_since 2 p.returns p.faults
+
 ---- The accounts
 
--- As long as no call went wrong there was no fault; once one did there was a fault or a loss.
+-- As long as no call went wrong there was no fault; once one did there was a fault, a loss, or the operator went back.
 abbrev pub IsBlamed : Progress → Type 0
-IsBlamed p = (is_some p.cause ≡ false → p.faults ≡ 0) × (is_some p.cause ≡ true → 1 ≤ p.faults + p.losses)
+IsBlamed p = (is_some p.cause ≡ false → p.faults ≡ 0) × (is_some p.cause ≡ true → 1 ≤ p.faults + p.losses + length p.returns)
 
 -- A run that goes back or falls short has a cause.
 abbrev pub HasCause : Outcome → Option ℕ → Type 0
@@ -211,6 +219,9 @@ pub record EndsAsReported (t : Table) (r : Record) (target : Target) (ran : Ran)
 abbrev pub KeepsFloor : Table → Record → Target → Ran → Type 0
 KeepsFloor t r target ran = AllByRecursion (Floor (service t) (want r target) t (wanted_at r target)) ran.passed
 
+abbrev pub KeepsAttendedFloor : Table → Record → Target → Ran → Type 0
+KeepsAttendedFloor t r target ran = AllByRecursion (AttendedFloor (service t) (want r target) t (wanted_at r target)) ran.passed
+
 -- Descriptors rise, from 3 on, and a process may have at most 64.
 pub record HasDescriptors (t : Table) (r : Record) : Type 0 where
   pub descriptors : RisesFrom 3 (map (λ (l : Listener). l.descriptor) r.listeners)
@@ -223,6 +234,7 @@ Accepts t r (Mend overdue) = ⊤
 Accepts t r Reopen = ⊤
 Accepts t r (Reload s) = IsInRange s × HasDescriptors t r × (is_some (next_config r.generation) ≡ true)
 Accepts t r (Upgrade s) = IsInRange s × HasDescriptors t r × (is_some (next_image r.generation) ≡ true)
+Accepts t r (Attended s) = IsInRange s × HasDescriptors t r × (is_some (next_image r.generation) ≡ true)
 Accepts t r (Stop quick) = ⊤
 
 pub record IsAccepted (t : Table) (r : Record) (target : Target) (pattern : Pattern) : Type 0 where
@@ -261,6 +273,11 @@ abbrev pub UpgradeHeadline : Type 0
 UpgradeHeadline =
     (t : Table) (r : Record) (s : Settings) (pattern : Pattern) → IsAccepted t r (Upgrade s) pattern →
     EndsAsReported t r (Upgrade s) (run_of r (Upgrade s) pattern t) × KeepsFloor t r (Upgrade s) (run_of r (Upgrade s) pattern t)
+
+abbrev pub AttendedHeadline : Type 0
+AttendedHeadline =
+    (t : Table) (r : Record) (s : Settings) (pattern : Pattern) → IsAccepted t r (Attended s) pattern →
+    EndsAsReported t r (Attended s) (run_of r (Attended s) pattern t) × KeepsAttendedFloor t r (Attended s) (run_of r (Attended s) pattern t)
 
 -- And its run has the target's manner.
 abbrev pub InManner : Target → Type 0

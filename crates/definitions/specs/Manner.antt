@@ -6,7 +6,7 @@ use Rattle.definitions.specs.Table.{Generation, bears, Process, Master, Worker, 
 use Rattle.definitions.specs.Calls.{Call, Quit, Kill, AwaitGone, Leave, Usr1, Answer}
 use Rattle.vocabulary.specs.declared.calls.Answer.TheVariants as answer
 use Rattle.definitions.specs.Record.{Record}
-use Rattle.definitions.specs.Target.{Target, Workers, Mend, Reopen, Reload, Upgrade, Stop}
+use Rattle.definitions.specs.Target.{Target, Workers, Mend, Reopen, Reload, Upgrade, Attended, Stop}
 use Rattle.definitions.specs.Path.{Entry, Outcome}
 use Rattle.vocabulary.specs.declared.reports.Outcome.TheVariants as outcome
 use Rattle.vocabulary.specs.declared.plans.Side.TheVariants as side
@@ -144,17 +144,22 @@ is_old_side outcome.Lost = false
 abbrev pub stays_below : ℕ → Outcome → ℕ → Bool
 stays_below n end k = is_old_side end || nat_lt k n
 
+-- An upgrade that comes back leaves all workers, unless it had waited for them to go.
+abbrev pub UpgradeManner : Record → Outcome → Table → Ran → Type 0
+UpgradeManner r end first ran =
+    (is_old_side end ≡ true → list_any (λ e. is_wait_call e.call) ran.entries ≡ false → Stays first (λ k. true) ran) × KillsOnlyLate first ran × LeavesLast r ran
+
 -- A change of the number of workers leaves those alone whose number stays; a mend leaves all that aren't overdue, and ends the
--- others; a reopening leaves and tells all; a reload or an upgrade that comes back leaves all, unless an upgrade had waited for
--- them to go. Outside a mend and a quick stop a worker is killed only after it was told to quit and was late; before a master
--- leaves in peace its workers were told to quit and waited for; at a quick stop none is told to quit.
+-- others; a reopening leaves and tells all; a reload that comes back leaves all. Outside a mend and a quick stop a worker is
+-- killed only after it was told to quit and was late; before a master leaves in peace its workers were told to quit and waited
+-- for; at a quick stop none is told to quit.
 abbrev pub Manner : Record → Target → Outcome → Table → Ran → Type 0
 Manner r (Workers n) end first ran = Stays first (stays_below n end) ran × KillsOnlyLate first ran
 Manner r (Mend overdue) end first ran = Stays first (λ k. not (is_in overdue k)) ran × Goes first (is_in overdue) ran
 Manner r Reopen end first ran =
     Stays first (λ k. true) ran × AllByRecursion (λ k. list_any (λ e. is_usr1_of r.generation k e.call) ran.entries ≡ true) r.ready × KillsOnlyLate first ran
 Manner r (Reload s) end first ran = (is_old_side end ≡ true → Stays first (λ k. true) ran) × KillsOnlyLate first ran
-Manner r (Upgrade s) end first ran =
-    (is_old_side end ≡ true → list_any (λ e. is_wait_call e.call) ran.entries ≡ false → Stays first (λ k. true) ran) × KillsOnlyLate first ran × LeavesLast r ran
+Manner r (Upgrade s) end first ran = UpgradeManner r end first ran
+Manner r (Attended s) end first ran = UpgradeManner r end first ran
 Manner r (Stop false) end first ran = KillsOnlyLate first ran × LeavesLast r ran
 Manner r (Stop true) end first ran = list_any (λ e. is_quit_call e.call) ran.entries ≡ false

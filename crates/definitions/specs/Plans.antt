@@ -2,10 +2,10 @@
 use Rattle.std.specs.Prelude.{ℕ, zero, suc, not, ◌||◌, nat_lt, Bool, true, false, List, [], ◌∷◌, ◌++◌, Option, Some, None, filter, map, reverse, if◌then◌else◌}
 use Rattle.listener_set.specs.Numbers.{numbers_below, is_in}
 use Rattle.definitions.specs.Table.{Address, FilePath, Generation}
-use Rattle.definitions.specs.Calls.{Call, OpenAt, CloseAt, AwaitReady, Quit, Kill, Census, AwaitGone, SpawnMaster, Adopt, WritePid, MovePid, RemovePid, Alive, Leave, Usr1, TermMaster}
+use Rattle.definitions.specs.Calls.{Call, OpenAt, CloseAt, AwaitReady, Quit, Kill, Census, AwaitGone, SpawnMaster, Adopt, WritePid, MovePid, RemovePid, Alive, Leave, Usr1, TermMaster, Ask}
 use Rattle.definitions.specs.Crew.{Crew, fork_of}
 use Rattle.definitions.specs.Record.{Record, PidNote, InPlace, AtOldbin, OldbinLeft, Left, NoFile, oldbin, addresses_of, crew_of}
-use Rattle.definitions.specs.Target.{Target, Workers, Mend, Reopen, Reload, Upgrade, Stop, only_in}
+use Rattle.definitions.specs.Target.{Target, Workers, Mend, Reopen, Reload, Upgrade, Attended, Stop, only_in}
 use Rattle.definitions.specs.After.{crew_wanted, lacks_generation}
 use Rattle.definitions.specs.Tree.{Reply, plain_reply, replies_to, Side, End, Done, RolledBack, ShortOld, ShortTarget, Make, ForkLacking, AwaitLacking, KillLacking, Tree, Branches, Ends, Does, Nothing, Branch}
 use Rattle.vocabulary.specs.declared.plans.Side.TheVariants as side
@@ -256,28 +256,45 @@ back_from by heir crew ready retries path = does by (TermMaster heir) (then_edge
 abbrev pub back_late : ℕ → ℕ → Crew → List ℕ → ℕ → Option FilePath → Tree
 back_late by heir crew ready retries path = does by (TermMaster heir) (then_edge (starts_any by crew ready (back_alone by crew ready retries path)))
 
+-- Back once the old workers are gone: they are started again while the new master still serves, and only then is it ended.
+abbrev pub back_serving : ℕ → ℕ → Crew → List ℕ → ℕ → Option FilePath → Tree
+back_serving by heir crew ready retries path = starts_any by crew ready (back_from by heir crew ready retries path)
+
+-- An attended upgrade asks the operator whether to go on or back; any other goes on.
+abbrev pub asks : Bool → ℕ → ℕ → Tree → Tree → Tree
+asks true by question on_go on_back = does by (Ask question) (on (reply.Go ∷ []) on_go (on (reply.Back ∷ []) on_back Nothing))
+asks false by question on_go on_back = on_go
+
 -- The old master leaves; the new one removes the old file and settles.
 abbrev pub hand_over : ℕ → Crew → ℕ → Option FilePath → ℕ → Tree
 hand_over by new retries path n =
     does by Leave (then_edge (remove_oldbin new.generation.image path (settle new.generation.image new (numbers_below n) side.Target retries)))
 
--- The old workers quit and are waited for; then, if the new master still lives, the old one leaves.
-abbrev pub relieve : ℕ → Crew → Crew → List ℕ → ℕ → Option FilePath → ℕ → Tree
-relieve by old new ready retries path n =
+-- If the new master still lives, the old one leaves.
+abbrev pub retire : ℕ → Crew → Crew → List ℕ → ℕ → Option FilePath → ℕ → Tree
+retire by old new ready retries path n =
     let heir = new.generation.image in
-    quits by old.generation (reverse ready) (awaits_gone by old.generation (reverse ready)
-    (does by (Alive heir) (on (reply.IsAlive ∷ []) (hand_over by new retries path n) (on (reply.Gone ∷ []) (back_late by heir old ready retries path) Nothing))))
+    does by (Alive heir) (on (reply.IsAlive ∷ []) (hand_over by new retries path n) (on (reply.Gone ∷ []) (back_late by heir old ready retries path) Nothing))
+
+-- The old workers quit and are waited for; then the old master retires. An attended upgrade asks before they quit and once they are gone.
+abbrev pub relieve : Bool → ℕ → Crew → Crew → List ℕ → ℕ → Option FilePath → ℕ → Tree
+relieve attended by old new ready retries path n =
+    let heir = new.generation.image in
+    asks attended by 1
+    (quits by old.generation (reverse ready) (awaits_gone by old.generation (reverse ready)
+    (asks attended by 2 (retire by old new ready retries path n) (back_serving by heir old ready retries path))))
+    (back_from by heir old ready retries path)
 
 abbrev pub spawn_edges : Tree → Tree → Branches
 spawn_edges ok bad = on (reply.Spawned ∷ []) ok (on (reply.Again ∷ reply.NoMemory ∷ reply.NoImage ∷ []) bad Nothing)
 
-abbrev pub upgrade_tree : ℕ → Crew → Crew → List ℕ → ℕ → Option FilePath → PidNote → List Address → List Address → ℕ → Tree
-upgrade_tree by old new ready retries path note held wanted n =
+abbrev pub upgrade_tree : Bool → ℕ → Crew → Crew → List ℕ → ℕ → Option FilePath → PidNote → List Address → List Address → ℕ → Tree
+upgrade_tree attended by old new ready retries path note held wanted n =
     let heir = new.generation.image in
     let back = back_from by heir old ready retries path in
     move_aside by path note
     (does by (SpawnMaster heir) (spawn_edges
-    (tries_all heir (new_calls new path held wanted n) (tries heir (Census new.generation) (numbers_below n) (relieve by old new ready retries path n) back) back)
+    (tries_all heir (new_calls new path held wanted n) (tries heir (Census new.generation) (numbers_below n) (relieve attended by old new ready retries path n) back) back)
     (back_alone by old ready retries path)))
     (settle by old ready side.Old retries)
 
@@ -289,7 +306,9 @@ plan_tree r (Mend overdue) = mend_tree r.generation.image (crew_of r) r.ready r.
 plan_tree r Reopen = reopen_tree r.generation.image (crew_of r) r.ready r.retries
 plan_tree r (Reload s) = reload_tree r.generation.image (crew_of r) (crew_wanted r (Reload s)) r.ready r.retries (addresses_of r) s.listeners s.workers
 plan_tree r (Upgrade s) =
-    upgrade_tree r.generation.image (crew_of r) (crew_wanted r (Upgrade s)) r.ready r.retries r.pid_path r.note (addresses_of r) s.listeners s.workers
+    upgrade_tree false r.generation.image (crew_of r) (crew_wanted r (Upgrade s)) r.ready r.retries r.pid_path r.note (addresses_of r) s.listeners s.workers
+plan_tree r (Attended s) =
+    upgrade_tree true r.generation.image (crew_of r) (crew_wanted r (Attended s)) r.ready r.retries r.pid_path r.note (addresses_of r) s.listeners s.workers
 plan_tree r (Stop quick) = stop_tree r.generation.image r.generation r.ready r.pid_path r.note quick
 
 -- The plan of a target for a running master. There is none where a number of the target's generation would pass its limit.

@@ -1,8 +1,8 @@
 -- The run of a plan's tree on a table under a pattern.
-use Rattle.std.specs.Prelude.{ℕ, ◌≡◌, ◌+◌, Bool, true, false, List, [], ◌∷◌, Option, Some, None, if◌then◌else◌}
+use Rattle.std.specs.Prelude.{ℕ, ◌≡◌, ◌+◌, ◌-◌, ◌==◌, not, Bool, true, false, List, [], ◌∷◌, Option, Some, None, if◌then◌else◌}
 use Rattle.definitions.specs.Table.{Table}
 use Rattle.definitions.specs.Exits.{Name, after_exits, losses_of}
-use Rattle.definitions.specs.Calls.{Call, Answer, Fate, Stepped, step_with}
+use Rattle.definitions.specs.Calls.{Call, Ask, Answer, Fate, Stepped, step_with}
 use Rattle.definitions.specs.Tree.{Reply, among, reply_of, same_reply, plain_reply, End, PidNote, Order, call_of, Tree, Branches, Ends, Does, Nothing, Branch}
 use Rattle.definitions.specs.Path.{Report, Outcome, Sides, outcome_at, Entry, ready_after, lacking_after, went_wrong, first_cause}
 use Rattle.vocabulary.specs.declared.calls.Answer.TheVariants as answer
@@ -20,13 +20,33 @@ quiet = record { exits = []; fate = None }
 abbrev pub Pattern : Type 0
 Pattern = ℕ → Moment
 
--- The answer that counts as no fault.
+-- The answer that a call is meant to have; of a census, each count.
 abbrev pub is_plain : Call → Answer → Bool
 is_plain call (answer.Counted ns) = true
 is_plain call a = same_reply (reply_of [] a) (plain_reply call)
 
+-- Whether an answer counts as a fault: each one that is not plain, except that the operator goes back.
+abbrev pub is_fault : Call → Answer → Bool
+is_fault (Ask n) answer.Back = false
+is_fault call a = not (is_plain call a)
+
+-- The operator went back at a question: which one, and how many faults the run had before it.
+pub record Return : Type 0 where
+  pub question : ℕ
+  pub faults : ℕ
+
+-- the returns after one call more
+abbrev pub returns_after : Call → Answer → ℕ → List Return → List Return
+returns_after (Ask n) answer.Back faults returns = record { question = n; faults = faults } ∷ returns
+returns_after _ _ faults returns = returns
+
+-- The number of faults since the operator went back at a question; 0 where the operator did not.
+abbrev pub faults_since : ℕ → List Return → ℕ → ℕ
+faults_since question [] faults = 0
+faults_since question (b ∷ returns) faults = if b.question == question then faults - b.faults else faults_since question returns faults
+
 -- How far a run has come: its table, the number of calls made, the last count and what it lacked of its set, the faults and
--- losses so far, the first call that went wrong, and the note.
+-- losses so far, where the operator went back, the first call that went wrong, and the note.
 pub record Progress : Type 0 where
   pub table : Table
   pub calls : ℕ
@@ -34,11 +54,12 @@ pub record Progress : Type 0 where
   pub lacking : List ℕ
   pub faults : ℕ
   pub losses : ℕ
+  pub returns : List Return
   pub cause : Option ℕ
   pub note : PidNote
 
 abbrev pub start_at : Table → PidNote → Progress
-start_at t note = record { table = t; calls = 0; ready = []; lacking = []; faults = 0; losses = 0; cause = None; note = note }
+start_at t note = record { table = t; calls = 0; ready = []; lacking = []; faults = 0; losses = 0; returns = []; cause = None; note = note }
 
 -- the middle of a moment, after its exits
 abbrev pub after_moment : List Name → Progress → Progress
@@ -50,7 +71,8 @@ after_call order set s p = record p {
   calls = p.calls + 1;
   ready = ready_after s.answer p.ready;
   lacking = lacking_after set s.answer p.lacking;
-  faults = if is_plain (call_of order p.lacking) s.answer then p.faults else p.faults + 1;
+  faults = if is_fault (call_of order p.lacking) s.answer then p.faults + 1 else p.faults;
+  returns = returns_after (call_of order p.lacking) s.answer p.faults p.returns;
   cause = first_cause p.cause (went_wrong (call_of order p.lacking) (reply_of set s.answer)) (p.calls + 1);
 }
 

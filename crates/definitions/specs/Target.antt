@@ -10,7 +10,7 @@ use Rattle.definitions.specs.Crew.{Layout, layout_in, served}
 use Rattle.definitions.specs.Record.{Record, addresses_of, layout_of}
 pub use Rattle.vocabulary.specs.declared.plans.Sides.{Sides}
 pub use Rattle.vocabulary.specs.declared.targets.Target.{Target}
-pub use Rattle.vocabulary.specs.declared.targets.Target.TheVariants.{Workers, Mend, Reopen, Reload, Upgrade, Stop}
+pub use Rattle.vocabulary.specs.declared.targets.Target.TheVariants.{Workers, Mend, Reopen, Reload, Upgrade, Attended, Stop}
 
 -- A number of workers that is wanted is at most 1024. What settings say is in range by itself.
 abbrev pub IsTarget : Target → Type 0
@@ -19,6 +19,7 @@ IsTarget (Mend overdue) = ⊤
 IsTarget Reopen = ⊤
 IsTarget (Reload s) = ⊤
 IsTarget (Upgrade s) = ⊤
+IsTarget (Attended s) = ⊤
 IsTarget (Stop quick) = ⊤
 
 -- what the first list has and the second lacks
@@ -40,6 +41,7 @@ addresses_wanted r (Mend overdue) = addresses_of r
 addresses_wanted r Reopen = addresses_of r
 addresses_wanted r (Reload s) = s.listeners
 addresses_wanted r (Upgrade s) = s.listeners
+addresses_wanted r (Attended s) = s.listeners
 addresses_wanted r (Stop quick) = []
 
 abbrev pub generation_wanted : Record → Target → Generation
@@ -48,6 +50,7 @@ generation_wanted r (Mend overdue) = r.generation
 generation_wanted r Reopen = r.generation
 generation_wanted r (Reload s) = reload_generation r.generation
 generation_wanted r (Upgrade s) = upgrade_generation r.generation
+generation_wanted r (Attended s) = upgrade_generation r.generation
 generation_wanted r (Stop quick) = r.generation
 
 -- The worker numbers that are wanted. A reopening wants those that are ready.
@@ -57,6 +60,7 @@ numbers_wanted r (Mend overdue) = numbers_below r.wanted
 numbers_wanted r Reopen = r.ready
 numbers_wanted r (Reload s) = numbers_below s.workers
 numbers_wanted r (Upgrade s) = numbers_below s.workers
+numbers_wanted r (Attended s) = numbers_below s.workers
 numbers_wanted r (Stop quick) = []
 
 -- Which groups there are then, and which listens where.
@@ -66,6 +70,7 @@ layout_wanted r (Mend overdue) = layout_of r
 layout_wanted r Reopen = layout_of r
 layout_wanted r (Reload s) = layout_in s.groups s.listeners
 layout_wanted r (Upgrade s) = layout_in s.groups s.listeners
+layout_wanted r (Attended s) = layout_in s.groups s.listeners
 layout_wanted r (Stop quick) = layout_of r
 
 -- how many workers a target wants at an address: the numbers of its group
@@ -95,6 +100,7 @@ handover_of r s = record {
 -- The text that goes with each call of a plan.
 abbrev pub text_handed : Record → Target → List ℕ
 text_handed r (Upgrade s) = spelling (handover_of r s)
+text_handed r (Attended s) = spelling (handover_of r s)
 text_handed r (Workers n) = []
 text_handed r (Mend overdue) = []
 text_handed r Reopen = []

@@ -2,7 +2,7 @@
 use Rattle.std.specs.Prelude.{ℕ, suc, max, Bool, true, false, ◌&&◌, ◌||◌, not, List, [], ◌∷◌, Option, Some, None, is_some}
 use Rattle.std.specs.List.{list_any, list_all}
 use Rattle.listener_set.specs.Numbers.{lacks}
-use Rattle.definitions.specs.Calls.{Call, OpenAt, CloseAt, Fork, AwaitReady, Quit, Kill, Census, AwaitGone, SpawnMaster, Adopt, WritePid, MovePid, RemovePid, Alive, Leave, Usr1, TermMaster, Answer}
+use Rattle.definitions.specs.Calls.{Call, OpenAt, CloseAt, Fork, AwaitReady, Quit, Kill, Census, AwaitGone, SpawnMaster, Adopt, WritePid, MovePid, RemovePid, Alive, Leave, Usr1, TermMaster, Ask, Answer}
 use Rattle.definitions.specs.Crew.{fork_of}
 use Rattle.vocabulary.specs.declared.calls.Answer.TheVariants as answer
 pub use Rattle.vocabulary.specs.declared.calls.Reply.{Reply}
@@ -61,6 +61,8 @@ reply_of set answer.Adopted = reply.Adopted
 reply_of set answer.Refused = reply.Refused
 reply_of set answer.IoFault = reply.IoFault
 reply_of set answer.IsAlive = reply.IsAlive
+reply_of set answer.Go = reply.Go
+reply_of set answer.Back = reply.Back
 reply_of set answer.MasterGone = reply.MasterGone
 
 -- the replies to a call, the plain one first; besides, each may be answered that the master is gone
@@ -82,6 +84,7 @@ replies_to (Alive i) = reply.IsAlive ∷ reply.Gone ∷ []
 replies_to Leave = reply.Fine ∷ []
 replies_to (Usr1 g k) = reply.Fine ∷ []
 replies_to (TermMaster i) = reply.Fine ∷ []
+replies_to (Ask n) = reply.Go ∷ reply.Back ∷ []
 
 -- the plain reply to a call; of a census, a full one
 abbrev pub plain_reply : Call → Reply
@@ -102,6 +105,7 @@ plain_reply (Alive i) = reply.IsAlive
 plain_reply Leave = reply.Fine
 plain_reply (Usr1 g k) = reply.Fine
 plain_reply (TermMaster i) = reply.Fine
+plain_reply (Ask n) = reply.Go
 
 -- whether a call can be answered so
 abbrev pub is_listed : Call → Answer → Bool

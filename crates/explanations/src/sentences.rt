@@ -17,8 +17,8 @@ has a leading zero. `prefork --help` shows the subcommands, `prefork enact
         code: "word",
         meaning: "an argument is no control word",
         remedy: "\
-The fault names the argument, counted from 1 among the words, and W1 or W2. A
-beat or a tick is one argument: quote it, as in 'tick 60'.",
+The fault has the number of the argument, counted from 1 among the words, and
+W1 or W2. Quote a word with spaces: 'beat 0 60', 'tick 60', 'USR2 attended'.",
     },
     Explanation {
         code: "config",
@@ -255,14 +255,16 @@ pub const WORDS: [Explanation; 23] = [
     Explanation {
         code: "P3",
         meaning: "the number of the next configuration or image would pass 4,294,967,295",
-        remedy: "Each HUP takes one, and each USR2 one of both. Start the master anew.",
+        remedy: "\
+Each HUP takes a configuration number. Each USR2, attended or not, takes a
+configuration and an image number. Start the master anew.",
     },
     Explanation {
         code: "W1",
         meaning: "there is no such control word",
         remedy: "\
-The words are HUP, QUIT, INT, TERM, USR1, USR2, WINCH, TTIN, TTOU, 'beat K
-NOW' and 'tick NOW', in these letters.",
+The words are HUP, QUIT, INT, TERM, USR1, USR2, 'USR2 attended', WINCH, TTIN,
+TTOU, 'beat K NOW' and 'tick NOW'. Write them exactly so, with single spaces.",
     },
     Explanation {
         code: "W2",
@@ -279,7 +281,9 @@ Single spaces, decimal, no leading zeros.",
     Explanation {
         code: "W4",
         meaning: "there is no configuration to go over to",
-        remedy: "HUP and USR2 read one, and it could not be read. Nothing was changed.",
+        remedy: "\
+HUP, USR2 and 'USR2 attended' read one, and it could not be read. Nothing was
+changed.",
     },
     Explanation {
         code: "W5",

@@ -6,7 +6,7 @@ use Rattle.vocabulary.specs.declared.names.Name.{Name}
 use Rattle.vocabulary.specs.declared.names.Name.TheVariants as name
 use Rattle.vocabulary.specs.declared.calls.Answer.{Answer}
 use Rattle.vocabulary.specs.declared.calls.Call.{Call}
-use Rattle.vocabulary.specs.declared.calls.Call.TheVariants.{OpenAt, CloseAt, Fork, AwaitReady, Quit, Kill, Census, AwaitGone, SpawnMaster, Adopt, WritePid, MovePid, RemovePid, Alive, Leave, Usr1, TermMaster}
+use Rattle.vocabulary.specs.declared.calls.Call.TheVariants.{OpenAt, CloseAt, Fork, AwaitReady, Quit, Kill, Census, AwaitGone, SpawnMaster, Adopt, WritePid, MovePid, RemovePid, Alive, Leave, Usr1, TermMaster, Ask}
 use Rattle.definitions.specs.Table.{FilePath, Hold, Starting, Process, Master, Worker, Foreign, Table, number_of, is_active, is_starting, is_exited, is_any, is_draining, is_named, is_worker, is_held, is_live_master, Caller, live_master, owner_at}
 use Rattle.definitions.specs.Exits.{change, made_exited, kept_if, without_exited, caller_exits, exited, all_exited, after_exits}
 use Rattle.definitions.specs.Calls.{Fate, Stepped, with_holds, made_ready, made_draining, drop_where, without_master, with_new_row, lacks_address, put_hold, lowest_free, shared, suits, has_process_room, is_row, is_of, is_exited_of, is_image, is_of_image, moved_if, asked_alive, own_step, fault_at, fault_or_own, step_by, step_with}
@@ -152,6 +152,7 @@ module _ (text : List ℕ) (image : ℕ) (c : Caller) (t : Table) (h : Rises t) 
   own (Alive i) = asks (live_master i t.rows) i
   own Leave = each t.next_process t.rows h (without_master c.number) (same-left c.number)
   own (Usr1 g k) = h
+  own (Ask n) = h
   own (TermMaster i) = dropped t.next_process t.rows h (is_of_image i t.rows)
 
   faulted : (a : Option Answer) (call : Call) → (let z : Stepped = fault_or_own a text image c call t in Rises z.table)

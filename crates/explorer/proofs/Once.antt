@@ -103,9 +103,10 @@ place fate.Late = 5
 place fate.NoImage = 6
 place fate.Refused = 7
 place fate.IoFault = 8
+place fate.Back = 9
 
 fates-differ : Differ every_fate
-fates-differ = differ-rising place 0 every_fate (omega arith, (omega arith, (omega arith, (omega arith, (omega arith, (omega arith, (omega arith, (omega arith, (omega arith, tt)))))))))
+fates-differ = differ-rising place 0 every_fate (omega arith, (omega arith, (omega arith, (omega arith, (omega arith, (omega arith, (omega arith, (omega arith, (omega arith, (omega arith, tt))))))))))
 
 abbrev process_in : Mishap → ℕ
 process_in (Exit n q) = q

@@ -10,7 +10,7 @@ use Rattle.vocabulary.specs.declared.table.Stance.{Stance}
 use Rattle.vocabulary.specs.declared.table.Stance.TheVariants.{Starting, Ready, Draining, Exited}
 use Rattle.definitions.specs.Table.{Process, Master, Worker, Foreign, Table, Caller, caller_if, live_master, bears, same_generation, with_rows, is_own, is_any, is_active, is_starting, is_exited, is_named, is_worker}
 use Rattle.definitions.specs.Exits.{change, made_exited, worker_exits, after_exits, losses_of, is_active_worker}
-use Rattle.definitions.specs.Calls.{Stepped, Answer, Call, OpenAt, CloseAt, Fork, AwaitReady, Quit, Kill, Census, AwaitGone, SpawnMaster, Adopt, WritePid, MovePid, RemovePid, Alive, Leave, Usr1, TermMaster, step_with, step_by, own_step, gives, each_row, drop_where, made_ready, made_draining, has_process_room, with_new_row, shared}
+use Rattle.definitions.specs.Calls.{Stepped, Answer, Call, OpenAt, CloseAt, Fork, AwaitReady, Quit, Kill, Census, AwaitGone, SpawnMaster, Adopt, WritePid, MovePid, RemovePid, Alive, Leave, Usr1, TermMaster, Ask, step_with, step_by, own_step, gives, each_row, drop_where, made_ready, made_draining, has_process_room, with_new_row, shared}
 use Rattle.vocabulary.specs.declared.calls.Answer.TheVariants as answer
 use Rattle.theorems.proofs.Rows.{one, worth, weigh, change-same, count-weigh, weigh-append, every-any, pick, and-left, and-right, both-true}
 use Rattle.theorems.proofs.Views.{eqb-is, eqb-refl}
@@ -285,6 +285,7 @@ module _ (g : Generation) (k : ℕ) where
   own text image c Leave t e = absurd (cc e)
   own text image c (Usr1 h j) t e = stands c h j (positive (bears g k h j) e) answer.Fine t
   own text image c (TermMaster i) t e = absurd (cc e)
+  own text image c (Ask q) t e = absurd (cc e)
 
   pub passed : (text : List ℕ) (image : ℕ) (call : Call) (t : Table) → passes_by call (name.Worker g k) ≡ true → Passes (step_with text image call None) t
   passed text image call t e =

@@ -18,7 +18,7 @@ use std::alloc::{AllocError, Global};
 use vocabulary::{Actor, Call, Fate, Name, Stance};
 
 /// Each way in which a call can be made to fail.
-const EVERY_FATE: [Fate; 9] = [
+const EVERY_FATE: [Fate; 10] = [
     Fate::InUse,
     Fate::TooMany,
     Fate::Denied,
@@ -28,6 +28,7 @@ const EVERY_FATE: [Fate; 9] = [
     Fate::NoImage,
     Fate::Refused,
     Fate::IoFault,
+    Fate::Back,
 ];
 
 /// A copy of a kernel that had room for as many calls, or has made some of them: so no number is lacking, only memory can be.

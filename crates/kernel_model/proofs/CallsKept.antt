@@ -3,7 +3,7 @@ use Rattle.std.proofs.Common.{◌≡◌, ℕ, ◌≤◌, Bool, true, false, cond
 use Rattle.std.specs.List.{list_any}
 use Rattle.vocabulary.specs.declared.table.Stance.TheVariants.{Starting}
 use Rattle.vocabulary.specs.declared.calls.Call.{Call}
-use Rattle.vocabulary.specs.declared.calls.Call.TheVariants.{OpenAt, CloseAt, Fork, AwaitReady, Quit, Kill, Census, AwaitGone, SpawnMaster, Adopt, WritePid, MovePid, RemovePid, Alive, Leave, Usr1, TermMaster}
+use Rattle.vocabulary.specs.declared.calls.Call.TheVariants.{OpenAt, CloseAt, Fork, AwaitReady, Quit, Kill, Census, AwaitGone, SpawnMaster, Adopt, WritePid, MovePid, RemovePid, Alive, Leave, Usr1, TermMaster, Ask}
 use Rattle.vocabulary.specs.declared.calls.Answer.{Answer}
 use Rattle.vocabulary.specs.declared.calls.Fate.{Fate}
 use Rattle.vocabulary.specs.declared.names.Name.{Name}
@@ -111,6 +111,7 @@ module _ (text : List ℕ) (image : ℕ) (c : Caller) (t : Table) (h : IsKept t)
   own_step-kept (Alive i) = alive-kept (live_master i t.rows) i refl
   own_step-kept Leave = with-rows _ (kept-left t.next_process t.next_socket t.rows kept c.number)
   own_step-kept (Usr1 g k) = h
+  own_step-kept (Ask n) = h
   own_step-kept (TermMaster i) = with-rows _ (kept-terminated t.next_process t.next_socket t.rows kept i)
 
   faulted-kept : (a : Option Answer) (call : Call) → (let z : Stepped = fault_or_own a text image c call t in IsKept z.table)

@@ -190,6 +190,7 @@ fn own_answer(store: &mut Store, image: u32, caller: &Caller, call: &Call, text:
         Call::Alive(asked) => master_calls::ask_alive(store, *asked),
         Call::Leave => master_calls::leave(store, caller),
         Call::Usr1(_, _) => Answer::Fine,
+        Call::Ask(_) => Answer::Go,
         Call::TermMaster(ended) => master_calls::terminate(store, *ended),
     }
 }
@@ -245,6 +246,10 @@ fn fault_of(store: &Store, caller: &Caller, call: &Call, fate: Fate) -> Option<A
         },
         Call::WritePid(_) | Call::MovePid(_, _) | Call::RemovePid(_) => match fate {
             Fate::IoFault => Some(Answer::IoFault),
+            _ => None,
+        },
+        Call::Ask(_) => match fate {
+            Fate::Back => Some(Answer::Back),
             _ => None,
         },
         Call::CloseAt(_)

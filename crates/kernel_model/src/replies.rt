@@ -128,6 +128,7 @@ fn own_reply(store: &Store, image: u32, caller: &Caller, call: &Call, text: &[u8
         Call::Adopt => adopt_reply(store, image, caller, text),
         Call::MovePid(from, to) => move_reply(store, from, to),
         Call::Alive(asked) => alive_reply(store, *asked),
+        Call::Ask(_) => Reply::Go,
         Call::CloseAt(_)
         | Call::Quit(_, _)
         | Call::Kill(_, _)

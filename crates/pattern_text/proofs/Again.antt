@@ -52,6 +52,7 @@ fate_lacks fate.Late = refl
 fate_lacks fate.NoImage = refl
 fate_lacks fate.Refused = refl
 fate_lacks fate.IoFault = refl
+fate_lacks fate.Back = refl
 
 line_lacks : (v : PatternLine) → IsLine v → lacks 10 (line_text v) ≡ true
 line_lacks (Exit n x) h =

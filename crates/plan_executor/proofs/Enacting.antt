@@ -6,7 +6,7 @@ use Rattle.definitions.specs.Table.{Table, Generation}
 use Rattle.definitions.specs.Record.{Record}
 use Rattle.definitions.specs.Target.{IsTarget, sides_of, text_handed}
 use Rattle.vocabulary.specs.declared.targets.Target.{Target}
-use Rattle.vocabulary.specs.declared.targets.Target.TheVariants.{Workers, Mend, Reopen, Reload, Upgrade, Stop}
+use Rattle.vocabulary.specs.declared.targets.Target.TheVariants.{Workers, Mend, Reopen, Reload, Upgrade, Attended, Stop}
 use Rattle.definitions.specs.Tree.{Tree, height}
 use Rattle.vocabulary.specs.declared.plans.PidNote.{PidNote}
 use Rattle.vocabulary.specs.declared.plans.Sides.{Sides}
@@ -26,7 +26,7 @@ use Rattle.plan_executor.specs.Enacted.{EndsSo, IsEnacted}
 use Rattle.plan_executor.specs.Range.{HasRange}
 use Rattle.plan_executor.proofs.Reporting.{whole-run}
 use Rattle.plan_executor.specs.Prepared.{IsPlanFor, IsReady}
-use Rattle.definitions.specs.Claims.{IsAccepted, heirs_of, refused_among, refusal_of, InManner, WorkersHeadline, MendHeadline, ReopenHeadline, ReopenFloor, ReloadHeadline, UpgradeHeadline, StopHeadline}
+use Rattle.definitions.specs.Claims.{IsAccepted, heirs_of, refused_among, refusal_of, InManner, WorkersHeadline, MendHeadline, ReopenHeadline, ReopenFloor, ReloadHeadline, UpgradeHeadline, AttendedHeadline, StopHeadline}
 use Rattle.vocabulary.specs.Settings.{Settings}
 
 -- what the theorems say of each target
@@ -42,6 +42,8 @@ pub record Headlines : Type 0 where
   pub reloads_manner : (s : Settings) → InManner (Reload s)
   pub upgrades : UpgradeHeadline
   pub upgrades_manner : (s : Settings) → InManner (Upgrade s)
+  pub attended : AttendedHeadline
+  pub attended_manner : (s : Settings) → InManner (Attended s)
   pub stops : StopHeadline
   pub stops_manner : (quick : Bool) → InManner (Stop quick)
 
@@ -66,6 +68,9 @@ keeps h (Reload s) within range t r pattern start ds plan spared =
 keeps h (Upgrade s) within range t r pattern start ds plan spared =
     let a : IsAccepted t r (Upgrade s) pattern = record { start = start; accepts = (range, ds, there (next_image r.generation) plan); spared = spared } in
     let k = h.upgrades t r s pattern a in record { ends = k.0; floor = k.1; manner = h.upgrades_manner s t r pattern a }
+keeps h (Attended s) within range t r pattern start ds plan spared =
+    let a : IsAccepted t r (Attended s) pattern = record { start = start; accepts = (range, ds, there (next_image r.generation) plan); spared = spared } in
+    let k = h.attended t r s pattern a in record { ends = k.0; floor = k.1; manner = h.attended_manner s t r pattern a }
 keeps h (Stop quick) within range t r pattern start ds plan spared =
     let a : IsAccepted t r (Stop quick) pattern = record { start = start; accepts = tt; spared = spared } in
     record { ends = h.stops t r quick pattern a; floor = tt; manner = h.stops_manner quick t r pattern a }

@@ -2,14 +2,14 @@
 use Rattle.std.proofs.Common.{◌≡◌, ℕ, ◌+◌, true, List, [], ◌∷◌, ◌++◌, Option, Some, None, length, refl, sym, ◌∙◌, ap, subst, arith}
 use Rattle.vocabulary.specs.declared.reports.Entry.{Entry}
 use Rattle.vocabulary.specs.declared.calls.Call.{Call}
-use Rattle.vocabulary.specs.declared.calls.Call.TheVariants.{OpenAt, CloseAt, Fork, AwaitReady, Quit, Kill, Census, AwaitGone, SpawnMaster, Adopt, WritePid, MovePid, RemovePid, Alive, Leave, Usr1, TermMaster}
+use Rattle.vocabulary.specs.declared.calls.Call.TheVariants.{OpenAt, CloseAt, Fork, AwaitReady, Quit, Kill, Census, AwaitGone, SpawnMaster, Adopt, WritePid, MovePid, RemovePid, Alive, Leave, Usr1, TermMaster, Ask}
 use Rattle.vocabulary.specs.declared.calls.Fate.{Fate}
 use Rattle.definitions.specs.Table.{Table, Caller, live_master}
 use Rattle.definitions.specs.Exits.{after_exits}
 use Rattle.definitions.specs.Calls.{Stepped, step_with, step_by, own_step, asked_alive}
 use Rattle.definitions.specs.Tree.{is_listed}
 use Rattle.definitions.specs.Run.{Pattern, Replays}
-use Rattle.theorems.proofs.Logic.{Unfailing, unfailing, open-cases, fork-cases, await-cases, gone-cases, spawn-cases, adopt-cases, write-cases, move-cases, remove-cases}
+use Rattle.theorems.proofs.Logic.{Unfailing, unfailing, open-cases, fork-cases, await-cases, gone-cases, spawn-cases, ask-cases, adopt-cases, write-cases, move-cases, remove-cases}
 
 -- what a call under the k-th moment gives
 abbrev pub at_moment : List ℕ → Pattern → ℕ → Entry → Table → Stepped
@@ -55,6 +55,7 @@ step-listed-by text image (Some c) (Alive i) f t = own-listed text image c (Aliv
 step-listed-by text image (Some c) Leave f t = own-listed text image c Leave f t tt refl
 step-listed-by text image (Some c) (Usr1 g k) f t = own-listed text image c (Usr1 g k) f t tt refl
 step-listed-by text image (Some c) (TermMaster i) f t = own-listed text image c (TermMaster i) f t tt refl
+step-listed-by text image (Some c) (Ask n) f t = ask-cases text image c n f t (IsListed (Ask n)) refl refl
 
 -- A step gives one of the answers that its call can be given.
 pub step-listed : (text : List ℕ) (image : ℕ) (call : Call) (f : Option Fate) (t : Table) → is_listed call (step_with text image call f t).answer ≡ true

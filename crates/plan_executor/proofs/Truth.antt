@@ -7,7 +7,7 @@ use Rattle.vocabulary.specs.declared.targets.Target.{Target}
 use Rattle.definitions.specs.Run.{Ran as TheRun, report_of}
 use Rattle.definitions.specs.Target.{sides_of}
 use Rattle.definitions.specs.After.{next_record}
-use Rattle.vocabulary.specs.declared.targets.Target.TheVariants.{Workers, Mend, Reopen, Reload, Upgrade, Stop}
+use Rattle.vocabulary.specs.declared.targets.Target.TheVariants.{Workers, Mend, Reopen, Reload, Upgrade, Attended, Stop}
 use Rattle.vocabulary.specs.declared.reports.Report.{Report}
 use Rattle.definitions.specs.Claims.{run_of, AgreesAfter, IsSucceeded}
 use Rattle.kernel_model.specs.State.{State}
@@ -51,6 +51,7 @@ left-true (Mend overdue) r state ran is after = agreed (Mend overdue) r state (r
 left-true Reopen r state ran is after = agreed Reopen r state (report_of (sides_of r Reopen) ran) ran.last.table is after
 left-true (Reload s) r state ran is after = agreed (Reload s) r state (report_of (sides_of r (Reload s)) ran) ran.last.table is after
 left-true (Upgrade s) r state ran is after = agreed (Upgrade s) r state (report_of (sides_of r (Upgrade s)) ran) ran.last.table is after
+left-true (Attended s) r state ran is after = agreed (Attended s) r state (report_of (sides_of r (Attended s)) ran) ran.last.table is after
 left-true (Stop quick) r state ran is after = subst (IsTrueOf ran.last.table) (sym (is ∙ after.0)) tt
 
 -- a run leaves a record that is true of the kernel

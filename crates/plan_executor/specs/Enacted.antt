@@ -1,7 +1,7 @@
 -- What comes of a target that is carried out.
 use Rattle.std.specs.Prelude.{◌≡◌, ◌+◌, length, None, ⊤}
 use Rattle.vocabulary.specs.declared.targets.Target.{Target}
-use Rattle.vocabulary.specs.declared.targets.Target.TheVariants.{Workers, Mend, Reopen, Reload, Upgrade, Stop}
+use Rattle.vocabulary.specs.declared.targets.Target.TheVariants.{Workers, Mend, Reopen, Reload, Upgrade, Attended, Stop}
 use Rattle.definitions.specs.Table.{Table}
 use Rattle.definitions.specs.Record.{Record, Agrees}
 use Rattle.definitions.specs.Target.{sides_of}
@@ -10,7 +10,7 @@ use Rattle.definitions.specs.Plans.{plan_tree}
 use Rattle.definitions.specs.Run.{Pattern, Ran, report_of}
 use Rattle.definitions.specs.Manner.{Manner}
 use Rattle.definitions.specs.After.{next_record}
-use Rattle.definitions.specs.Claims.{IsStart, HasDescriptors, run_of, refusal_of, EndsAsReported, KeepsFloor}
+use Rattle.definitions.specs.Claims.{IsStart, HasDescriptors, run_of, refusal_of, EndsAsReported, KeepsFloor, KeepsAttendedFloor}
 use Rattle.kernel_model.specs.Room.{LacksNumbers}
 use Rattle.kernel_model.specs.State.{State}
 use Rattle.plan_executor.specs.Lawful.{IsWholeRun}
@@ -22,6 +22,7 @@ abbrev pub HasFloor : Table → Record → Target → Ran → Type 0
 HasFloor t r (Workers n) ran = KeepsFloor t r (Workers n) ran
 HasFloor t r (Reload s) ran = KeepsFloor t r (Reload s) ran
 HasFloor t r (Upgrade s) ran = KeepsFloor t r (Upgrade s) ran
+HasFloor t r (Attended s) ran = KeepsAttendedFloor t r (Attended s) ran
 HasFloor t r (Mend overdue) ran = ⊤
 HasFloor t r Reopen ran = KeepsFloor t r Reopen ran
 HasFloor t r (Stop quick) ran = ⊤

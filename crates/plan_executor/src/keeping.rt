@@ -18,6 +18,7 @@ pub fn ends_as_reported(target: &Target)
     theorems::reopenings_end_as_reported();
     theorems::reloads_end_as_reported();
     theorems::upgrades_end_as_reported();
+    theorems::attended_upgrades_end_as_reported();
     theorems::stops_end_as_reported();
 }
 
@@ -29,7 +30,7 @@ fn read_settings(target: &Target)
         Target::Reload(settings) => {
             let _workers = workers_of(settings);
         }
-        Target::Upgrade(settings) => {
+        Target::Upgrade(settings) | Target::Attended(settings) => {
             let _workers = workers_of(settings);
         }
         _ => (),

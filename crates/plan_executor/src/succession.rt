@@ -15,7 +15,9 @@ pub fn heir_of(state: &Record, target: &Target) -> Option<u32>
     ensures { listed result ≡ heirs_of state.now target.now }
 {
     match target {
-        Target::Upgrade(_) => next_image(state.generation).map(|generation| generation.image),
+        Target::Upgrade(_) | Target::Attended(_) => next_image(state.generation).map(
+            |generation| generation.image,
+        ),
         _ => None,
     }
 }

@@ -1,6 +1,6 @@
 -- What a new master tries can be run: there is an edge for each reply, and one where the master is gone.
 use Rattle.std.proofs.Common.{◌≡◌, ℕ, Bool, true, false, List, [], ◌∷◌, Option, refl}
-use Rattle.definitions.specs.Calls.{Call, OpenAt, CloseAt, Fork, AwaitReady, Quit, Kill, Census, AwaitGone, SpawnMaster, Adopt, WritePid, MovePid, RemovePid, Alive, Leave, Usr1, TermMaster}
+use Rattle.definitions.specs.Calls.{Call, OpenAt, CloseAt, Fork, AwaitReady, Quit, Kill, Census, AwaitGone, SpawnMaster, Adopt, WritePid, MovePid, RemovePid, Alive, Leave, Usr1, TermMaster, Ask}
 use Rattle.definitions.specs.Table.{FilePath}
 use Rattle.definitions.specs.Tree.{Tree, PidNote, is_fit}
 use Rattle.definitions.specs.Plans.{does, note_edges, tries, tries_all}
@@ -30,6 +30,7 @@ tries_fit by (Alive i) set rest back h e short = rw (h short, e short) refl
 tries_fit by Leave set rest back h e short = rw (h short, e short) refl
 tries_fit by (Usr1 g k) set rest back h e short = rw (h short, e short) refl
 tries_fit by (TermMaster i) set rest back h e short = rw (h short, e short) refl
+tries_fit by (Ask n) set rest back h e short = rw (h short, e short) refl
 
 pub tries_all_fit : (by : ℕ) (calls : List Call) (rest back : Tree) → IsFit rest → IsFit back → IsFit (tries_all by calls rest back)
 tries_all_fit by [] rest back h e = h

@@ -6,7 +6,7 @@ use Rattle.std.specs.List.{list_all}
 use Rattle.listener_set.specs.Numbers.{lacks}
 use Rattle.vocabulary.specs.contracts.calls.Reply.{the_type}
 use Rattle.vocabulary.specs.declared.calls.Call.{Call}
-use Rattle.vocabulary.specs.declared.calls.Call.TheVariants.{OpenAt, CloseAt, Fork, AwaitReady, Quit, Kill, Census, AwaitGone, SpawnMaster, Adopt, WritePid, MovePid, RemovePid, Alive, Leave, Usr1, TermMaster}
+use Rattle.vocabulary.specs.declared.calls.Call.TheVariants.{OpenAt, CloseAt, Fork, AwaitReady, Quit, Kill, Census, AwaitGone, SpawnMaster, Adopt, WritePid, MovePid, RemovePid, Alive, Leave, Usr1, TermMaster, Ask}
 use Rattle.vocabulary.specs.declared.calls.Answer.{Answer}
 use Rattle.vocabulary.specs.declared.calls.Answer.TheVariants as answer
 use Rattle.vocabulary.specs.declared.calls.Reply.{Reply}
@@ -100,6 +100,7 @@ counted_listed (Alive i) ks h = absurd (true≢false (sym h))
 counted_listed Leave ks h = absurd (true≢false (sym h))
 counted_listed (Usr1 g k) ks h = absurd (true≢false (sym h))
 counted_listed (TermMaster i) ks h = absurd (true≢false (sym h))
+counted_listed (Ask i) ks h = absurd (true≢false (sym h))
 
 -- a listed answer is that the master is gone, or is a reply of the call
 listed_reply : (call : Call) (set : List ℕ) (a : Answer) → is_listed call a ≡ true → (a ≡ answer.MasterGone) ⊎ (among (replies_to call) (reply_of set a) ≡ true)
@@ -122,6 +123,8 @@ listed_reply call set answer.Adopted h = inr h
 listed_reply call set answer.Refused h = inr h
 listed_reply call set answer.IoFault h = inr h
 listed_reply call set answer.IsAlive h = inr h
+listed_reply call set answer.Go h = inr h
+listed_reply call set answer.Back h = inr h
 
 replies_of_order : (lacking : List ℕ) (order : Order) → replies_to (call_of order lacking) ≡ order_replies order
 replies_of_order lacking (Make call) = refl
@@ -156,6 +159,8 @@ short_then set lacking answer.Adopted = refl
 short_then set lacking answer.Refused = refl
 short_then set lacking answer.IoFault = refl
 short_then set lacking answer.IsAlive = refl
+short_then set lacking answer.Go = refl
+short_then set lacking answer.Back = refl
 
 -- after an answer that an edge takes, the rest is fit, and lower
 pub fit_after : (t : Tree) (lacking set : List ℕ) (a : Answer) (found : Option PidNote × Tree) → SetIs t set → is_fit (is_short lacking) t ≡ true → follow (Some t) a ≡ Some found → is_fit (is_short (lacking_after set a lacking)) found.1 ≡ true

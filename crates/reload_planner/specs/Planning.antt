@@ -2,7 +2,7 @@
 use Rattle.std.specs.Prelude.{ℕ, ◌+◌, ◌*◌, Bool, false, length, is_some}
 use Rattle.definitions.specs.Record.{Record}
 use Rattle.vocabulary.specs.declared.targets.Target.{Target}
-use Rattle.vocabulary.specs.declared.targets.Target.TheVariants.{Workers, Mend, Reopen, Reload, Upgrade, Stop}
+use Rattle.vocabulary.specs.declared.targets.Target.TheVariants.{Workers, Mend, Reopen, Reload, Upgrade, Attended, Stop}
 use Rattle.definitions.specs.Target.{numbers_wanted, addresses_wanted}
 use Rattle.definitions.specs.After.{next_image}
 
@@ -10,7 +10,7 @@ use Rattle.definitions.specs.After.{next_image}
 -- and the rounds of a settle
 abbrev pub most_steps : Record → Target → ℕ
 most_steps r t =
-    6 * (length r.ready + length (numbers_wanted r t)) + 3 * (length r.listeners + length (addresses_wanted r t)) + 12 * r.retries + 40
+    9 * (length r.ready + length (numbers_wanted r t)) + 3 * (length r.listeners + length (addresses_wanted r t)) + 12 * r.retries + 44
 
 -- an upgrade that has a generation: it is planned apart
 abbrev pub is_apart : Record → Target → Bool
@@ -19,4 +19,5 @@ is_apart r (Mend overdue) = false
 is_apart r Reopen = false
 is_apart r (Reload s) = false
 is_apart r (Upgrade s) = is_some (next_image r.generation)
+is_apart r (Attended s) = is_some (next_image r.generation)
 is_apart r (Stop quick) = false

@@ -18,7 +18,7 @@ use vocabulary::{Actor, Target};
 /// configuration of a reload or an upgrade, or the image of an upgrade. `Unplanned` (P2) exactly for
 /// every other upgrade, which is planned apart. No plan is too large: with `n` workers that are ready
 /// or wanted before and after, and `a` addresses before and after, it has at most
-/// `6 n + 3 a + 12 retries + 40` steps.
+/// `9 n + 3 a + 12 retries + 44` steps.
 pub fn plan(alloc: Global, state: &Record, target: &Target) -> Result<Plan, PlanRefusal>
     requires { IsTarget target.now }
     ensures tree { IfOk result (λ plan. planned state.now target.now ≡ Some (tree_of plan)) }
@@ -46,7 +46,7 @@ pub fn plan(alloc: Global, state: &Record, target: &Target) -> Result<Plan, Plan
             let (posts, old) = (state.posts_wanted(target), state.listeners.addresses());
             plan_reload(alloc, &scene, &posts, &old, settings, note)
         }
-        Target::Upgrade(_) => match next_image(state.generation) {
+        Target::Upgrade(_) | Target::Attended(_) => match next_image(state.generation) {
             None => Err(PlanRefusal::NoGeneration),
             Some(_) => Err(PlanRefusal::Unplanned),
         },

@@ -1,9 +1,9 @@
 //! Who works for a master, and where the workers of a target listen.
-ghost use Rattle.std.specs.Prelude.{◌≡◌, false};
+ghost use Rattle.std.specs.Prelude.{◌≡◌, false, unwrap_or};
 ghost use Rattle.definitions.specs.Crew.{posts_of, addresses_of_group};
 ghost use Rattle.definitions.specs.Record.{crew_of};
 ghost use Rattle.definitions.specs.Target.{generation_wanted, sides_of};
-ghost use Rattle.definitions.specs.After.{lacks_generation, listeners_then, posts_wanted, crew_wanted};
+ghost use Rattle.definitions.specs.After.{lacks_generation, upgraded, listeners_then, posts_wanted, crew_wanted};
 
 use crate::record::Record;
 use crate::setup::{next_config, next_image};
@@ -23,6 +23,14 @@ impl Record {
         }
     }
 
+    /// The listeners while the workers of an upgrade are started.
+    fn listeners_upgraded(&self, settings: &Settings) -> Listeners
+        ensures { result ≡ unwrap_or (upgraded settings.now.listeners self.now.listeners) self.now.listeners }
+    {
+        let upgraded = self.listeners.upgraded(&settings.listeners);
+        upgraded.unwrap_or(self.listeners)
+    }
+
     /// The listeners while the target's workers are started: with what is added, and, of an upgrade, without what is
     /// dropped.
     fn listeners_then(&self, target: &Target) -> Listeners
@@ -33,10 +41,8 @@ impl Record {
                 let opened = self.listeners.opened(&settings.listeners);
                 opened.unwrap_or(self.listeners)
             }
-            Target::Upgrade(settings) => {
-                let upgraded = self.listeners.upgraded(&settings.listeners);
-                upgraded.unwrap_or(self.listeners)
-            }
+            Target::Upgrade(settings) => self.listeners_upgraded(settings),
+            Target::Attended(settings) => self.listeners_upgraded(settings),
             _ => self.listeners,
         }
     }
@@ -47,7 +53,7 @@ impl Record {
         ensures { result ≡ posts_wanted self.now target.now }
     {
         match target {
-            Target::Reload(settings) | Target::Upgrade(settings) => {
+            Target::Reload(settings) | Target::Upgrade(settings) | Target::Attended(settings) => {
                 posts_of(settings, &self.listeners_then(target))
             }
             _ => self.posts,
@@ -61,7 +67,7 @@ impl Record {
     {
         let next = match target {
             Target::Reload(_) => next_config(self.generation),
-            Target::Upgrade(_) => next_image(self.generation),
+            Target::Upgrade(_) | Target::Attended(_) => next_image(self.generation),
             _ => None,
         };
         next.unwrap_or(self.generation)
@@ -84,7 +90,9 @@ impl Record {
     {
         let old = *self.posts.groups();
         let target = match target {
-            Target::Reload(settings) | Target::Upgrade(settings) => settings.groups,
+            Target::Reload(settings) | Target::Upgrade(settings) | Target::Attended(settings) => {
+                settings.groups
+            }
             _ => old,
         };
         Sides { old, target }

@@ -3,7 +3,7 @@ ghost use Rattle.std.specs.Prelude.{◌≡◌, ◌<◌, ◌≤◌, Option, Some,
 ghost use Rattle.std.specs.List.{AllByRecursion};
 ghost use Rattle.definitions.specs.Table.{FilePath as PathText};
 ghost use Rattle.definitions.specs.Record.{started};
-ghost use Rattle.definitions.specs.After.{setup_of, target_setup, old_setup, setup_after, recorded, keeps_rules, record_from, record_after};
+ghost use Rattle.definitions.specs.After.{setup_of, renewed, upgraded, next_image, target_setup, old_setup, setup_after, recorded, keeps_rules, record_from, record_after};
 
 use crate::setup::{Setup, next_config, next_image};
 use crews::Posts;
@@ -108,14 +108,22 @@ impl Record {
                 self.listeners.reloaded(&settings.listeners),
                 next_config(self.generation),
             ),
-            Target::Upgrade(settings) => Setup::renewed(
-                settings,
-                self.posts_wanted(target),
-                self.listeners.upgraded(&settings.listeners),
-                next_image(self.generation),
-            ),
+            Target::Upgrade(settings) => self.upgraded_setup(settings, self.posts_wanted(target)),
+            Target::Attended(settings) => self.upgraded_setup(settings, self.posts_wanted(target)),
             Target::Stop { .. } => None,
         }
+    }
+
+    /// What the service of an upgrade stands on, with these posts.
+    fn upgraded_setup(&self, settings: &Settings, posts: Posts) -> Option<Setup>
+        ensures { result ≡ renewed settings.now posts (upgraded settings.now.listeners self.now.listeners) (next_image self.now.generation) }
+    {
+        Setup::renewed(
+            settings,
+            posts,
+            self.listeners.upgraded(&settings.listeners),
+            next_image(self.generation),
+        )
     }
 
     /// What the service that ran before stands on; nothing runs after a stop.

@@ -44,7 +44,9 @@ fn addresses_wanted(state: &Record, target: &Target) -> ListenerSet
 {
     match target {
         Target::Workers(_) | Target::Mend(_) | Target::Reopen => state.listeners.addresses(),
-        Target::Reload(settings) | Target::Upgrade(settings) => settings.listeners,
+        Target::Reload(settings) | Target::Upgrade(settings) | Target::Attended(settings) => {
+            settings.listeners
+        }
         Target::Stop { .. } => ListenerSet::new(),
     }
 }
@@ -57,7 +59,7 @@ fn wanted_at(state: &Record, target: &Target, address: &Address) -> u32
         Target::Workers(wanted) => served_below(state, target, *wanted, address),
         Target::Mend(_) => served_below(state, target, state.wanted, address),
         Target::Reopen => served_ready(state, target, address),
-        Target::Reload(settings) | Target::Upgrade(settings) => {
+        Target::Reload(settings) | Target::Upgrade(settings) | Target::Attended(settings) => {
             served_below(state, target, settings.workers, address)
         }
         Target::Stop { .. } => 0,
@@ -95,7 +97,7 @@ fn is_counted(state: &Record, target: &Target, number: u32, address: &Address) -
     ensures { result ≡ is_counted (layout_wanted state.now target.now) address.now number }
 {
     match target {
-        Target::Reload(settings) | Target::Upgrade(settings) => {
+        Target::Reload(settings) | Target::Upgrade(settings) | Target::Attended(settings) => {
             let own = addresses_of_group(settings, settings.groups.group_of(number));
             own.contains(address)
         }

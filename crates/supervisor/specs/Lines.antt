@@ -5,7 +5,7 @@ use Rattle.definitions.specs.Record.{Record}
 use Rattle.vocabulary.specs.declared.targets.Target.{Target}
 use Rattle.vocabulary.specs.declared.calls.Answer.TheVariants.{Counted}
 use Rattle.control_words.specs.declared.words.Word.{Word}
-use Rattle.control_words.specs.declared.words.Word.TheVariants.{Hup, Quit, Int, Term, Usr1, Usr2, Winch, Ttin, Ttou, Beat, Tick}
+use Rattle.control_words.specs.declared.words.Word.TheVariants.{Hup, Quit, Int, Term, Usr1, Usr2, Usr2Attended, Winch, Ttin, Ttou, Beat, Tick}
 use Rattle.control_words.specs.declared.refusal.WordRefusal.{WordRefusal}
 use Rattle.control_words.specs.declared.refusal.WordRefusal.TheVariants.{Unknown}
 use Rattle.control_words.specs.Words.{reading}
@@ -101,6 +101,7 @@ module _ {F N : Type 0} {f : Ghosts F} (reads : N → Result Settings NextRefusa
   abbrev pub WordComesTo : Word → N → Standing (Edge F f) → Said → N → Standing (Edge F f) → Type 0
   WordComesTo Hup n old said m new = IsRenewed old.state Hup n old said m new
   WordComesTo Usr2 n old said m new = IsRenewed old.state Usr2 n old said m new
+  WordComesTo Usr2Attended n old said m new = IsRenewed old.state Usr2Attended n old said m new
   WordComesTo (Tick now) n old said m new = IsTicked old.state now old said new × (m ≡ n)
   WordComesTo Quit n old said m new = IsOther Quit n old said m new
   WordComesTo Int n old said m new = IsOther Int n old said m new

@@ -97,7 +97,7 @@ impl<F: Family + Drop> Master<F> {
     {
         match word {
             Word::Tick { now } => self.tick(now),
-            Word::Hup | Word::Usr2 => self.renew(word, next),
+            Word::Hup | Word::Usr2 | Word::Usr2Attended => self.renew(word, next),
             _ => self.act(&[word], None),
         }
     }

@@ -32,6 +32,7 @@ pub fn plan(alloc: Global, state: &Record, target: &Target) -> Result<Plan, Plan
 {
     match target {
         Target::Upgrade(settings) => upgrade_planner::plan(alloc, state, settings),
+        Target::Attended(settings) => upgrade_planner::plan_attended(alloc, state, settings),
         _ => reload_planner::plan(alloc, state, target),
     }
 }

@@ -6,7 +6,7 @@ use Rattle.vocabulary.specs.declared.names.Name.{Name}
 use Rattle.vocabulary.specs.declared.names.Name.TheVariants as name
 use Rattle.vocabulary.specs.declared.table.Stance.TheVariants.{Starting}
 use Rattle.vocabulary.specs.declared.calls.Call.{Call}
-use Rattle.vocabulary.specs.declared.calls.Call.TheVariants.{OpenAt, CloseAt, Fork, AwaitReady, Quit, Kill, Census, AwaitGone, SpawnMaster, Adopt, WritePid, MovePid, RemovePid, Alive, Leave, Usr1, TermMaster}
+use Rattle.vocabulary.specs.declared.calls.Call.TheVariants.{OpenAt, CloseAt, Fork, AwaitReady, Quit, Kill, Census, AwaitGone, SpawnMaster, Adopt, WritePid, MovePid, RemovePid, Alive, Leave, Usr1, TermMaster, Ask}
 use Rattle.vocabulary.specs.declared.calls.Answer.{Answer}
 use Rattle.vocabulary.specs.declared.calls.Answer.TheVariants as answer
 use Rattle.vocabulary.specs.declared.calls.Fate.{Fate}
@@ -105,6 +105,7 @@ module _ (n : ℕ) where
   own text by c Leave t h = absent-each (without_master c.number) t (every-filter_map (IsOther n) (IsOther n) (without_master c.number) (left-row c.number) t.rows) h
   own text by c (Usr1 g x) t h = h
   own text by c (TermMaster i) t h = absent-each (drop_where (is_of_image i t.rows)) t (fewer (is_of_image i t.rows) t.rows) h
+  own text by c (Ask n) t h = h
 
   pub absent-steps : (text : List ℕ) (by : ℕ) (call : Call) (fate : Option Fate) (t : Table) → A t → A (step_with text by call fate t).table
   absent-steps text by call fate t h = go (live_master by t.rows)

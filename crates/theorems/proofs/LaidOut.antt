@@ -18,7 +18,7 @@ use Rattle.definitions.specs.Calls.{lowest_free, put_hold}
 use Rattle.definitions.specs.Crew.{Group, Layout, fds_in, posts_of, layout_in, layout_at, listeners_under, addresses_of_group}
 use Rattle.definitions.specs.Record.{Record, layout_of, listener_of, listeners_from}
 use Rattle.definitions.specs.Path.{Report, Outcome}
-use Rattle.definitions.specs.Target.{Target, Workers, Mend, Reopen, Reload, Upgrade, Stop, layout_wanted}
+use Rattle.definitions.specs.Target.{Target, Workers, Mend, Reopen, Reload, Upgrade, Attended, Stop, layout_wanted}
 use Rattle.definitions.specs.After.{Setup, listens_on, opened_from, all_opened, added, still_wanted, with_added, upgraded, renewed, next_config, next_image, target_setup, old_setup, setup_after, keeps_rules, recorded, record_if, record_from}
 use Rattle.theorems.specs.Layouts.{IsSameLayout, StartsLaidOut, CanBeLaidOut, RecordsLaidOut, layout_told}
 use Rattle.theorems.proofs.Rows.{or-right}
@@ -274,17 +274,21 @@ renewed-laid s r close None g m laid = none-laid m
 renewed-laid s r close (Some ls) None m laid = none-laid m
 renewed-laid s r close (Some ls) (Some g) m laid = some-laid _ m (laid ls refl)
 
-target-laid : (r : Record) (t : Target) → CanBeLaidOut r t → IsLaid (target_setup r t) (layout_wanted r t)
-target-laid r (Workers n) can = some-laid _ (layout_of r) (same-layout (layout_of r))
-target-laid r (Mend overdue) can = some-laid _ (layout_of r) (same-layout (layout_of r))
-target-laid r Reopen can = some-laid _ (layout_of r) (same-layout (layout_of r))
-target-laid r (Reload s) can = renewed-laid s r.listeners (still_wanted s.listeners) (with_added s.listeners r.listeners) (next_config r.generation) (layout_in s.groups s.listeners) (λ ls e. reload-laid s.groups s.listeners can.0 r.listeners ls can.1 e)
-target-laid r (Upgrade s) can = go (upgraded s.listeners r.listeners) refl (next_image r.generation)
+upgraded-laid : (r : Record) (s : Settings) → CanBeLaidOut r (Upgrade s) → IsLaid (target_setup r (Upgrade s)) (layout_wanted r (Upgrade s))
+upgraded-laid r s can = go (upgraded s.listeners r.listeners) refl (next_image r.generation)
   where
     go : (w : Option (List Listener)) → upgraded s.listeners r.listeners ≡ w → (g : Option Generation) → IsLaid (renewed s (posts_of s.groups s.listeners (unwrap_or w r.listeners)) w g) (layout_in s.groups s.listeners)
     go None e g = none-laid (layout_in s.groups s.listeners)
     go (Some ls) e None = none-laid (layout_in s.groups s.listeners)
     go (Some ls) e (Some g) = some-laid _ (layout_in s.groups s.listeners) (upgrade-laid s.groups s.listeners can.0 r.listeners ls can.1 e)
+
+target-laid : (r : Record) (t : Target) → CanBeLaidOut r t → IsLaid (target_setup r t) (layout_wanted r t)
+target-laid r (Workers n) can = some-laid _ (layout_of r) (same-layout (layout_of r))
+target-laid r (Mend overdue) can = some-laid _ (layout_of r) (same-layout (layout_of r))
+target-laid r Reopen can = some-laid _ (layout_of r) (same-layout (layout_of r))
+target-laid r (Reload s) can = renewed-laid s r.listeners (still_wanted s.listeners) (with_added s.listeners r.listeners) (next_config r.generation) (layout_in s.groups s.listeners) (λ ls e. reload-laid s.groups s.listeners can.0 r.listeners ls can.1 e)
+target-laid r (Upgrade s) can = upgraded-laid r s can
+target-laid r (Attended s) can = upgraded-laid r s can
 target-laid r (Stop quick) can = none-laid (layout_of r)
 
 old-laid : (r : Record) (t : Target) → IsLaid (old_setup r t) (layout_of r)
@@ -293,6 +297,7 @@ old-laid r (Mend overdue) = some-laid _ (layout_of r) (same-layout (layout_of r)
 old-laid r Reopen = some-laid _ (layout_of r) (same-layout (layout_of r))
 old-laid r (Reload s) = some-laid _ (layout_of r) (same-layout (layout_of r))
 old-laid r (Upgrade s) = some-laid _ (layout_of r) (same-layout (layout_of r))
+old-laid r (Attended s) = some-laid _ (layout_of r) (same-layout (layout_of r))
 old-laid r (Stop quick) = none-laid (layout_of r)
 
 told-laid : (r : Record) (t : Target) → CanBeLaidOut r t → (o : Outcome) → IsLaid (setup_after o r t) (layout_told r t o)

@@ -18,6 +18,7 @@ pub mod Duo
 pub mod Files
 pub mod UpgradeStage
 pub mod UpgradeBack
+pub mod UpgradeServing
 pub mod UpgradeNew
 pub mod UpgradeCalls
 pub mod UpgradeRelief

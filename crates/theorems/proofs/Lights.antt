@@ -174,7 +174,7 @@ module _ (image : ℕ) (mild : Exiting) (due : Asked) (light : Light image mild 
       let st = gives (answer.Counted cs) t' in
       let is = light.counted co.text g fate q.table h in
       let h' : light.Holds t' = subst (λ s. light.Holds s.table) is (light.steps co.text (Census g) fate q.table (light.censuses g) h) in
-      let after : List ℕ → Progress = λ l. record { table = t'; calls = q.calls + 1; ready = cs; lacking = lacks S cs; faults = q.faults; losses = q.losses; cause = first_cause q.cause (went_wrong (Census g) (full_or_short l)) (q.calls + 1); note = q.note } in
+      let after : List ℕ → Progress = λ l. record { table = t'; calls = q.calls + 1; ready = cs; lacking = lacks S cs; faults = q.faults; losses = q.losses; returns = q.returns; cause = first_cause q.cause (went_wrong (Census g) (full_or_short l)) (q.calls + 1); note = q.note } in
       subst (λ s. Edges (census_edges ok short) (reply_of S s.answer) (after_call (Make (Census g)) S s q)) (sym is)
       (elim (lacks S cs) as (λ l. lacks S cs ≡ l → Edges (census_edges ok short) (full_or_short l) (after l)) [
         | [] ↦ λ e'. on_full (after []) h'

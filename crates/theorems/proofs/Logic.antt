@@ -9,8 +9,8 @@ use Rattle.definitions.specs.Calls.{suits, is_image, with_file, moved_if, with_f
 use Rattle.vocabulary.specs.declared.calls.Fate.{Fate}
 use Rattle.definitions.specs.Handover.{reading}
 use Rattle.definitions.specs.Exits.{change}
-use Rattle.vocabulary.specs.declared.calls.Call.TheVariants.{SpawnMaster, Adopt, WritePid, MovePid, Alive, TermMaster, AwaitGone, RemovePid, Usr1, Leave, CloseAt, Fork, AwaitReady, Quit, Kill, Census, OpenAt}
-use Rattle.vocabulary.specs.declared.calls.Answer.TheVariants.{Spawned, NoImage, Adopted, Refused, Fine, IoFault, Forked, IsReady, Again, NoMemory, Gone, Late, InUse, TooMany, Denied, Opened}
+use Rattle.vocabulary.specs.declared.calls.Call.TheVariants.{SpawnMaster, Adopt, WritePid, MovePid, Alive, TermMaster, AwaitGone, RemovePid, Usr1, Leave, CloseAt, Fork, AwaitReady, Quit, Kill, Census, OpenAt, Ask}
+use Rattle.vocabulary.specs.declared.calls.Answer.TheVariants.{Go, Back, Spawned, NoImage, Adopted, Refused, Fine, IoFault, Forked, IsReady, Again, NoMemory, Gone, Late, InUse, TooMany, Denied, Opened}
 use Rattle.vocabulary.specs.declared.calls.Call.{Call}
 use Rattle.definitions.specs.Tree.{call_of, Tree, Branches, Ends, Does, Nothing, Branch, among, reply_of}
 use Rattle.vocabulary.specs.declared.plans.Order.{Order}
@@ -272,3 +272,7 @@ spawn-cases text image c i (Some fate.NoImage) t P again memory image_gone ok = 
 spawn-cases text image c i (Some fate.NoMemory) t P again memory image_gone ok = memory
 spawn-cases text image c i (Some fate.Again) t P again memory image_gone ok = again
 spawn-cases text image c i _ t P again memory image_gone ok = spawn-own text image c i t P again ok
+
+pub ask-cases : (text : List ℕ) (image : ℕ) (c : Caller) (n : ℕ) (fate : Option Fate) (t : Table) (P : Stepped → Type 0) → P (gives Back t) → P (gives Go t) → P (step_by text image (Some c) (Ask n) fate t)
+ask-cases text image c n (Some fate.Back) t P back go = back
+ask-cases text image c n _ t P back go = go

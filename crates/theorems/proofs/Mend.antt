@@ -160,7 +160,7 @@ module _ (t : Table) (rec : Record) (overdue : List ℕ) (pattern : Pattern) (s 
       rule-kills u sc G (forks_any g.image crew missing (awaits_any g.image g missing ending)) g dead none u.ready (named g (is_in K)) (length K) 0 false [] (start_at t rec.note)
       (λ k e. off-name k (not-kept k e))
       (λ s1 r1 q1 less_s less b2. rule-forks-any u sc G (awaits_any g.image g missing ending) crew (λ k. refl) missing none r1 (named g (is_in K)) (length K) 0 false [] q1
-      (λ s2 c2 w2 q2 within up b3. rule-awaits-any u sc G (Started g K n) ending g (λ a. refl) (one-more-any g K n) [] 0 missing [] s2 r1 (named g (is_in K)) (length K) w2 q2
+      (λ s2 c2 w2 q2 within more up b3. rule-awaits-any u sc G (Started g K n) ending g (λ a. refl) (one-more-any g K n) [] 0 missing [] s2 r1 (named g (is_in K)) (length K) w2 q2
       (λ done s3 r3 t3 n3 w3 q3 st less3 up3 b4. on done r3 t3 n3 w3 q3 st (band-still u sc G s3 none r3 t3 n3 0 w3 [] q3
       (λ h k e. let l = less3 h k e in ⊎_elim (λ a. a) (λ a. absurd (true-false (is_in missing k) a.1 (l.1 a.0))) (within h k l.0)) b4))
       (begun r1 less) (band-anew u sc G s2 r1 (named g (is_in K)) (length K) c2 w2 [] q2 b3))

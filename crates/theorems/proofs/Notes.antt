@@ -43,6 +43,8 @@ is-fault set answer.Adopted e = absurd (cc e)
 is-fault set answer.Refused e = absurd (cc e)
 is-fault set answer.IoFault e = refl
 is-fault set answer.IsAlive e = absurd (cc e)
+is-fault set answer.Go e = absurd (cc e)
+is-fault set answer.Back e = absurd (cc e)
 is-fault set answer.MasterGone e = absurd (cc e)
 
 here : (b c : Bool) → b ≡ true → (b || c) ≡ true

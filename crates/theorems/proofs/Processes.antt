@@ -8,7 +8,7 @@ use Rattle.vocabulary.specs.declared.names.Name.TheVariants as name
 use Rattle.vocabulary.specs.declared.table.Stance.{Stance}
 use Rattle.vocabulary.specs.declared.table.Stance.TheVariants.{Starting}
 use Rattle.vocabulary.specs.declared.calls.Call.{Call}
-use Rattle.vocabulary.specs.declared.calls.Call.TheVariants.{Adopt, WritePid, MovePid, SpawnMaster, TermMaster, OpenAt, CloseAt, Fork, AwaitReady, Quit, Kill, Census, Usr1}
+use Rattle.vocabulary.specs.declared.calls.Call.TheVariants.{Adopt, WritePid, MovePid, SpawnMaster, TermMaster, OpenAt, CloseAt, Fork, AwaitReady, Quit, Kill, Census, Usr1, Ask}
 use Rattle.vocabulary.specs.declared.calls.Answer.{Answer}
 use Rattle.vocabulary.specs.declared.calls.Answer.TheVariants as answer
 use Rattle.vocabulary.specs.declared.calls.Fate.{Fate}
@@ -248,6 +248,7 @@ AnyCall image (WritePid path) = ⊤
 AnyCall image (MovePid from to) = ⊤
 AnyCall image (SpawnMaster i) = i ≢ image
 AnyCall image (TermMaster i) = i ≢ image
+AnyCall image (Ask q) = ⊤
 AnyCall image _ = ⊥
 
 -- The call's own effect.
@@ -369,6 +370,7 @@ module _ (m image n : ℕ) (P : Process → Type 0) (Quits : Generation → ℕ 
     below = fact.below;
     above = fact.above;
   }
+  any-keeps text by c (Ask q) t any fact = fact
   any-keeps text by c _ t any fact = absurd any
 
   -- A fact lasts through the calls that any master may make.

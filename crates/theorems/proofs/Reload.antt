@@ -256,10 +256,10 @@ module _ (t : Table) (rec : Record) (st : Settings) (pattern : Pattern) (s : IsS
   abbrev Laid : List Hold → Type 0
   Laid hs = (k : ℕ) (a : Address) → has wanted a ≡ true → has_address a (share posts k hs) ≡ (has_address a hs && new_at a k)
 
-  good : (who : Address → Names) (v : View) (hs : List Hold) → v.number ≡ rec.pid → v.holds ≡ hs → ((a : Address) → IsCommon old target a → (h : Generation) (k : ℕ) → who a h k ≡ true → has_address a (v.held h k) ≡ true) → Common hs → (names : Names) (count : ℕ) (w : Bool) (q : Progress) → Enough v.number f who names count → Looks (view v any any) q.table.rows → ((a : Address) → 1 ≤ f a → count ≤ ready_of v names q + q.losses) → Marks w q.faults q.losses q.cause → ⊤ → inv q
+  good : (who : Address → Names) (v : View) (hs : List Hold) → v.number ≡ rec.pid → v.holds ≡ hs → ((a : Address) → IsCommon old target a → (h : Generation) (k : ℕ) → who a h k ≡ true → has_address a (v.held h k) ≡ true) → Common hs → (names : Names) (count : ℕ) (w : Bool) (q : Progress) → Enough v.number f who names count → Looks (view v any any) q.table.rows → ((a : Address) → 1 ≤ f a → count ≤ ready_of v names q + q.losses + 0) → Marks w [] q.faults q.losses q.returns q.cause → ⊤ → inv q
   good who v hs num is held common names count w q enough looks secured marks beside = (
     λ a k c on. live-with-on (view v any any) (has_socket a k) q.table.rows looks (ap (has_socket a k) is ∙ (common a c).1 k (sym (live-with (first_view rec H0) (λ n. refl) (has_socket a k) t.rows looks0) ∙ on)),
-    λ a c. floor-by (f a) (ready_with a q.table + q.losses) (λ e. level-by (view v any any) (f a) (who a) names count a q.table.rows q.losses (held a c) (enough a e) looks (secured a e)),
+    λ a c. floor-by (f a) (ready_with a q.table + q.losses) (λ e. level-by (view v any any) (f a) (who a) names count a q.table.rows q.losses (held a c) (enough a e) looks (omega (arith, secured a e))),
     (marks.clean, marks.blamed),
   )
 
@@ -633,7 +633,7 @@ module _ (t : Table) (rec : Record) (st : Settings) (pattern : Pattern) (s : IsS
         budget = omega (arith, count);
         lacking = refl;
         still = record { files_stay = refl; note_stays = refl; limits_stay = refl };
-        marks = record { clean = λ e. refl; blamed = λ e. absurd (cc e); caused = λ e. absurd (cc e) };
+        marks = record { clean = λ e. refl; blamed = λ e. absurd (cc e); caused = λ e. absurd (cc e); returned = refl };
         beside = tt;
       })
     where

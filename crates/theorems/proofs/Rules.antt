@@ -25,7 +25,7 @@ use Rattle.definitions.specs.Claims.{names_any, is_ready_with}
 use Rattle.definitions.specs.Crew.{Crew, fds_of, fork_of}
 use Rattle.theorems.proofs.Refusals.{is_leave}
 use Rattle.vocabulary.specs.declared.calls.Reply.TheVariants as reply
-use Rattle.definitions.specs.Run.{Progress, after_moment, after_call, Ending, At, answered}
+use Rattle.definitions.specs.Run.{Progress, Return, after_moment, after_call, Ending, At, answered}
 use Rattle.definitions.specs.Path.{went_wrong, first_cause}
 use Rattle.theorems.proofs.Rows.{one, weigh, weigh-le-all, count-weigh, and-left, and-right, both-true, or-left, or-right}
 use Rattle.theorems.proofs.Views.{HoldsShare, Names, named, View, Once, Looks, live_any, ready_in, finds, eqb-is}
@@ -136,11 +136,13 @@ floor-by (suc f) x h = h (omega arith)
 
 ---- The cause
 
--- no fault without a cause, no cause without a fault or a loss; and where `w` is true there is a cause
-pub record Marks (w : Bool) (faults losses : ℕ) (cause : Option ℕ) : Type 0 where
+-- no fault without a cause, no cause without a fault, a loss or a return; where `w` is true there is a cause; and the returns
+-- are these
+pub record Marks (w : Bool) (these : List Return) (faults losses : ℕ) (returns : List Return) (cause : Option ℕ) : Type 0 where
   pub clean : is_some cause ≡ false → faults ≡ 0
-  pub blamed : is_some cause ≡ true → 1 ≤ faults + losses
+  pub blamed : is_some cause ≡ true → 1 ≤ faults + losses + length returns
   pub caused : w ≡ true → is_some cause ≡ true
+  pub returned : returns ≡ these
 
 is_some-plain : (c : Option ℕ) (n : ℕ) → is_some (first_cause c false n) ≡ is_some c
 is_some-plain None n = refl
@@ -150,25 +152,31 @@ is_some-wrong : (c : Option ℕ) (n : ℕ) → is_some (first_cause c true n) �
 is_some-wrong None n = refl
 is_some-wrong (Some k) n = refl
 
-pub marks-exits : (w : Bool) (faults losses more : ℕ) (cause : Option ℕ) → Marks w faults losses cause → Marks w faults (losses + more) cause
-marks-exits w faults losses more cause m = record { clean = m.clean; blamed = λ e. omega (arith, m.blamed e); caused = m.caused }
+pub marks-exits : {these returns : List Return} (w : Bool) (faults losses more : ℕ) (cause : Option ℕ) → Marks w these faults losses returns cause → Marks w these faults (losses + more) returns cause
+marks-exits w faults losses more cause m = record { clean = m.clean; blamed = λ e. omega (arith, m.blamed e); caused = m.caused; returned = m.returned }
 
-pub marks-plain : (w : Bool) (faults losses n : ℕ) (cause : Option ℕ) → Marks w faults losses cause → Marks w faults losses (first_cause cause false n)
-marks-plain w faults losses n cause m = record { clean = λ e. m.clean (sym (is_some-plain cause n) ∙ e); blamed = λ e. m.blamed (sym (is_some-plain cause n) ∙ e); caused = λ e. is_some-plain cause n ∙ m.caused e }
+pub marks-plain : {these returns : List Return} (w : Bool) (faults losses n : ℕ) (cause : Option ℕ) → Marks w these faults losses returns cause → Marks w these faults losses returns (first_cause cause false n)
+marks-plain w faults losses n cause m = record { clean = λ e. m.clean (sym (is_some-plain cause n) ∙ e); blamed = λ e. m.blamed (sym (is_some-plain cause n) ∙ e); caused = λ e. is_some-plain cause n ∙ m.caused e; returned = m.returned }
 
-pub marks-wrong : (w : Bool) (faults faults' losses n : ℕ) (cause : Option ℕ) → 1 ≤ faults' + losses → Marks w faults losses cause → Marks true faults' losses (first_cause cause true n)
-marks-wrong w faults faults' losses n cause le m = record { clean = λ e. let on = is_some-wrong cause n in absurd (cc); blamed = λ e. le; caused = λ e. is_some-wrong cause n }
+pub marks-wrong : {these returns : List Return} (w : Bool) (faults faults' losses n : ℕ) (cause : Option ℕ) → 1 ≤ faults' + losses → Marks w these faults losses returns cause → Marks true these faults' losses returns (first_cause cause true n)
+marks-wrong w faults faults' losses n cause le m = record { clean = λ e. let on = is_some-wrong cause n in absurd (cc); blamed = λ e. omega (arith, le); caused = λ e. is_some-wrong cause n; returned = m.returned }
+
+-- the old service was wanted back
+pub marks-back : {these returns : List Return} (w : Bool) (r : Return) (faults losses n : ℕ) (cause : Option ℕ) → Marks w these faults losses returns cause → Marks true (r ∷ these) faults losses (r ∷ returns) (first_cause cause true n)
+marks-back w r faults losses n cause m = record { clean = λ e. let on = is_some-wrong cause n in absurd (cc); blamed = λ e. omega arith; caused = λ e. is_some-wrong cause n; returned = ap (λ l. r ∷ l) m.returned }
 
 ---- What is kept beside
 
--- What a plan's steps are proved against: the floor that is kept at each address and the names that serve there, the files and the note, which stay, what is known of the
--- exits, and a fact on the rows, the losses and the faults that the calls of one master, and all mild exits, keep.
+-- What a plan's steps are proved against: the floor that is kept at each address and the names that serve there, the files and the note, which stay, the returns so far,
+-- how many faults count beside the losses for the floor, what is known of the exits, and a fact on the rows, the losses and the faults that the calls of one master, and all mild exits, keep.
 pub record Scene (m image : ℕ) : Type 1 where
   pub floor : Address → ℕ
   pub serves : Address → Names
   pub files : List File
   pub note : PidNote
   pub limits : Limits
+  pub returns : List Return
+  pub excused : ℕ
   pub Mild : Exiting
   pub Holds : List Process → ℕ → ℕ → Type 0
   pub exits : (es : List Name) (rows : List Process) (losses more faults : ℕ) → Spares image es → Mild es rows → more + weigh live_any (all_exited es rows) ≡ weigh live_any rows → Holds rows losses faults → Holds (all_exited es rows) (losses + more) faults
@@ -185,6 +193,8 @@ plain_scene m image floor serves files note limits = record {
   files = files;
   note = note;
   limits = limits;
+  returns = [];
+  excused = 0;
   Mild = Anyhow;
   Holds = λ rows losses faults. ⊤;
   exits = λ es rows losses more faults sp mild e h. tt;
@@ -205,10 +215,10 @@ pub record Band (u : View) (sc : Scene u.number u.image) (s r t : Names) (n c : 
   pub looks : Looks (view u s r) p.table.rows
   pub enough : Enough u.number sc.floor sc.serves t n
   -- asked only where there is a floor
-  pub secured : (a : Address) → 1 ≤ sc.floor a → n ≤ ready_of u t p + p.losses
+  pub secured : (a : Address) → 1 ≤ sc.floor a → n ≤ ready_of u t p + p.losses + sc.excused
   pub budget : n + c ≤ ready_of u t p + p.losses + p.faults
   pub lacking : p.lacking ≡ ls
-  pub marks : Marks w p.faults p.losses p.cause
+  pub marks : Marks w sc.returns p.faults p.losses p.returns p.cause
   pub still : Still sc.files sc.note sc.limits p.table.files p.note p.table.limits
   pub beside : sc.Holds p.table.rows p.losses p.faults
 
@@ -245,8 +255,8 @@ band-exits u sc s r t n c w ls es p sp mild b =
 -- What is known between two steps gives what holds at each moment.
 abbrev pub IsGood : (u : View) → Scene u.number u.image → (Progress → Type 0) → Type 0
 IsGood u sc inv =
-    (t : Names) (n : ℕ) (w : Bool) (q : Progress) → Enough u.number sc.floor sc.serves t n → Looks (view u any any) q.table.rows → ((a : Address) → 1 ≤ sc.floor a → n ≤ ready_of u t q + q.losses)
-    → Marks w q.faults q.losses q.cause → sc.Holds q.table.rows q.losses q.faults → inv q
+    (t : Names) (n : ℕ) (w : Bool) (q : Progress) → Enough u.number sc.floor sc.serves t n → Looks (view u any any) q.table.rows → ((a : Address) → 1 ≤ sc.floor a → n ≤ ready_of u t q + q.losses + sc.excused)
+    → Marks w sc.returns q.faults q.losses q.returns q.cause → sc.Holds q.table.rows q.losses q.faults → inv q
 
 -- What the rules rest on: what holds at each moment and at an end, the course, and that the master is one of those that act.
 pub record Ground (u : View) (sc : Scene u.number u.image) : Type 1 where
@@ -491,7 +501,7 @@ module _ (u : View) (sc : Scene u.number u.image) (gr : Ground u sc) where
       let exact : (k : ℕ) → list_any (is_worker is_ready u.number g k) rows' ≡ is_in cs k = census-exact (view u none r) g q.table.rows below_r b'.looks in
       let lost = part q.table.rows b'.looks in
       let before : (l : List ℕ) → lacks T cs ≡ l → length l ≤ q.faults + q.losses = λ l e. omega (arith, lost, b'.budget, counted-all u.number g T (lacks T cs) q.table.rows seen_now, ap length e) in
-      let after : List ℕ → Progress = λ l. record { table = with_rows q.table rows'; calls = q.calls + 1; ready = cs; lacking = lacks T cs; faults = q.faults; losses = q.losses; cause = first_cause q.cause (went_wrong (Census g) (full_or_short l)) (q.calls + 1); note = q.note } in
+      let after : List ℕ → Progress = λ l. record { table = with_rows q.table rows'; calls = q.calls + 1; ready = cs; lacking = lacks T cs; faults = q.faults; losses = q.losses; returns = q.returns; cause = first_cause q.cause (went_wrong (Census g) (full_or_short l)) (q.calls + 1); note = q.note } in
       subst (λ st. Answers order T bs q st) (sym (unfailing co.text u.image me (Census g) fate q.table tt))
       (elim (lacks T cs) as (λ l. lacks T cs ≡ l → Edge bs (full_or_short l) (after l)) [
         | [] ↦ λ e. on_full cs (after []) e (record { looks = looks'; enough = b'.enough; secured = λ a e. omega (arith, b'.secured a e, same); budget = omega (arith, b'.budget, same); lacking = e; still = b'.still; marks = marks-plain w q.faults q.losses (q.calls + 1) q.cause b'.marks; beside = sc.drops (is_exited_of u.number) q.table.rows q.losses q.faults (mine-exited u.number, λ z zs. refl) b'.beside }) saw exact
@@ -592,6 +602,10 @@ module _ (u : View) (sc : Scene u.number u.image) (gr : Ground u sc) where
 
   pub band-anew : (s r t : Names) (n c : ℕ) (w : Bool) (ls : List ℕ) (p : Progress) → Band u sc s r t n c w ls p → Band u sc s r t n 0 w ls p
   band-anew s r t n c w ls p b = record { looks = b.looks; enough = b.enough; secured = b.secured; budget = omega (arith, b.budget); lacking = b.lacking; still = b.still; marks = b.marks; beside = b.beside }
+
+  -- and fewer failures are counted beside
+  pub band-fewer : (s r t : Names) (n c c' : ℕ) (w : Bool) (ls : List ℕ) (p : Progress) → c' ≤ c → Band u sc s r t n c w ls p → Band u sc s r t n c' w ls p
+  band-fewer s r t n c c' w ls p le b = record { looks = b.looks; enough = b.enough; secured = b.secured; budget = omega (arith, b.budget, le); lacking = b.lacking; still = b.still; marks = b.marks; beside = b.beside }
 
   less-cons : (g : Generation) (r r' : Names) (x : ℕ) (ks : List ℕ) → Less g (minus r g x) ks r' → Less g r (x ∷ ks) r'
   less-cons g r r' x ks less h k e =
@@ -727,15 +741,15 @@ module _ (u : View) (sc : Scene u.number u.image) (gr : Ground u sc) where
   abbrev pub Within_or : Generation → List ℕ → Names → Names → Type 0
   Within_or g ks s s' = (h : Generation) (k : ℕ) → s' h k ≡ true → (s h k ≡ true) ⊎ ((h ≡ g) × (is_in ks k ≡ true))
 
-  pub rule-forks-any : (rest : Tree) (crew : Crew) → HoldsShare u crew → (ks : List ℕ) (s r t : Names) (n c : ℕ) (w : Bool) (ls : List ℕ) (p : Progress) → ((s' : Names) (c' : ℕ) (w' : Bool) (q : Progress) → Within_or crew.generation ks s s' → (w ≡ true → w' ≡ true) → Band u sc s' r t n c' w' ls q → Runs rest q) → Band u sc s r t n c w ls p → Runs (forks_any u.image crew ks rest) p
-  rule-forks-any rest crew same [] s r t n c w ls p next b = next s c w p (λ h k e. inl e) (λ e. e) b
+  pub rule-forks-any : (rest : Tree) (crew : Crew) → HoldsShare u crew → (ks : List ℕ) (s r t : Names) (n c : ℕ) (w : Bool) (ls : List ℕ) (p : Progress) → ((s' : Names) (c' : ℕ) (w' : Bool) (q : Progress) → Within_or crew.generation ks s s' → c ≤ c' → (w ≡ true → w' ≡ true) → Band u sc s' r t n c' w' ls q → Runs rest q) → Band u sc s r t n c w ls p → Runs (forks_any u.image crew ks rest) p
+  rule-forks-any rest crew same [] s r t n c w ls p next b = next s c w p (λ h k e. inl e) (omega arith) (λ e. e) b
   rule-forks-any rest crew same (x ∷ ks) s r t n c w ls p next b =
       rule-fork-on (fork_any_edges (forks_any u.image crew ks rest)) crew.generation x (fds_of crew.posts x) s r t n c w ls p (same x)
       (λ q b'. rule-forks-any rest crew same ks (plus s crew.generation x) r t n c w ls q
-      (λ s' c' w' q' within up b''. next s' c' w' q' (λ h k e. ⊎_elim (λ a. ⊎_elim (λ z. inl z) (λ z. let is = bears-is crew.generation x h k z in inr (is.0, in-here x k ks (sym is.1))) (or-elim (s h k) (bears crew.generation x h k) a)) (λ a. inr (a.0, in-there x k ks a.1)) (within h k e)) up b'') b')
+      (λ s' c' w' q' within more up b''. next s' c' w' q' (λ h k e. ⊎_elim (λ a. ⊎_elim (λ z. inl z) (λ z. let is = bears-is crew.generation x h k z in inr (is.0, in-here x k ks (sym is.1))) (or-elim (s h k) (bears crew.generation x h k) a)) (λ a. inr (a.0, in-there x k ks a.1)) (within h k e)) more up b'') b')
       (λ q b'.
       let h = rule-forks-any rest crew same ks s r t n (c + 1) true ls q
-      (λ s' c' w' q' within up b''. next s' c' w' q' (λ h k e. ⊎_elim (λ a. inl a) (λ a. inr (a.0, in-there x k ks a.1)) (within h k e)) (λ e. up refl) b'') b' in
+      (λ s' c' w' q' within more up b''. next s' c' w' q' (λ h k e. ⊎_elim (λ a. inl a) (λ a. inr (a.0, in-there x k ks a.1)) (within h k e)) (omega (arith, more)) (λ e. up refl) b'') b' in
       (h, h)) b
 
   -- a name that failed joins the names too, since its fault pays for it. There is no floor

@@ -98,7 +98,7 @@ module _ (t : Table) (rec : Record) (target : Target) (pattern : Pattern) (s : I
   pub good : IsGood first scene inv
   good names count w q enough looks secured marks beside = (
     λ a socket common on. live-with-on (view first any any) (has_socket a socket) q.table.rows looks (sym (live-with first (λ n. refl) (has_socket a socket) t.rows looks0) ∙ on),
-    λ a common. floor-by (like.floor a) (ready_with a q.table + q.losses) (λ e. level-by (view first any any) (like.floor a) (serves a) names count a q.table.rows q.losses (λ h k on. on) (enough a e) looks (secured a e)),
+    λ a common. floor-by (like.floor a) (ready_with a q.table + q.losses) (λ e. level-by (view first any any) (like.floor a) (serves a) names count a q.table.rows q.losses (λ h k on. on) (enough a e) looks (omega (arith, secured a e))),
     (marks.clean, marks.blamed),
   )
 
@@ -171,7 +171,7 @@ module _ (t : Table) (rec : Record) (target : Target) (pattern : Pattern) (s : I
   pub start-band : ((a : Address) → like.floor a ≤ served layout R a) → Band first scene none first.ready (named g (is_in R)) (length R) 0 false [] (start_at t rec.note)
   start-band enough =
       let count = begin-count t rec s in
-      record { looks = looks0; enough = covers R (rising-distinct R s.rising) enough; secured = λ a e. omega (arith, count); budget = omega (arith, count); lacking = refl; marks = record { clean = λ e. refl; blamed = λ e. absurd (cc e); caused = λ e. absurd (cc e) }; still = record { files_stay = refl; note_stays = refl; limits_stay = refl }; beside = tt }
+      record { looks = looks0; enough = covers R (rising-distinct R s.rising) enough; secured = λ a e. omega (arith, count); budget = omega (arith, count); lacking = refl; marks = record { clean = λ e. refl; blamed = λ e. absurd (cc e); caused = λ e. absurd (cc e); returned = refl }; still = record { files_stay = refl; note_stays = refl; limits_stay = refl }; beside = tt }
 
   pub whole : (tree : Tree) → Goes tree (start_at t rec.note) → refused_in course tree (start_at t rec.note) ≡ None →
       let ran = run_in course tree (start_at t rec.note) in

@@ -22,7 +22,7 @@ use Rattle.vocabulary.specs.declared.calls.Call.TheVariants.{Census, CloseAt, Qu
 use Rattle.vocabulary.specs.declared.calls.Answer.{Answer}
 use Rattle.vocabulary.specs.declared.calls.Answer.TheVariants as answer
 use Rattle.definitions.specs.Plans.{settle, round, census, quits, closes, census_edges, fork_edges, await_any_edges, then_edge, full_end, short_end}
-use Rattle.definitions.specs.Run.{Pattern, Progress, Ending, At, Ran, run_with, goes_with, noted, after_call, after_moment, answered, is_plain}
+use Rattle.definitions.specs.Run.{Pattern, Progress, Ending, At, Ran, run_with, goes_with, noted, after_call, after_moment, answered, Return, is_fault, returns_after}
 use Rattle.definitions.specs.Path.{first_cause, went_wrong}
 use Rattle.definitions.specs.Claims.{refused_among}
 use Rattle.definitions.specs.Settling.{PlansGoBack, IsOnly, HasSide, missing, Settles, SettlesAlways, IsReturning, back, without, ReturnsAlways}
@@ -111,44 +111,44 @@ ours image c b (Foreign n hs ∷ rows) next asc e only =
 
 ---- A run with other faults and another cause makes the same calls
 
-abbrev recounted : Progress → ℕ → Option ℕ → Progress
-recounted p faults cause = record { table = p.table; calls = p.calls; ready = p.ready; lacking = p.lacking; faults = faults; losses = p.losses; cause = cause; note = p.note }
+abbrev recounted : Progress → ℕ → List Return → Option ℕ → Progress
+recounted p faults returns cause = record { table = p.table; calls = p.calls; ready = p.ready; lacking = p.lacking; faults = faults; losses = p.losses; returns = returns; cause = cause; note = p.note }
 
-noted-recounted : (said : Option PidNote) (p : Progress) (f : ℕ) (c : Option ℕ) → noted said (recounted p f c) ≡ recounted (noted said p) f c
-noted-recounted None p f c = refl
-noted-recounted (Some n) p f c = refl
+noted-recounted : (said : Option PidNote) (p : Progress) (f : ℕ) (rs : List Return) (c : Option ℕ) → noted said (recounted p f rs c) ≡ recounted (noted said p) f rs c
+noted-recounted None p f rs c = refl
+noted-recounted (Some n) p f rs c = refl
 
 noted-faults : (said : Option PidNote) (p : Progress) → (noted said p).faults ≡ p.faults
 noted-faults None p = refl
 noted-faults (Some n) p = refl
 
-fault-more : (b : Bool) (f n d : ℕ) → f ≡ n + d → (if b then f else f + 1) ≡ (if b then n else n + 1) + d
-fault-more true f n d e = e
-fault-more false f n d e = omega (arith, e)
+fault-more : (b : Bool) (f n d : ℕ) → f ≡ n + d → (if b then f + 1 else f) ≡ (if b then n + 1 else n) + d
+fault-more true f n d e = omega (arith, e)
+fault-more false f n d e = e
 
 -- it makes the same calls and ends alike, with so many faults more
 abbrev Twin : ℕ → Ran → Ran → Type 0
-Twin d ran ran' = (ran'.ending ≡ ran.ending) × (f : ℕ) × (c : Option ℕ) × (ran'.last ≡ recounted ran.last f c) × (f ≡ ran.last.faults + d) × (ran'.entries ≡ ran.entries)
+Twin d ran ran' = (ran'.ending ≡ ran.ending) × (f : ℕ) × (rs : List Return) × (c : Option ℕ) × (ran'.last ≡ recounted ran.last f rs c) × (f ≡ ran.last.faults + d) × (ran'.entries ≡ ran.entries)
 
 mutual
-  twins : (d : ℕ) (text : List ℕ) (tree : Tree) (pattern : Pattern) (p : Progress) (f : ℕ) (c : Option ℕ) → f ≡ p.faults + d → Twin d (run_with text tree pattern p) (run_with text tree pattern (recounted p f c))
-  twins d text (Ends end) pattern p f c e = (refl, f, c, refl, e, refl)
-  twins d text (Does by order set branches) pattern p f c e =
+  twins : (d : ℕ) (text : List ℕ) (tree : Tree) (pattern : Pattern) (p : Progress) (f : ℕ) (rs : List Return) (c : Option ℕ) → f ≡ p.faults + d → Twin d (run_with text tree pattern p) (run_with text tree pattern (recounted p f rs c))
+  twins d text (Ends end) pattern p f rs c e = (refl, f, rs, c, refl, e, refl)
+  twins d text (Does by order set branches) pattern p f rs c e =
       let moment = pattern (p.calls + 1) in
       let middle = after_moment moment.exits p in
       let s = answered text by order moment.fate middle in
-      let b = is_plain (call_of order p.lacking) s.answer in
-      let rest = twins-behind d text branches (reply_of set s.answer) pattern (after_call order set s middle) (if b then f else f + 1) (first_cause c (went_wrong (call_of order p.lacking) (reply_of set s.answer)) (p.calls + 1)) (fault-more b f p.faults d e) in
+      let b = is_fault (call_of order p.lacking) s.answer in
+      let rest = twins-behind d text branches (reply_of set s.answer) pattern (after_call order set s middle) (if b then f + 1 else f) (returns_after (call_of order p.lacking) s.answer f rs) (first_cause c (went_wrong (call_of order p.lacking) (reply_of set s.answer)) (p.calls + 1)) (fault-more b f p.faults d e) in
       let entry : Entry = record { by = by; call = call_of order middle.lacking; answer = s.answer } in
-      (rest.0, rest.1, rest.2, rest.3, rest.4, ap (λ es. entry ∷ es) rest.5)
+      (rest.0, rest.1, rest.2, rest.3, rest.4, rest.5, ap (λ es. entry ∷ es) rest.6)
 
-  twins-behind : (d : ℕ) (text : List ℕ) (bs : Branches) (r : Reply) (pattern : Pattern) (p : Progress) (f : ℕ) (c : Option ℕ) → f ≡ p.faults + d → Twin d (goes_with text bs r pattern p) (goes_with text bs r pattern (recounted p f c))
-  twins-behind d text Nothing r pattern p f c e = (refl, f, c, refl, e, refl)
-  twins-behind d text (Branch replies said rest more) r pattern p f c e =
-      let here : Twin d (run_with text rest pattern (noted said p)) (run_with text rest pattern (noted said (recounted p f c))) =
-      subst (λ x. Twin d (run_with text rest pattern (noted said p)) (run_with text rest pattern x)) (sym (noted-recounted said p f c)) (twins d text rest pattern (noted said p) f c (e ∙ ap (λ n. n + d) (sym (noted-faults said p)))) in
-      let there = twins-behind d text more r pattern p f c e in
-      elim (among replies r) as (λ b. Twin d (elim b as (λ c. Ran) [ true ↦ run_with text rest pattern (noted said p) | false ↦ goes_with text more r pattern p ]) (elim b as (λ c. Ran) [ true ↦ run_with text rest pattern (noted said (recounted p f c)) | false ↦ goes_with text more r pattern (recounted p f c) ])) [
+  twins-behind : (d : ℕ) (text : List ℕ) (bs : Branches) (r : Reply) (pattern : Pattern) (p : Progress) (f : ℕ) (rs : List Return) (c : Option ℕ) → f ≡ p.faults + d → Twin d (goes_with text bs r pattern p) (goes_with text bs r pattern (recounted p f rs c))
+  twins-behind d text Nothing r pattern p f rs c e = (refl, f, rs, c, refl, e, refl)
+  twins-behind d text (Branch replies said rest more) r pattern p f rs c e =
+      let here : Twin d (run_with text rest pattern (noted said p)) (run_with text rest pattern (noted said (recounted p f rs c))) =
+      subst (λ x. Twin d (run_with text rest pattern (noted said p)) (run_with text rest pattern x)) (sym (noted-recounted said p f rs c)) (twins d text rest pattern (noted said p) f rs c (e ∙ ap (λ n. n + d) (sym (noted-faults said p)))) in
+      let there = twins-behind d text more r pattern p f rs c e in
+      elim (among replies r) as (λ b. Twin d (elim b as (λ c. Ran) [ true ↦ run_with text rest pattern (noted said p) | false ↦ goes_with text more r pattern p ]) (elim b as (λ c. Ran) [ true ↦ run_with text rest pattern (noted said (recounted p f rs c)) | false ↦ goes_with text more r pattern (recounted p f rs c) ])) [
         | true ↦ here
         | false ↦ there
       ]
@@ -396,7 +396,7 @@ module _ (image pid : ℕ) (holds : List Hold) (crew : Crew) (S : List ℕ) wher
     more = length (missing pid g S p.table) + 1
 
     abbrev begun : Progress
-    begun = recounted p (p.faults + more) (Some 0)
+    begun = recounted p (p.faults + more) [] (Some 0)
 
     -- however the workers are seen that are no part of the set
     begun-band : (v : View) (s r : Names) → Looks (view (seen_as u v) s r) p.table.rows → Band (seen_as u v) sc s r (named g (is_in S)) (length S) owed false p.lacking begun
@@ -408,7 +408,7 @@ module _ (image pid : ℕ) (holds : List Hold) (crew : Crew) (S : List ℕ) wher
           secured = λ a e. absurd (omega (arith, e));
           budget = omega (arith, count);
           lacking = refl;
-          marks = record { clean = λ e. absurd (cc e); blamed = λ e. omega arith; caused = λ e. absurd (cc e) };
+          marks = record { clean = λ e. absurd (cc e); blamed = λ e. omega arith; caused = λ e. absurd (cc e); returned = refl };
           still = record { files_stay = refl; note_stays = refl; limits_stay = refl };
           beside = tt;
         }
@@ -431,13 +431,13 @@ module _ (image pid : ℕ) (holds : List Hold) (crew : Crew) (S : List ℕ) wher
     settles-by tree always goes spared =
         let ran = run_with text tree pattern p in
         let ran' = run_with text tree pattern begun in
-        let twin = twins more text tree pattern p (p.faults + more) (Some 0) refl in
-        let all = from-along inv post Anyhow Unasked co tree begun goes (ap (refused_among (image ∷ []) [] pattern p.calls) twin.5 ∙ spared) (are-mild-anyhow co tree begun) in
-        let end : post ran.ending (recounted ran.last twin.1 twin.2) = subst (λ (q : Progress). post ran.ending q) twin.3 (subst (λ (e : Ending). post e ran'.last) twin.0 all.last) in
+        let twin = twins more text tree pattern p (p.faults + more) [] (Some 0) refl in
+        let all = from-along inv post Anyhow Unasked co tree begun goes (ap (refused_among (image ∷ []) [] pattern p.calls) twin.6 ∙ spared) (are-mild-anyhow co tree begun) in
+        let end : post ran.ending (recounted ran.last twin.1 twin.2 twin.3) = subst (λ (q : Progress). post ran.ending q) twin.4 (subst (λ (e : Ending). post e ran'.last) twin.0 all.last) in
         let said : (e : End) → ran.ending ≡ At e → ran.last.lacking ≡ missing pid g S ran.last.table = λ e is.
         always p e is ∙ filter-same (λ k. not (is_in ran.last.ready k)) (λ k. not (list_any (is_worker is_ready pid g k) ran.last.table.rows)) S (every-in (λ k. not (is_in ran.last.ready k) ≡ not (list_any (is_worker is_ready pid g k) ran.last.table.rows)) S (λ k e. ap not (sym (end.1 k)))) in
         record {
-          settled = ⊎_elim (λ a. inl a) (λ a. inr (a.0, a.1, said (short_end side) a.0, omega (arith, a.2, twin.4))) end.0;
+          settled = ⊎_elim (λ a. inl a) (λ a. inr (a.0, a.1, said (short_end side) a.0, omega (arith, a.2, twin.5))) end.0;
           counted = end.1;
           side_after = end.2;
           files_stay = end.3;

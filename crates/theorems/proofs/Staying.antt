@@ -8,7 +8,7 @@ use Rattle.vocabulary.specs.declared.names.Name.{Name}
 use Rattle.vocabulary.specs.declared.table.Stance.{Stance}
 use Rattle.vocabulary.specs.declared.table.Stance.TheVariants.{Starting, Ready, Draining, Exited}
 use Rattle.vocabulary.specs.declared.calls.Call.{Call}
-use Rattle.vocabulary.specs.declared.calls.Call.TheVariants.{Adopt, WritePid, MovePid, SpawnMaster, TermMaster, OpenAt, CloseAt, Fork, AwaitReady, Quit, Kill, Census, Usr1}
+use Rattle.vocabulary.specs.declared.calls.Call.TheVariants.{Adopt, WritePid, MovePid, SpawnMaster, TermMaster, OpenAt, CloseAt, Fork, AwaitReady, Quit, Kill, Census, Usr1, Ask}
 use Rattle.vocabulary.specs.declared.calls.Answer.{Answer}
 use Rattle.vocabulary.specs.declared.calls.Answer.TheVariants as answer
 use Rattle.vocabulary.specs.declared.calls.Fate.{Fate}
@@ -290,6 +290,7 @@ module _ (m image n : ℕ) (g0 : Generation) (k0 : ℕ) (low : k0 < 1024) where
       pick (λ (st : Stepped). Has st.table.rows) (list_any (is_image i) t.rows) (gives answer.Again t) (if has_process_room t then done else gives answer.Again t) (λ e. has)
       (λ e. pick (λ (st : Stepped). Has st.table.rows) (has_process_room t) done (gives answer.Again t) (λ e. has-append t.rows (Master t.next_process c.number i true c.holds) has) (λ e. has))
   any-has text by c (TermMaster i) t any all has = has-dropped (is_of_image i t.rows) (not-ended i t.rows any all) t.rows has
+  any-has text by c (Ask q) t any all has = has
   any-has text by c _ t any all has = absurd any
 
   pub stands-any : (text : List ℕ) (by : ℕ) (call : Call) (fate : Option Fate) (t : Table) → AnyCall image call → Stands t → Stands (step_with text by call fate t).table

@@ -147,7 +147,7 @@ module _ (t : Table) (rec : Record) (quick : Bool) (pattern : Pattern) (s : IsSt
   }
 
   forget : (files : List File) (note : PidNote) (w : Bool) (q : Progress) → Holds files note w q → Holds files note false q
-  forget files note w q b = record { looks = b.looks; enough = b.enough; secured = λ a e. absurd (omega (arith, e)); budget = omega arith; lacking = b.lacking; still = b.still; marks = record { clean = b.marks.clean; blamed = b.marks.blamed; caused = λ e. absurd (cc e) }; beside = tt }
+  forget files note w q b = record { looks = b.looks; enough = b.enough; secured = λ a e. absurd (omega (arith, e)); budget = omega arith; lacking = b.lacking; still = b.still; marks = record { clean = b.marks.clean; blamed = b.marks.blamed; caused = λ e. absurd (cc e); returned = b.marks.returned }; beside = tt }
 
   ---- The steps
 
@@ -249,7 +249,7 @@ module _ (t : Table) (rec : Record) (quick : Bool) (pattern : Pattern) (s : IsSt
   at_first =
       let looks0 = begin t rec s in
       widen t.files rec.note none u.ready false (start_at t rec.note)
-      (record { looks = looks0; enough = λ a e. absurd (omega (arith, e)); secured = λ a e. absurd (omega (arith, e)); budget = omega arith; lacking = refl; still = record { files_stay = refl; note_stays = refl; limits_stay = refl }; marks = record { clean = λ e. refl; blamed = λ e. absurd (cc e); caused = λ e. absurd (cc e) }; beside = tt })
+      (record { looks = looks0; enough = λ a e. absurd (omega (arith, e)); secured = λ a e. absurd (omega (arith, e)); budget = omega arith; lacking = refl; still = record { files_stay = refl; note_stays = refl; limits_stay = refl }; marks = record { clean = λ e. refl; blamed = λ e. absurd (cc e); caused = λ e. absurd (cc e); returned = refl }; beside = tt })
 
   ending : (q : Progress) → Holds t.files rec.note false q → Goes (removes g.image rec.pid_path rec.note (stopped g.image)) q
   ending q b = removing rec.pid_path rec.note t.files q (λ files note q' as_said b'. leaving files note q' as_said b') s.agrees.files b

@@ -1,6 +1,12 @@
 -- The headline for an upgrade.
 use Rattle.std.proofs.Common.{◌≡◌, ◌≢◌, ℕ, ◌+◌, ◌<◌, true, false, List, [], ◌∷◌, length, Option, Some, None, refl, sym, ap, ◌∙◌, subst, arith, inl}
+use Rattle.std.specs.Prelude.{option_and_then}
 use Rattle.listener_set.specs.Numbers.{is_in, numbers_below}
+use Rattle.vocabulary.specs.Settings.{Settings}
+use Rattle.vocabulary.specs.declared.reports.Report.{Report}
+use Rattle.vocabulary.specs.declared.reports.Outcome.{Outcome}
+use Rattle.vocabulary.specs.declared.reports.Outcome.TheVariants as outcome
+use Rattle.vocabulary.specs.declared.plans.Side.TheVariants as side
 use Rattle.vocabulary.specs.declared.plans.PidNote.{PidNote}
 use Rattle.vocabulary.specs.declared.plans.PidNote.TheVariants.{InPlace, AtOldbin, OldbinLeft, Left, NoFile}
 use Rattle.vocabulary.specs.declared.plans.Order.TheVariants.{Make}
@@ -8,16 +14,17 @@ use Rattle.vocabulary.specs.declared.plans.Side.TheVariants.{Old}
 use Rattle.vocabulary.specs.declared.calls.Call.TheVariants.{MovePid, SpawnMaster, Census}
 use Rattle.vocabulary.specs.declared.calls.Answer.TheVariants as answer
 use Rattle.vocabulary.specs.declared.calls.Reply.TheVariants as reply
-use Rattle.vocabulary.specs.declared.targets.Target.TheVariants.{Upgrade}
-use Rattle.definitions.specs.Table.{FilePath, File, Master, Caller, same_generation, owner_at}
+use Rattle.vocabulary.specs.declared.targets.Target.TheVariants.{Upgrade, Attended}
+use Rattle.definitions.specs.Table.{Table, FilePath, File, Master, Caller, same_generation, owner_at}
 use Rattle.definitions.specs.Calls.{gives, with_files, with_file, without_file, with_new_row}
-use Rattle.definitions.specs.Record.{FilesAre, oldbin}
-use Rattle.definitions.specs.Target.{want, wanted_at}
+use Rattle.definitions.specs.Record.{Record, FilesAre, oldbin}
+use Rattle.definitions.specs.Target.{want, wanted_at, sides_of}
+use Rattle.definitions.specs.After.{next_record, record_from, master_of, setup_after}
 use Rattle.definitions.specs.Tree.{Tree, Nothing}
 use Rattle.definitions.specs.Plans.{back_from, plan_tree, on, does, settle, spawn_edges, move_aside, back_alone, tries, tries_all, new_calls, relieve, upgrade_tree}
 use Rattle.definitions.specs.Service.{service}
-use Rattle.definitions.specs.Run.{Ending, Progress, after_call, after_moment, start_at}
-use Rattle.definitions.specs.Claims.{Kept, Floor, IsBlamed, run_of, UpgradeHeadline}
+use Rattle.definitions.specs.Run.{Ending, Progress, faults_since, after_call, after_moment, start_at, report_of}
+use Rattle.definitions.specs.Claims.{Kept, Floor, AttendedFloor, Says, AgreesAfter, IsBlamed, run_of, UpgradeHeadline, AttendedHeadline}
 use Rattle.theorems.proofs.Rows.{every-more, and-left, and-right}
 use Rattle.theorems.proofs.Views.{Names, named, eqb-refl}
 use Rattle.theorems.proofs.Effects.{none, same-is}
@@ -42,13 +49,13 @@ module _ (c : Given) where
   image = (new c).image
 
   abbrev sc : List File → Scene c.rec.pid c.rec.generation.image
-  sc files = alone_scene c c.rec.pid c.rec.generation.image (serves_old c) (f c) 0 files c.rec.note
+  sc files = alone_scene c c.rec.pid c.rec.generation.image (serves_old c) (f c) 0 0 [] files c.rec.note
 
   abbrev Alone : List File → Names → Progress → Type 0
   Alone files r q = Band (u c) (sc files) none r (named (g c) (is_in (R c))) (length (R c)) 0 false [] q
 
   abbrev rest : Tree
-  rest = relieve c.rec.generation.image (old_crew c) (new_crew c) (R c) c.rec.retries c.rec.pid_path (n c)
+  rest = relieve c.attended c.rec.generation.image (old_crew c) (new_crew c) (R c) c.rec.retries c.rec.pid_path (n c)
 
   abbrev back : Tree
   back = back_from c.rec.generation.image image (old_crew c) (R c) c.rec.retries c.rec.pid_path
@@ -67,11 +74,11 @@ module _ (c : Given) where
   spawns r files q only aside next b =
       let order = Make (SpawnMaster image) in
       let bs = spawn_edges ok bad in
-      let gd = good-alone c (u c) (serves_old c) (f c) 0 (H0 c) (inl (λ a. omega arith)) refl (hold-old c) (common0 c) in
+      let gd = good-alone c (u c) (serves_old c) (f c) 0 0 [] (λ e. refl) (H0 c) (inl (λ a. omega arith)) refl (hold-old c) (common0 c) in
       let me : Caller = record { number = c.rec.pid; holds = H0 c } in
       rule-step-at (u c) (sc files) (grounded I P (co c) (acts c) gd) order [] bs none r (named (g c) (is_in (R c))) (length (R c)) 0 false [] q refl b (λ es b' fate.
       let p = after_moment es q in
-      let failed = goes-back-alone c (f c) 0 (inl (λ a. omega arith)) r 1 [] files (failed_at (u c) (sc files) (grounded I P (co c) (acts c) gd) p) aside only (band-failed (u c) (sc files) (grounded I P (co c) (acts c) gd) none r (named (g c) (is_in (R c))) (length (R c)) 0 false [] p b') in
+      let failed = goes-back-alone c [] (λ e. refl) (f c) 0 0 (inl (λ a. omega arith)) r 1 [] files (failed_at (u c) (sc files) (grounded I P (co c) (acts c) gd) p) aside only (band-failed (u c) (sc files) (grounded I P (co c) (acts c) gd) none r (named (g c) (is_in (R c))) (length (R c)) 0 false [] p b') in
       spawn-cases (co c).text c.rec.generation.image me image fate p.table (λ st. Answers (u c) (sc files) (grounded I P (co c) (acts c) gd) order [] bs p st) failed failed failed
       (let m = q.table.next_process in
       let ne : m ≢ c.rec.pid = λ e. absurd (omega (arith, e, next, above)) in
@@ -95,12 +102,12 @@ module _ (c : Given) where
   moves path r q only is there next b =
       let order = Make (MovePid path (oldbin path)) in
       let bs = on (reply.Fine ∷ []) (does c.rec.generation.image (SpawnMaster image) (spawn_edges ok bad)) (on (reply.IoFault ∷ []) (settle c.rec.generation.image (old_crew c) (R c) Old c.rec.retries) Nothing) in
-      let gd = good-alone c (u c) (serves_old c) (f c) 0 (H0 c) (inl (λ a. omega arith)) refl (hold-old c) (common0 c) in
+      let gd = good-alone c (u c) (serves_old c) (f c) 0 0 [] (λ e. refl) (H0 c) (inl (λ a. omega arith)) refl (hold-old c) (common0 c) in
       let me : Caller = record { number = c.rec.pid; holds = H0 c } in
       rule-step-at (u c) (sc c.t.files) (grounded I P (co c) (acts c) gd) order [] bs none r (named (g c) (is_in (R c))) (length (R c)) 0 false [] q refl b (λ es b' fate.
       let p = after_moment es q in
       move-cases (co c).text c.rec.generation.image me path (oldbin path) fate p.table (λ st. Answers (u c) (sc c.t.files) (grounded I P (co c) (acts c) gd) order [] bs p st)
-      (settle-old c (f c) 0 (inl (λ a. omega arith)) c.t.files c.rec.note r 1 [] (failed_at (u c) (sc c.t.files) (grounded I P (co c) (acts c) gd) p) c.start.agrees.files only
+      (settle-old c [] (λ e. refl) (f c) 0 0 (inl (λ a. omega arith)) c.t.files c.rec.note r 1 [] (failed_at (u c) (sc c.t.files) (grounded I P (co c) (acts c) gd) p) c.start.agrees.files only
       (band-failed (u c) (sc c.t.files) (grounded I P (co c) (acts c) gd) none r (named (g c) (is_in (R c))) (length (R c)) 0 false [] p b'))
       (λ owner found.
       let files' = with_file (oldbin path) owner (without_file path p.table.files) in
@@ -126,7 +133,7 @@ module _ (c : Given) where
   begins (Some path) Left r q only is same are next b = absurd are
   begins (Some path) NoFile r q only is same are next b = absurd are
 
-  pub goes : Goes c (co c) (upgrade_tree c.rec.generation.image (old_crew c) (new_crew c) (R c) c.rec.retries c.rec.pid_path c.rec.note (A0 c) (wanted c) (n c)) (start_at c.t c.rec.note)
+  pub goes : Goes c (co c) (upgrade_tree c.attended c.rec.generation.image (old_crew c) (new_crew c) (R c) c.rec.retries c.rec.pid_path c.rec.note (A0 c) (wanted c) (n c)) (start_at c.t c.rec.note)
   goes =
       let count = begin-count c.t c.rec c.start in
       begins c.rec.pid_path c.rec.note (named (g c) (is_in (R c))) (start_at c.t c.rec.note) (λ h k e. (same-is h (g c) (and-left _ _ e), and-right (same_generation h (g c)) _ e)) refl refl c.start.agrees.files refl
@@ -136,15 +143,15 @@ module _ (c : Given) where
         secured = λ a e. omega (arith, count);
         budget = omega (arith, count);
         lacking = refl;
-        marks = record { clean = λ e. refl; blamed = λ e. absurd (cc e); caused = λ e. absurd (cc e) };
+        marks = record { clean = λ e. refl; blamed = λ e. absurd (cc e); caused = λ e. absurd (cc e); returned = refl };
         still = record { files_stay = refl; note_stays = refl; limits_stay = refl };
-        beside = omega arith;
+        beside = (omega arith, omega arith);
       })
 
 pub upgrade_headline : UpgradeHeadline
 upgrade_headline t rec st pattern a =
     let (range, ds, numbered) = a.accepts in
-    let c : Given = record { t = t; rec = rec; st = st; pattern = pattern; start = a.start; range = range; ds = ds; numbered = numbered } in
+    let c : Given = record { t = t; rec = rec; st = st; pattern = pattern; attended = false; start = a.start; range = range; ds = ds; numbered = numbered } in
     let at = start_at t rec.note in
     let tree = plan_tree rec (Upgrade st) in
     let all = from-along (inv c) (post c) Anyhow Unasked (co c) tree at (goes c) a.spared (are-mild-anyhow (co c) tree at) in
@@ -158,5 +165,48 @@ upgrade_headline t rec st pattern a =
         cause = all.last.2;
         paid = all.last.1;
       },
-      every-more (inv c) (Floor (service t) target t (wanted_at rec (Upgrade st))) (λ q h address common. h.1 address common) ran.passed all.always,
+      every-more (inv c) (Floor (service t) target t (wanted_at rec (Upgrade st))) (λ q h address common. omega (arith, h.1 address common, ap (λ l. faults_since 2 l q.faults) (h.3 refl))) ran.passed all.always,
+    )
+
+---- The same, attended
+
+-- An attended upgrade is to reach and to leave what the plain one is.
+same-setup : (o : Outcome) (r : Record) (s : Settings) → setup_after o r (Attended s) ≡ setup_after o r (Upgrade s)
+same-setup outcome.Done r s = refl
+same-setup outcome.RolledBack r s = refl
+same-setup (outcome.Degraded side.Old ms) r s = refl
+same-setup (outcome.Degraded side.Target ms) r s = refl
+same-setup outcome.Lost r s = refl
+
+says-attended : (o : Outcome) (r : Record) (s : Settings) (first last : Table) → Says r (Upgrade s) o first last → Says r (Attended s) o first last
+says-attended outcome.Done r s first last h = h
+says-attended outcome.RolledBack r s first last h = h
+says-attended (outcome.Degraded side.Old ms) r s first last h = h
+says-attended (outcome.Degraded side.Target ms) r s first last h = h
+says-attended outcome.Lost r s first last h = h
+
+after-attended : (r : Record) (s : Settings) (report : Report) (t : Table) → AgreesAfter r (Upgrade s) report t → AgreesAfter r (Attended s) report t
+after-attended r s report t a =
+    let same : next_record r (Attended s) report t ≡ next_record r (Upgrade s) report t = ap (λ o. option_and_then (record_from o r.pid_path report) (master_of o t)) (same-setup report.outcome r s) in
+    record { record_then = a.record_then; is = same ∙ a.is; agrees = a.agrees; record_in_range = a.record_in_range; same_master = a.same_master }
+
+pub attended_headline : AttendedHeadline
+attended_headline t rec st pattern a =
+    let (range, ds, numbered) = a.accepts in
+    let c : Given = record { t = t; rec = rec; st = st; pattern = pattern; attended = true; start = a.start; range = range; ds = ds; numbered = numbered } in
+    let at = start_at t rec.note in
+    let tree = plan_tree rec (Attended st) in
+    let all = from-along (inv c) (post c) Anyhow Unasked (co c) tree at (goes c) a.spared (are-mild-anyhow (co c) tree at) in
+    let ran = run_of rec (Attended st) pattern t in
+    let target = want rec (Attended st) in
+    let report = report_of (sides_of rec (Attended st)) ran in (
+      record {
+        says = says-attended report.outcome rec st t ran.last.table all.last.0;
+        after = after-attended rec st report ran.last.table all.last.3;
+        kept = every-more (inv c) (λ q. Kept (service t) target t q.table) (λ q h. h.0) ran.passed all.always;
+        blamed = every-more (inv c) IsBlamed (λ q h. h.2) ran.passed all.always;
+        cause = all.last.2;
+        paid = all.last.1;
+      },
+      every-more (inv c) (AttendedFloor (service t) target t (wanted_at rec (Attended st))) (λ q h. h.1) ran.passed all.always,
     )

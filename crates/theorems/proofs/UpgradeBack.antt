@@ -13,19 +13,19 @@ use Rattle.definitions.specs.Table.{Address, FilePath, File, Hold, Process, Mast
 use Rattle.definitions.specs.Calls.{gives, with_files, with_file, without_file, own_step}
 use Rattle.definitions.specs.Record.{FilesAre, oldbin}
 use Rattle.definitions.specs.Tree.{Tree}
-use Rattle.definitions.specs.Plans.{does, then_edge, note_edges, settle, move_back, back_alone, back_from, back_late, starts_any, awaits_any}
-use Rattle.definitions.specs.Run.{Ending, Progress, noted, after_call}
+use Rattle.definitions.specs.Plans.{does, then_edge, note_edges, settle, move_back, back_alone, back_from, back_late, back_serving, starts_any, awaits_any}
+use Rattle.definitions.specs.Run.{Ending, Progress, Return, faults_since, noted, after_call}
 use Rattle.theorems.proofs.Rows.{one, weigh, and-left, and-right, both-true}
-use Rattle.theorems.proofs.Views.{Names, named, View, ready_in, eqb-is, eqb-refl}
+use Rattle.theorems.proofs.Views.{HoldsShare, Names, named, View, ready_in, eqb-is, eqb-refl}
 use Rattle.theorems.proofs.Effects.{none, bears-is}
 use Rattle.theorems.proofs.Counts.{Distinct}
 use Rattle.theorems.proofs.Sets.{in-here, in-there, in-cases}
 use Rattle.theorems.proofs.Small.{off-from, or-elim, true-false}
 use Rattle.theorems.proofs.Files.{written-file, other-written, gone-file, other-oldbin}
-use Rattle.theorems.proofs.Logic.{move-cases, unfailing}
-use Rattle.theorems.proofs.Rules.{IsGood, Scene, view, plus, also, Band, Only, marks-plain, weigh-sub, rule-step, rule-settle, rule-forks-any, rule-awaits-any, band-failed, band-part, band-anew, band-still, failed_at, Answers, grounded}
+use Rattle.theorems.proofs.Logic.{Unasked, Along, move-cases, unfailing}
+use Rattle.theorems.proofs.Rules.{IsGood, Scene, view, plus, also, Band, Only, marks-plain, weigh-sub, rule-step, rule-settle, rule-forks-any, rule-awaits-any, band-failed, band-part, band-anew, band-fewer, band-still, failed_at, Answers, grounded}
 use Rattle.theorems.proofs.Duo.{OneOther, alone-terminated, with_other}
-use Rattle.theorems.proofs.UpgradeStage.{Given, g, new, old_crew, R, H0, f, co, acts, inv, post, Goes, u, low-R, dR, w, common0, alone_scene, good-alone, Second, pair_scene, Serve, good-pair, old-full, old-short, hold-old, serves_old, enough-none, few-new, n}
+use Rattle.theorems.proofs.UpgradeStage.{Given, g, new, old_crew, R, H0, f, co, acts, inv, post, Goes, u, low-R, dR, w, common0, alone_scene, good-alone, Second, pair_scene, Serve, good-pair, old-full, old-short, hold-old, serves_old, few-new, n, Fits, enough-old}
 
 -- what is known before the rest of the waits of a restart: what is Ready was started, and every name that was tried is counted
 record Restarted (h : Generation) (all ks done : List ℕ) (r t : Names) (count : ℕ) : Type 0 where
@@ -61,25 +61,26 @@ restarts h all x ks done r t count s =
     not-on false h = refl
 
 module _ (c : Given) where
+  -- the old master's pid file is aside
+  abbrev pub Aside : Option FilePath → List File → Type 0
+  Aside None files = FilesAre c.rec.note None c.rec.pid files
+  Aside (Some path) files = owner_at (oldbin path) files ≡ Some c.rec.pid
+
+module _ (c : Given) (returns : List Return) (fits : Fits c returns) where
   abbrev I : Progress → Type 0
   I = inv c
 
   abbrev P : Ending → Progress → Type 0
   P = post c
 
-  -- the old master's pid file is aside
-  abbrev pub Aside : Option FilePath → List File → Type 0
-  Aside None files = FilesAre c.rec.note None c.rec.pid files
-  Aside (Some path) files = owner_at (oldbin path) files ≡ Some c.rec.pid
-
   ---- The old master is alone
 
-  module _ (floor : Address → ℕ) (need : ℕ) (kind : ((a : Address) → f c a ≤ floor a) ⊎ ((a : Address) → f c a ≤ need)) where
+  module _ (floor : Address → ℕ) (need excused : ℕ) (kind : ((a : Address) → f c a ≤ floor a) ⊎ ((a : Address) → f c a ≤ need)) where
     abbrev sc : List File → PidNote → Scene c.rec.pid c.rec.generation.image
-    sc files note = alone_scene c c.rec.pid c.rec.generation.image (serves_old c) floor need files note
+    sc files note = alone_scene c c.rec.pid c.rec.generation.image (serves_old c) floor need excused returns files note
 
     good : (files : List File) (note : PidNote) → IsGood (u c) (sc files note) I
-    good files note = good-alone c (u c) (serves_old c) floor need (H0 c) kind refl (hold-old c) (common0 c)
+    good files note = good-alone c (u c) (serves_old c) floor need excused returns fits (H0 c) kind refl (hold-old c) (common0 c)
 
     pub settle-old : (files : List File) (note : PidNote) (r : Names) (k : ℕ) (ls : List ℕ) (q : Progress) → FilesAre note c.rec.pid_path c.rec.pid files → Only (g c) (R c) r → Band (u c) (sc files note) none r (named (g c) (is_in (R c))) (length (R c)) k true ls q → Goes c (co c) (settle c.rec.generation.image (old_crew c) (R c) Old c.rec.retries) q
     settle-old files note r k ls q are only b =
@@ -90,7 +91,7 @@ module _ (c : Given) where
         (band-anew (u c) (sc files note) (grounded I P (co c) (acts c) (good files note)) none r (named (g c) (is_in (R c))) (length (R c)) k true ls q b)
 
     -- The pid file goes back.
-    move-back : (path : Option FilePath) (rest : Tree) (r t : Names) (count k : ℕ) (ls : List ℕ) (files : List File) (q : Progress) → Aside path files → ((files' : List File) (note' : PidNote) (k' : ℕ) (q' : Progress) → FilesAre note' path c.rec.pid files' → Band (u c) (sc files' note') none r t count k' true ls q' → Goes c (co c) rest q') → Band (u c) (sc files c.rec.note) none r t count k true ls q → Goes c (co c) (move_back c.rec.generation.image path rest) q
+    move-back : (path : Option FilePath) (rest : Tree) (r t : Names) (count k : ℕ) (ls : List ℕ) (files : List File) (q : Progress) → Aside c path files → ((files' : List File) (note' : PidNote) (k' : ℕ) (q' : Progress) → FilesAre note' path c.rec.pid files' → Band (u c) (sc files' note') none r t count k' true ls q' → Goes c (co c) rest q') → Band (u c) (sc files c.rec.note) none r t count k true ls q → Goes c (co c) (move_back c.rec.generation.image path rest) q
     move-back None rest r t count k ls files q aside next b = next files c.rec.note k q aside b
     move-back (Some path) rest r t count k ls files q aside next b =
         let order = Make (MovePid (oldbin path) path) in
@@ -107,7 +108,7 @@ module _ (c : Given) where
         (written-file path owner (without_file (oldbin path) p.table.files) ∙ same, other-written path (oldbin path) owner (without_file (oldbin path) p.table.files) (other-oldbin path) ∙ gone-file (oldbin path) p.table.files)
         (record { looks = b'.looks; enough = b'.enough; secured = b'.secured; budget = b'.budget; lacking = b'.lacking; marks = marks-plain true p.faults p.losses (p.calls + 1) p.cause b'.marks; still = record { files_stay = refl; note_stays = refl; limits_stay = b'.still.limits_stay }; beside = b'.beside })))
 
-    pub goes-back-alone : (r : Names) (k : ℕ) (ls : List ℕ) (files : List File) (q : Progress) → Aside c.rec.pid_path files → Only (g c) (R c) r → Band (u c) (sc files c.rec.note) none r (named (g c) (is_in (R c))) (length (R c)) k true ls q → Goes c (co c) (back_alone c.rec.generation.image (old_crew c) (R c) c.rec.retries c.rec.pid_path) q
+    pub goes-back-alone : (r : Names) (k : ℕ) (ls : List ℕ) (files : List File) (q : Progress) → Aside c c.rec.pid_path files → Only (g c) (R c) r → Band (u c) (sc files c.rec.note) none r (named (g c) (is_in (R c))) (length (R c)) k true ls q → Goes c (co c) (back_alone c.rec.generation.image (old_crew c) (R c) c.rec.retries c.rec.pid_path) q
     goes-back-alone r k ls files q aside only b =
         move-back c.rec.pid_path (settle c.rec.generation.image (old_crew c) (R c) Old c.rec.retries) r (named (g c) (is_in (R c))) (length (R c)) k ls files q aside
         (λ files' note' k' q' are b'. settle-old files' note' r k' ls q' are only b') b
@@ -116,15 +117,15 @@ module _ (c : Given) where
 
   module _ (m : ℕ) (ne : m ≢ c.rec.pid) (hs : List Hold) (s r : Names) (names : Names) (d : ℕ) (floor : Address → ℕ) (need : ℕ) (kind : ((a : Address) → f c a ≤ floor a) ⊎ Serve c (w c m hs s r) names d) (lost : (rows : List Process) (losses : ℕ) → Second c (w c m hs s r) names d rows losses → need ≤ losses) where
     abbrev two : List File → Scene c.rec.pid c.rec.generation.image
-    two files = pair_scene c (w c m hs s r) ne (eqb-refl c.rec.pid c.rec.pid refl) names d floor files c.rec.note
+    two files = pair_scene c (w c m hs s r) ne (eqb-refl c.rec.pid c.rec.pid refl) names d floor returns files c.rec.note
 
     abbrev v : View
     v = with_other m (u c)
 
     good-two : (files : List File) → IsGood v (two files) I
-    good-two files = good-pair c v (w c m hs s r) names d floor kind refl (hold-old c)
+    good-two files = good-pair c v (w c m hs s r) names d floor returns fits kind refl (hold-old c)
 
-    pub term-master : (rest : Tree) (files : List File) (r0 t : Names) (count k : ℕ) (ls : List ℕ) (q : Progress) → ((q' : Progress) → Band (u c) (alone_scene c c.rec.pid c.rec.generation.image (serves_old c) floor need files c.rec.note) none r0 t count k true ls q' → Goes c (co c) rest q') → Band v (two files) none r0 t count k true ls q → Goes c (co c) (does c.rec.generation.image (TermMaster (new c).image) (then_edge rest)) q
+    pub term-master : (rest : Tree) (files : List File) (r0 t : Names) (count k : ℕ) (ls : List ℕ) (q : Progress) → ((q' : Progress) → Band (u c) (alone_scene c c.rec.pid c.rec.generation.image (serves_old c) floor need 0 returns files c.rec.note) none r0 t count k true ls q' → Goes c (co c) rest q') → Band v (two files) none r0 t count k true ls q → Goes c (co c) (does c.rec.generation.image (TermMaster (new c).image) (then_edge rest)) q
     term-master rest files r0 t count k ls q next b =
         let order = Make (TermMaster (new c).image) in
         let bs = then_edge rest in
@@ -141,28 +142,27 @@ module _ (c : Given) where
           lacking = b'.lacking;
           still = b'.still;
           marks = marks-plain true p.faults p.losses (p.calls + 1) p.cause b'.marks;
-          beside = lost p.table.rows p.losses b'.beside;
+          beside = (lost p.table.rows p.losses b'.beside, omega arith);
         })))
 
   ---- The old workers are started again
 
-  restart : (k : ℕ) (ls : List ℕ) (files : List File) (q : Progress) → Aside c.rec.pid_path files → Band (u c) (alone_scene c c.rec.pid c.rec.generation.image (serves_old c) (λ a. 0) (n c) files c.rec.note) none none (named (g c) (is_in [])) 0 k true ls q → Goes c (co c) (starts_any c.rec.generation.image (old_crew c) (R c) (back_alone c.rec.generation.image (old_crew c) (R c) c.rec.retries c.rec.pid_path)) q
-  restart k ls files q aside b =
+  -- The old workers are started again where no floor is asked of them; of what failed before, so much is counted.
+  pub restart : (y : View) (sc0 : Scene y.number y.image) (good0 : IsGood y sc0 I) (acts0 : is_in (co c).executing y.image ≡ true) → ((a : Address) → sc0.floor a ≡ 0) → HoldsShare y (old_crew c) → (rest : Tree) (base : ℕ) → ((r : Names) (ls : List ℕ) (q : Progress) → Only (g c) (R c) r → Band y sc0 none r (named (g c) (is_in (R c))) (length (R c)) base true ls q → Along I P sc0.Mild Unasked (co c) rest q) → (ls : List ℕ) (q : Progress) → Band y sc0 none none (named (g c) (is_in [])) 0 base true ls q → Along I P sc0.Mild Unasked (co c) (starts_any y.image (old_crew c) (R c) rest) q
+  restart y sc0 good0 acts0 no_floor share rest base next ls q b =
       let h = g c in
       let S = R c in
       let t0 = named (g c) (is_in []) in
-      let sc0 = alone_scene c c.rec.pid c.rec.generation.image (serves_old c) (λ a. 0) (n c) files c.rec.note in
-      let good0 = good-alone c (u c) (serves_old c) (λ a. 0) (n c) (H0 c) (inr (few-new c)) refl (hold-old c) (common0 c) in
-      let rest = back_alone c.rec.generation.image (old_crew c) S c.rec.retries c.rec.pid_path in
-      rule-forks-any (u c) sc0 (grounded I P (co c) (acts c) good0) (awaits_any c.rec.generation.image h S rest) (old_crew c) (λ k. refl) S none none t0 0 k true ls q
-      (λ s' k' b1 q' within up b2. rule-awaits-any (u c) sc0 (grounded I P (co c) (acts c) good0) (Restarted h S) rest h (λ a. refl) (restarts h S) ls 0 S [] s' none t0 0 b1 q'
+      let gr = grounded I P (co c) acts0 good0 in
+      rule-forks-any y sc0 gr (awaits_any y.image h S rest) (old_crew c) share S none none t0 0 base true ls q
+      (λ s' k' b1 q' within more up b2. rule-awaits-any y sc0 gr (Restarted h S) rest h no_floor (restarts h S) ls base S [] s' none t0 0 b1 q'
       (λ done s2 r2 t2 n2 b3 q2 st less up2 b4.
       let off : (j : Generation) (i : ℕ) → s2 j i ≡ true → none j i ≡ true = λ j i e. let l = less j i e in ⊎_elim (λ a. a) (λ a. absurd (true-false (is_in S i) a.1 (l.1 a.0))) (within j i l.0) in
-      let b5 = band-still (u c) sc0 (grounded I P (co c) (acts c) good0) s2 none r2 t2 n2 0 b3 ls q2 off b4 in
-      let b6 = band-part (u c) sc0 (grounded I P (co c) (acts c) good0) none r2 t2 (named h (is_in S)) n2 (length S) 0 b3 ls q2
-      (λ rows looks. omega (arith, st.counted, st.sum, weigh-sub c.rec.pid t2 (named h (is_in S)) (λ j i e. let o = st.names j i e in both-true (same_generation j h) (is_in S i) (and-left _ _ o) (st.within i (and-right (same_generation j h) _ o))) rows)) (enough-none c c.rec.pid (serves_old c) (named h (is_in S)) (length S)) b5 in
-      goes-back-alone (λ a. 0) (n c) (inr (few-new c)) r2 0 ls files q2 aside (λ j i e. let o = st.only j i e in (o.0, st.within i o.1))
-      (record { looks = b6.looks; enough = b6.enough; secured = b6.secured; budget = b6.budget; lacking = b6.lacking; still = b6.still; marks = record { clean = b6.marks.clean; blamed = b6.marks.blamed; caused = λ e. b6.marks.caused (up2 (up refl)) }; beside = b6.beside }))
+      let b5 = band-still y sc0 gr s2 none r2 t2 n2 base b3 ls q2 off b4 in
+      let b6 = band-part y sc0 gr none r2 t2 (named h (is_in S)) n2 (length S) base b3 ls q2
+      (λ rows looks. omega (arith, st.counted, st.sum, weigh-sub y.number t2 (named h (is_in S)) (λ j i e. let o = st.names j i e in both-true (same_generation j h) (is_in S i) (and-left _ _ o) (st.within i (and-right (same_generation j h) _ o))) rows)) (λ a e. absurd (omega (arith, no_floor a, e))) b5 in
+      next r2 ls q2 (λ j i e. let o = st.only j i e in (o.0, st.within i o.1))
+      (record { looks = b6.looks; enough = b6.enough; secured = b6.secured; budget = b6.budget; lacking = b6.lacking; still = b6.still; marks = record { clean = b6.marks.clean; blamed = b6.marks.blamed; caused = λ e. b6.marks.caused (up2 (up refl)); returned = b6.marks.returned }; beside = b6.beside }))
       (record {
         only = λ j i e. absurd (cc e);
         fresh = λ i e. refl;
@@ -173,15 +173,15 @@ module _ (c : Given) where
         counted = refl;
         sum = omega arith;
       })
-      (band-anew (u c) sc0 (grounded I P (co c) (acts c) good0) s' none t0 0 k' b1 ls q' b2))
+      (band-fewer y sc0 gr s' none t0 0 k' base b1 ls q' more b2))
       b
 
   ---- Back with a new master
 
-  pub goes-back-from : (m : ℕ) (ne : m ≢ c.rec.pid) (hs : List Hold) (s r names : Names) (d : ℕ) (r0 : Names) (k : ℕ) (ls : List ℕ) (files : List File) (q : Progress) → Aside c.rec.pid_path files → Only (g c) (R c) r0 → Band (with_other m (u c)) (pair_scene c (w c m hs s r) ne (eqb-refl c.rec.pid c.rec.pid refl) names d (f c) files c.rec.note) none r0 (named (g c) (is_in (R c))) (length (R c)) k true ls q → Goes c (co c) (back_from c.rec.generation.image (new c).image (old_crew c) (R c) c.rec.retries c.rec.pid_path) q
+  pub goes-back-from : (m : ℕ) (ne : m ≢ c.rec.pid) (hs : List Hold) (s r names : Names) (d : ℕ) (r0 : Names) (k : ℕ) (ls : List ℕ) (files : List File) (q : Progress) → Aside c c.rec.pid_path files → Only (g c) (R c) r0 → Band (with_other m (u c)) (pair_scene c (w c m hs s r) ne (eqb-refl c.rec.pid c.rec.pid refl) names d (f c) returns files c.rec.note) none r0 (named (g c) (is_in (R c))) (length (R c)) k true ls q → Goes c (co c) (back_from c.rec.generation.image (new c).image (old_crew c) (R c) c.rec.retries c.rec.pid_path) q
   goes-back-from m ne hs s r names d r0 k ls files q aside only b =
       term-master m ne hs s r names d (f c) 0 (inl (λ a. omega arith)) (λ rows losses h. omega arith) (back_alone c.rec.generation.image (old_crew c) (R c) c.rec.retries c.rec.pid_path) files r0 (named (g c) (is_in (R c))) (length (R c)) k ls q
-      (λ q' b'. goes-back-alone (f c) 0 (inl (λ a. omega arith)) r0 k ls files q' aside only b') b
+      (λ q' b'. goes-back-alone (f c) 0 0 (inl (λ a. omega arith)) r0 k ls files q' aside only b') b
 
   none-ready : (m : ℕ) (rows : List Process) → weigh (ready_in m none) rows ≡ 0
   none-ready m [] = refl
@@ -198,7 +198,11 @@ module _ (c : Given) where
       unready (Foreign n hs) = refl
 
   -- Back when the new master is gone and the old workers are too: the floor was lost.
-  pub goes-back-late : (m : ℕ) (ne : m ≢ c.rec.pid) (hs : List Hold) (s r : Names) (k : ℕ) (ls : List ℕ) (files : List File) (q : Progress) → Aside c.rec.pid_path files → Band (with_other m (u c)) (pair_scene c (w c m hs s r) ne (eqb-refl c.rec.pid c.rec.pid refl) none (n c) (λ a. 0) files c.rec.note) none none (named (g c) (is_in [])) 0 k true ls q → Goes c (co c) (back_late c.rec.generation.image (new c).image (old_crew c) (R c) c.rec.retries c.rec.pid_path) q
+  pub goes-back-late : (m : ℕ) (ne : m ≢ c.rec.pid) (hs : List Hold) (s r : Names) (k : ℕ) (ls : List ℕ) (files : List File) (q : Progress) → Aside c c.rec.pid_path files → Band (with_other m (u c)) (pair_scene c (w c m hs s r) ne (eqb-refl c.rec.pid c.rec.pid refl) none (n c) (λ a. 0) returns files c.rec.note) none none (named (g c) (is_in [])) 0 k true ls q → Goes c (co c) (back_late c.rec.generation.image (new c).image (old_crew c) (R c) c.rec.retries c.rec.pid_path) q
   goes-back-late m ne hs s r k ls files q aside b =
       term-master m ne hs s r none (n c) (λ a. 0) (n c) (inr (few-new c, λ q looks lost a h. omega (arith, few-new c a, lost, none-ready m q.table.rows))) (λ rows losses h. omega (arith, h.1, none-ready m rows)) (starts_any c.rec.generation.image (old_crew c) (R c) (back_alone c.rec.generation.image (old_crew c) (R c) c.rec.retries c.rec.pid_path)) files none (named (g c) (is_in [])) 0 k ls q
-      (λ q' b'. restart k ls files q' aside b') b
+      (λ q' b'.
+      let good0 = good-alone c (u c) (serves_old c) (λ a. 0) (n c) 0 returns fits (H0 c) (inr (few-new c)) refl (hold-old c) (common0 c) in
+      restart (u c) (alone_scene c c.rec.pid c.rec.generation.image (serves_old c) (λ a. 0) (n c) 0 returns files c.rec.note) good0 (acts c) (λ a. refl) (λ k. refl) (back_alone c.rec.generation.image (old_crew c) (R c) c.rec.retries c.rec.pid_path) 0
+      (λ r ls' q2 only b2. goes-back-alone (λ a. 0) (n c) 0 (inr (few-new c)) r 0 ls' files q2 aside only b2) ls q'
+      (band-anew (u c) (alone_scene c c.rec.pid c.rec.generation.image (serves_old c) (λ a. 0) (n c) 0 returns files c.rec.note) (grounded I P (co c) (acts c) good0) none none (named (g c) (is_in [])) 0 k true ls q' b')) b

@@ -196,7 +196,7 @@ module _ (c : Given) (m : ℕ) (ne : m ≢ c.rec.pid) (r0 : Names) (only0 : Only
       let same = census-weigh m m T rows in
       let bound : (k : ℕ) → T (new c) k ≡ true → k < 1024 = λ k e. omega (arith, below-of (n c) k (and-right (same_generation (new c) (new c)) _ e), low c) in
       let second : Second c (w c m hs none (seen T (new c) cs)) T (n c) t'.rows q'.losses = (inl (census-looks (w c m hs none T) (new c) rows bound looks), omega (arith, b'.beside.1, same)) in
-      let after : List ℕ → Progress = λ l. record { table = t'; calls = q'.calls + 1; ready = cs; lacking = lacks S cs; faults = q'.faults; losses = q'.losses; cause = first_cause q'.cause (went_wrong call (full_or_short l)) (q'.calls + 1); note = q'.note } in
+      let after : List ℕ → Progress = λ l. record { table = t'; calls = q'.calls + 1; ready = cs; lacking = lacks S cs; faults = q'.faults; losses = q'.losses; returns = q'.returns; cause = first_cause q'.cause (went_wrong call (full_or_short l)) (q'.calls + 1); note = q'.note } in
       subst (λ st. Edge c m ne r0 only0 call rest S q' st) (sym (unfailing (co c).text image (me c m ne r0 only0 x) call fate q'.table tt))
       (elim (lacks S cs) as (λ l. lacks S cs ≡ l → Behind (inv c) (post c) Anyhow Unasked (co c) (edges c m ne r0 only0 call rest) (full_or_short l) (after l)) [
         | [] ↦ λ e. next (seen T (new c) cs) (after []) (only-seen cs) (held-plain c m ne r0 only0 x (counted hs (seen T (new c) cs) files) t' cs (lacks S cs) q' b' b'.still.files_stay refl e framed second)

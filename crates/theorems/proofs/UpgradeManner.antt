@@ -5,10 +5,10 @@ use Rattle.std.specs.List.{list_any}
 use Rattle.listener_set.specs.Numbers.{is_in}
 use Rattle.vocabulary.specs.declared.names.Name.{Name}
 use Rattle.vocabulary.specs.declared.calls.Call.{Call}
-use Rattle.vocabulary.specs.declared.calls.Call.TheVariants.{OpenAt, CloseAt, Fork, AwaitReady, Census, Adopt, WritePid, MovePid, SpawnMaster, TermMaster, Quit, Kill, AwaitGone, Leave, Alive}
+use Rattle.vocabulary.specs.declared.calls.Call.TheVariants.{OpenAt, CloseAt, Fork, AwaitReady, Census, Adopt, WritePid, MovePid, SpawnMaster, TermMaster, Quit, Kill, AwaitGone, Leave, Alive, Ask}
 use Rattle.vocabulary.specs.declared.calls.Answer.TheVariants as answer
 use Rattle.vocabulary.specs.declared.calls.Fate.{Fate}
-use Rattle.vocabulary.specs.declared.targets.Target.TheVariants.{Upgrade}
+use Rattle.vocabulary.specs.declared.targets.Target.TheVariants.{Upgrade, Attended}
 use Rattle.vocabulary.specs.declared.plans.Side.{Side}
 use Rattle.vocabulary.specs.declared.plans.Side.TheVariants.{Old}
 use Rattle.vocabulary.specs.declared.plans.Order.{Order}
@@ -23,10 +23,10 @@ use Rattle.definitions.specs.Exits.{after_exits}
 use Rattle.definitions.specs.Calls.{Stepped, gives, each_row, drop_where, step_by, step_with}
 use Rattle.definitions.specs.Tree.{Tree, Branches, Ends, Does, Nothing, Branch, among, reply_of, call_of}
 use Rattle.vocabulary.specs.declared.calls.Reply.TheVariants as reply
-use Rattle.definitions.specs.Plans.{on, hand_over, back_late, plan_tree, settle, quits, awaits_gone, gone_edges, then_edge, does}
+use Rattle.definitions.specs.Plans.{upgrade_tree, settle, quits, awaits_gone, gone_edges, then_edge, does}
 use Rattle.definitions.specs.Run.{Progress, Lost, start_at, outcome_of, noted, after_call}
-use Rattle.definitions.specs.Manner.{has_ready, is_lost, is_old_side, is_process_of, is_quit_of, is_wait_of, is_wait_call, is_late, is_leave_call, was_late, IsKillDue, KillsAreDue}
-use Rattle.definitions.specs.Claims.{names_any, run_of, InManner}
+use Rattle.definitions.specs.Manner.{has_ready, is_lost, is_old_side, is_process_of, is_quit_of, is_wait_of, is_wait_call, is_late, is_leave_call, was_late, IsKillDue, KillsAreDue, Manner}
+use Rattle.definitions.specs.Claims.{names_any, InManner}
 use Rattle.theorems.proofs.Refusals.{is_leave}
 use Rattle.theorems.proofs.Rows.{FitsIn, every-filter_map, pick, both-true}
 use Rattle.theorems.proofs.Exits.{spares-each}
@@ -42,13 +42,13 @@ use Rattle.theorems.proofs.Absent.{Absent, absent-exits, absent-steps}
 use Rattle.theorems.proofs.Firsts.{first-in, first-low, first-stands, first-untouched, stands-ready}
 use Rattle.theorems.proofs.Manners.{are-unlost}
 use Rattle.theorems.proofs.Traces.{Asking, Finally, Traced, TracedBehind, AllTraced, from-traced, along-traced, robust, robust-behind, good-step, entry_of, any-more, any-last, then-last}
-use Rattle.theorems.proofs.UpgradeStage.{Given, g, new, old_crew, new_crew, R, n, co, acts}
+use Rattle.theorems.proofs.UpgradeStage.{Given, g, new, old_crew, new_crew, R, A0, wanted, n, co, acts}
 use Rattle.theorems.proofs.UpgradeWalk.{Free, IsGood, upgrade-good, any-stays}
 use Rattle.theorems.proofs.Waits.{Told, AllWaited, told-on, all-waited-on, quits-told, waits-told, leaves-traced}
 
--- the rest of the plan, when the old workers were waited for
-abbrev asking : Given → Tree
-asking c = does c.rec.generation.image (Alive (new c).image) (on (reply.IsAlive ∷ []) (hand_over c.rec.generation.image (new_crew c) c.rec.retries c.rec.pid_path (n c)) (on (reply.Gone ∷ []) (back_late c.rec.generation.image (new c).image (old_crew c) (R c) c.rec.retries c.rec.pid_path) Nothing))
+-- the plan
+abbrev tree_of : Given → Tree
+tree_of c = upgrade_tree c.attended c.rec.generation.image (old_crew c) (new_crew c) (R c) c.rec.retries c.rec.pid_path c.rec.note (A0 c) (wanted c) (n c)
 
 ---- Who stays
 
@@ -104,9 +104,9 @@ module _ (c : Given) (p k : ℕ) (on : has_ready c.t p k ≡ true) where
       quits-told c.rec.generation.image (g c) no_asking stays (Unlost p) (co c) never-lost (λ t. ⊤) (λ es t spared mild h. tt) (λ past x t h. tt) (λ text x fate t h. tt) (reverse (R c)) (awaits_gone c.rec.generation.image (g c) (reverse (R c)) rest) Free (λ past e h. tt)
       (λ past q' k' told h'. waited-any (reverse (R c)) x xs rest is past q') past q tt tt
 
-  pub stays-traced : Traced no_asking stays (Unlost p) (co c) [] (plan_tree c.rec (Upgrade c.st)) (start_at c.t c.rec.note)
+  pub stays-traced : Traced no_asking stays (Unlost p) (co c) [] (tree_of c) (start_at c.t c.rec.note)
   stays-traced =
-      upgrade-good c no_asking stays (Unlost p) never-lost F exits-it (λ text by call fate t is h. stands-any c.rec.pid c.rec.generation.image p c.rec.generation k low text by call fate t is h) (λ past call t is h. tt) settled-it (relieved-it (asking c))
+      upgrade-good c no_asking stays (Unlost p) never-lost F exits-it (λ text by call fate t is h. stands-any c.rec.pid c.rec.generation.image p c.rec.generation k low text by call fate t is h) (λ past call t is h. tt) settled-it relieved-it
       [] (start_at c.t c.rec.note) tt (first-stands c.t c.rec c.start p k on)
 
   ---- No kill takes it but when it was late
@@ -138,6 +138,7 @@ module _ (c : Given) (p k : ℕ) (on : has_ready c.t p k ≡ true) where
   unasked-late past (MovePid from to) t any = tt
   unasked-late past (SpawnMaster i) t any = tt
   unasked-late past (TermMaster i) t any = tt
+  unasked-late past (Ask q) t any = tt
   unasked-late past _ t any = absurd any
 
   not-taken-late : (past : List Entry) (call : Call) (t : Table) → NotTaken p call t → LateFirst past call t
@@ -224,9 +225,9 @@ module _ (c : Given) (p k : ℕ) (on : has_ready c.t p k ≡ true) where
       (λ past q' k' told h'. waits-late (reverse (R c)) rest (in-reverse (R c) k ∙ first-in c.t c.rec c.start p k on) past q' told h') past q tt
       (loosens c.rec.pid c.rec.generation.image p c.rec.generation k low q.table h)
 
-  pub late-traced : Traced LateFirst anyway Anyhow (co c) [] (plan_tree c.rec (Upgrade c.st)) (start_at c.t c.rec.note)
+  pub late-traced : Traced LateFirst anyway Anyhow (co c) [] (tree_of c) (start_at c.t c.rec.note)
   late-traced =
-      upgrade-good c LateFirst anyway Anyhow not-lost Close exits-close (λ text by call fate t is h. fact-any c.rec.pid c.rec.generation.image p _ _ (close-lasts c.rec.pid c.rec.generation.image p c.rec.generation k low) [] text by call fate t is h) (λ past call t is h. unasked-late past call t is) settled-close (relieved-close (asking c))
+      upgrade-good c LateFirst anyway Anyhow not-lost Close exits-close (λ text by call fate t is h. fact-any c.rec.pid c.rec.generation.image p _ _ (close-lasts c.rec.pid c.rec.generation.image p c.rec.generation k low) [] text by call fate t is h) (λ past call t is h. unasked-late past call t is) settled-close relieved-close
       [] (start_at c.t c.rec.note) tt (first-untouched c.t c.rec c.start p k on)
 
 ---- Before a Leave all were waited for
@@ -302,10 +303,10 @@ module _ (c : Given) where
       asked past Leave t k h = k
       asked past _ t k h = tt
 
-  pub leave-traced : Traced WaitedFirst whatever Anyhow (co c) [] (plan_tree c.rec (Upgrade c.st)) (start_at c.t c.rec.note)
+  pub leave-traced : Traced WaitedFirst whatever Anyhow (co c) [] (tree_of c) (start_at c.t c.rec.note)
   leave-traced =
       upgrade-good c WaitedFirst whatever Anyhow not-lost-either Any exits-any (λ text by call fate t is h. tt) (λ past call t is h. stays-on past call t (any-stays c.rec.generation.image call is))
-      (λ past q k h. no-leave (co c) (settle c.rec.generation.image (old_crew c) (R c) Old c.rec.retries) past q (no-leave-settle c.rec.generation.image (old_crew c) (R c) Old c.rec.retries)) (relieved-waits (asking c))
+      (λ past q k h. no-leave (co c) (settle c.rec.generation.image (old_crew c) (R c) Old c.rec.retries) past q (no-leave-settle c.rec.generation.image (old_crew c) (R c) Old c.rec.retries)) relieved-waits
       [] (start_at c.t c.rec.note) tt tt
 
 ---- The manner
@@ -325,27 +326,35 @@ leave-due : (c : Given) (past : List Entry) (call : Call) (t : Table) → is_lea
 leave-due c past Leave t e h = h
 leave-due c past _ t e h = absurd (cc e)
 
-pub upgrade_manner : (s : Settings) → InManner (Upgrade s)
-upgrade_manner s t r pattern a =
-    let (range, ds, numbered) = a.accepts in
-    let c : Given = record { t = t; rec = r; st = s; pattern = pattern; start = a.start; range = range; ds = ds; numbered = numbered } in
-    let at = start_at t r.note in
-    let tree = plan_tree r (Upgrade s) in
-    let ran = run_of r (Upgrade s) pattern t in
-    let left = from-traced (WaitedFirst c) (λ past e q. ⊤) Anyhow (co c) [] tree at (leave-traced c) a.spared (are-mild-anyhow (co c) tree at) in (
-      (λ old none p k on need. stays-it c p k on a.spared old none (is_lost p ran.passed) refl),
-      kills-due c [] ran.entries ran.passed left.dues (λ p k on. (from-traced (LateFirst c p k on) (λ past e q. ⊤) Anyhow (co c) [] tree at (late-traced c p k on) a.spared (are-mild-anyhow (co c) tree at)).dues),
-      leaves-traced r (WaitedFirst c) (leave-due c) ran.entries ran.passed left.dues,
+manner-of : (c : Given) → refused_in (co c) (tree_of c) (start_at c.t c.rec.note) ≡ None → let ran = run_in (co c) (tree_of c) (start_at c.t c.rec.note) in Manner c.rec (Upgrade c.st) (outcome_of (sides_of c.rec (Upgrade c.st)) ran.ending ran.last.lacking) c.t ran
+manner-of c spared =
+    let at = start_at c.t c.rec.note in
+    let tree = tree_of c in
+    let ran = run_in (co c) tree at in
+    let left = from-traced (WaitedFirst c) (λ past e q. ⊤) Anyhow (co c) [] tree at (leave-traced c) spared (are-mild-anyhow (co c) tree at) in (
+      (λ old none p k on need. stays-it c p k on spared old none (is_lost p ran.passed) refl),
+      kills-due c [] ran.entries ran.passed left.dues (λ p k on. (from-traced (LateFirst c p k on) (λ past e q. ⊤) Anyhow (co c) [] tree at (late-traced c p k on) spared (are-mild-anyhow (co c) tree at)).dues),
+      leaves-traced c.rec (WaitedFirst c) (leave-due c) ran.entries ran.passed left.dues,
     )
   where
     stays-it : (c : Given) (p k : ℕ) (on : has_ready c.t p k ≡ true) →
-        let tree = plan_tree c.rec (Upgrade c.st) in
+        let tree = tree_of c in
         let at = start_at c.t c.rec.note in
         let ran = run_in (co c) tree at in
         refused_in (co c) tree at ≡ None → is_old_side (outcome_of (sides_of c.rec (Upgrade c.st)) ran.ending ran.last.lacking) ≡ true → list_any (λ e. is_wait_call e.call) ran.entries ≡ false → (b : Bool) → is_lost p ran.passed ≡ b → (has_ready ran.last.table p k ≡ true) ⊎ (is_lost p ran.passed ≡ true)
     stays-it c p k on spared old none true e = inr e
     stays-it c p k on spared old none false e =
-        let tree = plan_tree c.rec (Upgrade c.st) in
+        let tree = tree_of c in
         let at = start_at c.t c.rec.note in
         let all = from-traced (λ past call t. ⊤) (λ past e q. is_old_side (outcome_of (sides_of c.rec (Upgrade c.st)) e q.lacking) ≡ true → list_any (λ e. is_wait_call e.call) past ≡ false → Stands c.rec.pid c.rec.generation.image p c.rec.generation k (first-low c.t c.rec c.start p k on) q.table) (Unlost p) (co c) [] tree at (stays-traced c p k on) spared (are-unlost p (co c) tree at e) in
         inl (stands-ready c.rec.pid c.rec.generation.image p c.rec.generation k (first-low c.t c.rec c.start p k on) (run_in (co c) tree at).last.table (all.last old none))
+
+pub upgrade_manner : (s : Settings) → InManner (Upgrade s)
+upgrade_manner s t r pattern a =
+    let (range, ds, numbered) = a.accepts in
+    manner-of (record { t = t; rec = r; st = s; pattern = pattern; attended = false; start = a.start; range = range; ds = ds; numbered = numbered }) a.spared
+
+pub attended_manner : (s : Settings) → InManner (Attended s)
+attended_manner s t r pattern a =
+    let (range, ds, numbered) = a.accepts in
+    manner-of (record { t = t; rec = r; st = s; pattern = pattern; attended = true; start = a.start; range = range; ds = ds; numbered = numbered }) a.spared

@@ -58,20 +58,20 @@ module _ (c : Given) (m : ℕ) (ne : m ≢ c.rec.pid) (r0 : Names) (only0 : Only
     pub files : List File
 
   abbrev pub sc : Doing → Scene c.rec.pid c.rec.generation.image
-  sc x = pair_scene c (w c m x.hs x.s x.r) ne (eqb-refl c.rec.pid c.rec.pid refl) x.names x.d (f c) x.files c.rec.note
+  sc x = pair_scene c (w c m x.hs x.s x.r) ne (eqb-refl c.rec.pid c.rec.pid refl) x.names x.d (f c) [] x.files c.rec.note
 
   -- between two calls of the new master
   abbrev pub Held : Doing → ℕ → Bool → List ℕ → Progress → Type 0
   Held x k b ls q = Band v (sc x) none r0 (named (g c) (is_in (R c))) (length (R c)) k b ls q
 
   pub good : (x : Doing) → IsGood v (sc x) I
-  good x = good-pair c v (w c m x.hs x.s x.r) x.names x.d (f c) (inl (λ a. omega arith)) refl (hold-old c)
+  good x = good-pair c v (w c m x.hs x.s x.r) x.names x.d (f c) [] (λ e. refl) (inl (λ a. omega arith)) refl (hold-old c)
 
   abbrev pub back : Tree
   back = back_from c.rec.generation.image image (old_crew c) (R c) c.rec.retries c.rec.pid_path
 
   pub goes-back : (x : Doing) (k : ℕ) (ls : List ℕ) (q : Progress) → Aside c c.rec.pid_path x.files → Held x k true ls q → Goes c (co c) back q
-  goes-back x k ls q aside b = goes-back-from c m ne x.hs x.s x.r x.names x.d r0 k ls x.files q aside only0 b
+  goes-back x k ls q aside b = goes-back-from c [] (λ e. refl) m ne x.hs x.s x.r x.names x.d r0 k ls x.files q aside only0 b
 
   ---- A step
 
@@ -83,11 +83,11 @@ module _ (c : Given) (m : ℕ) (ne : m ≢ c.rec.pid) (r0 : Names) (only0 : Only
 
   -- A call failed, whatever became of the table.
   abbrev pub failed_with : Table → Progress → Progress
-  failed_with t q = record { table = t; calls = q.calls + 1; ready = q.ready; lacking = q.lacking; faults = q.faults + 1; losses = q.losses; cause = first_cause q.cause true (q.calls + 1); note = q.note }
+  failed_with t q = record { table = t; calls = q.calls + 1; ready = q.ready; lacking = q.lacking; faults = q.faults + 1; losses = q.losses; returns = q.returns; cause = first_cause q.cause true (q.calls + 1); note = q.note }
 
   -- A call was answered plainly.
   abbrev pub plain_with : Table → List ℕ → List ℕ → Progress → Progress
-  plain_with t ready lacking q = record { table = t; calls = q.calls + 1; ready = ready; lacking = lacking; faults = q.faults; losses = q.losses; cause = first_cause q.cause false (q.calls + 1); note = q.note }
+  plain_with t ready lacking q = record { table = t; calls = q.calls + 1; ready = ready; lacking = lacking; faults = q.faults; losses = q.losses; returns = q.returns; cause = first_cause q.cause false (q.calls + 1); note = q.note }
 
   pub still-framed : (q : Progress) → Looks (view v none r0) q.table.rows → Framed (view v none r0) q.table.rows q.table.rows
   still-framed q looks = record { looks = looks; same = λ t. refl }

@@ -8,26 +8,27 @@ use Rattle.vocabulary.specs.declared.plans.PidNote.{PidNote}
 use Rattle.vocabulary.specs.declared.plans.PidNote.TheVariants.{InPlace, OldbinLeft}
 use Rattle.vocabulary.specs.declared.plans.Side.TheVariants.{Target}
 use Rattle.vocabulary.specs.declared.plans.Order.TheVariants.{Make}
-use Rattle.vocabulary.specs.declared.calls.Call.TheVariants.{Alive, Leave, RemovePid}
+use Rattle.vocabulary.specs.declared.calls.Call.TheVariants.{Alive, Leave, RemovePid, Ask}
 use Rattle.vocabulary.specs.declared.calls.Answer.TheVariants as answer
 use Rattle.vocabulary.specs.declared.calls.Reply.TheVariants as reply
 use Rattle.definitions.specs.Table.{Address, FilePath, File, Hold, Caller, has_address, owner_at}
 use Rattle.definitions.specs.Calls.{Stepped, gives, step_by, each_row, drop_where, is_image, asked_alive, with_files, without_file, without_master}
 use Rattle.definitions.specs.Record.{FilesAre, oldbin}
 use Rattle.definitions.specs.Tree.{Tree, Nothing, reply_of}
-use Rattle.definitions.specs.Plans.{on, does, then_edge, note_edges, awaits_gone, settle, remove_oldbin, hand_over, back_late, relieve}
-use Rattle.definitions.specs.Run.{Ending, Progress, noted, after_call, after_moment, answered}
+use Rattle.definitions.specs.Plans.{on, does, then_edge, note_edges, quits, awaits_gone, settle, remove_oldbin, hand_over, back_late, back_from, back_serving, asks, retire, relieve}
+use Rattle.definitions.specs.Run.{Ending, Progress, Return, noted, after_call, after_moment, answered}
 use Rattle.theorems.proofs.Views.{Names, named, View, Looks, finds, eqb-is, eqb-refl}
 use Rattle.theorems.proofs.Effects.{none, looks-allows}
 use Rattle.theorems.proofs.Exits.{spares-each, shrinks}
 use Rattle.theorems.proofs.Sets.{in-here, in-there, below-of, below-distinct, below-length}
 use Rattle.theorems.proofs.Small.{in-reverse, true-false}
 use Rattle.theorems.proofs.Files.{gone-file, other-removed, oldbin-other, no-path}
-use Rattle.theorems.proofs.Logic.{Unasked, Anyhow, Behind, course_after, remove-cases, unfailing}
-use Rattle.theorems.proofs.Rules.{IsGood, Still, Scene, view, Marks, Band, Only, marks-plain, marks-wrong, rule-step, rule-quits, rule-waits, rule-settle, band-exits, band-inv, band-anew, band-failed, failed_at, Answers, grounded}
+use Rattle.theorems.proofs.Logic.{Unasked, Anyhow, Behind, course_after, remove-cases, ask-cases, unfailing}
+use Rattle.theorems.proofs.Rules.{IsGood, Still, Scene, view, Marks, Band, Only, marks-plain, marks-wrong, marks-back, rule-step, rule-quits, rule-waits, rule-settle, band-exits, band-inv, band-anew, band-failed, failed_at, Answers, grounded}
 use Rattle.theorems.proofs.Duo.{OneOther, alone-left, dead-none, dead-weigh, asked-looks, asked-dead, with_other}
-use Rattle.theorems.proofs.UpgradeStage.{Given, g, new, old_crew, new_crew, R, H0, f, n, low, wanted, few-new, co, co_after, acts, acts-after, inv, post, Goes, u, w, x, Common, Lists, Laid, alone_scene, good-alone, pair_scene, good-pair, new-full, new-short, hold-old, hold-new, level-some, serves_new, enough-new}
-use Rattle.theorems.proofs.UpgradeBack.{Aside, goes-back-late}
+use Rattle.theorems.proofs.UpgradeStage.{Given, g, new, old_crew, new_crew, R, H0, f, n, low, wanted, few-new, co, co_after, acts, acts-after, inv, post, Goes, u, w, x, Common, Lists, Laid, alone_scene, good-alone, pair_scene, good-pair, new-full, new-short, hold-old, hold-new, level-some, serves_new, enough-new, Fits, Serve}
+use Rattle.theorems.proofs.UpgradeBack.{Aside, goes-back-from, goes-back-late}
+use Rattle.theorems.proofs.UpgradeServing.{goes-back-serving}
 use Rattle.theorems.proofs.UpgradeCalls.{Written}
 
 module _ (c : Given) (m : ℕ) (ne : m ≢ c.rec.pid) (some : 1 ≤ m) (r0 : Names) (only0 : Only (g c) (R c) r0) (hs : List Hold) (r : Names) (only : Only (new c) (numbers_below (n c)) r) (lists : Lists c hs) (keys : (a : Address) → has_address a hs ≡ has (wanted c) a) (laid : Laid c hs) (common : Common c hs) where
@@ -49,17 +50,21 @@ module _ (c : Given) (m : ℕ) (ne : m ≢ c.rec.pid) (some : 1 ≤ m) (r0 : Nam
   abbrev second : View
   second = w c m hs none r
 
+  -- the new workers that are not lost are enough
+  new-serves : Serve c second T (n c)
+  new-serves = (few-new c, λ q looks secured. level-some c second (f c) (serves_new c) (hold-new c m hs none r laid common) T (length S) 0 q (λ a. omega arith) (enough-new c m) looks (λ a e. omega (arith, secured, below-length (n c))) (omega arith))
+
   abbrev both : List File → Scene c.rec.pid c.rec.generation.image
-  both files = pair_scene c second ne (eqb-refl c.rec.pid c.rec.pid refl) T (n c) (λ a. 0) files c.rec.note
+  both files = pair_scene c second ne (eqb-refl c.rec.pid c.rec.pid refl) T (n c) (λ a. 0) [] files c.rec.note
 
   good : (files : List File) → IsGood v (both files) I
-  good files = good-pair c v second T (n c) (λ a. 0) (inr (few-new c, λ q looks secured. level-some c second (f c) (serves_new c) (hold-new c m hs none r laid common) T (length S) q (λ a. omega arith) (enough-new c m) looks (λ a e. omega (arith, secured, below-length (n c))))) refl (hold-old c)
+  good files = good-pair c v second T (n c) (λ a. 0) [] (λ e. refl) (inr new-serves) refl (hold-old c)
 
   -- the old master's workers of these names are there, and nothing of them is counted
   abbrev Beside : List File → Names → Names → Bool → Progress → Type 0
   Beside files st rd b q = Band v (both files) st rd none 0 0 b [] q
 
-  beside : (files : List File) (st rd : Names) (b : Bool) (q : Progress) → Looks (view v st rd) q.table.rows → q.lacking ≡ [] → Marks b q.faults q.losses q.cause → Still (both files).files (both files).note (both files).limits q.table.files q.note q.table.limits → (both files).Holds q.table.rows q.losses q.faults → Beside files st rd b q
+  beside : (files : List File) (st rd : Names) (b : Bool) (q : Progress) → Looks (view v st rd) q.table.rows → q.lacking ≡ [] → Marks b [] q.faults q.losses q.returns q.cause → Still (both files).files (both files).note (both files).limits q.table.files q.note q.table.limits → (both files).Holds q.table.rows q.losses q.faults → Beside files st rd b q
   beside files st rd b q looks lacking marks still holds = record {
     looks = looks;
     enough = λ a e. absurd (omega (arith, e));
@@ -81,10 +86,10 @@ module _ (c : Given) (m : ℕ) (ne : m ≢ c.rec.pid) (some : 1 ≤ m) (r0 : Nam
   ---- The new master is alone
 
   abbrev last : List File → PidNote → Scene m (new c).image
-  last files note = alone_scene c m (new c).image (serves_new c) (f c) 0 files note
+  last files note = alone_scene c m (new c).image (serves_new c) (f c) 0 0 [] files note
 
   good-last : (files : List File) (note : PidNote) → IsGood (x c m hs r) (last files note) I
-  good-last files note = good-alone c (x c m hs r) (serves_new c) (f c) 0 hs (inl (λ a. omega arith)) refl (hold-new c m hs none r laid common) common
+  good-last files note = good-alone c (x c m hs r) (serves_new c) (f c) 0 0 [] (λ e. refl) hs (inl (λ a. omega arith)) refl (hold-new c m hs none r laid common) common
 
   settles : (files : List File) (note : PidNote) (b : Bool) (q : Progress) → FilesAre note c.rec.pid_path m files → Band (x c m hs r) (last files note) none r T (length S) 0 b [] q → Goes c (co_after c) (settle (new c).image (new_crew c) S Target c.rec.retries) q
   settles files note b q are h =
@@ -138,7 +143,7 @@ module _ (c : Given) (m : ℕ) (ne : m ≢ c.rec.pid) (some : 1 ≤ m) (r0 : Nam
         lacking = h'.lacking;
         marks = marks-plain b middle.faults middle.losses (middle.calls + 1) middle.cause h'.marks;
         still = h'.still;
-        beside = omega arith;
+        beside = (omega arith, omega arith);
       }) in (
         band-inv v (both files) (grounded I P (co c) (acts c) (good files)) none none none 0 0 b [] q h,
         band-inv v (both files) (grounded I P (co c) (acts c) (good files)) none none none 0 0 b [] middle h',
@@ -147,8 +152,8 @@ module _ (c : Given) (m : ℕ) (ne : m ≢ c.rec.pid) (some : 1 ≤ m) (r0 : Nam
       )
 
   -- It asks whether the new one lives: then it leaves, and else goes back.
-  asks : (files : List File) (b : Bool) (q : Progress) → Aside c c.rec.pid_path files → Written c m ne r0 only0 c.rec.pid_path files → Beside files none none b q → Goes c (co c) (does c.rec.generation.image (Alive (new c).image) (on (reply.IsAlive ∷ []) (hand_over c.rec.generation.image (new_crew c) c.rec.retries c.rec.pid_path (n c)) (on (reply.Gone ∷ []) (back_late c.rec.generation.image (new c).image (old_crew c) (R c) c.rec.retries c.rec.pid_path) Nothing))) q
-  asks files b q aside written h =
+  retires : (files : List File) (b : Bool) (q : Progress) → Aside c c.rec.pid_path files → Written c m ne r0 only0 c.rec.pid_path files → Beside files none none b q → Goes c (co c) (does c.rec.generation.image (Alive (new c).image) (on (reply.IsAlive ∷ []) (hand_over c.rec.generation.image (new_crew c) c.rec.retries c.rec.pid_path (n c)) (on (reply.Gone ∷ []) (back_late c.rec.generation.image (new c).image (old_crew c) (R c) c.rec.retries c.rec.pid_path) Nothing))) q
+  retires files b q aside written h =
       let order = Make (Alive (new c).image) in
       let bs = on (reply.IsAlive ∷ []) (hand_over c.rec.generation.image (new_crew c) c.rec.retries c.rec.pid_path (n c)) (on (reply.Gone ∷ []) (back_late c.rec.generation.image (new c).image (old_crew c) (R c) c.rec.retries c.rec.pid_path) Nothing) in
       rule-step v (both files) (grounded I P (co c) (acts c) (good files)) order [] bs none none none 0 0 b [] q refl h (λ p h' fate.
@@ -161,7 +166,7 @@ module _ (c : Given) (m : ℕ) (ne : m ≢ c.rec.pid) (some : 1 ≤ m) (r0 : Nam
       (record { looks = h'.looks; enough = h'.enough; secured = λ a e. absurd (omega (arith, e)); budget = omega arith; lacking = h'.lacking; marks = marks-plain b p.faults p.losses (p.calls + 1) p.cause h'.marks; still = h'.still; beside = h'.beside })))
       (λ dead. subst answered_by (sym (dead-none second p.table.rows dead))
       (let framed = asked-looks (view v none none) (new c).image p.table.rows (λ e. absurd (omega (arith, e))) h'.looks in
-      goes-back-late c m ne hs none r 0 [] files (after_call order [] (gives answer.Gone (each_row (drop_where (is_image (new c).image)) p.table)) p) aside
+      goes-back-late c [] (λ e. refl) m ne hs none r 0 [] files (after_call order [] (gives answer.Gone (each_row (drop_where (is_image (new c).image)) p.table)) p) aside
       (record {
         looks = framed.looks;
         enough = λ a e. absurd (omega (arith, e));
@@ -174,13 +179,71 @@ module _ (c : Given) (m : ℕ) (ne : m ≢ c.rec.pid) (some : 1 ≤ m) (r0 : Nam
       })))
       h'.beside.0))
 
+  ---- The questions
+
+  abbrev retiring : Tree
+  retiring = retire c.rec.generation.image (old_crew c) (new_crew c) (R c) c.rec.retries c.rec.pid_path (n c)
+
+  abbrev serving : Tree
+  serving = back_serving c.rec.generation.image (new c).image (old_crew c) (R c) c.rec.retries c.rec.pid_path
+
+  abbrev last_pause : Bool → Tree
+  last_pause b = asks b c.rec.generation.image 2 retiring serving
+
+  fits-attended : (returns : List Return) → c.attended ≡ true → Fits c returns
+  fits-attended returns on off = absurd (true-false c.attended on off)
+
+  -- The second question: on, or back while the new master serves.
+  asks-last : (attended : Bool) → c.attended ≡ attended → (files : List File) (b : Bool) (q : Progress) → Aside c c.rec.pid_path files → Written c m ne r0 only0 c.rec.pid_path files → Beside files none none b q → Goes c (co c) (last_pause attended) q
+  asks-last false is files b q aside written h = retires files b q aside written h
+  asks-last true is files b q aside written h =
+      let order = Make (Ask 2) in
+      let bs = on (reply.Go ∷ []) retiring (on (reply.Back ∷ []) serving Nothing) in
+      rule-step v (both files) (grounded I P (co c) (acts c) (good files)) order [] bs none none none 0 0 b [] q refl h (λ p h' fate.
+      let me : Caller = record { number = c.rec.pid; holds = H0 c } in
+      ask-cases (co c).text c.rec.generation.image me 2 fate p.table (λ st. Answers v (both files) (grounded I P (co c) (acts c) (good files)) order [] bs p st)
+      (goes-back-serving c p.faults (fits-attended (record { question = 2; faults = p.faults } ∷ []) is) m ne hs r T (n c) new-serves files [] (after_call order [] (gives answer.Back p.table) p) aside
+      (record {
+        looks = h'.looks;
+        enough = λ a e. absurd (omega (arith, e));
+        secured = λ a e. absurd (omega (arith, e));
+        budget = omega arith;
+        lacking = h'.lacking;
+        marks = marks-back b (record { question = 2; faults = p.faults }) p.faults p.losses (p.calls + 1) p.cause h'.marks;
+        still = h'.still;
+        beside = h'.beside;
+      }))
+      (retires files b (after_call order [] (gives answer.Go p.table) p) aside written
+      (beside files none none b (after_call order [] (gives answer.Go p.table) p) h'.looks h'.lacking (marks-plain b p.faults p.losses (p.calls + 1) p.cause h'.marks) h'.still h'.beside)))
+
+  abbrev counted_by_old : List Return → List File → Bool → Progress → Type 0
+  counted_by_old returns files b q = Band v (pair_scene c second ne (eqb-refl c.rec.pid c.rec.pid refl) T (n c) (f c) returns files c.rec.note) none r0 (named (g c) (is_in (R c))) (length (R c)) 0 b [] q
+
+  -- The first question: on, or back before the old workers quit.
+  asks-first : (attended : Bool) → c.attended ≡ attended → (rest : Tree) (files : List File) (q : Progress) → Aside c c.rec.pid_path files → ((q' : Progress) → counted_by_old [] files false q' → Goes c (co c) rest q') → counted_by_old [] files false q → Goes c (co c) (asks attended c.rec.generation.image 1 rest (back_from c.rec.generation.image (new c).image (old_crew c) (R c) c.rec.retries c.rec.pid_path)) q
+  asks-first false is rest files q aside next h = next q h
+  asks-first true is rest files q aside next h =
+      let order = Make (Ask 1) in
+      let back = back_from c.rec.generation.image (new c).image (old_crew c) (R c) c.rec.retries c.rec.pid_path in
+      let bs = on (reply.Go ∷ []) rest (on (reply.Back ∷ []) back Nothing) in
+      let sc = pair_scene c second ne (eqb-refl c.rec.pid c.rec.pid refl) T (n c) (f c) [] files c.rec.note in
+      let gd = good-pair c v second T (n c) (f c) [] (λ e. refl) (inl (λ a. omega arith)) refl (hold-old c) in
+      rule-step v sc (grounded I P (co c) (acts c) gd) order [] bs none r0 (named (g c) (is_in (R c))) (length (R c)) 0 false [] q refl h (λ p h' fate.
+      let me : Caller = record { number = c.rec.pid; holds = H0 c } in
+      let back_at : Return = record { question = 1; faults = p.faults } in
+      ask-cases (co c).text c.rec.generation.image me 1 fate p.table (λ st. Answers v sc (grounded I P (co c) (acts c) gd) order [] bs p st)
+      (goes-back-from c (back_at ∷ []) (fits-attended (back_at ∷ []) is) m ne hs none r T (n c) r0 0 [] files (after_call order [] (gives answer.Back p.table) p) aside only0
+      (record { looks = h'.looks; enough = h'.enough; secured = h'.secured; budget = h'.budget; lacking = h'.lacking; marks = marks-back false back_at p.faults p.losses (p.calls + 1) p.cause h'.marks; still = h'.still; beside = h'.beside }))
+      (next (after_call order [] (gives answer.Go p.table) p)
+      (record { looks = h'.looks; enough = h'.enough; secured = h'.secured; budget = h'.budget; lacking = h'.lacking; marks = marks-plain false p.faults p.losses (p.calls + 1) p.cause h'.marks; still = h'.still; beside = h'.beside })))
+
   ---- All of it
 
-  pub relieves : (files : List File) (q : Progress) → Aside c c.rec.pid_path files → Written c m ne r0 only0 c.rec.pid_path files → Band v (pair_scene c second ne (eqb-refl c.rec.pid c.rec.pid refl) T (n c) (f c) files c.rec.note) none r0 (named (g c) (is_in (R c))) (length (R c)) 0 false [] q → Goes c (co c) (relieve c.rec.generation.image (old_crew c) (new_crew c) (R c) c.rec.retries c.rec.pid_path (n c)) q
+  pub relieves : (files : List File) (q : Progress) → Aside c c.rec.pid_path files → Written c m ne r0 only0 c.rec.pid_path files → Band v (pair_scene c second ne (eqb-refl c.rec.pid c.rec.pid refl) T (n c) (f c) [] files c.rec.note) none r0 (named (g c) (is_in (R c))) (length (R c)) 0 false [] q → Goes c (co c) (relieve c.attended c.rec.generation.image (old_crew c) (new_crew c) (R c) c.rec.retries c.rec.pid_path (n c)) q
   relieves files q aside written h =
-      let ask = does c.rec.generation.image (Alive (new c).image) (on (reply.IsAlive ∷ []) (hand_over c.rec.generation.image (new_crew c) c.rec.retries c.rec.pid_path (n c)) (on (reply.Gone ∷ []) (back_late c.rec.generation.image (new c).image (old_crew c) (R c) c.rec.retries c.rec.pid_path) Nothing)) in
-      rule-quits v (both files) (grounded I P (co c) (acts c) (good files)) (awaits_gone c.rec.generation.image (g c) (reverse (R c)) ask) (g c) (reverse (R c)) none r0 none 0 0 false [] q (λ k e. refl)
-      (λ st rd q' less_st less_rd h'. rule-waits v (both files) (grounded I P (co c) (acts c) (good files)) ask (g c) (reverse (R c)) none none none 0 false [] q' (λ k e. refl)
-      (λ st' rd' b k q'' sub_st sub_rd up h''. asks files b q'' aside written (bared files st' rd' k b q'' sub_st sub_rd h''))
+      asks-first c.attended refl (quits c.rec.generation.image (g c) (reverse (R c)) (awaits_gone c.rec.generation.image (g c) (reverse (R c)) (last_pause c.attended))) files q aside
+      (λ q1 h1. rule-quits v (both files) (grounded I P (co c) (acts c) (good files)) (awaits_gone c.rec.generation.image (g c) (reverse (R c)) (last_pause c.attended)) (g c) (reverse (R c)) none r0 none 0 0 false [] q1 (λ k e. refl)
+      (λ st rd q' less_st less_rd h'. rule-waits v (both files) (grounded I P (co c) (acts c) (good files)) (last_pause c.attended) (g c) (reverse (R c)) none none none 0 false [] q' (λ k e. refl)
+      (λ st' rd' b k q'' sub_st sub_rd up h''. asks-last c.attended refl files b q'' aside written (bared files st' rd' k b q'' sub_st sub_rd h''))
       0 (bared files st rd 0 false q' (λ j i e. (less_st j i e).0) (λ j i e. let l = less_rd j i e in let o = only0 j i l.0 in absurd (true-false (is_in (reverse (R c)) i) (in-reverse (R c) i ∙ o.1) (l.1 o.0))) h'))
-      (beside files none r0 false q h.looks h.lacking h.marks h.still h.beside)
+      (beside files none r0 false q1 h1.looks h1.lacking h1.marks h1.still h1.beside)) h

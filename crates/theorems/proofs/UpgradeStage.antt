@@ -1,6 +1,6 @@
 -- An upgrade: who is on the stage, what each part keeps, and the ends.
 use Rattle.std.proofs.Common.{◌≡◌, ◌≢◌, ℕ, ◌+◌, ◌<◌, ◌≤◌, Bool, true, false, List, [], ◌∷◌, length, Some, None, refl, sym, ap, ◌∙◌, arith, ◌⊎◌, ⊎_elim}
-use Rattle.std.specs.Prelude.{map, min, ◌&&◌, if◌then◌else◌, is_some, unwrap_or}
+use Rattle.std.specs.Prelude.{map, min, ◌-◌, ◌==◌, ◌&&◌, if◌then◌else◌, is_some, unwrap_or}
 use Rattle.std.proofs.lemmas.List.Sums.{length-filter}
 use Rattle.std.specs.List.{list_any}
 use Rattle.listener_set.specs.Numbers.{RisesFrom, is_in, numbers_below}
@@ -17,7 +17,7 @@ use Rattle.definitions.specs.Record.{Record, Agrees, FilesAre, addresses_of, cre
 use Rattle.definitions.specs.Target.{Sides, upgrade_generation, want, wanted_at, sides_of, text_handed}
 use Rattle.definitions.specs.After.{crew_wanted, posts_wanted, Setup, setup_after, recorded, renewed, upgraded, next_image}
 use Rattle.definitions.specs.Tree.{Tree}
-use Rattle.definitions.specs.Run.{Pattern, Progress, Ending, At, outcome_of}
+use Rattle.definitions.specs.Run.{Pattern, Progress, Return, faults_since, Ending, At, outcome_of}
 use Rattle.definitions.specs.Claims.{AgreesAfter, IsStart, has_socket, Says, IsPaid, Kept, IsCommon, IsBlamed, HasCause, HasDescriptors, ready_with}
 use Rattle.theorems.proofs.Rows.{weigh, both-true}
 use Rattle.theorems.proofs.Views.{Names, named, View, Looks, ready_in}
@@ -43,6 +43,7 @@ pub record Given : Type 0 where
   pub rec : Record
   pub st : Settings
   pub pattern : Pattern
+  pub attended : Bool
   pub start : IsStart t rec
   pub range : IsInRange st
   pub ds : HasDescriptors t rec
@@ -132,12 +133,13 @@ module _ (c : Given) where
   abbrev pub target : Service
   target = want c.rec (Upgrade c.st)
 
-  -- at each address of both services so many Ready workers, losses aside
+  -- at each address of both services so many Ready workers, losses aside, and the faults behind the second question's return
   abbrev pub Level : Progress → Type 0
-  Level q = (a : Address) → IsCommon old target a → f a ≤ ready_with a q.table + q.losses
+  Level q = (a : Address) → IsCommon old target a → f a ≤ ready_with a q.table + q.losses + faults_since 2 q.returns q.faults
 
+  -- who is not asked wants nothing back
   abbrev pub inv : Progress → Type 0
-  inv q = Kept old target c.t q.table × Level q × IsBlamed q
+  inv q = Kept old target c.t q.table × Level q × IsBlamed q × (c.attended ≡ false → q.returns ≡ [])
 
   abbrev pub post : Ending → Progress → Type 0
   post e q =
@@ -200,13 +202,13 @@ module _ (c : Given) where
   pub hold-new : (m : ℕ) (hs : List Hold) (s r : Names) → Laid hs → Common hs → HoldAll (w m hs s r) serves_new
   hold-new m hs s r laid common a h j k on = laid k a (wanted-of a h.1) ∙ both-true (has_address a hs) (new_at a k) (common a h).0 on
 
-  pub level-some : (v : View) (floor : Address → ℕ) (serves : Address → Names) → HoldAll v serves → (names : Names) (count : ℕ) (q : Progress) → ((a : Address) → f a ≤ floor a) → Enough v.number floor serves names count → Looks v q.table.rows → ((a : Address) → 1 ≤ floor a → count ≤ ready_of v names q + q.losses) → Level q
-  level-some v floor serves hold names count q most enough looks secured = λ a h. floor-by (f a) (ready_with a q.table + q.losses) (at a h)
+  pub level-some : (v : View) (floor : Address → ℕ) (serves : Address → Names) → HoldAll v serves → (names : Names) (count excused : ℕ) (q : Progress) → ((a : Address) → f a ≤ floor a) → Enough v.number floor serves names count → Looks v q.table.rows → ((a : Address) → 1 ≤ floor a → count ≤ ready_of v names q + q.losses + excused) → excused ≤ faults_since 2 q.returns q.faults → Level q
+  level-some v floor serves hold names count excused q most enough looks secured within = λ a h. floor-by (f a) (ready_with a q.table + q.losses + faults_since 2 q.returns q.faults) (at a h)
     where
-      at : (a : Address) → IsCommon old target a → 1 ≤ f a → f a ≤ ready_with a q.table + q.losses
+      at : (a : Address) → IsCommon old target a → 1 ≤ f a → f a ≤ ready_with a q.table + q.losses + faults_since 2 q.returns q.faults
       at a h e =
           let some : 1 ≤ floor a = omega (arith, e, most a) in
-          omega (arith, most a, level-by v (floor a) (serves a) names count a q.table.rows q.losses (hold a h) (enough a some) looks (secured a some))
+          omega (arith, most a, within, level-by v (floor a) (serves a) names count a q.table.rows (q.losses + excused) (hold a h) (enough a some) looks (omega (arith, secured a some)))
 
   -- The old workers are enough.
   pub enough-old : Enough c.rec.pid f serves_old (named g (is_in R)) (length R)
@@ -222,41 +224,59 @@ module _ (c : Given) where
 
   ---- The parts
 
+  -- faults only grow
+  pub since-more : (returns : List Return) (faults e : ℕ) → e ≤ faults_since 2 returns faults → e ≤ faults_since 2 returns (faults + 1)
+  since-more [] faults e le = le
+  since-more (b ∷ returns) faults e le = go (b.question == 2) le (λ h. since-more returns faults e h)
+    where
+      go : (x : Bool) → e ≤ (if x then faults - b.faults else faults_since 2 returns faults) → (e ≤ faults_since 2 returns faults → e ≤ faults_since 2 returns (faults + 1)) → e ≤ (if x then faults + 1 - b.faults else faults_since 2 returns (faults + 1))
+      go true le ih = omega (arith, le)
+      go false le ih = ih le
+
   -- The master is alone: the floor is its own workers', or so many were lost.
-  abbrev pub alone_scene : (m image : ℕ) → (Address → Names) → (Address → ℕ) → ℕ → List File → PidNote → Scene m image
-  alone_scene m image serves floor need files note = record {
+  abbrev pub alone_scene : (m image : ℕ) → (Address → Names) → (Address → ℕ) → (need excused : ℕ) → List Return → List File → PidNote → Scene m image
+  alone_scene m image serves floor need excused returns files note = record {
     floor = floor;
     serves = serves;
     files = files;
     note = note;
     limits = c.t.limits;
+    returns = returns;
+    excused = excused;
     Mild = Anyhow;
-    Holds = λ rows losses faults. need ≤ losses;
-    exits = λ es rows losses more faults sp mild e h. omega (arith, h);
+    Holds = λ rows losses faults. (need ≤ losses) × (excused ≤ faults_since 2 returns faults);
+    exits = λ es rows losses more faults sp mild e h. (omega (arith, h.0), h.1);
     changes = λ test f rows losses faults mine stays h. h;
     drops = λ test rows losses faults mine h. h;
     grows = λ n g x hs rows losses faults h. h;
-    fails = λ rows losses faults h. h;
+    fails = λ rows losses faults h. (h.0, since-more returns faults excused h.1);
   }
 
-  pub good-alone : (v : View) (serves : Address → Names) (floor : Address → ℕ) (need : ℕ) (hs : List Hold) → ((a : Address) → f a ≤ floor a) ⊎ ((a : Address) → f a ≤ need) → v.holds ≡ hs → HoldAll v serves → Common hs → (names : Names) (count : ℕ) (b : Bool) (q : Progress) → Enough v.number floor serves names count → Looks (view v any any) q.table.rows → ((a : Address) → 1 ≤ floor a → count ≤ ready_of v names q + q.losses) → Marks b q.faults q.losses q.cause → need ≤ q.losses → inv q
-  good-alone v serves floor need hs kind is hold common names count b q enough looks secured marks lost = (
+  -- nothing was wanted back where nobody was asked
+  abbrev pub Fits : List Return → Type 0
+  Fits returns = c.attended ≡ false → returns ≡ []
+
+  pub good-alone : (v : View) (serves : Address → Names) (floor : Address → ℕ) (need excused : ℕ) (returns : List Return) → Fits returns → (hs : List Hold) → ((a : Address) → f a ≤ floor a) ⊎ ((a : Address) → f a ≤ need) → v.holds ≡ hs → HoldAll v serves → Common hs → (names : Names) (count : ℕ) (b : Bool) (q : Progress) → Enough v.number floor serves names count → Looks (view v any any) q.table.rows → ((a : Address) → 1 ≤ floor a → count ≤ ready_of v names q + q.losses + excused) → Marks b returns q.faults q.losses q.returns q.cause → (need ≤ q.losses) × (excused ≤ faults_since 2 returns q.faults) → inv q
+  good-alone v serves floor need excused returns fits hs kind is hold common names count b q enough looks secured marks beside = (
     kept-by (view v any any) hs is common q looks,
-    ⊎_elim (λ most. level-some (view v any any) floor serves hold names count q most enough looks secured) (λ le a h. omega (arith, le a, lost)) kind,
+    ⊎_elim (λ most. level-some (view v any any) floor serves hold names count excused q most enough looks secured (omega (arith, beside.1, ap (λ l. faults_since 2 l q.faults) marks.returned))) (λ le a h. omega (arith, le a, beside.0)) kind,
     (marks.clean, marks.blamed),
+    λ e. marks.returned ∙ fits e,
   )
 
   -- Two masters, of which the first is spared: the other one lives or is dead, and of so many of its names all that are not Ready were lost.
   abbrev pub Second : View → Names → ℕ → List Process → ℕ → Type 0
   Second v names d rows losses = Lives v rows × (d ≤ weigh (ready_in v.number names) rows + losses)
 
-  abbrev pub pair_scene : (v : View) → v.number ≢ c.rec.pid → v.others c.rec.pid ≡ true → (names : Names) (d : ℕ) (floor : Address → ℕ) → List File → PidNote → Scene c.rec.pid g.image
-  pair_scene v ne on names d floor files note = record {
+  abbrev pub pair_scene : (v : View) → v.number ≢ c.rec.pid → v.others c.rec.pid ≡ true → (names : Names) (d : ℕ) (floor : Address → ℕ) → List Return → List File → PidNote → Scene c.rec.pid g.image
+  pair_scene v ne on names d floor returns files note = record {
     floor = floor;
     serves = serves_old;
     files = files;
     note = note;
     limits = c.t.limits;
+    returns = returns;
+    excused = 0;
     Mild = Anyhow;
     Holds = λ rows losses faults. Second v names d rows losses;
     exits = λ es rows losses more faults sp mild e h. (lives-exits v es rows h.0, omega (arith, h.1, falls-all v.number names es rows, e));
@@ -271,12 +291,13 @@ module _ (c : Given) where
   Serve x names d = ((a : Address) → f a ≤ d) × ((q : Progress) → Looks x q.table.rows → d ≤ ready_of x names q + q.losses → Level q)
 
   -- The floor is the old one's workers', or the other one's.
-  pub good-pair : (v x : View) (names : Names) (d : ℕ) (floor : Address → ℕ) → ((a : Address) → f a ≤ floor a) ⊎ Serve x names d → v.holds ≡ H0 → HoldAll v serves_old → (names' : Names) (count : ℕ) (b : Bool) (q : Progress) → Enough v.number floor serves_old names' count → Looks (view v any any) q.table.rows → ((a : Address) → 1 ≤ floor a → count ≤ ready_of v names' q + q.losses) → Marks b q.faults q.losses q.cause → Second x names d q.table.rows q.losses → inv q
-  good-pair v x names d floor kind is hold names' count b q enough looks secured marks second = (
+  pub good-pair : (v x : View) (names : Names) (d : ℕ) (floor : Address → ℕ) (returns : List Return) → Fits returns → ((a : Address) → f a ≤ floor a) ⊎ Serve x names d → v.holds ≡ H0 → HoldAll v serves_old → (names' : Names) (count : ℕ) (b : Bool) (q : Progress) → Enough v.number floor serves_old names' count → Looks (view v any any) q.table.rows → ((a : Address) → 1 ≤ floor a → count ≤ ready_of v names' q + q.losses + 0) → Marks b returns q.faults q.losses q.returns q.cause → Second x names d q.table.rows q.losses → inv q
+  good-pair v x names d floor returns fits kind is hold names' count b q enough looks secured marks second = (
     kept-by (view v any any) H0 is common0 q looks,
-    ⊎_elim (λ most. level-some (view v any any) floor serves_old hold names' count q most enough looks secured)
+    ⊎_elim (λ most. level-some (view v any any) floor serves_old hold names' count 0 q most enough looks secured (omega arith))
         (λ o. ⊎_elim (λ lives. o.1 q lives second.1) (λ dead a h. omega (arith, o.0 a, second.1, dead-weigh x names q.table.rows dead)) second.0) kind,
     (marks.clean, marks.blamed),
+    λ e. marks.returned ∙ fits e,
   )
 
   ---- The ends on the old side

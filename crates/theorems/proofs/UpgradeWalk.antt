@@ -1,10 +1,10 @@
 -- An upgrade's tree up to where its old master is relieved, and the pieces from there, as calls that keep a fact on the table.
-use Rattle.std.proofs.Common.{◌≡◌, ◌≢◌, ℕ, false, List, [], ◌∷◌, ◌++◌, Option, Some, None, refl, arith}
-use Rattle.std.specs.Prelude.{⊤, map}
+use Rattle.std.proofs.Common.{◌≡◌, ◌≢◌, ℕ, Bool, true, false, List, [], ◌∷◌, ◌++◌, Option, Some, None, refl, arith}
+use Rattle.std.specs.Prelude.{⊤, map, reverse}
 use Rattle.std.specs.List.{AllByRecursion}
 use Rattle.listener_set.specs.Numbers.{numbers_below}
 use Rattle.vocabulary.specs.declared.calls.Call.{Call}
-use Rattle.vocabulary.specs.declared.calls.Call.TheVariants.{OpenAt, CloseAt, Fork, AwaitReady, Census, Adopt, WritePid, MovePid, SpawnMaster, TermMaster}
+use Rattle.vocabulary.specs.declared.calls.Call.TheVariants.{OpenAt, CloseAt, Fork, AwaitReady, Census, Adopt, WritePid, MovePid, SpawnMaster, TermMaster, Ask}
 use Rattle.vocabulary.specs.declared.calls.Fate.{Fate}
 use Rattle.vocabulary.specs.declared.names.Name.{Name}
 use Rattle.vocabulary.specs.declared.plans.PidNote.{PidNote}
@@ -18,7 +18,7 @@ use Rattle.definitions.specs.Calls.{step_with}
 use Rattle.definitions.specs.Manner.{is_leave_call}
 use Rattle.vocabulary.specs.declared.calls.Reply.TheVariants as reply
 use Rattle.definitions.specs.Tree.{Tree, Branches, Nothing, Does, plain_reply, replies_to}
-use Rattle.definitions.specs.Plans.{on, others, then_edge, note_edges, settle, back_alone, back_from, move_back, move_aside, tries, tries_all, new_calls, pid_calls, relieve, spawn_edges, upgrade_tree, does}
+use Rattle.definitions.specs.Plans.{on, others, then_edge, note_edges, settle, back_alone, back_from, move_back, move_aside, tries, tries_all, new_calls, pid_calls, quits, awaits_gone, asks, retire, back_serving, relieve, spawn_edges, upgrade_tree, does}
 use Rattle.definitions.specs.Run.{Progress, Lost}
 use Rattle.definitions.specs.Crew.{fork_of}
 use Rattle.definitions.specs.Record.{oldbin}
@@ -27,7 +27,7 @@ use Rattle.definitions.specs.Claims.{names_any}
 use Rattle.theorems.proofs.Logic.{Exiting}
 use Rattle.theorems.proofs.Processes.{AnyCall}
 use Rattle.theorems.proofs.Traces.{Asking, Finally, Good, AllGood, good-call}
-use Rattle.theorems.proofs.UpgradeStage.{Given, new, old_crew, new_crew, R, A0, n, wanted, co}
+use Rattle.theorems.proofs.UpgradeStage.{Given, g, new, old_crew, new_crew, R, A0, n, wanted, co}
 
 -- nothing is known of what was done
 abbrev pub Free : List Entry → Type 0
@@ -44,6 +44,7 @@ any-stays image (WritePid path) any = refl
 any-stays image (MovePid from to) any = refl
 any-stays image (SpawnMaster i) any = refl
 any-stays image (TermMaster i) any = refl
+any-stays image (Ask q) any = refl
 any-stays image _ any = absurd any
 
 all-joined : (P : Call → Type 0) (l k : List Call) → AllByRecursion P l → AllByRecursion P k → AllByRecursion P (l ++ k)
@@ -60,9 +61,9 @@ module _ (c : Given) (due : Asking) (post : Finally) (mild : Exiting) (lost : (p
 
   ---- Up to the relief
 
-  module _ (any : (text : List ℕ) (by : ℕ) (call : Call) (fate : Option Fate) (t : Table) → AnyCall c.rec.generation.image call → F t → F (step_with text by call fate t).table) (asks : (past : List Entry) (call : Call) (t : Table) → AnyCall c.rec.generation.image call → F t → due past call t) (settled : IsGood Free (settle c.rec.generation.image (old_crew c) (R c) Old c.rec.retries)) (relieved : IsGood Free (relieve c.rec.generation.image (old_crew c) (new_crew c) (R c) c.rec.retries c.rec.pid_path (n c))) where
+  module _ (any : (text : List ℕ) (by : ℕ) (call : Call) (fate : Option Fate) (t : Table) → AnyCall c.rec.generation.image call → F t → F (step_with text by call fate t).table) (owes : (past : List Entry) (call : Call) (t : Table) → AnyCall c.rec.generation.image call → F t → due past call t) (settled : IsGood Free (settle c.rec.generation.image (old_crew c) (R c) Old c.rec.retries)) (relieved : (rest : Tree) → IsGood Free (quits c.rec.generation.image (g c) (reverse (R c)) (awaits_gone c.rec.generation.image (g c) (reverse (R c)) rest))) where
     one-call : (by : ℕ) (call : Call) (set : List ℕ) (bs : Branches) → AnyCall c.rec.generation.image call → AllGood due post mild (co c) lost F Free bs → IsGood Free (Does by (Make call) set bs)
-    one-call by call set bs is all = good-call due post mild (co c) lost F Free by call set bs (any-stays c.rec.generation.image call is) exits (λ past e k. tt) (λ past t k h. asks past call t is h) (λ text fate t h. any text by call fate t is h) all
+    one-call by call set bs is all = good-call due post mild (co c) lost F Free by call set bs (any-stays c.rec.generation.image call is) exits (λ past e k. tt) (λ past t k h. owes past call t is h) (λ text fate t h. any text by call fate t is h) all
 
     apart : (new c).image ≢ c.rec.generation.image
     apart e = absurd (omega (arith, e))
@@ -112,13 +113,22 @@ module _ (c : Given) (due : Asking) (post : Finally) (mild : Exiting) (lost : (p
         written (Some path) = (tt, tt)
 
     abbrev relief : Tree
-    relief = relieve c.rec.generation.image (old_crew c) (new_crew c) (R c) c.rec.retries c.rec.pid_path (n c)
+    relief = relieve c.attended c.rec.generation.image (old_crew c) (new_crew c) (R c) c.rec.retries c.rec.pid_path (n c)
 
     abbrev ok : Tree
     ok = tries_all (new c).image (new_calls (new_crew c) c.rec.pid_path (A0 c) (wanted c) (n c)) (tries (new c).image (Census (new c)) (numbers_below (n c)) relief back) back
 
+    asked-good : (attended : Bool) (question : ℕ) (on_go on_back : Tree) → IsGood Free on_go → IsGood Free on_back → IsGood Free (asks attended c.rec.generation.image question on_go on_back)
+    asked-good true question on_go on_back h b = one-call c.rec.generation.image (Ask question) [] (on (reply.Go ∷ []) on_go (on (reply.Back ∷ []) on_back Nothing)) tt (h, (b, tt))
+    asked-good false question on_go on_back h b = h
+
+    relief-good : IsGood Free relief
+    relief-good =
+        let last = asks c.attended c.rec.generation.image 2 (retire c.rec.generation.image (old_crew c) (new_crew c) (R c) c.rec.retries c.rec.pid_path (n c)) (back_serving c.rec.generation.image (new c).image (old_crew c) (R c) c.rec.retries c.rec.pid_path) in
+        asked-good c.attended 1 (quits c.rec.generation.image (g c) (reverse (R c)) (awaits_gone c.rec.generation.image (g c) (reverse (R c)) last)) back (relieved last) from-good
+
     ok-good : IsGood Free ok
-    ok-good = tries-good (new_calls (new_crew c) c.rec.pid_path (A0 c) (wanted c) (n c)) (tries (new c).image (Census (new c)) (numbers_below (n c)) relief back) (calls-any c.rec.pid_path (only_in (A0 c) (wanted c)) (only_in (wanted c) (A0 c)) (numbers_below (n c))) (one-call (new c).image (Census (new c)) (numbers_below (n c)) (edges (Census (new c)) relief) tt (relieved, (from-good, tt)))
+    ok-good = tries-good (new_calls (new_crew c) c.rec.pid_path (A0 c) (wanted c) (n c)) (tries (new c).image (Census (new c)) (numbers_below (n c)) relief back) (calls-any c.rec.pid_path (only_in (A0 c) (wanted c)) (only_in (wanted c) (A0 c)) (numbers_below (n c))) (one-call (new c).image (Census (new c)) (numbers_below (n c)) (edges (Census (new c)) relief) tt (relief-good, (from-good, tt)))
 
     spawn-good : IsGood Free (does c.rec.generation.image (SpawnMaster (new c).image) (spawn_edges ok alone))
     spawn-good = one-call c.rec.generation.image (SpawnMaster (new c).image) [] (spawn_edges ok alone) apart (ok-good, (back-good, tt))
@@ -131,5 +141,5 @@ module _ (c : Given) (due : Asking) (post : Finally) (mild : Exiting) (lost : (p
     aside-good (Some path) Left rest bad h b = one-call c.rec.generation.image (MovePid path (oldbin path)) [] (on (reply.Fine ∷ []) rest (on (reply.IoFault ∷ []) bad Nothing)) tt (h, (b, tt))
     aside-good (Some path) NoFile rest bad h b = one-call c.rec.generation.image (MovePid path (oldbin path)) [] (on (reply.Fine ∷ []) rest (on (reply.IoFault ∷ []) bad Nothing)) tt (h, (b, tt))
 
-    pub upgrade-good : IsGood Free (upgrade_tree c.rec.generation.image (old_crew c) (new_crew c) (R c) c.rec.retries c.rec.pid_path c.rec.note (A0 c) (wanted c) (n c))
+    pub upgrade-good : IsGood Free (upgrade_tree c.attended c.rec.generation.image (old_crew c) (new_crew c) (R c) c.rec.retries c.rec.pid_path c.rec.note (A0 c) (wanted c) (n c))
     upgrade-good = aside-good c.rec.pid_path c.rec.note (does c.rec.generation.image (SpawnMaster (new c).image) (spawn_edges ok alone)) (settle c.rec.generation.image (old_crew c) (R c) Old c.rec.retries) spawn-good settled

@@ -52,6 +52,8 @@ is-late set answer.Adopted e = absurd (cc e)
 is-late set answer.Refused e = absurd (cc e)
 is-late set answer.IoFault e = absurd (cc e)
 is-late set answer.IsAlive e = absurd (cc e)
+is-late set answer.Go e = absurd (cc e)
+is-late set answer.Back e = absurd (cc e)
 is-late set answer.MasterGone e = absurd (cc e)
 
 -- what was done: told to quit, and waited for

@@ -5,7 +5,7 @@ use Rattle.definitions.specs.Calls.{census_of}
 use Rattle.definitions.specs.Target.{text_handed}
 use Rattle.theorems.specs.Examples.{two_ready}
 use Rattle.theorems.proofs.GroupRuns.{hundred, group_runs}
-use Rattle.theorems.specs.WorkedRuns.{handed, same_upgrade, WorkedRuns, Upgrades, NoImage, GoneAtLast, Refused, GoneEarly, RepairedAtLast, OldFileLeft}
+use Rattle.theorems.specs.WorkedRuns.{handed, same_upgrade, WorkedRuns, Upgrades, NoImage, GoneAtLast, Refused, GoneEarly, RepairedAtLast, OldFileLeft, Attends, BackAtFirst, BackAtLast, BackIsShort}
 
 spelled : text_handed (two_ready 3) same_upgrade ≡ handed
 spelled = rw (hundred, decimal_digit 2 (omega arith), decimal_digit 3 (omega arith)) refl
@@ -25,6 +25,10 @@ worked_runs = record {
   gone_early = from_handed GoneEarly ((refl, refl), refl, refl);
   repaired_at_last = from_handed RepairedAtLast (refl, refl);
   old_file_left = from_handed OldFileLeft (refl, refl);
+  attends = from_handed Attends (refl, refl);
+  back_at_first = from_handed BackAtFirst ((refl, refl), refl);
+  back_at_last = from_handed BackAtLast ((refl, refl), refl);
+  back_is_short = from_handed BackIsShort (refl, refl, refl, refl);
   one_more = (refl, refl);
   one_more_refused = (refl, refl);
   one_more_short = (refl, refl);

@@ -58,6 +58,9 @@ wrong_tables = record {
   lost = λ h. h;
   kept = λ h. no (sym (h port 1 (refl, refl) refl));
   floor = λ h. absurd (omega (arith, h port (refl, refl)));
+  ended_first = λ h. absurd (omega (arith, h port (refl, refl)));
+  faults_before = λ h. absurd (omega (arith, h port (refl, refl)));
+  first_question = λ h. absurd (omega (arith, h port (refl, refl)));
   agrees = λ h. h.running.1.1.1.0 refl;
   orphan = (
     record {

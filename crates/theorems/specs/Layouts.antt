@@ -8,7 +8,7 @@ use Rattle.vocabulary.specs.declared.reports.Outcome.TheVariants as outcome
 use Rattle.definitions.specs.Table.{Address}
 use Rattle.definitions.specs.Crew.{Layout, layout_in}
 use Rattle.definitions.specs.Record.{Listener, Record, layout_of, started}
-use Rattle.definitions.specs.Target.{Target, Workers, Mend, Reopen, Reload, Upgrade, Stop, layout_wanted}
+use Rattle.definitions.specs.Target.{Target, Workers, Mend, Reopen, Reload, Upgrade, Attended, Stop, layout_wanted}
 use Rattle.definitions.specs.Path.{Report, Outcome}
 use Rattle.definitions.specs.After.{record_after}
 
@@ -38,6 +38,7 @@ layout_told r target outcome.Lost = layout_of r
 abbrev pub CanBeLaidOut : Record → Target → Type 0
 CanBeLaidOut r (Reload s) = TakeAll s × RisesFrom 3 (map (λ (l : Listener). l.descriptor) r.listeners)
 CanBeLaidOut r (Upgrade s) = TakeAll s × RisesFrom 3 (map (λ (l : Listener). l.descriptor) r.listeners)
+CanBeLaidOut r (Attended s) = TakeAll s × RisesFrom 3 (map (λ (l : Listener). l.descriptor) r.listeners)
 CanBeLaidOut r (Workers n) = ⊤
 CanBeLaidOut r (Mend overdue) = ⊤
 CanBeLaidOut r Reopen = ⊤

@@ -1,21 +1,22 @@
 -- Worked examples: plans that are run on a small table, call by call.
 use Rattle.std.specs.Prelude.{ℕ, true, false, ◌≡◌, List, [], ◌∷◌, ◌++◌, Option, Some, None, codes, Ok}
 use Rattle.vocabulary.specs.declared.names.Name.TheVariants as name
-use Rattle.vocabulary.specs.declared.calls.Call.TheVariants.{OpenAt, CloseAt, Fork, AwaitReady, Quit, Kill, Census, AwaitGone, SpawnMaster, Adopt, WritePid, MovePid, RemovePid, Alive, Leave, Usr1, TermMaster}
+use Rattle.vocabulary.specs.declared.calls.Call.TheVariants.{OpenAt, CloseAt, Fork, AwaitReady, Quit, Kill, Census, AwaitGone, SpawnMaster, Adopt, WritePid, MovePid, RemovePid, Alive, Leave, Usr1, TermMaster, Ask}
 use Rattle.vocabulary.specs.declared.calls.Answer.TheVariants as answer
 use Rattle.vocabulary.specs.declared.calls.Fate.TheVariants as fate
 use Rattle.vocabulary.specs.declared.plans.PidNote.TheVariants.{InPlace, AtOldbin, OldbinLeft, Left, NoFile}
 use Rattle.vocabulary.specs.declared.plans.Side.TheVariants as side
 use Rattle.vocabulary.specs.declared.reports.Outcome.TheVariants.{Done, RolledBack, Degraded}
+use Rattle.vocabulary.specs.declared.reports.Entry.{Entry}
 use Rattle.vocabulary.specs.declared.targets.Target.{Target}
-use Rattle.vocabulary.specs.declared.targets.Target.TheVariants.{Workers, Mend, Reopen, Reload, Upgrade, Stop}
+use Rattle.vocabulary.specs.declared.targets.Target.TheVariants.{Workers, Mend, Reopen, Reload, Upgrade, Attended, Stop}
 use Rattle.definitions.specs.Record.{Record, oldbin}
 use Rattle.definitions.specs.Handover.{reading}
 use Rattle.definitions.specs.Target.{Sides, sides_of, handover_of, text_handed}
 use Rattle.listener_set.specs.Numbers.{numbers_below}
 use Rattle.definitions.specs.Tree.{height}
 use Rattle.definitions.specs.Plans.{plan_tree}
-use Rattle.definitions.specs.Run.{Pattern, Ran, run_with, start_at, report_of}
+use Rattle.definitions.specs.Run.{Pattern, Ran, faults_since, run_with, start_at, report_of}
 use Rattle.definitions.specs.After.{record_after}
 use Rattle.definitions.specs.Claims.{run_of, refused_among}
 use Rattle.theorems.specs.GroupRuns.{GroupRuns}
@@ -90,6 +91,63 @@ abbrev pub OldFileLeft : List ℕ → Type 0
 OldFileLeft text =
     GivesIn upgrade_sides (upgrade_run text (fails 16 fate.IoFault no_fault)) (m1 (MovePid pid_file (oldbin pid_file)) answer.Fine ∷ m1 (SpawnMaster 2) answer.Spawned ∷ m2 Adopt answer.Adopted ∷ m2 (Fork upgraded 0 None) answer.Forked ∷ m2 (Fork upgraded 1 None) answer.Forked ∷ m2 (AwaitReady upgraded 0) answer.IsReady ∷ m2 (AwaitReady upgraded 1) answer.IsReady ∷ m2 (WritePid pid_file) answer.Fine ∷ m2 (Census upgraded) (answer.Counted (0 ∷ 1 ∷ [])) ∷ m1 (Quit first 1) answer.Fine ∷ m1 (Quit first 0) answer.Fine ∷ m1 (AwaitGone first 1) answer.Gone ∷ m1 (AwaitGone first 0) answer.Gone ∷ m1 (Alive 2) answer.IsAlive ∷ m1 Leave answer.Fine ∷ m2 (RemovePid (oldbin pid_file)) answer.IoFault ∷ m2 (Census upgraded) (answer.Counted (0 ∷ 1 ∷ [])) ∷ []) (report Done (Some 16) OldbinLeft (0 ∷ 1 ∷ []))
 
+---- An attended upgrade
+
+abbrev pub same_attended : Target
+same_attended = Attended (settings_of (port ∷ []) 2)
+
+abbrev pub attended_run : List ℕ → Pattern → Ran
+attended_run text pattern = run_with text (plan_tree (two_ready 3) same_attended) pattern (start_at two_workers InPlace)
+
+-- The nine calls up to the new master's count, and those that end the old workers.
+abbrev pub until_counted : List Entry
+until_counted =
+    m1 (MovePid pid_file (oldbin pid_file)) answer.Fine ∷ m1 (SpawnMaster 2) answer.Spawned ∷ m2 Adopt answer.Adopted
+    ∷ m2 (Fork upgraded 0 None) answer.Forked ∷ m2 (Fork upgraded 1 None) answer.Forked
+    ∷ m2 (AwaitReady upgraded 0) answer.IsReady ∷ m2 (AwaitReady upgraded 1) answer.IsReady
+    ∷ m2 (WritePid pid_file) answer.Fine ∷ m2 (Census upgraded) (answer.Counted (0 ∷ 1 ∷ [])) ∷ []
+
+abbrev pub until_gone : List Entry
+until_gone =
+    m1 (Quit first 1) answer.Fine ∷ m1 (Quit first 0) answer.Fine ∷ m1 (AwaitGone first 1) answer.Gone ∷ m1 (AwaitGone first 0) answer.Gone ∷ []
+
+-- The new master ends, and the old one counts its workers.
+abbrev pub back_alone : List Entry
+back_alone =
+    m1 (TermMaster 2) answer.Fine ∷ m1 (MovePid (oldbin pid_file) pid_file) answer.Fine ∷ m1 (Census first) (answer.Counted (0 ∷ 1 ∷ [])) ∷ []
+
+-- The operator goes on, twice.
+abbrev pub Attends : List ℕ → Type 0
+Attends text =
+    GivesIn upgrade_sides (attended_run text no_fault)
+    (until_counted ++ m1 (Ask 1) answer.Go ∷ until_gone ++ m1 (Ask 2) answer.Go ∷ m1 (Alive 2) answer.IsAlive ∷ m1 Leave answer.Fine
+    ∷ m2 (RemovePid (oldbin pid_file)) answer.Fine ∷ m2 (Census upgraded) (answer.Counted (0 ∷ 1 ∷ [])) ∷ [])
+    (report Done None InPlace (0 ∷ 1 ∷ []))
+
+-- The operator goes back before the old workers quit, which is no fault.
+abbrev pub BackAtFirst : List ℕ → Type 0
+BackAtFirst text =
+    let ran = attended_run text (fails 10 fate.Back no_fault) in
+    GivesIn upgrade_sides ran (until_counted ++ m1 (Ask 1) answer.Back ∷ back_alone) (report RolledBack (Some 10) InPlace (0 ∷ 1 ∷ []))
+    × (ran.last.faults ≡ 0)
+
+-- The operator goes back once they are gone: they are started again before the new master ends.
+abbrev pub BackAtLast : List ℕ → Type 0
+BackAtLast text =
+    let ran = attended_run text (fails 15 fate.Back no_fault) in
+    GivesIn upgrade_sides ran
+    (until_counted ++ m1 (Ask 1) answer.Go ∷ until_gone ++ m1 (Ask 2) answer.Back
+    ∷ m1 (Fork first 0 None) answer.Forked ∷ m1 (Fork first 1 None) answer.Forked
+    ∷ m1 (AwaitReady first 0) answer.IsReady ∷ m1 (AwaitReady first 1) answer.IsReady ∷ back_alone)
+    (report RolledBack (Some 15) InPlace (0 ∷ 1 ∷ []))
+    × (ran.last.faults ≡ 0)
+
+-- One of them is late then, which is a fault since the operator went back.
+abbrev pub BackIsShort : List ℕ → Type 0
+BackIsShort text =
+    let ran = attended_run text (fails 15 fate.Back (fails 18 fate.Late no_fault)) in
+    (ran.last.faults ≡ 1) × (ran.last.losses ≡ 0) × (faults_since 2 ran.last.returns ran.last.faults ≡ 1) × (ran.last.cause ≡ Some 15)
+
 pub record WorkedRuns : Type 0 where
   -- The text of the upgrade's handover, which is read again.
   pub handover : (text_handed (two_ready 3) same_upgrade ≡ handed) × (reading handed ≡ Ok (handover_of (two_ready 3) (settings_of (port ∷ []) 2)))
@@ -100,6 +158,10 @@ pub record WorkedRuns : Type 0 where
   pub gone_early : GoneEarly (text_handed (two_ready 3) same_upgrade)
   pub repaired_at_last : RepairedAtLast (text_handed (two_ready 3) same_upgrade)
   pub old_file_left : OldFileLeft (text_handed (two_ready 3) same_upgrade)
+  pub attends : Attends (text_handed (two_ready 3) same_attended)
+  pub back_at_first : BackAtFirst (text_handed (two_ready 3) same_attended)
+  pub back_at_last : BackAtLast (text_handed (two_ready 3) same_attended)
+  pub back_is_short : BackIsShort (text_handed (two_ready 3) same_attended)
   -- One worker more.
   pub one_more :
       Gives two_ready_without_file (Workers 3) no_fault two_without_file (m1 (Fork first 2 None) answer.Forked ∷ m1 (AwaitReady first 2) answer.IsReady ∷ m1 (Census first) (answer.Counted (0 ∷ 1 ∷ 2 ∷ [])) ∷ []) (report Done None NoFile (0 ∷ 1 ∷ 2 ∷ []))

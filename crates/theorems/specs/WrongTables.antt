@@ -19,7 +19,7 @@ use Rattle.definitions.specs.Target.{want, wanted_at}
 use Rattle.definitions.specs.Run.{Progress, Ran, At, start_at}
 use Rattle.definitions.specs.Settling.{IsSettled, HasSide}
 use Rattle.definitions.specs.Manner.{Stays, Goes, KillsOnlyLate, LeavesLast}
-use Rattle.definitions.specs.Claims.{Says, Kept, Floor, IsBlamed, HasCause, IsPaid, StopNote, IsSucceeded}
+use Rattle.definitions.specs.Claims.{Says, Kept, Floor, AttendedFloor, IsBlamed, HasCause, IsPaid, StopNote, IsSucceeded}
 use Rattle.theorems.specs.GroupRuns.{both_holds, first_hold, grouped, grouped_with, three_workers, three_ready, two_groups}
 use Rattle.theorems.specs.Layouts.{IsSameLayout}
 use Rattle.theorems.specs.Examples.{first, port, other_port, pid_file, holds, two_workers, two_without_file, two_ready, table_with, pid_files, own_rows, m1}
@@ -60,7 +60,14 @@ other_unserved = record { rows = Master 100 1 1 true both_holds ∷ Worker 101 1
 ---- Runs
 
 abbrev pub progress : Table → ℕ → ℕ → Option ℕ → Progress
-progress t faults losses cause = record { table = t; calls = 1; ready = []; lacking = []; faults = faults; losses = losses; cause = cause; note = InPlace }
+progress t faults losses cause = record { table = t; calls = 1; ready = []; lacking = []; faults = faults; losses = losses; returns = []; cause = cause; note = InPlace }
+
+-- The operator went back at a question, after a number of faults.
+abbrev pub went_back : Progress → ℕ → ℕ → Progress
+went_back p question faults = record p { returns = (record { question = question; faults = faults }) ∷ [] }
+
+abbrev pub FloorThen : Progress → Type 0
+FloorThen p = AttendedFloor (service two_workers) (want (two_ready 3) (Workers 2)) two_workers (wanted_at (two_ready 3) (Workers 2)) p
 
 -- of one call, from one table to another
 abbrev pub ran_from : Table → Entry → Table → Ran
@@ -73,7 +80,7 @@ ran_from t e t' = record {
 
 -- the last count lacked one
 abbrev pub lacks_one : Table → ℕ → Progress
-lacks_one t faults = record { table = t; calls = 1; ready = []; lacking = 1 ∷ []; faults = faults; losses = 0; cause = Some 1; note = InPlace }
+lacks_one t faults = record { table = t; calls = 1; ready = []; lacking = 1 ∷ []; faults = faults; losses = 0; returns = []; cause = Some 1; note = InPlace }
 
 abbrev pub Refuted : Type 0 → Type 0
 Refuted claim = claim → ⊥
@@ -90,6 +97,11 @@ pub record WrongTables : Type 0 where
   pub kept : Refuted (Kept (service two_workers) (want (two_ready 3) (Workers 2)) two_workers opened_anew)
   -- The old workers went before new ones were ready.
   pub floor : Refuted (Floor (service two_workers) (want (two_ready 3) (Workers 2)) two_workers (wanted_at (two_ready 3) (Workers 2)) (progress one_left 0 0 None))
+  -- The operator went back at the second question, and the new master ended before the old workers were started again. A fault
+  -- before that question does not count, and none counts where the operator went back at the first.
+  pub ended_first : Refuted (FloorThen (went_back (progress none_left 0 0 (Some 15)) 2 0))
+  pub faults_before : Refuted (FloorThen (went_back (progress one_left 1 0 (Some 9)) 2 1))
+  pub first_question : Refuted (FloorThen (went_back (progress one_left 1 0 (Some 10)) 1 0))
   -- A worker is left Starting.
   pub agrees : Refuted (Agrees one_starts (two_ready 3))
   -- A worker is Ready that no master has, which the record does not see.

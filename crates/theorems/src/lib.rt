@@ -4,9 +4,9 @@
 
 ghost use Rattle.std.specs.Prelude.{ℕ, List, Bool};
 ghost use Rattle.vocabulary.specs.Settings.{Settings};
-ghost use Rattle.vocabulary.specs.declared.targets.Target.TheVariants.{Workers, Mend, Reopen, Reload, Upgrade, Stop};
+ghost use Rattle.vocabulary.specs.declared.targets.Target.TheVariants.{Workers, Mend, Reopen, Reload, Upgrade, Attended, Stop};
 ghost use Rattle.definitions.specs.Start.{StartsAgree};
-ghost use Rattle.definitions.specs.Claims.{InManner, MendHeadline, ReloadHeadline, ReopenFloor, ReopenHeadline, RunsWithin, StopHeadline, UpgradeHeadline, WorkersHeadline};
+ghost use Rattle.definitions.specs.Claims.{AttendedHeadline, InManner, MendHeadline, ReloadHeadline, ReopenFloor, ReopenHeadline, RunsWithin, StopHeadline, UpgradeHeadline, WorkersHeadline};
 ghost use Rattle.definitions.specs.Settling.{PlansGoBack, ReturnsAlways, SettlesAlways};
 ghost use Rattle.theorems.specs.Examples.{HasStart};
 ghost use Rattle.theorems.specs.Layouts.{RecordsLaidOut, StartsLaidOut};
@@ -49,6 +49,12 @@ pub fn stops_end_as_reported()
 pub fn upgrades_end_as_reported()
     ensures headline { UpgradeHeadline }
     ensures manner { (s : Settings) → InManner (Upgrade s) }
+{}
+
+/// The same of an upgrade that asks the operator twice whether to go on or back.
+pub fn attended_upgrades_end_as_reported()
+    ensures headline { AttendedHeadline }
+    ensures manner { (s : Settings) → InManner (Attended s) }
 {}
 
 /// A settle ends full with all its numbers Ready, or short by just those that are missing, which

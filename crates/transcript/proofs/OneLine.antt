@@ -24,7 +24,7 @@ use Rattle.vocabulary.specs.declared.reports.Report.{Report}
 use Rattle.vocabulary.specs.declared.reports.Outcome.{Outcome}
 use Rattle.vocabulary.specs.declared.reports.Outcome.TheVariants as outcome
 use Rattle.control_words.specs.declared.words.Word.{Word}
-use Rattle.control_words.specs.declared.words.Word.TheVariants.{Hup, Quit, Int, Term, Usr1, Usr2, Winch, Ttin, Ttou, Beat, Tick}
+use Rattle.control_words.specs.declared.words.Word.TheVariants.{Hup, Quit, Int, Term, Usr1, Usr2, Usr2Attended, Winch, Ttin, Ttou, Beat, Tick}
 use Rattle.control_words.specs.declared.refusal.WordRefusal.TheVariants.{Unknown, BadNumber, AtMost, NoConfig, PidChanged}
 use Rattle.control_words.specs.Words.{word_text, IsWord}
 use Rattle.plain_text.proofs.NumberTextLemmas.{both}
@@ -90,6 +90,8 @@ module _ (b : ℕ) (off : is_ascii_digit b ≡ false) (letters : is_letter b ≡
   answer_lacks answer.Refused h = lacks-all is_letter b letters (codes "refused") refl
   answer_lacks answer.IoFault h = lacks-all is_letter b letters (codes "io-fault") refl
   answer_lacks answer.IsAlive h = lacks-all is_letter b letters (codes "alive") refl
+  answer_lacks answer.Go h = lacks-all is_letter b letters (codes "go") refl
+  answer_lacks answer.Back h = lacks-all is_letter b letters (codes "back") refl
   answer_lacks answer.MasterGone h = lacks-all is_letter b letters (codes "master-gone") refl
 
 pub answer_lacks_colon : (a : Answer) → IsAnswer a → lacks 58 (answer_text a) ≡ true
@@ -145,6 +147,7 @@ call_lacks (call.Census g) h = lacks-append 10 (codes "census ") (generation_tex
 call_lacks (call.SpawnMaster i) h = lacks-append 10 (codes "spawn-master ") (decimal i) refl (number_lacks 10 i refl h)
 call_lacks (call.Alive i) h = lacks-append 10 (codes "alive ") (decimal i) refl (number_lacks 10 i refl h)
 call_lacks (call.TermMaster i) h = lacks-append 10 (codes "term-master ") (decimal i) refl (number_lacks 10 i refl h)
+call_lacks (call.Ask i) h = lacks-append 10 (codes "ask ") (decimal i) refl (number_lacks 10 i refl h)
 call_lacks (call.WritePid p) h = lacks-append 10 (codes "write-pid ") p refl (path_lacks p h)
 call_lacks (call.RemovePid p) h = lacks-append 10 (codes "remove-pid ") p refl (path_lacks p h)
 call_lacks (call.MovePid p q) h = lacks-append 10 (codes "move-pid ") (p ++ 32 ∷ q) refl (lacks-append 10 p (codes " " ++ q) (path_lacks p h.0) (lacks-append 10 (codes " ") q refl (path_lacks q h.1)))
@@ -196,6 +199,7 @@ word_lacks Int h = refl
 word_lacks Term h = refl
 word_lacks Usr1 h = refl
 word_lacks Usr2 h = refl
+word_lacks Usr2Attended h = refl
 word_lacks Winch h = refl
 word_lacks Ttin h = refl
 word_lacks Ttou h = refl

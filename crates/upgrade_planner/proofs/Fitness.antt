@@ -1,5 +1,5 @@
 -- The plan of an upgrade can be run: each step has an edge for each reply, and a worker is named only after a short census.
-use Rattle.std.proofs.Common.{ℕ, List, Option, Some, None, reverse, refl}
+use Rattle.std.proofs.Common.{ℕ, Bool, true, false, List, Option, Some, None, reverse, refl}
 use Rattle.listener_set.specs.Numbers.{numbers_below}
 use Rattle.definitions.specs.Table.{FilePath}
 use Rattle.definitions.specs.Calls.{Call, Census, SpawnMaster}
@@ -9,7 +9,7 @@ use Rattle.vocabulary.specs.declared.plans.PidNote.{PidNote}
 use Rattle.vocabulary.specs.declared.plans.PidNote.TheVariants.{InPlace, AtOldbin, OldbinLeft, Left, NoFile}
 use Rattle.definitions.specs.Record.{oldbin}
 use Rattle.definitions.specs.Tree.{Tree}
-use Rattle.definitions.specs.Plans.{does, settle, tries, tries_all, move_back, move_aside, remove_oldbin, back_alone, back_from, back_late, hand_over, relieve, spawn_edges}
+use Rattle.definitions.specs.Plans.{asks, back_serving, retire, does, settle, tries, tries_all, move_back, move_aside, remove_oldbin, back_alone, back_from, back_late, hand_over, relieve, spawn_edges}
 use Rattle.plan_pieces.proofs.Fitness.{settle_fit, quits_fit, awaits_gone_fit, remove_fit, starts_any_fit}
 use Rattle.plan_pieces.proofs.TriedFitness.{IsFit, move_fit, tries_fit, tries_all_fit}
 use Rattle.upgrade_planner.specs.Trees.{succession}
@@ -40,10 +40,23 @@ hand_over_fit by new rounds path n short =
     let heir = new.generation.image in
     rw (remove_oldbin_fit heir path _ (λ s. settle_fit heir new (numbers_below n) Target rounds s) short) refl
 
-relieve_fit : (by : ℕ) (old new : Crew) (ready : List ℕ) (rounds : ℕ) (path : Option FilePath) (n : ℕ) → IsFit (relieve by old new ready rounds path n)
-relieve_fit by old new ready rounds path n short =
+retire_fit : (by : ℕ) (old new : Crew) (ready : List ℕ) (rounds : ℕ) (path : Option FilePath) (n : ℕ) → IsFit (retire by old new ready rounds path n)
+retire_fit by old new ready rounds path n short = rw (hand_over_fit by new rounds path n short, late_fit by new.generation.image old ready rounds path short) refl
+
+serving_fit : (by heir : ℕ) (crew : Crew) (ready : List ℕ) (rounds : ℕ) (path : Option FilePath) → IsFit (back_serving by heir crew ready rounds path)
+serving_fit by heir crew ready rounds path short = starts_any_fit by crew ready (back_from by heir crew ready rounds path) short (from_fit by heir crew ready rounds path short)
+
+asks_fit : (attended : Bool) (by question : ℕ) (on_go on_back : Tree) → IsFit on_go → IsFit on_back → IsFit (asks attended by question on_go on_back)
+asks_fit true by question on_go on_back h e short = rw (h short, e short) refl
+asks_fit false by question on_go on_back h e short = h short
+
+relieve_fit : (attended : Bool) (by : ℕ) (old new : Crew) (ready : List ℕ) (rounds : ℕ) (path : Option FilePath) (n : ℕ) → IsFit (relieve attended by old new ready rounds path n)
+relieve_fit attended by old new ready rounds path n =
     let g = old.generation in
-    quits_fit by g (reverse ready) _ short (awaits_gone_fit by g (reverse ready) _ short (rw (hand_over_fit by new rounds path n short, late_fit by new.generation.image old ready rounds path short) refl))
+    let heir = new.generation.image in
+    let last = asks attended by 2 (retire by old new ready rounds path n) (back_serving by heir old ready rounds path) in
+    let is_last = asks_fit attended by 2 _ _ (retire_fit by old new ready rounds path n) (serving_fit by heir old ready rounds path) in
+    asks_fit attended by 1 _ _ (λ short. quits_fit by g (reverse ready) _ short (awaits_gone_fit by g (reverse ready) last short (is_last short))) (from_fit by heir old ready rounds path)
 
 ---- The whole
 
@@ -58,17 +71,17 @@ move_aside_fit by (Some path) OldbinLeft ok bad h e = λ short. rw (h short, e s
 move_aside_fit by (Some path) Left ok bad h e = λ short. rw (h short, e short) refl
 move_aside_fit by (Some path) NoFile ok bad h e = λ short. rw (h short, e short) refl
 
-pub succession_fit : (old new : Crew) (ready : List ℕ) (rounds : ℕ) (path : Option FilePath) (note : PidNote) (calls : List Call) (numbers : List ℕ) (n : ℕ) → IsFit (succession old new ready rounds path note calls numbers n)
-succession_fit old new ready rounds path note calls numbers n =
+pub succession_fit : (attended : Bool) (old new : Crew) (ready : List ℕ) (rounds : ℕ) (path : Option FilePath) (note : PidNote) (calls : List Call) (numbers : List ℕ) (n : ℕ) → IsFit (succession attended old new ready rounds path note calls numbers n)
+succession_fit attended old new ready rounds path note calls numbers n =
     let by = old.generation.image in
     let heir = new.generation.image in
     let back = back_from by heir old ready rounds path in
-    let relief = relieve by old new ready rounds path n in
+    let relief = relieve attended by old new ready rounds path n in
     let counted = tries heir (Census new.generation) numbers relief back in
     let takeover = tries_all heir calls counted back in
     let alone = back_alone by old ready rounds path in
     let is_back = from_fit by heir old ready rounds path in
-    let is_counted = tries_fit heir (Census new.generation) numbers relief back (relieve_fit by old new ready rounds path n) is_back in
+    let is_counted = tries_fit heir (Census new.generation) numbers relief back (relieve_fit attended by old new ready rounds path n) is_back in
     let is_takeover = tries_all_fit heir calls counted back is_counted is_back in
     move_aside_fit by path note (does by (SpawnMaster heir) (spawn_edges takeover alone)) (settle by old ready Old rounds)
     (spawn_fit by heir takeover alone is_takeover (alone_fit by old ready rounds path))

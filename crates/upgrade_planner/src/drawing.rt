@@ -45,16 +45,16 @@ fn add_spawn(
 /// relieved. Until then whatever fails leads back to the old master.
 pub fn add_upgrade(draft: &mut Draft, upgrade: &Upgrade<'_>) -> Result<Place, DraftRefusal>
     requires room { HasSuffixRoom upgrade.now.path }
-    ensures made { IfOk result (λ place. IsMade draft.new place (succession upgrade.now.old.crew upgrade.now.new.crew upgrade.now.old.numbers upgrade.now.rounds upgrade.now.path upgrade.now.note
+    ensures made { IfOk result (λ place. IsMade draft.new place (succession upgrade.now.attended upgrade.now.old.crew upgrade.now.new.crew upgrade.now.old.numbers upgrade.now.rounds upgrade.now.path upgrade.now.note
         (taking_over upgrade.now.new.crew upgrade.now.path upgrade.now.dropped.now upgrade.now.added.now upgrade.now.coming.now) upgrade.now.coming.now upgrade.now.workers)) }
     ensures count { OnOk result (length (trees_of draft.new) ≤ length (trees_of draft.old)
-        + (8 * upgrade.now.rounds + 6 * length upgrade.now.old.numbers + 2 * length upgrade.now.coming.now + length upgrade.now.dropped.now + length upgrade.now.added.now + 13)) }
+        + (8 * upgrade.now.rounds + 9 * length upgrade.now.old.numbers + 2 * length upgrade.now.coming.now + length upgrade.now.dropped.now + length upgrade.now.added.now + 15)) }
     ensures too_large { IsErrOf result TooLarge → MOST_STEPS < length (trees_of draft.old)
-        + (8 * upgrade.now.rounds + 6 * length upgrade.now.old.numbers + 2 * length upgrade.now.coming.now + length upgrade.now.dropped.now + length upgrade.now.added.now + 13) }
+        + (8 * upgrade.now.rounds + 9 * length upgrade.now.old.numbers + 2 * length upgrade.now.coming.now + length upgrade.now.dropped.now + length upgrade.now.added.now + 15) }
 {
     let by = upgrade.old.master();
     let back = add_ways_back(draft, upgrade)?;
-    let relief = add_relief(draft, upgrade, back.restarted)?;
+    let relief = add_relief(draft, upgrade, back.stopped, back.restarted)?;
     let takeover = add_takeover(draft, upgrade, relief, back.stopped)?;
     let image = upgrade.new.crew.generation.image;
     let spawn = add_spawn(draft, by, image, takeover, back.alone)?;

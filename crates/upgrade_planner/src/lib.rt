@@ -10,4 +10,4 @@ mod relieving;
 mod taking_over;
 mod upgrade;
 
-pub use planning::plan;
+pub use planning::{plan, plan_attended};

@@ -6,6 +6,7 @@ ghost use Rattle.definitions.specs.Target.{sides_of, text_handed, upgrade_genera
 ghost use Rattle.definitions.specs.Plans.{plan_tree, planned};
 ghost use Rattle.rollback_plan.specs.Plans.{tree_of, note_of, sides_told, text_of, trees_in};
 ghost use Rattle.reload_planner.specs.Planning.{most_steps};
+ghost use Rattle.upgrade_planner.specs.Trees.{asked_for};
 
 use crate::drawing::add_upgrade;
 use crate::upgrade::{Staff, Upgrade};
@@ -44,22 +45,34 @@ fn handed(
     write(alloc, &handover)
 }
 
+/// The target that is planned.
+fn asked_for(settings: &Settings, attended: bool) -> Target
+    ensures { result ≡ asked_for attended settings.now }
+{
+    if attended {
+        Target::Attended(*settings)
+    } else {
+        Target::Upgrade(*settings)
+    }
+}
+
 /// The plan of an upgrade to the next generation.
 fn plan_to(
     alloc: Global,
     state: &Record,
     settings: &Settings,
+    attended: bool,
     generation: Generation,
 ) -> Result<Plan, PlanRefusal>
     requires { generation ≡ upgrade_generation state.now.generation }
-    ensures tree { IfOk result (λ plan. tree_of plan ≡ plan_tree state.now (target.Upgrade settings.now)) }
+    ensures tree { IfOk result (λ plan. tree_of plan ≡ plan_tree state.now (asked_for attended settings.now)) }
     ensures note { IfOk result (λ plan. note_of plan ≡ state.now.note) }
-    ensures sides { IfOk result (λ plan. sides_told plan ≡ sides_of state.now (target.Upgrade settings.now)) }
-    ensures text { IfOk result (λ plan. text_of plan ≡ text_handed state.now (target.Upgrade settings.now)) }
-    ensures few { IfOk result (λ plan. length (trees_in plan) ≤ most_steps state.now (target.Upgrade settings.now)) }
+    ensures sides { IfOk result (λ plan. sides_told plan ≡ sides_of state.now (asked_for attended settings.now)) }
+    ensures text { IfOk result (λ plan. text_of plan ≡ text_handed state.now (asked_for attended settings.now)) }
+    ensures few { IfOk result (λ plan. length (trees_in plan) ≤ most_steps state.now (asked_for attended settings.now)) }
     ensures memory { IsOkUnless result PlanRefusal.Memory }
 {
-    let target = Target::Upgrade(*settings);
+    let target = asked_for(settings, attended);
     let posts = state.posts_wanted(&target);
     let leaving = listed(alloc, &state.ready)?;
     let wanted = Numbers::below(settings.workers);
@@ -68,6 +81,7 @@ fn plan_to(
     let dropped = listening.only_in(&settings.listeners);
     let added = settings.listeners.only_in(&listening);
     let upgrade = Upgrade {
+        attended,
         old: Staff {
             crew: state.crew(),
             numbers: state.ready,
@@ -85,10 +99,32 @@ fn plan_to(
         dropped: dropped.as_slice(),
         added: added.as_slice(),
     };
-    let mut draft = Draft::with_room(alloc, 6 * leaving.len() + 2 * coming.len() + MOST_OTHERS)?;
+    let mut draft = Draft::with_room(alloc, 9 * leaving.len() + 2 * coming.len() + MOST_OTHERS)?;
     let first = add_upgrade(&mut draft, &upgrade)?;
     let text = handed(alloc, state, settings, generation)?;
     Ok(draft.finish(first, state.note, &state.sides(&target), text)?)
+}
+
+/// The plan of an upgrade, attended or not, where there is a next generation.
+fn plan_next(
+    alloc: Global,
+    state: &Record,
+    settings: &Settings,
+    attended: bool,
+) -> Result<Plan, PlanRefusal>
+    ensures tree { IfOk result (λ plan. planned state.now (asked_for attended settings.now) ≡ Some (tree_of plan)) }
+    ensures note { IfOk result (λ plan. note_of plan ≡ state.now.note) }
+    ensures sides { IfOk result (λ plan. sides_told plan ≡ sides_of state.now (asked_for attended settings.now)) }
+    ensures text { IfOk result (λ plan. text_of plan ≡ text_handed state.now (asked_for attended settings.now)) }
+    ensures few { IfOk result (λ plan. length (trees_in plan) ≤ most_steps state.now (asked_for attended settings.now)) }
+    ensures numbered { IsErrOf result PlanRefusal.NoGeneration ↔ IsTrue (after.lacks_generation state.now (asked_for attended settings.now)) }
+    ensures not_large { IsErrOf result PlanRefusal.TooLarge → ⊥ }
+    ensures planned_here { IsErrOf result PlanRefusal.Unplanned → ⊥ }
+{
+    match next_image(state.generation) {
+        None => Err(PlanRefusal::NoGeneration),
+        Some(generation) => plan_to(alloc, state, settings, attended, generation),
+    }
 }
 
 /// Plans an upgrade of a running master to a new executable with these settings: what both masters do, and what they do
@@ -106,8 +142,25 @@ pub fn plan(alloc: Global, state: &Record, settings: &Settings) -> Result<Plan, 
     ensures not_large { IsErrOf result PlanRefusal.TooLarge → ⊥ }
     ensures planned_here { IsErrOf result PlanRefusal.Unplanned → ⊥ }
 {
-    match next_image(state.generation) {
-        None => Err(PlanRefusal::NoGeneration),
-        Some(generation) => plan_to(alloc, state, settings, generation),
-    }
+    plan_next(alloc, state, settings, false)
+}
+
+/// Plans the same upgrade with two questions to the operator, whether to go on or back: one once the new master's workers
+/// are ready, before the old ones quit, and one once those are gone, before the old master leaves. On the way back from the
+/// second the old workers are started again before the new master ends. The refusals are those of `plan`.
+pub fn plan_attended(
+    alloc: Global,
+    state: &Record,
+    settings: &Settings,
+) -> Result<Plan, PlanRefusal>
+    ensures tree { IfOk result (λ plan. planned state.now (target.Attended settings.now) ≡ Some (tree_of plan)) }
+    ensures note { IfOk result (λ plan. note_of plan ≡ state.now.note) }
+    ensures sides { IfOk result (λ plan. sides_told plan ≡ sides_of state.now (target.Attended settings.now)) }
+    ensures text { IfOk result (λ plan. text_of plan ≡ text_handed state.now (target.Attended settings.now)) }
+    ensures few { IfOk result (λ plan. length (trees_in plan) ≤ most_steps state.now (target.Attended settings.now)) }
+    ensures numbered { IsErrOf result PlanRefusal.NoGeneration ↔ IsTrue (after.lacks_generation state.now (target.Attended settings.now)) }
+    ensures not_large { IsErrOf result PlanRefusal.TooLarge → ⊥ }
+    ensures planned_here { IsErrOf result PlanRefusal.Unplanned → ⊥ }
+{
+    plan_next(alloc, state, settings, true)
 }

@@ -27,6 +27,8 @@ impl Staff {
 /// What an upgrade changes.
 #[derive(Clone, Copy)]
 pub struct Upgrade<'a> {
+    /// Whether the operator is asked whether to go on or back.
+    pub attended: bool,
     /// The old master with its ready workers, and their numbers upwards.
     pub old: Staff,
     pub leaving: &'a [u32],

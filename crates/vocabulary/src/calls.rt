@@ -39,6 +39,9 @@ pub enum Call {
     Usr1(Generation, u32),
     /// Ends the master of the image, with its workers.
     TermMaster(u32),
+    /// Asks the operator whether to go on with an upgrade or back: question 1 before the old workers quit, question 2 once
+    /// they are gone.
+    Ask(u32),
 }
 
 /// What a call is answered.
@@ -80,6 +83,10 @@ pub enum Answer {
     IoFault,
     /// The master lives.
     IsAlive,
+    /// The operator goes on.
+    Go,
+    /// The operator goes back to the old service. This is a cause, and no fault.
+    Back,
     /// The master that should make the call is gone.
     MasterGone,
 }
@@ -96,6 +103,7 @@ pub enum Fate {
     NoImage,
     Refused,
     IoFault,
+    Back,
 }
 
 /// What an edge of a plan tells apart of an answer.
@@ -122,5 +130,7 @@ pub enum Reply {
     Refused,
     IoFault,
     IsAlive,
+    Go,
+    Back,
     MasterGone,
 }

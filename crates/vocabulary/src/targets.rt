@@ -15,6 +15,8 @@ pub enum Target {
     Reload(Settings),
     /// The service of these settings, by a new master and its workers.
     Upgrade(Settings),
+    /// The same, but the operator is asked twice: before the old workers quit, and once they are gone.
+    Attended(Settings),
     /// No service. Requests in progress are finished first unless it is quick.
     Stop { quick: bool },
 }

@@ -7,7 +7,7 @@ pub returns-in-AwaitGone-clause-text : goal.returns-in-AwaitGone-clause-text
 returns-in-AwaitGone-clause-text g c = rw c.in-AwaitGone.is c.write_named-in-AwaitGone.ensures.text
 
 pub returns-in-SpawnMaster-clause-text : goal.returns-in-SpawnMaster-clause-text
-returns-in-SpawnMaster-clause-text g c = rw c.in-SpawnMaster.is c.write_image.ensures.text
+returns-in-SpawnMaster-clause-text g c = rw c.in-SpawnMaster.is c.write_numbered.ensures.text
 
 pub returns-in-RemovePid-clause-text : goal.returns-in-RemovePid-clause-text
 returns-in-RemovePid-clause-text g c =

@@ -15,6 +15,8 @@ returns c =
       reloads_manner = c.reloads_end_as_reported.ensures.manner;
       upgrades = c.upgrades_end_as_reported.ensures.headline;
       upgrades_manner = c.upgrades_end_as_reported.ensures.manner;
+      attended = c.attended_upgrades_end_as_reported.ensures.headline;
+      attended_manner = c.attended_upgrades_end_as_reported.ensures.manner;
       stops = c.stops_end_as_reported.ensures.headline;
       stops_manner = c.stops_end_as_reported.ensures.manner;
     }) c.args.target.now c.requires c.read_settings.ensures
