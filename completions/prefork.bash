@@ -2,7 +2,7 @@
 # To use it: source completions/prefork.bash
 
 _prefork() {
-    local signals='HUP QUIT INT TERM USR1 USR2 WINCH TTIN TTOU'
+    local signals='HUP QUIT INT TERM USR1 USR2 WINCH TTIN TTOU' attended='USR2\ attended'
     local cur=${COMP_WORDS[COMP_CWORD]} prev=${COMP_WORDS[COMP_CWORD - 1]}
     local options word
 
@@ -68,12 +68,13 @@ _prefork() {
     # One word is all that plan and explore take.
     if [[ ${COMP_WORDS[1]} == plan || ${COMP_WORDS[1]} == explore ]]; then
         for word in "${before[@]}"; do
-            [[ " $signals " == *" $word "* || $word == [\'\"]* ]] && return
+            [[ " $signals " == *" $word "* || $word == [\'\"]* || $word == "$attended" ]] && return
         done
     fi
 
     # The words with numbers are one argument, and so begin with a quote that is still to be closed.
     mapfile -t COMPREPLY < <(compgen -W "$signals" -- "$cur")
+    [[ $attended == "$cur"* ]] && COMPREPLY+=("$attended")
     for word in beat tick; do
         [[ $word == "$cur"* ]] || continue
         COMPREPLY+=("'$word ")
