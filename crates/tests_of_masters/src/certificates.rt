@@ -1,6 +1,7 @@
 //! Certificates: what a run came to, compared with the modelled kernel.
 ghost use Rattle.std.specs.Prelude.{◌≤◌};
 
+use crate::kernels::with_two_workers;
 use certifier::{BlockMismatch, Mismatch, certify, certify_blocks};
 use control_words::Word;
 use kernel_model::{Kernel, Pattern};
@@ -9,25 +10,13 @@ use plan_executor::{enact, run_words};
 use service_state::Record;
 use std::alloc::Global;
 use std::test::Fail;
-use vocabulary::{Limits, Settings, Target};
+use vocabulary::{Settings, Target};
 use word_runner::Block;
 use worker_table::WorkerTable;
 
 /// A kernel with a master, whose process number is 100, and two workers.
 fn booted(alloc: Global) -> Result<Kernel, Fail> {
-    let settings = Settings::plain();
-    let limits = Limits {
-        processes: 65_535,
-        descriptors: 64,
-    };
-    Ok(Kernel::boot(
-        alloc,
-        &settings.listeners,
-        &settings.groups,
-        2,
-        settings.pid,
-        limits,
-    )?)
+    with_two_workers(alloc, &Settings::plain(), 65_535)
 }
 
 /// What a master with two workers and that process number knows.

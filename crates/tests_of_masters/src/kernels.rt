@@ -3,7 +3,7 @@ use kernel_model::{BootRefusal, Kernel, Moment, ReserveRefusal, Row};
 use listener_set::{Address, DescriptorSet, FilePath, Generation, Groups, ListenerSet, Numbers};
 use std::alloc::Global;
 use std::test::Fail;
-use vocabulary::{Actor, Answer, Call, Fate, Limits, Name, Stance};
+use vocabulary::{Actor, Answer, Call, Fate, Limits, Name, Settings, Stance};
 
 const FIRST: Generation = Generation {
     image: 1,
@@ -47,6 +47,27 @@ fn are_answered(kernel: &mut Kernel, calls: &[(Call, Moment<'_>, Answer)]) -> bo
         }
     }
     true
+}
+
+/// A kernel with a master of these settings, whose process number is 100, and two workers, where so many
+/// processes may be.
+pub(crate) fn with_two_workers(
+    alloc: Global,
+    settings: &Settings,
+    processes: u32,
+) -> Result<Kernel, Fail> {
+    let limits = Limits {
+        processes,
+        descriptors: 64,
+    };
+    Ok(Kernel::boot(
+        alloc,
+        &settings.listeners,
+        &settings.groups,
+        2,
+        settings.pid,
+        limits,
+    )?)
 }
 
 /// A kernel with the listener 0.0.0.0:8080 and a pid file.

@@ -266,6 +266,8 @@ fn no_two_steps_are_alike(rt: HostRuntime) -> Result<(), Fail> {
                 assert!(rt; is_distinct(rt.alloc(), &state, &Target::Reload(none))?);
                 assert!(rt; is_distinct(rt.alloc(), &state, &Target::Stop { quick: false })?);
                 assert!(rt; is_distinct(rt.alloc(), &state, &Target::Stop { quick: true })?);
+                assert!(rt; !repeats(&upgrade_planner::plan(rt.alloc(), &state, &other)?));
+                assert!(rt; !repeats(&upgrade_planner::plan_attended(rt.alloc(), &state, &none)?));
             }
         }
     }

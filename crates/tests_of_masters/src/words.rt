@@ -1,31 +1,20 @@
 //! Words without a master or a configuration, the table of workers, and what is printed of refusals.
+use crate::kernels::with_two_workers;
 use control_words::{Word, WordRefusal};
-use kernel_model::Kernel;
 use listener_set::Numbers;
 use plan_executor::{EnactRefusal, run_words};
 use reload_planner::PlanRefusal;
 use service_state::Record;
 use std::alloc::Global;
 use std::test::Fail;
-use vocabulary::{Limits, Settings};
+use vocabulary::Settings;
 use word_runner::{Block, Body, CodeText};
 use worker_table::{TableRefusal, WorkerTable};
 
 /// The body of a word's block, where no next settings are at hand.
 fn body_of(alloc: Global, state: Option<Record>, word: Word) -> Result<Body, Fail> {
     let settings = Settings::plain();
-    let limits = Limits {
-        processes: 65_535,
-        descriptors: 64,
-    };
-    let mut kernel = Kernel::boot(
-        alloc,
-        &settings.listeners,
-        &settings.groups,
-        2,
-        settings.pid,
-        limits,
-    )?;
+    let mut kernel = with_two_workers(alloc, &settings, 65_535)?;
     let mut state = state;
     let mut workers = WorkerTable::new(alloc)?;
     let mut blocks = Vec::new(alloc);
