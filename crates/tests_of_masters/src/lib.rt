@@ -13,4 +13,5 @@ mod planning;
 mod records;
 #[cfg(test)]
 mod upgrades;
+#[cfg(test)]
 mod words;
