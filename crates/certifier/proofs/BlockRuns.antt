@@ -1,5 +1,5 @@
 -- Blocks that are explained one after another, and the first that is not.
-use Rattle.std.proofs.Common.{◌≡◌, ◌⊎◌, inl, inr, ℕ, ◌+◌, ◌<◌, List, [], ◌∷◌, ◌++◌, length, take, drop, Err, Option, refl, sym, ◌∙◌, ap, subst, arith, append_assoc}
+use Rattle.std.proofs.Common.{◌≡◌, ◌⊎◌, inl, inr, ℕ, ◌+◌, ◌-◌, ◌<◌, List, [], ◌∷◌, ◌++◌, length, take, drop, Err, Option, refl, sym, ◌∙◌, ap, subst, arith, append_assoc}
 use Rattle.std.specs.Prelude.{◌↔◌}
 use Rattle.std.specs.Result.{IsErrOf}
 use Rattle.std.proofs.lemmas.List.{take-append-drop, length-take-le}
@@ -10,7 +10,7 @@ use Rattle.word_runner.specs.Words.{Standing}
 use Rattle.plan_executor.specs.Words.{Moments}
 use Rattle.certifier.specs.declared.mismatch.Mismatch.{Mismatch}
 use Rattle.certifier.specs.declared.mismatch.Mismatch.TheVariants as mismatch
-use Rattle.certifier.specs.Blocks.{IsTaken, IsFault, AreTaken, StopsAtBlock}
+use Rattle.certifier.specs.Blocks.{IsTaken, IsFault, AreTaken, StopsAtBlock, LeadsUpTo}
 
 pub taken-more : (settings : Option Settings) (bs : List Block) (old : Standing State) (ps : List Moments) (middle : Standing State) (b : Block) (p : Moments) (new : Standing State) →
     AreTaken settings bs old ps middle → IsTaken settings b middle p new → AreTaken settings (bs ++ b ∷ []) old (ps ++ p ∷ []) new
@@ -41,3 +41,9 @@ stops-there settings blocks old place b ps there why lt longer are wrong = recor
   taken = are;
   fault = wrong;
 }
+
+pub leads-there : (settings : Option Settings) (blocks : List Block) (old : Standing State) (place : ℕ) (ps : List Moments) (there new : Standing State) →
+    AreTaken settings (take place blocks) old ps there → new ≡ there → LeadsUpTo settings blocks old (place + 1) new
+leads-there settings blocks old place ps there new are same =
+    let n : place + 1 - 1 ≡ place = omega (arith) in
+    (ps, subst (λ (bs : List Block). AreTaken settings bs old ps new) (ap (λ m. take m blocks) (sym n)) (subst (AreTaken settings (take place blocks) old ps) (sym same) are))

@@ -6,6 +6,7 @@ pub mod Taking
 pub mod Holding
 pub mod Matching
 pub mod Faults
+pub mod Certificates
 pub mod Complete
 pub mod Following
 pub mod BlockRuns

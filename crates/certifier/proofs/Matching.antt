@@ -26,6 +26,7 @@ use Rattle.plan_executor.proofs.Exact.{no_plan}
 use Rattle.kernel_model.specs.State.{State}
 use Rattle.std.proofs.lemmas.Option.{none-some}
 use Rattle.plan_executor.proofs.Reporting.{whole-run}
+use Rattle.plan_executor.specs.Lawful.{IsWholeRun}
 use Rattle.certifier.specs.declared.mismatch.Mismatch.{Mismatch}
 use Rattle.certifier.specs.declared.mismatch.Mismatch.TheVariants as mismatch
 use Rattle.certifier.specs.Shown.{moments_shown}
@@ -65,8 +66,9 @@ module _ (t : Table) (r : Record) (target : Target) (entries : List Entry) (repo
 
   ---- A transcript that holds
 
-  pub certified : (pattern : List (ℕ × Moment)) → Holds (text_handed r target) (heirs_of r target) (sides_of r target) (begins t r target) entries report pattern → IsCertified t r target entries report pattern
-  certified pattern h =
+  pub whole : (pattern : List (ℕ × Moment)) → Holds (text_handed r target) (heirs_of r target) (sides_of r target) (begins t r target) entries report pattern →
+      IsWholeRun r target (moment_at pattern) t entries (place_after_all (text_handed r target) (heirs_of r target) (begins t r target) entries).table report
+  whole pattern h =
       let text = text_handed r target in
       let heirs = heirs_of r target in
       let sides = sides_of r target in
@@ -80,13 +82,21 @@ module _ (t : Table) (r : Record) (target : Target) (entries : List Entry) (repo
         report_is = reports;
         lost = λ lost. absurd (not-lost sides (trail_by r target entries).rest (trail_by r target entries).lacking report.outcome edges reports.outcome lost);
       } in
-      let whole = whole-run r target (moment_at pattern) t last entries report law (next-replays text heirs (moment_at pattern) 0 p entries goes h.next) in
+      whole-run r target (moment_at pattern) t last entries report law (next-replays text heirs (moment_at pattern) 0 p entries goes h.next)
+
+  pub certified : (pattern : List (ℕ × Moment)) → Holds (text_handed r target) (heirs_of r target) (sides_of r target) (begins t r target) entries report pattern → IsCertified t r target entries report pattern
+  certified pattern h =
+      let text = text_handed r target in
+      let heirs = heirs_of r target in
+      let p = begins t r target in
+      let goes = goes-through (moment_at pattern) (moments_shown text t entries) h.shown in
+      let run = whole pattern h in
       record {
         ready = ready;
         shown = h.shown;
-        last = last;
-        is_run = whole;
-        spared = ap (refused_among (r.generation.image ∷ []) heirs (moment_at pattern) 0) whole.entries_are ∙ next-spares text heirs (moment_at pattern) 0 p entries goes h.next;
+        last = (place_after_all text heirs p entries).table;
+        is_run = run;
+        spared = ap (refused_among (r.generation.image ∷ []) heirs (moment_at pattern) 0) run.entries_are ∙ next-spares text heirs (moment_at pattern) 0 p entries goes h.next;
       }
 
   ---- One that does not
@@ -283,11 +293,23 @@ complete-beginning t r target es pattern (Err why) exact is = elim (exact why) [
 ]
 
 -- what a transcript comes to
-pub answered : (t : Table) (r : Record) (target : Target) (es : List Entry) (report : Report) → IsReady t r target → (result : Result (List (ℕ × Moment)) Mismatch) →
-    IfOk result (Holds (text_handed r target) (heirs_of r target) (sides_of r target) (begins t r target) es report) →
+pub answered : {T : Type 0} (pattern_in : T → List (ℕ × Moment)) (t : Table) (r : Record) (target : Target) (es : List Entry) (report : Report) → IsReady t r target → (result : Result T Mismatch) →
+    IfOk result (λ it. Holds (text_handed r target) (heirs_of r target) (sides_of r target) (begins t r target) es report (pattern_in it)) →
     IfErr result (FailsBy (text_handed r target) (heirs_of r target) (sides_of r target) (begins t r target) es report) →
-    IfOk result (IsCertified t r target es report) × IsExact t r target es report result
-answered t r target es report ready (Ok pattern) holds fails =
-    (certified t r target es report ready pattern holds, exact-held (IsMismatch t r target es report) pattern (none-fits t r target es report ready pattern holds))
-answered t r target es report ready (Err why) holds fails =
-    (tt, exact-stopped t r target (IsMismatch t r target es report) (plain-mismatches t r target es report) why (mismatched t r target es report ready why fails))
+    IsExact t r target es report result
+answered pattern_in t r target es report ready (Ok it) holds fails = exact-held (IsMismatch t r target es report) it (none-fits t r target es report ready (pattern_in it) holds)
+answered pattern_in t r target es report ready (Err why) holds fails =
+    exact-stopped t r target (IsMismatch t r target es report) (plain-mismatches t r target es report) why (mismatched t r target es report ready why fails)
+
+-- exact is exact whatever else is given
+pub exact-of : {T U : Type 0} (t : Table) (r : Record) (target : Target) (es : List Entry) (report : Report) (x : T) (y : U) → IsExact {T = T} t r target es report (Ok x) → IsExact {T = U} t r target es report (Ok y)
+exact-of t r target es report x y exact why = elim (exact why) [
+  | inl memory ↦ absurd cc
+  | inr iff ↦ inr (λ h. absurd cc, λ is. absurd (let wrong = iff.1 is in cc))
+]
+
+pub exact-failed : {T U : Type 0} (t : Table) (r : Record) (target : Target) (es : List Entry) (report : Report) (why : Mismatch) → IsExact {T = T} t r target es report (Err why) → IsExact {T = U} t r target es report (Err why)
+exact-failed t r target es report why exact other = elim (exact other) [
+  | inl memory ↦ (let e : why ≡ mismatch.Memory = cc in inl (ap Err e))
+  | inr iff ↦ inr (λ h. (let e : why ≡ other = cc in iff.0 (ap Err e)), λ is. (let h = iff.1 is in let e : why ≡ other = cc in ap Err e))
+]

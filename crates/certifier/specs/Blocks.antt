@@ -1,5 +1,5 @@
 -- Blocks, compared one after another with plans and kernel.
-use Rattle.std.specs.Prelude.{⊤, ℕ, ◌≡◌, ◌+◌, ◌⊎◌, List, [], ◌∷◌, ◌++◌, length, Option, Some, None}
+use Rattle.std.specs.Prelude.{⊤, ℕ, ◌≡◌, ◌+◌, ◌-◌, ◌⊎◌, List, [], ◌∷◌, ◌++◌, length, take, Option, Some, None}
 use Rattle.vocabulary.specs.Settings.{Settings}
 use Rattle.vocabulary.specs.declared.targets.Target.{Target}
 use Rattle.vocabulary.specs.declared.reports.Entry.{Entry}
@@ -103,3 +103,7 @@ pub record StopsAtBlock (settings : Option Settings) (blocks : List Block) (old 
   pub there : Standing State
   pub taken : AreTaken settings front old patterns there
   pub fault : (why ≡ mismatch.Memory) ⊎ IsFault settings block there why
+
+-- The blocks before the n-th, counted from 1, lead from the one standing to the other.
+abbrev pub LeadsUpTo : Option Settings → List Block → Standing State → ℕ → Standing State → Type 0
+LeadsUpTo settings blocks old n new = (patterns : List Moments) × AreTaken settings (take (n - 1) blocks) old patterns new

@@ -7,6 +7,7 @@ use Rattle.vocabulary.specs.declared.targets.Target.{Target}
 use Rattle.definitions.specs.Path.{Entry, Report}
 use Rattle.definitions.specs.Run.{Moment, Pattern}
 use Rattle.definitions.specs.Claims.{refusal_of}
+use Rattle.definitions.specs.After.{next_record}
 use Rattle.kernel_model.specs.Pattern.{moment_at}
 use Rattle.kernel_model.specs.State.{State}
 use Rattle.word_runner.specs.declared.enactor.Enacted.{Enacted}
@@ -14,6 +15,7 @@ use Rattle.plan_executor.specs.declared.enactment.EnactRefusal.{EnactRefusal}
 use Rattle.plan_executor.specs.Refusals.{IsRefused}
 use Rattle.plan_executor.specs.Enacted.{IsEnacted}
 use Rattle.plan_executor.specs.Lawful.{IsWholeRun}
+use Rattle.certifier.specs.declared.replay.Certificate.{Certificate}
 use Rattle.certifier.specs.Explained.{pattern_shown, IsExplained, IsReady}
 
 -- The target could be carried out. The pattern is the one that the entries show; under it the run of the target's plan has
@@ -24,6 +26,12 @@ pub record IsCertified (t : Table) (r : Record) (target : Target) (entries : Lis
   pub last : Table
   pub is_run : IsWholeRun r target (moment_at pattern) t entries last report
   pub spared : refusal_of r target (moment_at pattern) t ≡ None
+
+-- That, and under the pattern the target was carried out, from this kernel to the certificate's.
+pub record HasEnacted (first : State) (r : Record) (target : Target) (entries : List Entry) (report : Report) (it : Certificate) : Type 0 where
+  pub certified : IsCertified first.table r target entries report it.pattern
+  pub enacted :
+      (room : ℕ) → IsEnacted first it.kernel r target (moment_at it.pattern) (record { log = record { entries = entries; room = room }; report = report; after = next_record r target report it.kernel.table })
 
 -- The target could be carried out. The entries begin a run of it, and the pattern is the one that they show.
 pub record IsBeginning (t : Table) (r : Record) (target : Target) (entries : List Entry) (pattern : List (ℕ × Moment)) : Type 0 where

@@ -8,6 +8,7 @@ use Rattle.plan_runner.specs.Walk.{trail_of, sides_in}
 use Rattle.plan_runner.specs.Fit.{height_next}
 use Rattle.plan_executor.specs.Naming.{listed}
 use Rattle.kernel_model.specs.Pattern.{moment_at}
+use Rattle.kernel_model.specs.State.{State}
 use Rattle.certifier.specs.declared.replay.Replay.{Replay}
 use Rattle.certifier.specs.declared.mismatch.Mismatch.{Mismatch}
 use Rattle.certifier.specs.declared.mismatch.Mismatch.TheVariants as mismatch
@@ -95,6 +96,11 @@ pub record Holds (text heirs : List ℕ) (sides : Sides) (from : Place) (entries
   pub shown : (n : ℕ) → moment_at pattern n ≡ pattern_of (moments_shown text from.table entries) n
   pub over : IsOver (place_after_all text heirs from entries).trail.rest
   pub reports : Reports sides (place_after_all text heirs from entries).trail report
+
+-- The kernel is as these entries leave it, and has room for the calls that are left of so many.
+pub record IsLed (text heirs : List ℕ) (calls : ℕ) (from : Place) (entries : List Entry) (k : State) : Type 0 where
+  pub table : k.table ≡ (place_after_all text heirs from entries).table
+  pub room : k.room + length entries ≡ calls
 
 -- All entries are next one after another, and a step is left.
 pub record StopsShort (text heirs : List ℕ) (from : Place) (entries : List Entry) : Type 0 where

@@ -1,25 +1,23 @@
 //! Blocks, compared one after another with plans and kernel.
-ghost use Rattle.std.specs.Prelude.{⊤, ◌≡◌, ◌⊎◌, ◌↔◌, [], ◌∷◌, ◌++◌, Option, IfOk, IfErr, OnErr, IsErrOf};
+ghost use Rattle.std.specs.Prelude.{⊤, ◌≡◌, ◌<◌, ◌⊎◌, ◌↔◌, [], ◌∷◌, Option, vec_capacity, vec_len, IfOk, IfErr, OnOk, OnErr, IsErrOf};
 ghost use Rattle.std.specs.Option.{option_copied};
 ghost use Rattle.definitions.specs.Record.{Record as Known};
 ghost use Rattle.kernel_model.specs.State.{State};
-ghost use Rattle.plan_executor.specs.Words.{EnactsAt, DeclinesAt};
-ghost use Rattle.word_runner.specs.Words.{standing, ComesTo};
+ghost use Rattle.word_runner.specs.Words.{standing};
 ghost use Rattle.word_runner.specs.Asking.{IsPossible, IsActOn};
-ghost use Rattle.word_runner.specs.declared.block.Body.{Body as Came};
-ghost use Rattle.certifier.specs.Blocks.{asked_at, IsIdle, IsFollowed, IsBodyTaken, IsTaken, IsRunFaultOf, IsBodyFault, IsFault, AreTaken, StopsAtBlock};
+ghost use Rattle.certifier.specs.Blocks.{asked_at, IsIdle, IsFollowed, IsBodyTaken, IsTaken, IsRunFaultOf, IsBodyFault, IsFault, AreTaken, StopsAtBlock, LeadsUpTo};
 ghost use Rattle.certifier.specs.declared.mismatch.Mismatch.{Mismatch as Why};
 
-use crate::certification::certify;
+use crate::certification::certificate;
 use crate::mismatch::Mismatch;
 use control_words::Word;
 use kernel_model::{Kernel, Pattern};
-use plan_executor::run_words;
+use plan_executor::record_left;
 use plan_runner::CallLog;
 use service_state::Record;
 use std::alloc::{AllocError, Global};
 use vocabulary::{Report, Settings};
-use word_runner::{Asked, Block, Body, asked_by, note};
+use word_runner::{Asked, Block, Body, asked_by, follow_run, note};
 use worker_table::WorkerTable;
 
 /// The first block that is none of the master's, counted from 1, and why.
@@ -31,7 +29,7 @@ pub struct BlockMismatch {
 
 /// Compares blocks one after another, each from where the ones before it left things, and gives the patterns that
 /// explain them, one for each. Then things stand where the last block leaves them. The first that is none of the
-/// master's is the mismatch.
+/// master's is the mismatch, and things stand where the blocks before it leave them.
 pub fn certify_blocks(
     alloc: Global,
     kernel: &mut Kernel,
@@ -42,24 +40,27 @@ pub fn certify_blocks(
 ) -> Result<Vec<Pattern>, BlockMismatch>
     ensures ok { IfOk result (λ patterns. AreTaken (option_copied settings.entry) blocks.now (standing kernel.old state.old workers.old) patterns.items (standing kernel.new state.new workers.new)) }
     ensures err { IfErr result (λ e. StopsAtBlock (option_copied settings.entry) blocks.now (standing kernel.old state.old workers.old) e.number e.why) }
+    ensures stands { IfErr result (λ e. LeadsUpTo (option_copied settings.entry) blocks.now (standing kernel.old state.old workers.old) e.number (standing kernel.new state.new workers.new)) }
 {
     let mut patterns = Vec::new(alloc);
     for (place, block) in blocks.iter().enumerate() {
         let number = place + 1;
+        make_room(&mut patterns, number)?;
         match certify_block(alloc, kernel, state, workers, settings, block) {
-            Ok(pattern) => add(&mut patterns, pattern, number)?,
+            Ok(pattern) => patterns.push_reserved(pattern),
             Err(why) => return Err(BlockMismatch { number, why }),
         }
     }
     Ok(patterns)
 }
 
-/// Adds the pattern of the block with this number.
-fn add(patterns: &mut Vec<Pattern>, pattern: Pattern, number: usize) -> Result<(), BlockMismatch>
-    ensures ok { IfOk result (λ _. patterns.new.items ≡ patterns.old.items ++ pattern ∷ []) }
+/// Makes room for the pattern of the block with this number.
+fn make_room(patterns: &mut Vec<Pattern>, number: usize) -> Result<(), BlockMismatch>
+    ensures items { patterns.new.items ≡ patterns.old.items }
+    ensures room { OnOk result (vec_len patterns.new < vec_capacity patterns.new) }
     ensures err { IfErr result (λ e. e ≡ record { number = number; why = Mismatch.Memory }) }
 {
-    match patterns.push(pattern) {
+    match patterns.reserve(1) {
         Ok(()) => Ok(()),
         Err(_) => Err(BlockMismatch {
             number,
@@ -156,7 +157,7 @@ fn certify_nothing(
     }
 }
 
-/// A word came to calls and a report. Under the pattern that explains them the word is carried out.
+/// A word came to calls and a report. The kernel on which they were replayed is as the word leaves it.
 fn certify_run(
     alloc: Global,
     kernel: &mut Kernel,
@@ -178,38 +179,9 @@ fn certify_run(
     let Asked::Act(target) = asked_by(word, &running, workers, settings) else {
         return Err(Mismatch::Step(1));
     };
-    let pattern = certify(alloc, kernel, &running, &target, log, report)?;
-    follow(alloc, kernel, state, workers, settings, word, pattern)
-}
-
-/// Carries a word out under a pattern, and gives the pattern back. The only refusal is want of memory, which leaves
-/// everything as it was.
-fn follow(
-    alloc: Global,
-    kernel: &mut Kernel,
-    state: &mut Option<Record>,
-    workers: &mut WorkerTable,
-    settings: Option<&Settings>,
-    word: Word,
-    pattern: Pattern,
-) -> Result<Pattern, Mismatch>
-    ensures same { IfOk result (λ it. it ≡ pattern) }
-    ensures ok { IfOk result (λ _. (body : Came) × ComesTo (EnactsAt (pattern ∷ [])) (DeclinesAt (pattern ∷ [])) (option_copied settings.entry) word 0 (standing kernel.old state.old workers.old) body (standing kernel.new state.new workers.new)) }
-    ensures memory { IfErr result (λ why. why ≡ Mismatch.Memory) }
-    ensures err { OnErr result (standing kernel.new state.new workers.new ≡ standing kernel.old state.old workers.old) }
-{
-    let patterns = [pattern];
-    let mut blocks = Vec::new(alloc);
-    run_words(
-        alloc,
-        kernel,
-        state,
-        workers,
-        &[word],
-        &patterns,
-        settings,
-        &mut blocks,
-    )?;
-    let [pattern] = patterns;
-    Ok(pattern)
+    let certificate = certificate(alloc, kernel, &running, &target, log, report)?;
+    let after = record_left(&running, &target, report, &certificate.kernel);
+    *kernel = certificate.kernel;
+    follow_run(state, workers, log, report, after);
+    Ok(certificate.pattern)
 }

@@ -1,5 +1,5 @@
 //! A transcript, held against the modelled kernel.
-ghost use Rattle.std.specs.Prelude.{◌≡◌, ◌⊎◌, ◌↔◌, [], ◌∷◌, OnOk, IfOk, IfErr, IsErrOf};
+ghost use Rattle.std.specs.Prelude.{◌≡◌, ◌+◌, ◌⊎◌, ◌↔◌, [], ◌∷◌, length, OnOk, IfOk, IfErr, IsErrOf};
 ghost use Rattle.definitions.specs.Path.{begin};
 ghost use Rattle.definitions.specs.Target.{IsTarget};
 ghost use Rattle.definitions.specs.Tree.{height};
@@ -7,13 +7,13 @@ ghost use Rattle.rollback_plan.specs.Plans.{tree_of, note_of, sides_told, text_o
 ghost use Rattle.plan_runner.specs.Walk.{sides_in};
 ghost use Rattle.plan_executor.specs.Naming.{listed};
 ghost use Rattle.plan_executor.specs.Refusals.{IsPlannable};
-ghost use Rattle.certifier.specs.Places.{place_of, HasTaken, StopsBy, Holds, FailsBy};
+ghost use Rattle.certifier.specs.Places.{place_of, HasTaken, StopsBy, Holds, IsLed, FailsBy};
 ghost use Rattle.certifier.specs.Explained.{IsMismatch};
-ghost use Rattle.certifier.specs.Certified.{IsCertified, EnactsSo, IsFaultyRun};
+ghost use Rattle.certifier.specs.Certified.{IsCertified, HasEnacted, EnactsSo, IsFaultyRun};
 ghost use Rattle.certifier.specs.declared.mismatch.Mismatch.{Mismatch as Why};
 
 use crate::mismatch::Mismatch;
-use crate::replay::Replay;
+use crate::replay::{Certificate, Replay};
 use kernel_model::{Kernel, Pattern};
 use plan_executor::{agrees, ends_as_reported, heir_of, plan_of, reserved_copy};
 use plan_runner::CallLog;
@@ -27,6 +27,7 @@ pub(crate) fn replay_all(replay: &mut Replay<'_>, log: &CallLog) -> Result<(), M
     requires { HasTaken replay.old.text.now (listed replay.old.heir) (sides_in replay.old.walk) (place_of replay.old) [] replay.old }
     ensures ok { OnOk result (HasTaken replay.old.text.now (listed replay.old.heir) (sides_in replay.old.walk) (place_of replay.old) log.now.entries replay.new) }
     ensures err { IfErr result (StopsBy replay.old.text.now (listed replay.old.heir) (place_of replay.old) log.now.entries) }
+    ensures left { OnOk result (replay.new.kernel.room + length log.now.entries ≡ replay.old.kernel.room) }
 {
     for place in 0..log.len() {
         if !replay.take(&log.entry(place))? {
@@ -45,14 +46,51 @@ fn hold(
     heir: Option<u32>,
     log: &CallLog,
     report: &Report,
-) -> Result<Pattern, Mismatch>
+) -> Result<Certificate, Mismatch>
     requires { kernel.room ≡ height (tree_of plan.now) }
-    ensures ok { IfOk result (Holds (text_of plan.now) (listed heir) (sides_told plan.now) (record { trail = begin (tree_of plan.now) (note_of plan.now); table = kernel.table; executing = image ∷ [] }) log.now.entries report.now) }
+    ensures ok { IfOk result (λ it. Holds (text_of plan.now) (listed heir) (sides_told plan.now) (record { trail = begin (tree_of plan.now) (note_of plan.now); table = kernel.table; executing = image ∷ [] }) log.now.entries report.now it.pattern) }
+    ensures led { IfOk result (λ it. IsLed (text_of plan.now) (listed heir) (height (tree_of plan.now)) (record { trail = begin (tree_of plan.now) (note_of plan.now); table = kernel.table; executing = image ∷ [] }) log.now.entries it.kernel) }
     ensures err { IfErr result (FailsBy (text_of plan.now) (listed heir) (sides_told plan.now) (record { trail = begin (tree_of plan.now) (note_of plan.now); table = kernel.table; executing = image ∷ [] }) log.now.entries report.now) }
 {
     let mut replay = Replay::new(alloc, plan, kernel, image, heir);
     replay_all(&mut replay, log)?;
     replay.end(report)
+}
+
+/// The certificate of a transcript, as `certify` gives its pattern: under it the target was carried out on this kernel, which
+/// the run leaves as the certificate's.
+pub(crate) fn certificate(
+    alloc: Global,
+    kernel: &Kernel,
+    state: &Record,
+    target: &Target,
+    log: &CallLog,
+    report: &Report,
+) -> Result<Certificate, Mismatch>
+    requires { IsTarget target.now }
+    ensures ok { IfOk result (HasEnacted kernel.now state.now target.now log.now.entries report.now) }
+    ensures exact { (why : Why)
+        → IsErrOf result Mismatch.Memory ⊎ (IsErrOf result why ↔ IsMismatch kernel.now.table state.now target.now log.now.entries report.now why) }
+    ensures complete { IsFaultyRun kernel.now.table state.now target.now log.now.entries report.now
+        → IfErr result (λ why. (why ≡ Mismatch.Refused) ⊎ (why ≡ Mismatch.Memory)) }
+    ensures memory { IsErrOf result Mismatch.Memory → IsPlannable kernel.now.table state.now target.now }
+{
+    if !agrees(state, kernel) {
+        return Err(Mismatch::Refused);
+    }
+    let plan = plan_of(alloc, state, target)?;
+    let copy = reserved_copy(kernel, plan.longest())?;
+    let heir = heir_of(state, target);
+    ends_as_reported(target);
+    hold(
+        alloc,
+        &plan,
+        copy,
+        state.generation.image,
+        heir,
+        log,
+        report,
+    )
 }
 
 /// Holds a transcript of a target, its calls with their answers and its report, against the modelled kernel.
@@ -79,20 +117,8 @@ pub fn certify(
         → IfErr result (λ why. (why ≡ Mismatch.Refused) ⊎ (why ≡ Mismatch.Memory)) }
     ensures memory { IsErrOf result Mismatch.Memory → IsPlannable kernel.now.table state.now target.now }
 {
-    if !agrees(state, kernel) {
-        return Err(Mismatch::Refused);
+    match certificate(alloc, kernel, state, target, log, report) {
+        Ok(certificate) => Ok(certificate.pattern),
+        Err(why) => Err(why),
     }
-    let plan = plan_of(alloc, state, target)?;
-    let copy = reserved_copy(kernel, plan.longest())?;
-    let heir = heir_of(state, target);
-    ends_as_reported(target);
-    hold(
-        alloc,
-        &plan,
-        copy,
-        state.generation.image,
-        heir,
-        log,
-        report,
-    )
 }

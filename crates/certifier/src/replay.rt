@@ -1,5 +1,5 @@
 //! A transcript, replayed entry by entry.
-ghost use Rattle.std.specs.Prelude.{◌≡◌, ◌↔◌, ◌⊎◌, [], ◌∷◌, IsTrue, IfOk, IfErr};
+ghost use Rattle.std.specs.Prelude.{◌≡◌, ◌+◌, ◌↔◌, ◌⊎◌, [], ◌∷◌, IsTrue, IfOk, IfErr};
 ghost use Rattle.definitions.specs.Path.{Asks, IsOver, Reports, begin};
 ghost use Rattle.definitions.specs.Tree.{height};
 ghost use Rattle.rollback_plan.specs.Plans.{tree_of, note_of, sides_told, text_of};
@@ -32,6 +32,13 @@ pub(crate) struct Replay<'a> {
     pub(crate) number: u32,
 }
 
+/// The pattern that explains a run, and the kernel as the run leaves it.
+#[derive(Drop)]
+pub(crate) struct Certificate {
+    pub(crate) pattern: Pattern,
+    pub(crate) kernel: Kernel,
+}
+
 /// Whether an entry is the plan's next step.
 fn asks(walk: &Walk<'_>, entry: &Entry) -> bool
     ensures { IsTrue result ↔ Asks (trail_of walk.now).rest (trail_of walk.now).lacking entry.now }
@@ -56,6 +63,7 @@ impl<'a> Replay<'a> {
         ensures text { result.text.now ≡ text_of plan.now }
         ensures heir { result.heir ≡ heir }
         ensures sides { sides_in result.walk ≡ sides_told plan.now }
+        ensures room { result.kernel.room ≡ kernel.room }
         ensures taken { HasTaken result.text.now (listed result.heir) (sides_in result.walk) (place_of result) [] result }
     {
         Replay {
@@ -74,6 +82,7 @@ impl<'a> Replay<'a> {
         requires { HasRoom self.old }
         ensures next { IfOk result (λ next. IsTrue next ↔ IsNext self.old.text.now (listed self.old.heir) (place_of self.old) entry.now) }
         ensures taken { IfOk result (λ next. IsTrue next → IsTaken self.old entry.now self.new) }
+        ensures left { IfOk result (λ next. IsTrue next → self.new.kernel.room + 1 ≡ self.old.kernel.room) }
     {
         if !asks(&self.walk, entry) {
             return Ok(false);
@@ -94,9 +103,10 @@ impl<'a> Replay<'a> {
         Ok(!self.walk.is_lost())
     }
 
-    /// The pattern that was shown, where the plan is at an end and the report is the run's.
-    pub(crate) fn end(self, report: &Report) -> Result<Pattern, Mismatch>
-        ensures ok { IfOk result (λ pattern. (pattern ≡ self.entry.pattern) × IsOver (trail_of self.entry.walk).rest × Reports (sides_in self.entry.walk) (trail_of self.entry.walk) report.now) }
+    /// The pattern that was shown and the kernel, where the plan is at an end and the report is the run's.
+    pub(crate) fn end(self, report: &Report) -> Result<Certificate, Mismatch>
+        ensures ok { IfOk result (λ it. (it.pattern ≡ self.entry.pattern) × IsOver (trail_of self.entry.walk).rest × Reports (sides_in self.entry.walk) (trail_of self.entry.walk) report.now) }
+        ensures kernel { IfOk result (λ it. it.kernel ≡ self.entry.kernel) }
         ensures err { IfErr result (λ why.
             ((why ≡ Mismatch.Short) × (IsOver (trail_of self.entry.walk).rest → ⊥))
             ⊎ ((why ≡ Mismatch.Report) × IsOver (trail_of self.entry.walk).rest × (Reports (sides_in self.entry.walk) (trail_of self.entry.walk) report.now → ⊥))) }
@@ -107,6 +117,9 @@ impl<'a> Replay<'a> {
         if !is_same_report(&self.walk.report(), report) {
             return Err(Mismatch::Report);
         }
-        Ok(self.pattern)
+        Ok(Certificate {
+            pattern: self.pattern,
+            kernel: self.kernel,
+        })
     }
 }

@@ -17,4 +17,4 @@ pub use enactment::{EnactRefusal, enact, plan_of, reserved_copy};
 pub use keeping::ends_as_reported;
 pub use naming::{executing_after, names_executing};
 pub use rehearsal::run_words;
-pub use succession::heir_of;
+pub use succession::{heir_of, record_left};

@@ -31,7 +31,7 @@ fn reigning(state: &Record, target: &Target, outcome: &Outcome, kernel: &Kernel)
 }
 
 /// The record that a report leaves to the master that reigns then: it has that master's process number.
-pub(crate) fn record_left(
+pub fn record_left(
     state: &Record,
     target: &Target,
     report: &Report,

@@ -1,5 +1,5 @@
 //! `explore`: how a word ends, whatever goes wrong.
-ghost use Rattle.std.specs.Prelude.{◌≡◌, IfOk, IfErr, OnOk};
+ghost use Rattle.std.specs.Prelude.{◌≡◌, ◌↔◌, ⊥, Some, IsTrue, IfOk, IfErr, OnOk};
 ghost use Rattle.std.specs.Io.KnownBytes.{Appends};
 ghost use Rattle.exploration_text.specs.RunText.{run_text};
 ghost use Rattle.faults.specs.Faults.{IsOfFile};
@@ -67,7 +67,9 @@ impl<'a, O: Write, E: Write> Listing<'a, O, E> {
 }
 
 impl<O: Write, E: Write> Audience for Listing<'_, O, E> {
-    fn wants_more(&self) -> bool {
+    fn wants_more(&self) -> bool
+        ensures { IsTrue result ↔ (self.now.left ≡ Some 0 → ⊥) }
+    {
         self.left != Some(0)
     }
 

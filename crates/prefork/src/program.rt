@@ -1,5 +1,5 @@
 //! The program over any reader and any two writers.
-ghost use Rattle.std.specs.Prelude.{◌≡◌, ◌++◌, ℕ, List, length, map, IfOk, IfErr, IfSome, OnOk, Ok};
+ghost use Rattle.std.specs.Prelude.{◌≡◌, ◌↔◌, ◌++◌, ℕ, List, length, map, Some, IsTrue, IfOk, IfErr, IfSome, OnOk, Ok};
 ghost use Rattle.kernel_model.specs.Pattern.{moment_at};
 ghost use Rattle.pattern_text.specs.PatternsText.{patterns_of};
 ghost use Rattle.std.specs.Io.KnownBytes.{Appends};
@@ -199,7 +199,9 @@ fn explore<R: AllocGlobal + Files, O: Write, E: Write>(
 }
 
 /// Whether runs with two events are asked for; there are none with more.
-fn asks_for_pairs(events: Option<u32>) -> Result<bool, Fault> {
+fn asks_for_pairs(events: Option<u32>) -> Result<bool, Fault>
+    ensures { IfOk result (λ pairs. IsTrue pairs ↔ (events ≡ Some 2)) }
+{
     match events {
         None | Some(1) => Ok(false),
         Some(2) => Ok(true),

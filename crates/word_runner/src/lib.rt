@@ -11,4 +11,4 @@ pub use asking::{Asked, HeardBeat, asked_by, note};
 pub use block::{Block, Body, CodeText};
 pub use enactor::{Enacted, Enactor, TargetRefusal};
 pub use status::{body_status, graver, gravest, status_of};
-pub use words::run_words;
+pub use words::{follow_run, run_words};

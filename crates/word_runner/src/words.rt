@@ -3,6 +3,7 @@ ghost use Rattle.std.specs.Prelude.{◌≡◌, ◌+◌, ◌<◌, ◌++◌, ◌�
 ghost use Rattle.std.specs.Option.{option_copied};
 ghost use Rattle.definitions.specs.Target.{IsTarget};
 ghost use Rattle.listener_set.specs.Numbers.{is_in};
+ghost use Rattle.worker_table.specs.Beats.{followed};
 ghost use Rattle.word_runner.specs.Started.{start_of, started_in, started};
 ghost use Rattle.word_runner.specs.Asking.{AsksTarget};
 ghost use Rattle.word_runner.specs.Enactors.{IsTold};
@@ -10,13 +11,13 @@ ghost use Rattle.word_runner.specs.Words.{standing, IsActed, ComesTo, AreDone, W
 ghost use Rattle.word_runner.specs.declared.block.Block.{Block as Done};
 
 use crate::asking::{Asked, asked_by, note};
-use crate::{Block, Body, CodeText, Enactor, TargetRefusal};
+use crate::{Block, Body, CodeText, Enacted, Enactor, TargetRefusal};
 use control_words::Word;
 use listener_set::{Generation, Numbers, WORKER_LIMIT};
 use plan_runner::CallLog;
 use service_state::Record;
 use std::alloc::{AllocError, Global};
-use vocabulary::{Answer, Call, Entry, Settings, Target};
+use vocabulary::{Answer, Call, Entry, Report, Settings, Target};
 use worker_table::WorkerTable;
 
 /// Carries control words out one after another. `settings` are those of a new configuration.
@@ -102,16 +103,31 @@ fn act<E: Enactor>(
     ensures err { OnErr result (standing world.new state.new workers.new ≡ standing world.old state.old workers.old) }
     ensures memory { OnErr result (E.wants_memory enactor.now world.old place running.now target.now) }
 {
-    let enacted = match enactor.enact(alloc, world, place, running, target) {
+    let Enacted { log, report, after } = match enactor.enact(alloc, world, place, running, target) {
         Ok(enacted) => enacted,
         Err(refusal) => return told(refusal),
     };
-    let started = started(enacted.after.as_ref(), &enacted.log);
+    follow_run(state, workers, &log, &report, after);
+    Ok(Body::Ran(log, report))
+}
+
+/// What a run leaves to a master: the record after it, and of the workers in its table those that are ready, each with its
+/// last beat unless the run started it.
+pub fn follow_run(
+    state: &mut Option<Record>,
+    workers: &mut WorkerTable,
+    log: &CallLog,
+    report: &Report,
+    after: Option<Record>,
+)
+    ensures state { state.new ≡ after }
+    ensures workers { workers.new ≡ followed workers.old report.now.ready (started after log.now.entries) }
+{
+    let started = started(after.as_ref(), log);
     // `lowest` says that the numbers are below the limit, which the proof cites.
-    let _ = enacted.report.ready.lowest();
-    workers.follow(&enacted.report.ready, &started);
-    *state = enacted.after;
-    Ok(Body::Ran(enacted.log, enacted.report))
+    let _ = report.ready.lowest();
+    workers.follow(&report.ready, &started);
+    *state = after;
 }
 
 /// What a refused target comes to: its code is told, and want of memory passed on.

@@ -3,10 +3,10 @@ use Rattle.std.proofs.lemmas.List.{take_more}
 use Rattle.std.proofs.lemmas.Result.{err_from_is_err_and}
 use Rattle.word_runner.specs.declared.block.Block.{Block}
 use Rattle.word_runner.specs.Words.{standing}
-use Rattle.certifier.specs.Blocks.{AreTaken, StopsAtBlock}
+use Rattle.certifier.specs.Blocks.{AreTaken, StopsAtBlock, LeadsUpTo}
 use Rattle.certifier.specs.declared.blocks.BlockMismatch.{BlockMismatch}
 use Rattle.certifier.specs.declared.mismatch.Mismatch.TheVariants.{Memory}
-use Rattle.certifier.proofs.BlockRuns.{taken-more, fault-by, stops-there}
+use Rattle.certifier.proofs.BlockRuns.{taken-more, fault-by, stops-there, leads-there}
 use Rattle.certifier.proofs.blocks.certify_blocks.Goals as goal
 
 pub loop-place-preserved : goal.loop-place-preserved
@@ -19,12 +19,12 @@ loop-place-preserved c =
     let place = c.loop-place.place in
     let b = c.index-blocks-place.result in
     let longer : take (place + 1) blocks ≡ take place blocks ++ b ∷ [] = take_more blocks place b c.loop-place-test.true ∙ ap (λ x. take place blocks ++ x ∷ []) (sym c.index-blocks-place.is) in
-    subst (λ (bs : List Block). AreTaken settings bs old c.add.new.patterns.items new) (sym longer)
-    (subst (λ ps. AreTaken settings (take place blocks ++ b ∷ []) old ps new) (sym c.in_ok-add-in-Ok.ensures.ok)
+    subst (λ (bs : List Block). AreTaken settings bs old c.push_reserved.new.patterns.items new) (sym longer)
+    (subst (λ ps. AreTaken settings (take place blocks ++ b ∷ []) old ps new) (sym (c.push_reserved.ensures.items ∙ ap (λ ps. ps ++ c.in-Ok.pattern ∷ []) c.make_room.ensures.items))
     (taken-more settings (take place blocks) old c.loop-place.patterns.items middle b c.in-Ok.pattern new c.loop-place.invariant c.in-Ok.ensures.ok))
 
-pub returns-in_err-add-in-Ok-clause-err : goal.returns-in_err-add-in-Ok-clause-err
-returns-in_err-add-in-Ok-clause-err c =
+pub returns-in_err-make_room-clause-err : goal.returns-in_err-make_room-clause-err
+returns-in_err-make_room-clause-err c =
     let settings = option_copied c.args.settings in
     let old = standing c.args.kernel.now c.args.state.now c.args.workers.now in
     let middle = standing c.loop-place.kernel c.loop-place.state c.loop-place.workers in
@@ -33,10 +33,22 @@ returns-in_err-add-in-Ok-clause-err c =
     let b = c.index-blocks-place.result in
     let longer : take (place + 1) blocks ≡ take place blocks ++ b ∷ [] = take_more blocks place b c.loop-place-test.true ∙ ap (λ x. take place blocks ++ x ∷ []) (sym c.index-blocks-place.is) in
     let p = err_from_is_err_and c.from_residual.result c.from_residual.ensures.1 in
-    let same : p.0 ≡ c.in_err-add-in-Ok.field-0.0 = cc in
+    let same : p.0 ≡ c.in_err-make_room.field-0.0 = cc in
     subst (λ x. IfErr x (λ (e : BlockMismatch). StopsAtBlock settings blocks old e.number e.why)) (sym p.1)
-    (subst (λ (e : BlockMismatch). StopsAtBlock settings blocks old e.number e.why) (sym (same ∙ c.in_err-add-in-Ok.ensures.err))
+    (subst (λ (e : BlockMismatch). StopsAtBlock settings blocks old e.number e.why) (sym (same ∙ c.in_err-make_room.ensures.err))
     (stops-there settings blocks old place b c.loop-place.patterns.items middle Memory c.loop-place-test.true longer c.loop-place.invariant (inl refl)))
+
+pub returns-in_err-make_room-clause-stands : goal.returns-in_err-make_room-clause-stands
+returns-in_err-make_room-clause-stands c =
+    let settings = option_copied c.args.settings in
+    let old = standing c.args.kernel.now c.args.state.now c.args.workers.now in
+    let middle = standing c.loop-place.kernel c.loop-place.state c.loop-place.workers in
+    let blocks = c.args.blocks.now in
+    let p = err_from_is_err_and c.from_residual.result c.from_residual.ensures.1 in
+    let same : p.0 ≡ c.in_err-make_room.field-0.0 = cc in
+    subst (λ x. IfErr x (λ (e : BlockMismatch). LeadsUpTo settings blocks old e.number middle)) (sym p.1)
+    (subst (λ (e : BlockMismatch). LeadsUpTo settings blocks old e.number middle) (sym (same ∙ c.in_err-make_room.ensures.err))
+    (leads-there settings blocks old c.loop-place.place c.loop-place.patterns.items middle middle c.loop-place.invariant refl))
 
 pub returns-in-Err-clause-err : goal.returns-in-Err-clause-err
 returns-in-Err-clause-err c =
@@ -48,3 +60,11 @@ returns-in-Err-clause-err c =
     let b = c.index-blocks-place.result in
     let longer : take (place + 1) blocks ≡ take place blocks ++ b ∷ [] = take_more blocks place b c.loop-place-test.true ∙ ap (λ x. take place blocks ++ x ∷ []) (sym c.index-blocks-place.is) in
     stops-there settings blocks old place b c.loop-place.patterns.items middle c.in-Err.why c.loop-place-test.true longer c.loop-place.invariant (fault-by settings b middle c.in-Err.why c.in-Err.ensures.exact)
+
+pub returns-in-Err-clause-stands : goal.returns-in-Err-clause-stands
+returns-in-Err-clause-stands c =
+    let settings = option_copied c.args.settings in
+    let old = standing c.args.kernel.now c.args.state.now c.args.workers.now in
+    let middle = standing c.loop-place.kernel c.loop-place.state c.loop-place.workers in
+    let new = standing c.certify_block.new.kernel c.certify_block.new.state c.certify_block.new.workers in
+    leads-there settings c.args.blocks.now old c.loop-place.place c.loop-place.patterns.items middle new c.loop-place.invariant c.in-Err.ensures.err

@@ -1,32 +1,40 @@
-use Rattle.std.proofs.Common.{◌≡◌, Err, sym, ◌∙◌, ap, subst, option_copied}
+use Rattle.std.proofs.Common.{◌≡◌, Option, Err, sym, ◌∙◌, ap, subst, option_copied}
 use Rattle.std.proofs.lemmas.Result.{err_from_is_err_and}
+use Rattle.definitions.specs.Record.{Record}
 use Rattle.word_runner.specs.Words.{standing}
-use Rattle.certifier.proofs.Following.{all-followed, run-exact, exact-behind}
-use Rattle.certifier.proofs.Matching.{IsExact}
+use Rattle.certifier.specs.Blocks.{IsFollowed}
+use Rattle.certifier.proofs.Following.{leads-on, run-exact}
+use Rattle.certifier.proofs.Matching.{IsExact, exact-of, exact-failed}
 use Rattle.certifier.proofs.blocks.certify_run.Goals as goal
 
-pub returns-in_err-pattern-clause-exact : goal.returns-in_err-pattern-clause-exact
-returns-in_err-pattern-clause-exact c =
+pub returns-in_err-certificate-clause-exact : goal.returns-in_err-certificate-clause-exact
+returns-in_err-certificate-clause-exact c =
     let s = standing c.args.kernel.now c.args.state.now c.args.workers.now in
     let entries = c.args.log.now.entries in
     let p = err_from_is_err_and c.from_residual.result c.from_residual.ensures.1 in
-    let why = c.in_err-pattern.field-0.0 in
+    let why = c.in_err-certificate.field-0.0 in
     let same : p.0 ≡ why = cc in
     run-exact (option_copied c.args.settings) c.args.word s entries c.args.report.now c.args.state.now c.in-Some.running c.in-Act.target c.from_residual.result c.in-Some.is
     (sym c.asked_by.ensures.exact ∙ c.in-Act.is)
-    (subst (IsExact c.args.kernel.now.table c.in-Some.running c.in-Act.target entries c.args.report.now) (sym (p.1 ∙ ap Err same)) c.in_err-pattern.ensures.exact)
+    (subst (IsExact c.args.kernel.now.table c.in-Some.running c.in-Act.target entries c.args.report.now) (sym (p.1 ∙ ap Err same))
+    (exact-failed c.args.kernel.now.table c.in-Some.running c.in-Act.target entries c.args.report.now why c.in_err-certificate.ensures.exact))
 
 pub returns-clause-ok : goal.returns-clause-ok
 returns-clause-ok c =
+    let settings = option_copied c.args.settings in
     let s = standing c.args.kernel.now c.args.state.now c.args.workers.now in
-    let new = standing c.follow.new.kernel c.follow.new.state c.follow.new.workers in
-    all-followed (option_copied c.args.settings) c.args.word c.args.log.now.entries c.args.report.now s new c.in-Some.running c.in-Act.target c.in_ok-pattern.pattern c.follow.result c.in-Some.is
-    (sym c.asked_by.ensures.exact ∙ c.in-Act.is) c.in_ok-pattern.ensures.ok c.in_ok-pattern.ensures.enacts c.follow.ensures.same c.follow.ensures.ok
+    let it = c.in_ok-certificate.certificate in
+    let workers = c.follow_run.new.workers in
+    subst (λ (after : Option Record). IsFollowed settings c.args.word c.args.log.now.entries c.args.report.now s it.pattern (standing it.kernel after workers)) (sym c.follow_run.ensures.state)
+    (leads-on settings c.args.word c.args.log.now.entries c.args.report.now s c.in-Some.running c.in-Act.target it c.record_left-after.result workers c.in-Some.is
+    (sym c.asked_by.ensures.exact ∙ c.in-Act.is) c.in_ok-certificate.ensures.ok c.record_left-after.ensures c.follow_run.ensures.workers)
 
 pub returns-clause-exact : goal.returns-clause-exact
 returns-clause-exact c =
     let s = standing c.args.kernel.now c.args.state.now c.args.workers.now in
+    let t = c.args.kernel.now.table in
     let entries = c.args.log.now.entries in
-    run-exact (option_copied c.args.settings) c.args.word s entries c.args.report.now c.args.state.now c.in-Some.running c.in-Act.target c.follow.result c.in-Some.is
+    let it = c.in_ok-certificate.certificate in
+    run-exact (option_copied c.args.settings) c.args.word s entries c.args.report.now c.args.state.now c.in-Some.running c.in-Act.target _ c.in-Some.is
     (sym c.asked_by.ensures.exact ∙ c.in-Act.is)
-    (exact-behind c.args.kernel.now.table c.in-Some.running c.in-Act.target entries c.args.report.now c.in_ok-pattern.pattern c.follow.result c.in_ok-pattern.ensures.exact c.follow.ensures.memory)
+    (exact-of t c.in-Some.running c.in-Act.target entries c.args.report.now it it.pattern c.in_ok-certificate.ensures.exact)

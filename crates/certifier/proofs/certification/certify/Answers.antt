@@ -1,102 +1,12 @@
-use Rattle.std.proofs.Common.{rules, ◌≡◌, ◌⊎◌, inl, [], ◌∷◌, Err, refl, sym, ◌∙◌, ap, subst, IfOk, IfErr}
-use Rattle.std.proofs.lemmas.Result.{err_from_is_err_and}
-use mathlib.Core.Bool.{true≢false}
-use Rattle.definitions.specs.Record.{Record, Agrees}
-use Rattle.definitions.specs.Tree.{height}
-use Rattle.definitions.specs.Plans.{plan_tree}
-use Rattle.definitions.specs.Path.{begin}
-use Rattle.definitions.specs.Claims.{heirs_of}
-use Rattle.kernel_model.specs.Room.{LacksNumbers}
-use Rattle.plan_executor.specs.Naming.{listed}
-use Rattle.plan_executor.specs.declared.enactment.EnactRefusal.TheVariants.{Memory, NoNumbers}
-use Rattle.plan_executor.proofs.Exact.{no_plan}
-use Rattle.certifier.specs.Places.{Holds, FailsBy}
-use Rattle.certifier.specs.Explained.{IsReady, IsMismatch, mismatch_of}
-use Rattle.certifier.proofs.Explaining.{begins}
-use Rattle.certifier.proofs.Matching.{plain-mismatches, exact-unready, exact-planless, exact-short, answered, enacts-so}
-use Rattle.certifier.proofs.Complete.{IsDue, complete-by, unready-refused}
-use Rattle.certifier.specs.Certified.{IsCertified, EnactsSo}
-use Rattle.std.proofs.lemmas.Result.{IfOk-weaker}
+use Rattle.certifier.proofs.Matching.{exact-of, exact-failed, enacts-so}
 use Rattle.certifier.proofs.certification.certify.Goals as goal
 
-pub returns-then-not-agrees-clause-exact : goal.returns-then-not-agrees-clause-exact
-returns-then-not-agrees-clause-exact c =
-    let t = c.args.kernel.now.table in
-    let r = c.args.state.now in
-    let target = c.args.target.now in
-    let es = c.args.log.now.entries in
-    let report = c.args.report.now in
-    exact-unready t r target (IsMismatch t r target es report) (plain-mismatches t r target es report) _ refl
-    (inl (λ h. let yes = c.agrees.ensures.agrees.1 h in absurd (true≢false (sym yes ∙ c.if-not-agrees.true))))
+pub returns-in-Ok-clause-exact : goal.returns-in-Ok-clause-exact
+returns-in-Ok-clause-exact c =
+    exact-of c.args.kernel.now.table c.args.state.now c.args.target.now c.args.log.now.entries c.args.report.now c.in-Ok.certificate c.in-Ok.certificate.pattern c.in-Ok.ensures.exact
 
-pub returns-in_err-plan-clause-exact : goal.returns-in_err-plan-clause-exact
-returns-in_err-plan-clause-exact c =
-    let p = err_from_is_err_and c.from_residual.result c.from_residual.ensures.1 in
-    let why = c.in_err-plan.field-0.0 in
-    let same : p.0 ≡ mismatch_of why = cc in
-    let t = c.args.kernel.now.table in
-    let r = c.args.state.now in
-    let target = c.args.target.now in
-    let es = c.args.log.now.entries in
-    let report = c.args.report.now in
-    exact-planless t r target (IsMismatch t r target es report) (plain-mismatches t r target es report) c.from_residual.result why (p.1 ∙ ap Err same) c.in_err-plan.ensures.refused
+pub returns-in-Ok-clause-enacts : goal.returns-in-Ok-clause-enacts
+returns-in-Ok-clause-enacts c = enacts-so c.args.kernel.now c.args.state.now c.args.target.now c.args.log.now.entries c.args.report.now c.in-Ok.certificate.pattern c.in-Ok.ensures.ok.certified
 
-pub returns-in_err-copy-clause-exact : goal.returns-in_err-copy-clause-exact
-returns-in_err-copy-clause-exact c =
-    let p = err_from_is_err_and c.from_residual-in_err-copy.result c.from_residual-in_err-copy.ensures.1 in
-    let why = c.in_err-copy.field-0.0 in
-    let same : p.0 ≡ mismatch_of why = cc in
-    let t = c.args.kernel.now.table in
-    let r = c.args.state.now in
-    let target = c.args.target.now in
-    let es = c.args.log.now.entries in
-    let report = c.args.report.now in
-    exact-short t r target (IsMismatch t r target es report) (plain-mismatches t r target es report) c.from_residual-in_err-copy.result why (p.1 ∙ ap Err same)
-    (subst (λ n. (why ≡ Memory) ⊎ ((why ≡ NoNumbers) × LacksNumbers c.args.kernel.now.table n)) (c.longest.ensures ∙ ap height c.in_ok-plan.ensures.tree) c.in_err-copy.ensures.refused)
-
----- What comes of a run under faults alone
-
-pub returns-then-not-agrees-clause-complete : goal.returns-then-not-agrees-clause-complete
-returns-then-not-agrees-clause-complete c faulty = inl refl
-
-pub returns-in_err-plan-clause-complete : goal.returns-in_err-plan-clause-complete
-returns-in_err-plan-clause-complete c faulty =
-    let p = err_from_is_err_and c.from_residual.result c.from_residual.ensures.1 in
-    let why = c.in_err-plan.field-0.0 in
-    let same : p.0 ≡ mismatch_of why = cc in
-    unready-refused c.from_residual.result why (p.1 ∙ ap Err same)
-
-pub returns-in_err-copy-clause-complete : goal.returns-in_err-copy-clause-complete
-returns-in_err-copy-clause-complete c faulty =
-    let p = err_from_is_err_and c.from_residual-in_err-copy.result c.from_residual-in_err-copy.ensures.1 in
-    let why = c.in_err-copy.field-0.0 in
-    let same : p.0 ≡ mismatch_of why = cc in
-    unready-refused c.from_residual-in_err-copy.result why (p.1 ∙ ap Err same)
-
----- A target that could be carried out
-
-pub returns : goal.returns
-returns c =
-    let t = c.args.kernel.now.table in
-    let r = c.args.state.now in
-    let target = c.args.target.now in
-    let es = c.args.log.now.entries in
-    let report = c.args.report.now in
-    let agrees : Agrees t r = c.agrees.ensures.agrees.0 (search rules) in
-    let plan = c.in_ok-plan.ensures.planned in
-    let longest : c.longest.result ≡ height (plan_tree r target) = c.longest.ensures ∙ ap height c.in_ok-plan.ensures.tree in
-    let ready : IsReady t r target = record { agrees = agrees; has_plan = plan; numbers = subst (λ n. LacksNumbers t n → ⊥) longest c.in_ok-copy.ensures.numbers } in
-    let due : IsDue t r target = record {
-      start = record { formed = c.in_ok-copy.ensures.formed; agrees = agrees; record_in_range = c.agrees.ensures.in_range; rising = c.agrees.ensures.rising };
-      descriptors = record { descriptors = c.agrees.ensures.descriptors; limit = c.in_ok-copy.ensures.descriptors };
-      has_plan = plan;
-      ends = c.ends_as_reported.ensures;
-    } in
-    let image : c.state.inside.generation.image ≡ r.generation.image = ap (λ (x : Record). x.generation.image) c.state.view_is in
-    let same : listed c.heir_of-heir.result ≡ heirs_of r target = c.heir_of-heir.ensures in
-    let place : record { trail = begin _ _; table = c.in_ok-copy.copy.table; executing = c.state.inside.generation.image ∷ [] } ≡ begins t r target =
-    λ i. record { trail = begin (c.in_ok-plan.ensures.tree i) (c.in_ok-plan.ensures.note i); table = (c.in_ok-copy.ensures.same i).table; executing = image i ∷ [] } in
-    let all = answered t r target es report ready c.hold.result
-    (subst (λ (X : Type 0). X) (λ i. IfOk c.hold.result (Holds (c.in_ok-plan.ensures.text i) (same i) (c.in_ok-plan.ensures.sides i) (place i) es report)) c.hold.ensures.ok)
-    (subst (λ (X : Type 0). X) (λ i. IfErr c.hold.result (FailsBy (c.in_ok-plan.ensures.text i) (same i) (c.in_ok-plan.ensures.sides i) (place i) es report)) c.hold.ensures.err) in
-    record { ok = all.0; exact = all.1; enacts = IfOk-weaker c.hold.result (IsCertified t r target es report) (EnactsSo c.args.kernel.now r target es report) (enacts-so c.args.kernel.now r target es report) all.0; complete = complete-by t r target es report c.hold.result all.1 due; memory = λ _. record { agrees = agrees; spared = λ p none. no_plan r target p none plan } }
+pub returns-in-Err-clause-exact : goal.returns-in-Err-clause-exact
+returns-in-Err-clause-exact c = exact-failed c.args.kernel.now.table c.args.state.now c.args.target.now c.args.log.now.entries c.args.report.now c.in-Err.why c.in-Err.ensures.exact

@@ -17,9 +17,13 @@ loop-place-preserved c =
     let e = c.entry.result in
     let within : place < length entries = omega (arith, c.loop-place-test.true, c.len-place-end.ensures.count) in
     let longer : take (place + 1) entries ≡ take place entries ++ e ∷ [] = take_more entries place e within ∙ ap (λ x. take place entries ++ x ∷ []) (((get_or_from_slice_get entries place e e c.entry.ensures))) in
-    subst (λ (es : List Entry). HasTaken old.text.now (listed old.heir) (sides_in old.walk) (place_of old) es c.take.new.self) (sym longer)
-    (taken-on old.text.now (listed old.heir) (sides_in old.walk) (place_of old) (take place entries) e c.loop-place.replay c.take.new.self c.loop-place.invariant
-    (c.in_ok-take.ensures.next.0 c.if-not-branch.false) (c.in_ok-take.ensures.taken c.if-not-branch.false))
+    let left = c.in_ok-take.ensures.left c.if-not-branch.false in
+    let before = c.loop-place.invariant.1 in (
+      subst (λ (es : List Entry). HasTaken old.text.now (listed old.heir) (sides_in old.walk) (place_of old) es c.take.new.self) (sym longer)
+          (taken-on old.text.now (listed old.heir) (sides_in old.walk) (place_of old) (take place entries) e c.loop-place.replay c.take.new.self c.loop-place.invariant.0
+          (c.in_ok-take.ensures.next.0 c.if-not-branch.false) (c.in_ok-take.ensures.taken c.if-not-branch.false)),
+      omega (arith, left, before),
+    )
 
 pub returns-then-not-branch-clause-err : goal.returns-then-not-branch-clause-err
 returns-then-not-branch-clause-err c =
@@ -33,9 +37,9 @@ returns-then-not-branch-clause-err c =
       before = place;
       number = refl;
       within = omega (arith, within);
-      next = c.loop-place.invariant.next;
+      next = c.loop-place.invariant.0.next;
       stops =
-          λ all. taken-stops old.text.now (listed old.heir) (sides_in old.walk) (place_of old) (take place entries) e c.loop-place.replay c.loop-place.invariant
+          λ all. taken-stops old.text.now (listed old.heir) (sides_in old.walk) (place_of old) (take place entries) e c.loop-place.replay c.loop-place.invariant.0
           (λ next. false≢true (sym c.if-not-branch.true ∙ c.in_ok-take.ensures.next.1 next))
           (subst (λ (es : List Entry). AreNext old.text.now (listed old.heir) (place_of old) es) longer all);
     }
