@@ -19,7 +19,7 @@ loop-place-preserved c =
     let place = c.loop-place.place in
     let b = c.index-blocks-place.result in
     let longer : take (place + 1) blocks ≡ take place blocks ++ b ∷ [] = take_more blocks place b c.loop-place-test.true ∙ ap (λ x. take place blocks ++ x ∷ []) (sym c.index-blocks-place.is) in
-    subst (λ (bs : List Block). AreTaken settings bs old c.push_reserved.new.patterns.items new) (sym longer)
+    subst (λ (bs : List Block). AreTaken settings bs old c.push_reserved.new.self.items new) (sym longer)
     (subst (λ ps. AreTaken settings (take place blocks ++ b ∷ []) old ps new) (sym (c.push_reserved.ensures.items ∙ ap (λ ps. ps ++ c.in-Ok.pattern ∷ []) c.make_room.ensures.items))
     (taken-more settings (take place blocks) old c.loop-place.patterns.items middle b c.in-Ok.pattern new c.loop-place.invariant c.in-Ok.ensures.ok))
 
