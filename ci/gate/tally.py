@@ -1,0 +1,53 @@
+"""What the scripts that try the program share: which program they try, and what they count."""
+import dataclasses
+import pathlib
+from collections.abc import Iterable
+
+ROOT = pathlib.Path(__file__).resolve().parent.parent.parent
+PROGRAM = ROOT / "crates" / "prefork" / "out" / "prefork"
+# So many lines of what is wrong are printed.
+MOST_LINES = 40
+
+
+def program_path(named: str | pathlib.Path | None = None) -> str:
+    """The program that is tried: the one that is named, or else the proved one."""
+    return str(pathlib.Path(named).resolve() if named else PROGRAM)
+
+
+@dataclasses.dataclass
+class Tally:
+    """How many checks passed and failed, each counted once, and what is wrong with those that failed."""
+
+    passed: int = 0
+    failed: int = 0
+    wrong: list[str] = dataclasses.field(default_factory=list)
+
+    def check(self, faults: Iterable[str]) -> None:
+        """Counts one check, which passes where there are no faults."""
+        found = list(faults)
+        self.passed += not found
+        self.failed += bool(found)
+        self.wrong += found
+
+    def add(self, other: "Tally") -> None:
+        """Counts the checks of another tally."""
+        self.passed += other.passed
+        self.failed += other.failed
+        self.wrong += other.wrong
+
+    def end(self) -> int:
+        """Prints what is wrong and the counts, and gives the exit status: 1 where a check failed or there was none."""
+        for line in self.wrong[:MOST_LINES]:
+            print(line)
+        if len(self.wrong) > MOST_LINES:
+            print(f"and {len(self.wrong) - MOST_LINES} lines more")
+        print(f"{self.passed} passed, {self.failed} failed")
+        return 1 if self.failed or not self.passed else 0
+
+
+def total(tallies: Iterable[Tally]) -> Tally:
+    """The checks of all these tallies together."""
+    found = Tally()
+    for tally in tallies:
+        found.add(tally)
+    return found
