@@ -1,5 +1,4 @@
-#!/usr/bin/env python3
-"""keeper PATH [LINGER]
+"""prefork-keeper PATH [LINGER]
 
 Keeps the listening sockets of a service, so that no connection that waits in a queue is lost while workers and
 masters change. It is asked on the Unix socket PATH: a worker connects, sends an address (`127.0.0.1:8080`, or the
@@ -12,6 +11,7 @@ the connections wait in the queues for the next one.
 
 It ends with its standard input: with the process that started it.
 """
+import io
 import os
 import selectors
 import socket
@@ -27,17 +27,17 @@ LONGEST_ADDRESS = 200
 class Kept:
     """A listening socket, how many hold it, and since when nobody does."""
 
-    def __init__(self, address):
+    def __init__(self, address: str):
         self.address, self.holders, self.free_since = address, 0, None
         self.socket = listening(address)
 
-    def close(self):
+    def close(self) -> None:
         self.socket.close()
         if self.address.startswith("/"):
             os.unlink(self.address)
 
 
-def listening(address):
+def listening(address: str) -> socket.socket:
     """A socket that listens at an address."""
     if address.startswith("/"):
         remove_stale(address)
@@ -58,7 +58,7 @@ def listening(address):
     return opened
 
 
-def remove_stale(path):
+def remove_stale(path: str) -> None:
     """Removes a Unix socket that nobody listens on any more."""
     try:
         if not stat.S_ISSOCK(os.stat(path).st_mode):
@@ -74,7 +74,7 @@ def remove_stale(path):
 class Keeper:
     """The sockets that are kept, by address, and who holds which."""
 
-    def __init__(self, path, linger):
+    def __init__(self, path: str, linger: float):
         self.linger, self.kept, self.held = linger, {}, {}
         self.events = selectors.DefaultSelector()
         self.door = socket.socket(socket.AF_UNIX, socket.SOCK_SEQPACKET)
@@ -83,18 +83,18 @@ class Keeper:
         self.door.listen(QUEUE)
         self.events.register(self.door, selectors.EVENT_READ, self.admit)
 
-    def run(self):
+    def run(self) -> None:
         self.events.register(sys.stdin, selectors.EVENT_READ, self.leave)
         while True:
             for key, _ in self.events.select(self.linger / 4):
                 key.data(key.fileobj)
             self.close_dropped()
 
-    def admit(self, door):
+    def admit(self, door: socket.socket) -> None:
         holder, _ = door.accept()
         self.events.register(holder, selectors.EVENT_READ, self.hear)
 
-    def hear(self, holder):
+    def hear(self, holder: socket.socket) -> None:
         """Hears the address that a holder asks for, or that it has gone."""
         try:
             address = holder.recv(LONGEST_ADDRESS).decode()
@@ -112,14 +112,14 @@ class Keeper:
         self.kept[address] = self.held[holder] = kept
         kept.holders, kept.free_since = kept.holders + 1, None
 
-    def refuse(self, holder, reason):
+    def refuse(self, holder: socket.socket, reason: str) -> None:
         try:
             holder.send(f"no {reason}".encode())
         except OSError:
             pass
         self.let_go(holder)
 
-    def let_go(self, holder):
+    def let_go(self, holder: socket.socket) -> None:
         self.events.unregister(holder)
         holder.close()
         kept = self.held.pop(holder, None)
@@ -127,7 +127,7 @@ class Keeper:
             kept.holders -= 1
             kept.free_since = time.monotonic()
 
-    def close_dropped(self):
+    def close_dropped(self) -> None:
         if not any(kept.holders for kept in self.kept.values()):
             return
         now = time.monotonic()
@@ -136,14 +136,15 @@ class Keeper:
                 kept.close()
                 del self.kept[kept.address]
 
-    def leave(self, given):
+    def leave(self, given: io.TextIOBase) -> None:
         if not os.read(given.fileno(), 4096):
             for kept in self.kept.values():
                 kept.close()
             sys.exit(0)
 
 
-if __name__ == "__main__":
+def main() -> int:
     if len(sys.argv) not in (2, 3):
         sys.exit(__doc__)
     Keeper(sys.argv[1], float(sys.argv[2]) if len(sys.argv) > 2 else LINGER).run()
+    return 0

@@ -1,5 +1,4 @@
-#!/usr/bin/env python3
-"""load [--clients N] [--rate N] [--seconds N] [--patience SECONDS] [--path PATH] [--json] ADDRESS
+"""prefork-load [--clients N] [--rate N] [--seconds N] [--patience SECONDS] [--path PATH] [--json] ADDRESS
 
 Sends requests to a service, half of the clients on a new connection each time and half on kept ones, and says at its
 end how many were answered by which version and how many failed, the slowest one, and the longest time between two
@@ -28,7 +27,7 @@ class Tally:
         self.last, self.gap, self.slowest = self.began, 0.0, 0.0
         self.answers, self.failures = {}, []
 
-    def answered(self, body, began):
+    def answered(self, body: str, began: float) -> None:
         """Counts an answer: its version is the second word of its text."""
         now, version = time.monotonic(), (body.split() + ["", "?"])[1]
         with self.lock:
@@ -36,11 +35,11 @@ class Tally:
             self.gap, self.last = max(self.gap, now - self.last), now
             self.slowest = max(self.slowest, now - began)
 
-    def failed(self, began, keeps, fault):
+    def failed(self, began: float, keeps: bool, fault: Exception) -> None:
         with self.lock:
             self.failures.append({"began": began, "kept": keeps, "fault": repr(fault)})
 
-    def summary(self):
+    def summary(self) -> dict:
         seconds, count = time.monotonic() - self.began, sum(self.answers.values())
         return {
             "answered": count, "failed": len(self.failures), "rate": round(count / seconds, 1), "slowest": self.slowest,
@@ -51,11 +50,11 @@ class Tally:
 class Client:
     """Requests one after another, on a kept connection or on a new one each time."""
 
-    def __init__(self, given, keeps, tally, stopping):
+    def __init__(self, given: argparse.Namespace, keeps: bool, tally: Tally, stopping: threading.Event):
         self.given, self.keeps, self.tally, self.stopping = given, keeps, tally, stopping
         self.connection, self.unread = None, b""
 
-    def run(self):
+    def run(self) -> None:
         pause, due = self.given.clients / self.given.rate if self.given.rate else 0, time.monotonic()
         while not self.stopping.is_set():
             self.ask()
@@ -65,7 +64,7 @@ class Client:
                 self.stopping.wait(max(0, due - time.monotonic()))
         self.leave()
 
-    def ask(self):
+    def ask(self) -> None:
         began, was_kept = time.monotonic(), self.connection is not None
         try:
             if not self.connection:
@@ -78,7 +77,7 @@ class Client:
             self.tally.failed(began, was_kept, fault)
             self.leave()
 
-    def read_answer(self):
+    def read_answer(self) -> str:
         """The text of an answer; afterwards the connection is closed where the answer says that it is the last."""
         while b"\r\n\r\n" not in self.unread:
             self.read()
@@ -95,19 +94,19 @@ class Client:
             raise ValueError(first)
         return body.decode()
 
-    def read(self):
+    def read(self) -> None:
         got = self.connection.recv(65536)
         if not got:
             raise ValueError("the connection has ended before its answer")
         self.unread += got
 
-    def leave(self):
+    def leave(self) -> None:
         if self.connection:
             self.connection.close()
         self.connection = None
 
 
-def connected(address, patience):
+def connected(address: str, patience: float) -> socket.socket:
     if address.startswith("/"):
         connection = socket.socket(socket.AF_UNIX)
         connection.settimeout(patience)
@@ -117,8 +116,8 @@ def connected(address, patience):
     return socket.create_connection((host, int(port)), patience)
 
 
-def arguments():
-    parser = argparse.ArgumentParser(prog="load", description="Sends requests to a service and counts what fails.")
+def arguments() -> argparse.Namespace:
+    parser = argparse.ArgumentParser(prog="prefork-load", description="Sends requests to a service and counts what fails.")
     parser.add_argument("--clients", type=int, default=8, help="how many ask at a time (8)")
     parser.add_argument("--rate", type=float, help="requests a second of all clients together; else as many as can be")
     parser.add_argument("--seconds", type=float, help="when to end; else with a signal")
@@ -129,7 +128,7 @@ def arguments():
     return parser.parse_args()
 
 
-def told(found):
+def told(found: dict) -> None:
     print(f"{found['answered']} answered, {found['failed']} failed, {found['rate']} a second")
     print(f"slowest {found['slowest']:.3f} s, longest time between two answers {found['gap']:.3f} s")
     for version, count in sorted(found["versions"].items()):
@@ -138,7 +137,7 @@ def told(found):
         print(f"failed: {'kept' if failure['kept'] else 'new'} connection: {failure['fault']}")
 
 
-def main():
+def main() -> int:
     given, tally, stopping = arguments(), Tally(), threading.Event()
     for end in (signal.SIGINT, signal.SIGTERM):
         signal.signal(end, lambda number, frame: stopping.set())
@@ -154,6 +153,3 @@ def main():
     print(json.dumps(found)) if given.json else told(found)
     return 1 if found["failed"] else 0
 
-
-if __name__ == "__main__":
-    sys.exit(main())

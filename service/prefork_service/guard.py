@@ -1,5 +1,4 @@
-#!/usr/bin/env python3
-"""guard [--finish SECONDS] SECONDS COMMAND..
+"""prefork-guard [--finish SECONDS] SECONDS COMMAND..
 
 Runs COMMAND, a worker, and passes on what its master tells it and what it answers. A master waits for a worker that
 neither answers nor ends: behind the guard it ends. Where `go`, `ping` or `tick` is not answered after SECONDS, or the
@@ -25,17 +24,17 @@ ANSWERED = ("go", "ping", "tick")
 LIBC = ctypes.CDLL(None)
 
 
-def die_with_guard():
+def die_with_guard() -> None:
     LIBC.prctl(PARENT_DEATH, signal.SIGKILL)
 
 
 class Lines:
     """What was read of one side, and the lines in it."""
 
-    def __init__(self, source):
+    def __init__(self, source: int):
         self.source, self.rest, self.has_ended = source, b"", False
 
-    def read(self):
+    def read(self) -> tuple[bytes, list[str]]:
         got = os.read(self.source, 65536)
         self.has_ended = not got
         *lines, self.rest = (self.rest + got).split(b"\n")
@@ -45,14 +44,14 @@ class Lines:
 class Guard:
     """A worker, and what it owes: the questions that it has not answered, each with the time when it is due."""
 
-    def __init__(self, seconds, finish, command):
+    def __init__(self, seconds: float, finish: float, command: list[str]):
         self.seconds, self.finish, self.due, self.last = seconds, finish, collections.deque(), None
         pipes = {"stdin": subprocess.PIPE, "stdout": subprocess.PIPE, "bufsize": 0}
         self.worker = subprocess.Popen(command, **pipes, start_new_session=True, preexec_fn=die_with_guard)
         self.end = os.pidfd_open(self.worker.pid)
         self.master, self.answers = Lines(0), Lines(self.worker.stdout.fileno())
 
-    def run(self):
+    def run(self) -> bool:
         """Passes lines on until the worker has ended, or owes something for too long; whether it has ended."""
         while True:
             watched = [side.source for side in (self.master, self.answers) if not side.has_ended]
@@ -64,18 +63,18 @@ class Guard:
             elif self.master.source in ready:
                 self.hear_master()
             elif not ready:
-                print(f"guard: {self.owed()} is overdue, and the worker is killed", file=sys.stderr, flush=True)
+                print(f"prefork-guard: {self.owed()} is overdue, and the worker is killed", file=sys.stderr, flush=True)
                 return False
 
-    def left(self):
+    def left(self) -> float | None:
         """How long until something is due."""
         moments = [moment for moment, _ in self.due] + ([self.last] if self.last else [])
         return max(0.0, min(moments) - time.monotonic()) if moments else None
 
-    def owed(self):
+    def owed(self) -> str:
         return f"the answer to {self.due[0][1]}" if self.due else "the worker's end"
 
-    def hear_master(self):
+    def hear_master(self) -> None:
         told, lines = self.master.read()
         for line in lines:
             word = line.split(" ")[0]
@@ -92,7 +91,7 @@ class Guard:
             self.worker.stdin.close()
             self.last = time.monotonic() + self.finish
 
-    def hear_worker(self):
+    def hear_worker(self) -> None:
         said, lines = self.answers.read()
         for _ in lines:
             if self.due:
@@ -107,14 +106,14 @@ class Guard:
             # Nothing more can be answered.
             self.last = time.monotonic() + self.seconds
 
-    def kill(self):
+    def kill(self) -> int:
         """Ends the worker and all that it has started; its status. It was not waited for: its number is its own."""
         os.killpg(self.worker.pid, signal.SIGKILL)
         return self.worker.wait()
 
 
-def main():
-    parser = argparse.ArgumentParser(prog="guard", description="Ends a worker that does not answer its master.")
+def main() -> int:
+    parser = argparse.ArgumentParser(prog="prefork-guard", description="Ends a worker that does not answer its master.")
     parser.add_argument("--finish", type=float, default=FINISH_SECONDS, metavar="SECONDS", help="for its end (40)")
     parser.add_argument("seconds", type=float, metavar="SECONDS", help="for an answer")
     parser.add_argument("command", nargs=argparse.REMAINDER, metavar="COMMAND", help="the worker")
@@ -128,6 +127,3 @@ def main():
         status = guard.kill()
     return status if has_ended and status >= 0 else 1
 
-
-if __name__ == "__main__":
-    sys.exit(main())

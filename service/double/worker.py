@@ -1,4 +1,7 @@
-"""A worker of Prefork that serves HTTP: what every application of this folder shares.
+"""A test double: a worker of Prefork that serves a page, for the gate.
+
+Do not serve users with it. Its HTTP takes two Content-Length headers and a bare line feed, by which a request can be
+smuggled, and it has neither the answers 411 and 413 nor chunked bodies.
 
     worker.work(page)
 
@@ -197,7 +200,7 @@ def asked_for(address):
     """The listening socket of an address, and the connection to the keeper that holds it; a refusal ends the worker."""
     hold = socket.socket(socket.AF_UNIX, socket.SOCK_SEQPACKET)
     try:
-        hold.connect(os.environ["SITE_KEEPER"])
+        hold.connect(os.environ["PREFORK_KEEPER"])
         hold.send(address.encode())
         said, given, _, _ = socket.recv_fds(hold, 200, 1)
     except (KeyError, OSError) as fault:
