@@ -5,14 +5,28 @@ _prefork_service() {
 
     COMPREPLY=()
     case $prev in
-        --folder | --app | --prefork)
+        --folder | --prefork)
             compopt -o default
             return
             ;;
-        --guard | --finish | --clients | --rate | --seconds | --patience | --path) return ;;
+        --ready)
+            mapfile -t COMPREPLY < <(compgen -W 'accept notify probe' -- "$cur")
+            return
+            ;;
+        --stop | --usr1)
+            mapfile -t COMPREPLY < <(compgen -W 'HUP INT QUIT TERM USR1 USR2 WINCH' -- "$cur")
+            return
+            ;;
+        --guard | --ready-within | --probe | --probe-within | --probe-limit | --env | --finish | --clients | --rate | --seconds | --patience | --path) return ;;
     esac
     case ${COMP_WORDS[0]##*/} in
-        prefork-serve) options='--folder --app --prefork --guard --help' ;;
+        prefork-serve) 
+            if [[ " ${COMP_WORDS[*]:0:COMP_CWORD} " == *' -- '* ]]; then
+                compopt -o default
+                return
+            fi
+            options='--folder --prefork --guard --ready --ready-within --probe --probe-within --probe-limit --stop --finish --usr1 --env --no-listen-fds --blocking --help'
+            ;;
         prefork-ctl) options='--folder --help' ;;
         prefork-guard) options='--finish --help' ;;
         prefork-load) options='--clients --rate --seconds --patience --path --json --help' ;;

@@ -7,19 +7,22 @@ import socket
 import sys
 import time
 
+from .commands import Commands
 from .folder import Folder, say
 from .master import Master
 from .systemd import notify
 from .words import STOPS, WORDS, Word
 
 TICK_SECONDS = 1.0
+# Words at which the configuration is read again.
+CHANGES = ("HUP", "USR2")
 
 
 class Service:
     """A master that is kept running, and the words that wait for it."""
 
-    def __init__(self, folder: Folder, command: list[str]):
-        self.folder, self.command, self.master = folder, command, None
+    def __init__(self, folder: Folder, command: list[str], commands: Commands):
+        self.folder, self.command, self.commands, self.master = folder, command, commands, None
         self.waiting, self.current = collections.deque(), None
         self.begun, self.next_tick, self.is_stopped = 0.0, 0.0, False
         self.has_heard, self.is_ready = False, False
@@ -56,6 +59,7 @@ class Service:
         """Starts a master if none runs, at most one a second. Its start is the first block."""
         if self.master is None and time.monotonic() - self.begun > 1:
             self.begun = time.monotonic()
+            self.commands.begin()
             self.master, self.current = Master(self.command, self.folder), Word("tick 0")
             self.events.register(self.master.output, selectors.EVENT_READ, self.hear_master)
 
@@ -73,6 +77,8 @@ class Service:
             self.current, self.next_tick = Word(f"tick {int(now)}"), now + TICK_SECONDS
         else:
             return
+        if self.current.text in CHANGES:
+            self.commands.change()
         self.master.tell(self.current.text)
 
     def hear_master(self, _: int) -> None:
@@ -88,6 +94,7 @@ class Service:
         if word is None:
             return
         report, self.has_heard = block.splitlines()[-1], True
+        self.commands.settle(report)
         if not word.text.startswith("tick ") or not report.startswith("done"):
             say(f"{word.text}: {report}")
         # The new master of an upgrade has gone, and its workers with it. The old one, which passed
@@ -113,6 +120,7 @@ class Service:
         self.events.unregister(self.master.output)
         self.master.process.stdout.close()
         self.master = None
+        self.commands.settle("lost")
         say(f"the master has ended with status {status}, and is started again")
         if self.current:
             self.current.answer("lost: the master has ended\n")
