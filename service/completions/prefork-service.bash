@@ -5,7 +5,7 @@ _prefork_service() {
 
     COMPREPLY=()
     case $prev in
-        --folder | --prefork)
+        --folder | --prefork | --python | --chdir)
             compopt -o default
             return
             ;;
@@ -17,7 +17,7 @@ _prefork_service() {
             mapfile -t COMPREPLY < <(compgen -W 'HUP INT QUIT TERM USR1 USR2 WINCH' -- "$cur")
             return
             ;;
-        --guard | --ready-within | --probe | --probe-within | --probe-limit | --env | --finish | --clients | --rate | --seconds | --patience | --path) return ;;
+        --wsgi | --threads | --timeout | --keep | --guard | --ready-within | --probe | --probe-within | --probe-limit | --env | --finish | --clients | --rate | --seconds | --patience | --path) return ;;
     esac
     case ${COMP_WORDS[0]##*/} in
         prefork-serve) 
@@ -25,7 +25,7 @@ _prefork_service() {
                 compopt -o default
                 return
             fi
-            options='--folder --prefork --guard --ready --ready-within --probe --probe-within --probe-limit --stop --finish --usr1 --env --no-listen-fds --blocking --help'
+            options='--folder --prefork --guard --wsgi --python --threads --timeout --keep --chdir --ready --ready-within --probe --probe-within --probe-limit --stop --finish --usr1 --env --no-listen-fds --blocking --help'
             ;;
         prefork-ctl) options='--folder --help' ;;
         prefork-guard) options='--finish --help' ;;

@@ -313,6 +313,8 @@ static void turn(void) {
 
 int main(int count, char **words) {
     read_options(count, words, &options);
+    if (options.is_check)
+        return 0;
     move_pipes();
     signal(SIGPIPE, SIG_IGN);
     for (;;)

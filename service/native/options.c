@@ -28,6 +28,7 @@ static const char HELP[] =
     "  --env NAME=VALUE       a variable of its environment\n"
     "  --no-listen-fds        do not set LISTEN_FDS\n"
     "  --blocking             make the sockets block, for programs that wait in accept\n"
+    "  --check                only look at the command line\n"
     "\n"
     "In arguments and values of --env: {fd} or {fd0} is the number of the first socket,\n"
     "{fd1} that of the second; {address} or {address0} its address; {fds} all numbers,\n"
@@ -80,6 +81,7 @@ static void take_option(int letter, char *value, struct options *options) {
     case 'u': options->usr1 = signal_of(value); break;
     case 'b': options->blocking = true; break;
     case 'n': options->no_listen_fds = true; break;
+    case 'c': options->is_check = true; break;
     case 'e':
         if (!strchr(value, '='))
             usage("--env takes NAME=VALUE, not: ", value);
@@ -100,7 +102,7 @@ void read_options(int count, char **words, struct options *options) {
         {"finish", required_argument, 0, 'f'},       {"usr1", required_argument, 0, 'u'},
         {"env", required_argument, 0, 'e'},          {"blocking", no_argument, 0, 'b'},
         {"no-listen-fds", no_argument, 0, 'n'},      {"help", no_argument, 0, 'h'},
-        {0, 0, 0, 0},
+        {"check", no_argument, 0, 'c'},              {0, 0, 0, 0},
     };
     *options = (struct options){.ready_within = 30, .finish = 30, .probe_within = 5, .probe_limit = 30, .stop = SIGTERM};
     options->settings = calloc((size_t)count + 1, sizeof *options->settings);

@@ -17,7 +17,7 @@ struct options {
     enum ready ready;
     double ready_within, finish, probe_within, probe_limit;
     int stop, usr1;
-    bool blocking, no_listen_fds;
+    bool blocking, no_listen_fds, is_check;
     const char *probe;
     char **settings;
     int setting_count;

@@ -3,7 +3,8 @@ import pathlib
 import sys
 
 HOME = pathlib.Path(__file__).resolve().parent.parent
-KEEPER, GUARD = HOME / "bin" / "prefork-keeper", HOME / "bin" / "prefork-guard"
+BIN = HOME / "bin"
+KEEPER, GUARD, WSGI = BIN / "prefork-keeper", BIN / "prefork-guard", BIN / "prefork-wsgi"
 ACTIVATE, LAUNCH = HOME / "out" / "prefork-activate", HOME / "out" / "prefork-launch"
 
 
