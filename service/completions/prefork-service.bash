@@ -17,7 +17,7 @@ _prefork_service() {
             mapfile -t COMPREPLY < <(compgen -W 'HUP INT QUIT TERM USR1 USR2 WINCH' -- "$cur")
             return
             ;;
-        --wsgi | --threads | --timeout | --keep | --guard | --ready-within | --probe | --probe-within | --probe-limit | --env | --finish | --clients | --rate | --seconds | --patience | --path) return ;;
+        --wsgi | --threads | --timeout | --keep | --guard | --ready-within | --probe | --probe-within | --probe-limit | --env | --finish | --clients | --rate | --seconds | --patience | --path | --slow) return ;;
     esac
     case ${COMP_WORDS[0]##*/} in
         prefork-serve) 
@@ -29,6 +29,7 @@ _prefork_service() {
             ;;
         prefork-ctl) options='--folder --help' ;;
         prefork-guard) options='--finish --help' ;;
+        prefork-checkworker) options='--path --slow --one --patience --help' ;;
         prefork-load) options='--clients --rate --seconds --patience --path --json --help' ;;
         *) return ;;
     esac
@@ -41,4 +42,4 @@ _prefork_service() {
     fi
 }
 
-complete -F _prefork_service prefork-serve prefork-ctl prefork-guard prefork-load
+complete -F _prefork_service prefork-serve prefork-ctl prefork-guard prefork-load prefork-checkworker

@@ -5,7 +5,7 @@ smuggled, and it has neither the answers 411 and 413 nor chunked bodies.
 
     worker.work(page)
 
-obeys the lines of standard input as docs/CHILDREN.md says, takes the listening sockets from the keeper, and serves
+obeys the lines of standard input as docs/WORKERS.md says, takes the listening sockets from the keeper, and serves
 each connection in a thread of its own with `page(request)`, which gives a status and a text. Lines are heard by the
 main thread alone: whatever is being served, the master is answered at once.
 
@@ -18,10 +18,12 @@ import socket
 import sys
 import threading
 
-# How long a kept connection may be idle, a request may take to arrive, and the requests in progress to end.
+# How long a kept connection may be idle, a request may take to arrive, the requests in progress may take to end, and
+# the keeper to answer.
 IDLE_SECONDS = 2.0
 REQUEST_SECONDS = 10.0
 FINISH_SECONDS = 30.0
+KEEPER_SECONDS = 10.0
 MOST_CONNECTIONS = 256
 LONGEST_HEAD = 16384
 LONGEST_BODY = 1 << 20
@@ -199,6 +201,7 @@ class Server:
 def asked_for(address):
     """The listening socket of an address, and the connection to the keeper that holds it; a refusal ends the worker."""
     hold = socket.socket(socket.AF_UNIX, socket.SOCK_SEQPACKET)
+    hold.settimeout(KEEPER_SECONDS)
     try:
         hold.connect(os.environ["PREFORK_KEEPER"])
         hold.send(address.encode())

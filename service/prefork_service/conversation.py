@@ -50,9 +50,15 @@ class Conversation:
         line, _, self.unread = self.unread.partition(b"\n")
         return line.decode("latin-1")
 
-    def rest(self) -> bytes:
-        """What it says up to its end; it has been told to end."""
-        return self.unread + (self.process.stdout.read() or b"")
+    def rest(self, seconds: float = 5.0) -> bytes:
+        """What else it says: up to the end of its output, or for some seconds if a process of it keeps that open."""
+        deadline, got = time.monotonic() + seconds, self.unread
+        while select.select([self.process.stdout], [], [], max(0.0, deadline - time.monotonic()))[0]:
+            piece = os.read(self.process.stdout.fileno(), 4096)
+            if not piece:
+                break
+            got += piece
+        return got
 
     def wait(self, seconds: float = 20.0) -> int | str:
         """Its status."""

@@ -76,7 +76,7 @@ async def main() -> None:
     page = Page()
     assert int(os.environ["LISTEN_PID"]) == os.getpid()
     given = [socket.socket(fileno=FIRST + at) for at in range(int(os.environ["LISTEN_FDS"]))]
-    servers = [await asyncio.start_server(page.converse, sock=one) for one in given]
+    servers = [await asyncio.start_server(page.converse, sock=one, backlog=1024) for one in given]
     asyncio.get_running_loop().add_signal_handler(signal.SIGTERM, page.finishing.set)
     notify("STATUS=serves\nREADY=1")
     await page.finishing.wait()
