@@ -30,7 +30,7 @@ _prefork_service() {
         prefork-ctl) options='--folder --help' ;;
         prefork-guard) options='--finish --help' ;;
         prefork-checkworker) options='--path --slow --one --patience --help' ;;
-        prefork-load) options='--clients --rate --seconds --patience --path --json --help' ;;
+        prefork-load) options='--clients --rate --seconds --patience --path --again --json --help' ;;
         *) return ;;
     esac
     if [[ $cur == -* ]]; then
