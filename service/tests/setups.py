@@ -58,7 +58,8 @@ const server = http.createServer((request, response) => {
 server.listen({ fd: 3, backlog: 1024 });
 process.on("SIGTERM", () => { server.leaving = true; server.close(() => process.exit(0)); });
 """
-NGINX = """daemon off; worker_processes 1; pid @ROOM@/nginx.pid; error_log stderr crit;
+# Started by root, nginx has another user for its workers, who can't read a temporary folder.
+NGINX = ("user root;\n" if os.geteuid() == 0 else "") + """daemon off; worker_processes 1; pid @ROOM@/nginx.pid; error_log stderr crit;
 events { worker_connections 512; }
 http { access_log off; client_body_temp_path @ROOM@/b; proxy_temp_path @ROOM@/p; fastcgi_temp_path @ROOM@/f;
   uwsgi_temp_path @ROOM@/u; scgi_temp_path @ROOM@/s;

@@ -15,17 +15,15 @@ IDLE_SECONDS = 2.0
 
 class Page:
     def __init__(self) -> None:
-        self.finishing, self.open = asyncio.Event(), set()
+        self.finishing = asyncio.Event()
 
     async def converse(self, reader: asyncio.StreamReader, writer: asyncio.StreamWriter) -> None:
-        self.open.add(writer)
         try:
             while await self.answer_next(reader, writer):
                 pass
-        except (OSError, asyncio.IncompleteReadError):
+        except (OSError, TimeoutError, asyncio.IncompleteReadError):
             pass
         finally:
-            self.open.discard(writer)
             writer.close()
 
     async def head_of(self, reader: asyncio.StreamReader) -> bytes | None:
@@ -82,7 +80,8 @@ async def main() -> None:
     await page.finishing.wait()
     for server in servers:
         server.close()
-    while page.open:
+    # A connection that was accepted just before has a task, and is not among the open ones yet.
+    while len(asyncio.all_tasks()) > 1:
         await asyncio.sleep(0.02)
 
 
