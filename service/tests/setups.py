@@ -88,7 +88,7 @@ class Setup:
     # The file without which the application does not load.
     needed: str
     is_there: Callable[[], bool] = lambda: True
-    # How many requests its own stop may lose.
+    # How many requests its own stop may lose: puma and asyncio can have accepted a connection that they forget then.
     may_lose: int = 0
 
     def write(self, site: pathlib.Path, version: int) -> None:
@@ -135,7 +135,8 @@ SETUPS = [
     Setup("own program, by LISTEN_FDS", ["--ready", "notify"], f"{PYTHON} @SITE@/page.py", {}, "page.py"),
     Setup("gunicorn", [], "gunicorn --chdir @SITE@ -w 1 -k gthread --threads 4 --log-level error app:app", {"app.py": WSGI}, "app.py",
           has("gunicorn")),
-    Setup("uvicorn", [], 'uvicorn --fd "$1" --app-dir @SITE@ --log-level error app:app', {"app.py": ASGI}, "app.py", has("uvicorn")),
+    Setup("uvicorn", [], 'uvicorn --fd "$1" --app-dir @SITE@ --log-level error app:app', {"app.py": ASGI}, "app.py", has("uvicorn"),
+          may_lose=1),
     Setup("unicorn", ["--stop", "QUIT"], 'unicorn -E none -c @SITE@/unicorn.rb -l "$2" @SITE@/app.ru',
           {"app.ru": RACK, "unicorn.rb": 'worker_processes 2\nlogger Logger.new(File::NULL)\n'}, "app.ru", has("unicorn")),
     Setup("puma", [], "puma --bind-to-activated-sockets only -q -t 4:4 -e production @SITE@/app.ru", {"app.ru": RACK}, "app.ru",
