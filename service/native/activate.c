@@ -137,8 +137,12 @@ static void go(void) {
     if (options.blocking)
         set_blocking();
     begin_waiting(&waiting, &addresses);
-    struct gifts gifts = {&options, &addresses, options.probe ? probe.listener : -1, room,
-                          notified >= 0 ? notify_path : 0, options.probe ? probe_path : 0};
+    struct gifts gifts = {&options,
+                          &addresses,
+                          options.probe ? probe.listener : -1,
+                          room,
+                          notified >= 0 ? notify_path : 0,
+                          options.probe ? probe_path : 0};
     begun = next_look = now();
     holder = start_holder(&gifts, &line);
     if (holder < 0)

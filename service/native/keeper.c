@@ -32,7 +32,8 @@ static ssize_t receive(int connection, char *text, size_t room, int *listener) {
         char bytes[CMSG_SPACE(sizeof(int))];
     } control;
     struct iovec piece = {text, room};
-    struct msghdr message = {.msg_iov = &piece, .msg_iovlen = 1, .msg_control = &control, .msg_controllen = sizeof control};
+    struct msghdr message = {
+        .msg_iov = &piece, .msg_iovlen = 1, .msg_control = &control, .msg_controllen = sizeof control};
     ssize_t length = recvmsg(connection, &message, MSG_CMSG_CLOEXEC);
     struct cmsghdr *header = length > 0 ? CMSG_FIRSTHDR(&message) : 0;
     *listener = -1;

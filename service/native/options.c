@@ -8,32 +8,31 @@
 #include <stdlib.h>
 #include <string.h>
 
-static const char HELP[] =
-    "Usage: prefork-activate [OPTIONS] -- PROGRAM ARGUMENT..\n"
-    "\n"
-    "A worker of a Prefork master that is another program. The program takes its\n"
-    "listening sockets by LISTEN_FDS, by numbers in its arguments, or by its\n"
-    "environment.\n"
-    "\n"
-    "  --ready accept         ready once it waits for connections at each socket (default)\n"
-    "  --ready notify         ready once it sends READY=1 to NOTIFY_SOCKET\n"
-    "  --ready probe          ready once it answers the request of --probe\n"
-    "  --ready-within SECONDS how long it may take to be ready (30)\n"
-    "  --probe PATH           ask it for PATH, at a socket of its own, before each beat\n"
-    "  --probe-within SECONDS how long such an answer may take (5)\n"
-    "  --probe-limit SECONDS  end the worker if no answer has come for this long (30)\n"
-    "  --stop SIGNAL          the signal that tells it to finish (TERM)\n"
-    "  --finish SECONDS       how long it may take to finish (30)\n"
-    "  --usr1 SIGNAL          the signal that tells it to reopen its logs (none)\n"
-    "  --env NAME=VALUE       a variable of its environment\n"
-    "  --no-listen-fds        do not set LISTEN_FDS\n"
-    "  --blocking             make the sockets block, for programs that wait in accept\n"
-    "  --check                only look at the command line\n"
-    "\n"
-    "In arguments and values of --env: {fd} or {fd0} is the number of the first socket,\n"
-    "{fd1} that of the second; {address} or {address0} its address; {fds} all numbers,\n"
-    "each followed by a semicolon; {fpm} ADDRESS=NUMBER, joined by commas; {probe} the\n"
-    "path of the probe's socket; {room} a folder that only this program has.\n";
+static const char HELP[] = "Usage: prefork-activate [OPTIONS] -- PROGRAM ARGUMENT..\n"
+                           "\n"
+                           "A worker of a Prefork master that is another program. The program takes its\n"
+                           "listening sockets by LISTEN_FDS, by numbers in its arguments, or by its\n"
+                           "environment.\n"
+                           "\n"
+                           "  --ready accept         ready once it waits for connections at each socket (default)\n"
+                           "  --ready notify         ready once it sends READY=1 to NOTIFY_SOCKET\n"
+                           "  --ready probe          ready once it answers the request of --probe\n"
+                           "  --ready-within SECONDS how long it may take to be ready (30)\n"
+                           "  --probe PATH           ask it for PATH, at a socket of its own, before each beat\n"
+                           "  --probe-within SECONDS how long such an answer may take (5)\n"
+                           "  --probe-limit SECONDS  end the worker if no answer has come for this long (30)\n"
+                           "  --stop SIGNAL          the signal that tells it to finish (TERM)\n"
+                           "  --finish SECONDS       how long it may take to finish (30)\n"
+                           "  --usr1 SIGNAL          the signal that tells it to reopen its logs (none)\n"
+                           "  --env NAME=VALUE       a variable of its environment\n"
+                           "  --no-listen-fds        do not set LISTEN_FDS\n"
+                           "  --blocking             make the sockets block, for programs that wait in accept\n"
+                           "  --check                only look at the command line\n"
+                           "\n"
+                           "In arguments and values of --env: {fd} or {fd0} is the number of the first socket,\n"
+                           "{fd1} that of the second; {address} or {address0} its address; {fds} all numbers,\n"
+                           "each followed by a semicolon; {fpm} ADDRESS=NUMBER, joined by commas; {probe} the\n"
+                           "path of the probe's socket; {room} a folder that only this program has.\n";
 
 static int usage(const char *problem, const char *word) {
     fprintf(stderr, "prefork-activate: %s%s; see --help\n", problem, word ? word : "");
@@ -87,24 +86,30 @@ static void take_option(int letter, char *value, struct options *options) {
             usage("--env takes NAME=VALUE, not: ", value);
         options->settings[options->setting_count++] = value;
         break;
-    case 'h':
-        fputs(HELP, stdout);
-        exit(0);
+    case 'h': fputs(HELP, stdout); exit(0);
     default: exit(2);
     }
 }
 
 void read_options(int count, char **words, struct options *options) {
     static const struct option known[] = {
-        {"ready", required_argument, 0, 'r'},        {"ready-within", required_argument, 0, 'w'},
-        {"probe", required_argument, 0, 'p'},        {"probe-within", required_argument, 0, 'i'},
-        {"probe-limit", required_argument, 0, 'l'},  {"stop", required_argument, 0, 's'},
-        {"finish", required_argument, 0, 'f'},       {"usr1", required_argument, 0, 'u'},
-        {"env", required_argument, 0, 'e'},          {"blocking", no_argument, 0, 'b'},
-        {"no-listen-fds", no_argument, 0, 'n'},      {"help", no_argument, 0, 'h'},
-        {"check", no_argument, 0, 'c'},              {0, 0, 0, 0},
+        {"ready", required_argument, 0, 'r'},
+        {"ready-within", required_argument, 0, 'w'},
+        {"probe", required_argument, 0, 'p'},
+        {"probe-within", required_argument, 0, 'i'},
+        {"probe-limit", required_argument, 0, 'l'},
+        {"stop", required_argument, 0, 's'},
+        {"finish", required_argument, 0, 'f'},
+        {"usr1", required_argument, 0, 'u'},
+        {"env", required_argument, 0, 'e'},
+        {"blocking", no_argument, 0, 'b'},
+        {"no-listen-fds", no_argument, 0, 'n'},
+        {"help", no_argument, 0, 'h'},
+        {"check", no_argument, 0, 'c'},
+        {0, 0, 0, 0},
     };
-    *options = (struct options){.ready_within = 30, .finish = 30, .probe_within = 5, .probe_limit = 30, .stop = SIGTERM};
+    *options =
+        (struct options){.ready_within = 30, .finish = 30, .probe_within = 5, .probe_limit = 30, .stop = SIGTERM};
     options->settings = calloc((size_t)count + 1, sizeof *options->settings);
     if (!options->settings)
         usage("out of memory", 0);

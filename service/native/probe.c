@@ -25,7 +25,8 @@ void open_probe(struct probe *probe, const char *path, const struct options *opt
     struct sockaddr_un place = place_of(path);
     *probe = (struct probe){.path = options->probe, .place = path, .within = options->probe_within, .connection = -1};
     probe->listener = socket(AF_UNIX, SOCK_STREAM | SOCK_CLOEXEC, 0);
-    if (probe->listener < 0 || bind(probe->listener, (struct sockaddr *)&place, sizeof place) < 0 || listen(probe->listener, 64) < 0)
+    if (probe->listener < 0 || bind(probe->listener, (struct sockaddr *)&place, sizeof place) < 0 ||
+        listen(probe->listener, 64) < 0)
         fail("%s: %s", path, strerror(errno));
 }
 
@@ -38,7 +39,8 @@ static void end_request(struct probe *probe) {
 static void ask(struct probe *probe) {
     char request[600];
     struct sockaddr_un place = place_of(probe->place);
-    int length = snprintf(request, sizeof request, "GET %.500s HTTP/1.1\r\nHost: localhost\r\nConnection: close\r\n\r\n", probe->path);
+    int length = snprintf(request, sizeof request,
+                          "GET %.500s HTTP/1.1\r\nHost: localhost\r\nConnection: close\r\n\r\n", probe->path);
     probe->asked = now();
     probe->length = 0;
     probe->is_told = false;
@@ -55,7 +57,8 @@ static void judge(struct probe *probe) {
     if (probe->is_told || probe->length < 12)
         return;
     probe->is_told = true;
-    probe->is_well = !memcmp(probe->head, "HTTP/1.", 7) && probe->head[8] == ' ' && probe->head[9] >= '1' && probe->head[9] < '5';
+    probe->is_well =
+        !memcmp(probe->head, "HTTP/1.", 7) && probe->head[8] == ' ' && probe->head[9] >= '1' && probe->head[9] < '5';
     if (probe->is_well)
         probe->answered = now();
 }

@@ -79,7 +79,8 @@ static void look_at_epoll(struct waiting *waiting, const char *process, const ch
         fclose(file);
 }
 
-static void look_at_descriptor(struct waiting *waiting, struct descriptors *found, const char *process, const char *number) {
+static void look_at_descriptor(struct waiting *waiting, struct descriptors *found, const char *process,
+                               const char *number) {
     char path[300], target[64];
     snprintf(path, sizeof path, "/proc/%s/fd/%s", process, number);
     ssize_t length = readlink(path, target, sizeof target - 1);
@@ -98,7 +99,8 @@ static void look_at_descriptor(struct waiting *waiting, struct descriptors *foun
     }
 }
 
-static void look_at_polled(struct waiting *waiting, const struct descriptors *found, int memory, off_t place, size_t count) {
+static void look_at_polled(struct waiting *waiting, const struct descriptors *found, int memory, off_t place,
+                           size_t count) {
     static struct pollfd polled[MOST_POLLED];
     if (count > MOST_POLLED)
         count = MOST_POLLED;
@@ -107,7 +109,8 @@ static void look_at_polled(struct waiting *waiting, const struct descriptors *fo
         see_number(waiting, found, polled[at].fd);
 }
 
-static void look_at_selected(struct waiting *waiting, const struct descriptors *found, int memory, off_t place, int count) {
+static void look_at_selected(struct waiting *waiting, const struct descriptors *found, int memory, off_t place,
+                             int count) {
     unsigned char bits[FD_SETSIZE / 8] = {0};
     if (pread(memory, bits, sizeof bits, place) <= 0)
         return;
@@ -133,7 +136,8 @@ static bool is_select(long call) {
 }
 
 /* The system call in which a thread waits. */
-static void look_at_thread(struct waiting *waiting, const struct descriptors *found, const char *process, const char *thread) {
+static void look_at_thread(struct waiting *waiting, const struct descriptors *found, const char *process,
+                           const char *thread) {
     char path[300], line[256] = "";
     long call;
     unsigned long first, second;

@@ -1,9 +1,9 @@
 """prefork-checkworker [--path PATH] [--slow PATH] [--one] [--patience SECONDS] COMMAND..
 
-Checks whether COMMAND is a worker by the convention of docs/WORKERS.md. It plays the master, with a keeper beside it, on
-loopback and in a temporary folder, and compares what the worker answers and serves. --path is a page (/), --slow one that
-takes a second or more; without it, what concerns requests in progress is not checked. With --one it is told one address
-at a time. --patience says how long it may take to load, and to finish (45).
+Checks whether COMMAND is a worker by the convention of docs/WORKERS.md. It plays the master, with a keeper beside it,
+on loopback and in a temporary folder, and compares what the worker answers and serves. --path is a page (/), --slow one
+that takes a second or more; without it, what concerns requests in progress is not checked. With --one it is told one
+address at a time. --patience says how long it may take to load, and to finish (45).
 
 Prints a line for each point, and then 'N passed, M failed'. The status is 1 if any point failed.
 """
@@ -131,7 +131,8 @@ def check_lines(bench: Bench) -> None:
     told = (one,) if bench.given.one else (one, other)
     talk = bench.ready(*told)
     for address in told:
-        bench.point("once it is ready, it answers requests at each address", first_line(address, bench.given.path, bench.answer), is_answer)
+        line = first_line(address, bench.given.path, bench.answer)
+        bench.point("once it is ready, it answers requests at each address", line, is_answer)
     talk.say("ping")
     bench.point("ping is answered by pong, and it says nothing unasked", talk.hear(bench.answer), "pong")
     talk.say("tick 12345")
@@ -157,7 +158,7 @@ def check_socket(bench: Bench, address: str) -> None:
         longest = struct.unpack_from("I", shared.getsockopt(socket.IPPROTO_TCP, socket.TCP_INFO, 104), BACKLOG_AT)[0]
     bench.point("the shared socket stays non-blocking", is_blocking, False)
     if longest < LEAST_BACKLOG:
-        print(f"note   it has called listen with {longest}, which holds for all workers; better at least {LEAST_BACKLOG}")
+        print(f"note   it has called listen with {longest}, which holds for all workers; {LEAST_BACKLOG} is better")
 
 
 def check_quit(bench: Bench) -> None:

@@ -42,10 +42,10 @@ def parser() -> argparse.ArgumentParser:
     guard = "end a worker that does not answer its master within SECONDS"
     made.add_argument("--guard", type=float, metavar="SECONDS", help=guard)
     made.add_argument("--wsgi", metavar="MODULE:APP", help="a WSGI application; it is served by waitress")
-    made.add_argument("--python", default=sys.executable, metavar="PROGRAM", help="the Python that runs it (that of prefork-serve)")
-    titles = {"options of a worker": SHARED, "options of a worker PROGRAM": PROGRAM, "options of a worker MODULE:APP": WSGI}
-    for title, options in titles.items():
-        group = made.add_argument_group(title)
+    python = "the Python that runs it (that of prefork-serve)"
+    made.add_argument("--python", default=sys.executable, metavar="PROGRAM", help=python)
+    for title, options in (("", SHARED), (" PROGRAM", PROGRAM), (" MODULE:APP", WSGI)):
+        group = made.add_argument_group(f"options of a worker{title}")
         for option, (name, text) in options.items():
             kind = {"action": "append", "metavar": name} if name else {"action": "append_const", "const": None}
             group.add_argument(option, **kind, default=[], help=text)

@@ -2,9 +2,10 @@
 prefork-serve [OPTIONS] --wsgi MODULE:APP CONFIG
 prefork-serve [OPTIONS] CONFIG
 
-Runs a service: the keeper of its sockets, and the master (`prefork supervise`) with its workers. Each worker is PROGRAM,
-which takes its sockets by LISTEN_FDS, by a number ({fd} in an argument), or by its environment, or it serves the WSGI
-application MODULE:APP. If CONFIG has a `command`, that is started instead, and speaks the worker convention itself.
+Runs a service: the keeper of its sockets, and the master (`prefork supervise`) with its workers. Each worker is
+PROGRAM, which takes its sockets by LISTEN_FDS, by a number ({fd} in an argument), or by its environment, or it serves
+the WSGI application MODULE:APP. If CONFIG has a `command`, that is started instead, and speaks the worker convention
+itself.
 
 - HUP, USR1, USR2, WINCH, TTIN, TTOU, QUIT, INT and TERM, sent to it, become words of the master, one after another in
   the order in which they come. `prefork-ctl WORD` sends one too, and waits for its block. HUP and USR2 read CONFIG

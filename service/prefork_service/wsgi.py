@@ -133,11 +133,14 @@ def arguments() -> argparse.Namespace:
         prog="prefork-wsgi", description="A worker of a Prefork master that serves a WSGI application."
     )
     parser.add_argument("--threads", type=int, default=4, help="how many requests it answers at a time (4)")
-    parser.add_argument("--timeout", type=float, default=30.0, metavar="SECONDS", help="end if all threads have been at one request for this long (30)")
-    parser.add_argument("--keep", type=int, default=75, metavar="SECONDS", help="how long a connection may be idle (75)")
-    parser.add_argument("--idle", type=float, default=2.0, metavar="SECONDS", help="the same while it finishes (2)")
-    parser.add_argument("--finish", type=float, default=30.0, metavar="SECONDS", help="how long it may finish (30)")
-    parser.add_argument("--ready-within", type=float, default=30.0, metavar="SECONDS", help="how long it may load (30)")
+    for option, kind, seconds, text in (
+        ("--timeout", float, 30.0, "end if all threads have been at one request for this long (30)"),
+        ("--keep", int, 75, "how long a connection may be idle (75)"),
+        ("--idle", float, 2.0, "the same while it finishes (2)"),
+        ("--finish", float, 30.0, "how long it may finish (30)"),
+        ("--ready-within", float, 30.0, "how long it may load (30)"),
+    ):
+        parser.add_argument(option, type=kind, default=seconds, metavar="SECONDS", help=text)
     parser.add_argument("--chdir", default=".", metavar="FOLDER", help="where the module is (the current folder)")
     parser.add_argument("--check", action="store_true", help="only look at the command line, and for waitress")
     parser.add_argument("application", metavar="MODULE:APP")

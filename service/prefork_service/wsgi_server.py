@@ -50,8 +50,8 @@ def channel_of(requests: Requests) -> type:
                 self.request.headers["CONNECTION"] = "close"
             return super().build_response_header()
 
-    tasks = {"task_class": type("Task", (Noted, WSGITask), {}), "error_task_class": type("Fault", (Noted, ErrorTask), {})}
-    return type("Channel", (HTTPChannel,), tasks)
+    task, fault = type("Task", (Noted, WSGITask), {}), type("Fault", (Noted, ErrorTask), {})
+    return type("Channel", (HTTPChannel,), {"task_class": task, "error_task_class": fault})
 
 
 class Server:

@@ -75,9 +75,12 @@ static void answer(int at) {
     if (!strncmp(client->text, "GET /stuck ", 11))
         for (;;)
             pause();
-    int size = snprintf(body, sizeof body, "version %s process %d\n", getenv("VERSION") ? getenv("VERSION") : "1", (int)getpid());
-    int length = snprintf(text, sizeof text, "HTTP/1.1 200 OK\r\nContent-Type: text/plain\r\nContent-Length: %d\r\nConnection: %s\r\n\r\n%s",
-                          size, is_kept ? "keep-alive" : "close", body);
+    int size = snprintf(body, sizeof body, "version %s process %d\n", getenv("VERSION") ? getenv("VERSION") : "1",
+                        (int)getpid());
+    int length =
+        snprintf(text, sizeof text,
+                 "HTTP/1.1 200 OK\r\nContent-Type: text/plain\r\nContent-Length: %d\r\nConnection: %s\r\n\r\n%s", size,
+                 is_kept ? "keep-alive" : "close", body);
     client->length = 0;
     client->since = now();
     if (send(client->socket, text, (size_t)length, MSG_NOSIGNAL) != length)
