@@ -2,6 +2,7 @@
 import os
 import pathlib
 import random
+import signal
 import socket
 import subprocess
 import sys
@@ -36,6 +37,31 @@ def free_address() -> str:
             except OSError:
                 continue
             return "127.0.0.1:%d" % probe.getsockname()[1]
+
+
+def is_open(address: str) -> bool:
+    """Whether somebody listens at an address."""
+    host, _, port = address.rpartition(":")
+    try:
+        socket.create_connection((host, int(port)), 5).close()
+        return True
+    except ConnectionRefusedError:
+        return False
+
+
+def end_all(running, seconds: float = 5.0) -> None:
+    """Ends the processes whose numbers `running` gives. A process that holds a program for an adapter kills all that the
+    program has started, and so it is left to end by itself, for some seconds."""
+    deadline = time.monotonic() + seconds
+    while left := running():
+        for number in left:
+            try:
+                name = pathlib.Path(f"/proc/{number}/comm").read_text()
+                if name != "prefork-hold\n" or time.monotonic() > deadline:
+                    os.kill(number, signal.SIGKILL)
+            except (OSError, ProcessLookupError):
+                pass
+        time.sleep(0.05)
 
 
 def answer_of(address: str, path: str = "/", seconds: float = 20.0) -> str:
