@@ -24,8 +24,8 @@
 #include <unistd.h>
 
 #define LONGEST_LINE 4096
-/* The pause between two looks at /proc: at first, and once the program has taken longer than a second. */
-#define SHORT_LOOK 0.02
+/* The pause between two looks at /proc: a fifth of the time since the start, between these. */
+#define SHORT_LOOK 0.002
 #define LONG_LOOK 0.1
 
 static struct options options;
@@ -253,7 +253,8 @@ static bool is_program_ready(void) {
         return probe.answered > 0;
     if (now() < next_look)
         return false;
-    next_look = now() + (now() - begun > 1 ? LONG_LOOK : SHORT_LOOK);
+    double pause = (now() - begun) / 5;
+    next_look = now() + (pause < SHORT_LOOK ? SHORT_LOOK : pause > LONG_LOOK ? LONG_LOOK : pause);
     return is_waited_for(&waiting, program);
 }
 
@@ -286,14 +287,22 @@ static void go_on(void) {
         END_WRONG("%s has not answered %s for %g seconds", options.command[0], options.probe, options.probe_limit);
 }
 
+/* How long until the program is looked at, or its time to be ready is over. */
+static double until_look(double seconds) {
+    double left = begun + options.ready_within - now();
+    if (options.ready == READY_ACCEPT && next_look - now() < left)
+        left = next_look - now();
+    return left < seconds ? left : seconds;
+}
+
 static int pause_of(void) {
     double seconds = 3600;
     if (finish_by)
         seconds = finish_by - now();
     else if (program && options.probe)
         seconds = until_probe(&probe);
-    if (program && !finish_by && !is_ready && seconds > SHORT_LOOK)
-        seconds = SHORT_LOOK;
+    if (program && !finish_by && !is_ready)
+        seconds = until_look(seconds);
     return seconds > 0 ? (int)(seconds * 1000) + 1 : 0;
 }
 
