@@ -1,0 +1,45 @@
+# Bash completion for the programs of the service. To use it: source completions/prefork-service.bash
+
+_prefork_service() {
+    local cur=${COMP_WORDS[COMP_CWORD]} prev=${COMP_WORDS[COMP_CWORD - 1]} options
+
+    COMPREPLY=()
+    case $prev in
+        --folder | --prefork | --python | --chdir)
+            compopt -o default
+            return
+            ;;
+        --ready)
+            mapfile -t COMPREPLY < <(compgen -W 'accept notify probe' -- "$cur")
+            return
+            ;;
+        --stop | --usr1)
+            mapfile -t COMPREPLY < <(compgen -W 'HUP INT QUIT TERM USR1 USR2 WINCH' -- "$cur")
+            return
+            ;;
+        --wsgi | --threads | --timeout | --keep | --guard | --ready-within | --probe | --probe-within | --probe-limit | --env | --finish | --clients | --rate | --seconds | --patience | --path | --slow) return ;;
+    esac
+    case ${COMP_WORDS[0]##*/} in
+        prefork-serve) 
+            if [[ " ${COMP_WORDS[*]:0:COMP_CWORD} " == *' -- '* ]]; then
+                compopt -o default
+                return
+            fi
+            options='--folder --prefork --guard --wsgi --python --threads --timeout --keep --chdir --ready --ready-within --probe --probe-within --probe-limit --stop --finish --usr1 --env --no-listen-fds --blocking --help'
+            ;;
+        prefork-ctl) options='--folder --help' ;;
+        prefork-guard) options='--finish --help' ;;
+        prefork-checkworker) options='--path --slow --one --patience --help' ;;
+        prefork-load) options='--clients --rate --seconds --patience --path --again --json --help' ;;
+        *) return ;;
+    esac
+    if [[ $cur == -* ]]; then
+        mapfile -t COMPREPLY < <(compgen -W "$options" -- "$cur")
+    elif [[ ${COMP_WORDS[0]##*/} == prefork-ctl ]]; then
+        mapfile -t COMPREPLY < <(compgen -W 'HUP QUIT INT TERM USR1 USR2 WINCH TTIN TTOU' -- "$cur")
+    elif [[ ${COMP_WORDS[0]##*/} == prefork-serve ]]; then
+        compopt -o default
+    fi
+}
+
+complete -F _prefork_service prefork-serve prefork-ctl prefork-guard prefork-load prefork-checkworker

@@ -1,0 +1,106 @@
+/* prefork-launch child | prefork-launch adopt
+ *
+ * What a master starts as its workers, and as the new master of an upgrade. prefork-serve starts masters with it.
+ *
+ * `child` becomes the worker of its generation. The folder PREFORK_FOLDER has a file for each generation, commands/I.C:
+ * the words of the command, each ended by a byte 0. The first worker of a generation takes commands/next for it. The
+ * generation is read from the master's first line, which stays in the pipe for the worker.
+ *
+ * `adopt` becomes `PREFORK_PROGRAM adopt`, with this program for its workers. */
+#define _GNU_SOURCE
+#include <errno.h>
+#include <fcntl.h>
+#include <poll.h>
+#include <stdarg.h>
+#include <stdio.h>
+#include <stdlib.h>
+#include <string.h>
+#include <unistd.h>
+
+#define LONGEST_LINE 4096
+#define LONGEST_COMMAND 65536
+#define MOST_WORDS 1024
+
+static void fail(const char *form, ...) __attribute__((format(printf, 1, 2), noreturn));
+
+static void fail(const char *form, ...) {
+    char text[1024];
+    va_list values;
+    va_start(values, form);
+    vsnprintf(text, sizeof text, form, values);
+    va_end(values);
+    dprintf(2, "prefork-launch: %s\n", text);
+    exit(1);
+}
+
+static const char *setting(const char *name) {
+    const char *value = getenv(name);
+    if (!value)
+        fail("%s is not set: prefork-serve starts this program", name);
+    return value;
+}
+
+/* Reads what is in the input and leaves it there. Ends if the master has gone. */
+static size_t peek(char *text, size_t room) {
+    int copy[2];
+    struct pollfd input = {0, POLLIN, 0};
+    if (pipe2(copy, O_CLOEXEC) < 0)
+        fail("no pipe: %s", strerror(errno));
+    while (poll(&input, 1, -1) < 0)
+        if (errno != EINTR)
+            fail("poll: %s", strerror(errno));
+    ssize_t length = tee(0, copy[1], room, 0);
+    if (length == 0)
+        exit(0);
+    if (length < 0 || read(copy[0], text, (size_t)length) != length)
+        fail("the input is not the pipe of a master: %s", strerror(errno));
+    close(copy[0]);
+    close(copy[1]);
+    return (size_t)length;
+}
+
+/* The generation of this worker: I.C of the line `worker I.C NR START`, which the master writes at once. */
+static void read_generation(char *generation, size_t room) {
+    char text[LONGEST_LINE + 1];
+    unsigned image, configuration;
+    text[peek(text, LONGEST_LINE)] = 0;
+    if (!strchr(text, '\n') || sscanf(text, "worker %9u.%9u ", &image, &configuration) != 2)
+        fail("the first line is not that of a master");
+    snprintf(generation, room, "%u.%u", image, configuration);
+}
+
+/* The words of a generation's command, in memory that lasts. */
+static char **command_of(const char *generation) {
+    static char path[4096], next[4096], text[LONGEST_COMMAND + 1], *words[MOST_WORDS + 1];
+    const char *folder = setting("PREFORK_FOLDER");
+    snprintf(path, sizeof path, "%s/commands/%s", folder, generation);
+    snprintf(next, sizeof next, "%s/commands/next", folder);
+    if (link(next, path) < 0 && errno != EEXIST)
+        fail("%s: %s", next, strerror(errno));
+    int file = open(path, O_RDONLY | O_CLOEXEC), count = 0;
+    ssize_t length = file < 0 ? -1 : read(file, text, LONGEST_COMMAND + 1);
+    if (length <= 0 || length > LONGEST_COMMAND || text[length - 1])
+        fail("%s: no command", path);
+    for (char *word = text; word < text + length && count < MOST_WORDS; word += strlen(word) + 1)
+        words[count++] = word;
+    return words;
+}
+
+int main(int count, char **words) {
+    char generation[32], own[4096];
+    if (count == 2 && !strcmp(words[1], "child")) {
+        read_generation(generation, sizeof generation);
+        char **command = command_of(generation);
+        execvp(command[0], command);
+        fail("%s: %s", command[0], strerror(errno));
+    }
+    if (count == 2 && !strcmp(words[1], "adopt")) {
+        ssize_t length = readlink("/proc/self/exe", own, sizeof own - 1);
+        own[length > 0 ? length : 0] = 0;
+        const char *program = setting("PREFORK_PROGRAM");
+        execlp(program, program, "adopt", "--program", own, (char *)0);
+        fail("%s: %s", program, strerror(errno));
+    }
+    dprintf(2, "usage: prefork-launch child | prefork-launch adopt\n");
+    return 2;
+}

@@ -1,0 +1,51 @@
+/* What the parts of prefork-activate share. */
+#ifndef WORKER_H
+#define WORKER_H
+
+#include <stdbool.h>
+#include <sys/types.h>
+
+/* A master has at most 64 listeners. */
+#define MOST_LISTENERS 64
+/* The first descriptor that a program gets, by the convention of LISTEN_FDS. */
+#define FIRST_DESCRIPTOR 3
+
+enum ready { READY_ACCEPT, READY_NOTIFY, READY_PROBE };
+
+/* The command line. Times are in seconds. */
+struct options {
+    enum ready ready;
+    double ready_within, finish, probe_within, probe_limit;
+    int stop, usr1;
+    bool blocking, no_listen_fds, is_check;
+    const char *probe;
+    char **settings;
+    int setting_count;
+    char **command;
+};
+
+/* An address that the worker was told: its listening socket, and the connection to the keeper that holds it. */
+struct address {
+    char *text;
+    int listener, hold;
+};
+
+struct addresses {
+    struct address of[MOST_LISTENERS];
+    int count;
+};
+
+/* Prints a message for people on standard error. */
+void warn_of(const char *form, ...) __attribute__((format(printf, 1, 2)));
+/* Prints a message and ends with status 1. */
+void fail(const char *form, ...) __attribute__((format(printf, 1, 2), noreturn));
+/* Seconds of a clock that only goes forward. */
+double now(void);
+
+void read_options(int count, char **words, struct options *options);
+
+/* keeper.c: asks the keeper for an address. Ends the worker if it cannot have it. */
+void take_address(struct addresses *addresses, const char *text);
+void release_address(struct addresses *addresses, const char *text);
+
+#endif

@@ -1,0 +1,279 @@
+"""prefork-checkworker [--path PATH] [--slow PATH] [--one] [--patience SECONDS] COMMAND..
+
+Checks whether COMMAND is a worker by the convention of docs/WORKERS.md. It plays the master, with a keeper beside it,
+on loopback and in a temporary folder, and compares what the worker answers and serves. --path is a page (/), --slow one
+that takes a second or more; without it, what concerns requests in progress is not checked. With --one it is told one
+address at a time. --patience says how long it may take to load, and to finish (45).
+
+Prints a line for each point, and then 'N passed, M failed'. The status is 1 if any point failed.
+"""
+import argparse
+import fcntl
+import os
+import pathlib
+import random
+import signal
+import socket
+import struct
+import subprocess
+import sys
+import tempfile
+import threading
+import time
+import uuid
+from collections.abc import Callable
+
+from . import places
+from .conversation import END, MARK, RUNS, Conversation, marked
+
+# How long a worker may take to load and to finish, and at most to answer a line or a request.
+PATIENCE, ANSWER_SECONDS = 45.0, 10.0
+# Below the ports that the system gives to outgoing connections.
+PORTS = range(15000, 32000)
+LEAST_BACKLOG = 511
+# In the TCP_INFO of a listening socket: the offset of the longest queue.
+BACKLOG_AT = 28
+CLIENTS = 4
+
+
+def free_address() -> str:
+    while True:
+        with socket.socket() as probe:
+            try:
+                probe.bind(("127.0.0.1", random.choice(PORTS)))
+            except OSError:
+                continue
+            return "127.0.0.1:%d" % probe.getsockname()[1]
+
+
+def first_line(address: str, path: str, seconds: float) -> str:
+    """The first line of an answer, read to its end; or why there is none."""
+    host, _, port = address.rpartition(":")
+    try:
+        with socket.create_connection((host, int(port)), seconds) as connection:
+            connection.sendall(f"GET {path} HTTP/1.1\r\nHost: check\r\nConnection: close\r\n\r\n".encode())
+            got = b""
+            while piece := connection.recv(65536):
+                got += piece
+            return got.split(b"\r\n", 1)[0].decode("latin-1") or "an end without an answer"
+    except OSError as fault:
+        return f"{fault}"
+
+
+def is_answer(line: str) -> bool:
+    return line.startswith("HTTP/1.") and line[9:10] in ("2", "3", "4")
+
+
+def is_fault(status: object) -> bool:
+    return status not in (0, RUNS)
+
+
+class NotReady(Exception):
+    """The worker has not become ready: the rest of a check says nothing."""
+
+
+class Bench:
+    """What a worker is checked on: a keeper, addresses, and the points that were met or not."""
+
+    def __init__(self, given: argparse.Namespace, room: pathlib.Path):
+        self.given, self.room, self.passed, self.failed, self.talks = given, room, 0, 0, []
+        self.patience, self.answer = given.patience, min(given.patience, ANSWER_SECONDS)
+        self.path = room / "keeper.sock"
+        self.keeper = subprocess.Popen([places.KEEPER, self.path], stdin=subprocess.PIPE, start_new_session=True)
+        while not self.path.exists() and self.keeper.poll() is None:
+            time.sleep(0.01)
+
+    def started(self, *addresses: str, go: bool = True, keeper: str = "") -> Conversation:
+        """A worker that was told its addresses."""
+        mark = uuid.uuid4().hex
+        environment = {**os.environ, MARK: mark, "PREFORK_KEEPER": keeper or str(self.path)}
+        talk = Conversation(self.given.command, environment)
+        talk.mark = mark
+        self.talks.append(talk)
+        talk.say("worker 1.1 0 7", *(f"listener {address}" for address in addresses))
+        if go:
+            talk.say("go")
+        return talk
+
+    def ready(self, *addresses: str) -> Conversation:
+        talk = self.started(*addresses)
+        said = talk.hear(self.patience)
+        self.point("after go it says ready, and nothing before", said, "ready")
+        if said != "ready":
+            raise NotReady
+        return talk
+
+    def point(self, what: str, found: object, wanted: object) -> None:
+        """Notes whether a point is met: what was found is what is wanted, or the question `wanted` says yes."""
+        is_met = wanted(found) if isinstance(wanted, Callable) else found == wanted
+        self.passed, self.failed = self.passed + is_met, self.failed + (not is_met)
+        print(f"ok     {what}" if is_met else f"FAULT  {what}; found: {found!r}", flush=True)
+
+    def nothing_left(self, when: str, talk: Conversation) -> None:
+        deadline = time.monotonic() + self.answer
+        while marked(talk.mark) and time.monotonic() < deadline:
+            time.sleep(0.05)
+        self.point(f"{when}, no process of it is left", marked(talk.mark), [])
+
+    def close(self) -> None:
+        for talk in self.talks:
+            talk.close()
+            for number in marked(talk.mark):
+                os.kill(number, signal.SIGKILL)
+        os.kill(self.keeper.pid, signal.SIGCONT)
+        self.keeper.stdin.close()
+        self.keeper.wait(self.answer)
+
+
+def check_lines(bench: Bench) -> None:
+    """The lines of a worker in service."""
+    one, other = free_address(), free_address()
+    told = (one,) if bench.given.one else (one, other)
+    talk = bench.ready(*told)
+    for address in told:
+        line = first_line(address, bench.given.path, bench.answer)
+        bench.point("once it is ready, it answers requests at each address", line, is_answer)
+    talk.say("ping")
+    bench.point("ping is answered by pong, and it says nothing unasked", talk.hear(bench.answer), "pong")
+    talk.say("tick 12345")
+    bench.point("tick is answered by beat, the moment and its start", talk.hear(bench.answer), "beat 12345 7")
+    talk.say("usr1", "ping")
+    bench.point("usr1 is not answered", talk.hear(bench.answer), "pong")
+    talk.say(f"close {other}", "close 127.0.0.1:1", "ping")
+    bench.point("close is not answered, and may name an address that it was not told", talk.hear(bench.answer), "pong")
+    check_socket(bench, one)
+    talk.say("x")
+    bench.point("a line that no master says ends it, with a status other than 0", talk.wait(bench.patience), is_fault)
+    bench.nothing_left("after that", talk)
+
+
+def check_socket(bench: Bench, address: str) -> None:
+    """What it has done to the socket that all workers share."""
+    with socket.socket(socket.AF_UNIX, socket.SOCK_SEQPACKET) as hold:
+        hold.connect(str(bench.path))
+        hold.send(address.encode())
+        _, given, _, _ = socket.recv_fds(hold, 200, 1)
+    with socket.socket(fileno=given[0]) as shared:
+        is_blocking = not fcntl.fcntl(shared, fcntl.F_GETFL) & os.O_NONBLOCK
+        longest = struct.unpack_from("I", shared.getsockopt(socket.IPPROTO_TCP, socket.TCP_INFO, 104), BACKLOG_AT)[0]
+    bench.point("the shared socket stays non-blocking", is_blocking, False)
+    if longest < LEAST_BACKLOG:
+        print(f"note   it has called listen with {longest}, which holds for all workers; {LEAST_BACKLOG} is better")
+
+
+def check_quit(bench: Bench) -> None:
+    address, answers = free_address(), []
+    talk = bench.ready(address)
+    asked = threading.Thread(target=lambda: answers.append(first_line(address, bench.given.slow, bench.patience)))
+    if bench.given.slow:
+        asked.start()
+        time.sleep(0.4)
+        talk.say("ping")
+        bench.point("it answers the master while it answers a request", talk.hear(bench.answer), "pong")
+    talk.say("quit")
+    bench.point("quit is answered by gone", talk.hear(bench.patience), "gone")
+    bench.point("after gone it ends with status 0", talk.wait(bench.answer), 0)
+    bench.point("after gone it says nothing", talk.rest() if talk.process.returncode is not None else b"", b"")
+    if bench.given.slow:
+        asked.join()
+        bench.point("a request that had begun before quit is answered", answers[0], is_answer)
+    bench.nothing_left("after quit", talk)
+
+
+def check_two(bench: Bench) -> None:
+    """One worker quits while another one serves the same socket."""
+    address, faults, is_over = free_address(), [], threading.Event()
+    leaving, staying = bench.ready(address), bench.ready(address)
+
+    def ask() -> None:
+        while not is_over.is_set():
+            line = first_line(address, bench.given.path, bench.answer)
+            if not is_answer(line):
+                faults.append(line)
+
+    clients = [threading.Thread(target=ask) for _ in range(CLIENTS)]
+    for client in clients:
+        client.start()
+    time.sleep(0.5)
+    leaving.say("quit")
+    leaving.wait(bench.patience)
+    time.sleep(0.5)
+    is_over.set()
+    for client in clients:
+        client.join()
+    bench.point("no request is lost when it quits while another worker serves the socket", faults[:3], [])
+    staying.say("quit")
+    staying.wait(bench.patience)
+
+
+def check_ends(bench: Bench) -> None:
+    """Ends that nobody tells it of."""
+    talk = bench.ready(free_address())
+    talk.process.stdin.close()
+    bench.point("at the end of input it ends with status 0", talk.wait(bench.patience), 0)
+    bench.point("at the end of input it says nothing", talk.rest() if talk.process.returncode is not None else b"", b"")
+    bench.nothing_left("after the end of input", talk)
+    talk = bench.ready(free_address())
+    talk.process.kill()
+    talk.process.wait()
+    bench.nothing_left("after SIGKILL", talk)
+    talk = bench.started(free_address(), go=False)
+    talk.process.stdout.close()
+    talk.say("go")
+    talk.process.stdin.close()
+    bench.point("if the master has gone before go, it ends", talk.wait(bench.patience), lambda status: status != RUNS)
+    bench.nothing_left("after that", talk)
+
+
+def check_keeper(bench: Bench) -> None:
+    """Addresses that it cannot have."""
+    with socket.socket() as taken:
+        taken.bind(("127.0.0.1", 0))
+        taken.listen()
+        talk = bench.started("127.0.0.1:%d" % taken.getsockname()[1])
+        bench.point("an address that the keeper refuses: it says nothing", talk.hear(bench.patience), END)
+        bench.point("an address that the keeper refuses: its status is not 0", talk.wait(bench.answer), is_fault)
+    talk = bench.started(free_address(), keeper=str(bench.room / "none.sock"))
+    bench.point("without a keeper it ends before it is ready", talk.hear(bench.patience), END)
+    os.kill(bench.keeper.pid, signal.SIGSTOP)
+    talk = bench.started(free_address())
+    bench.point("if the keeper does not answer, it ends within 20 seconds", talk.hear(20), END)
+    os.kill(bench.keeper.pid, signal.SIGCONT)
+
+
+CHECKS = (check_lines, check_quit, check_two, check_ends, check_keeper)
+
+
+def arguments() -> argparse.Namespace:
+    parser = argparse.ArgumentParser(
+        prog="prefork-checkworker", description="Checks whether a command is a worker by the convention."
+    )
+    parser.add_argument("--path", default="/", help="a page that it serves (/)")
+    parser.add_argument("--slow", metavar="PATH", help="a page that takes a second or more")
+    parser.add_argument("--one", action="store_true", help="tell it one address at a time")
+    patience = f"how long it may take to load, and to finish ({PATIENCE:g})"
+    parser.add_argument("--patience", type=float, default=PATIENCE, metavar="SECONDS", help=patience)
+    parser.add_argument("command", nargs=argparse.REMAINDER, metavar="COMMAND")
+    given = parser.parse_args()
+    given.command = given.command[1:] if given.command[:1] == ["--"] else given.command
+    if not given.command:
+        parser.error("no COMMAND")
+    return given
+
+
+def main() -> int:
+    given = arguments()
+    with tempfile.TemporaryDirectory(prefix="checkworker-") as room:
+        bench = Bench(given, pathlib.Path(room))
+        try:
+            for check in CHECKS:
+                try:
+                    check(bench)
+                except NotReady:
+                    print("note   the points that need a ready worker are left out")
+        finally:
+            bench.close()
+    if not given.slow:
+        print("note   requests in progress are not checked: give --slow PATH")
+    print(f"{bench.passed} passed, {bench.failed} failed")
+    return 1 if bench.failed else 0

@@ -1,0 +1,114 @@
+"""The command of each generation of workers, and the configuration without it.
+
+The master knows one program, prefork-launch. It finds the command of a worker's generation in the folder `commands`:
+`next` is for a generation that has no worker yet, and `I.C` for the workers of generation I.C. So the new generation
+of a reload starts by the new configuration's command, and a worker of the old generation that is started again by the
+old one's.
+"""
+import datetime
+import json
+import pathlib
+import tomllib
+
+from .folder import Folder, say
+
+# The rules of `command` in a configuration.
+MOST_WORDS, LONGEST_WORD = 16, 255
+
+
+def is_command(value: object) -> bool:
+    """Whether a configuration may have this as its `command`."""
+    if not isinstance(value, list) or not 1 <= len(value) <= MOST_WORDS:
+        return False
+    texts = [word.encode() for word in value if isinstance(word, str)]
+    return len(texts) == len(value) and all(1 <= len(text) <= LONGEST_WORD and 0 not in text for text in texts)
+
+
+def toml_of(value: object) -> str:
+    """A value as TOML. Only such values come that a configuration may have."""
+    if isinstance(value, dict):
+        return "{ " + ", ".join(f"{json.dumps(key)} = {toml_of(item)}" for key, item in value.items()) + " }"
+    if isinstance(value, list):
+        return "[" + ", ".join(toml_of(item) for item in value) + "]"
+    if isinstance(value, (float, datetime.date, datetime.time)):
+        raise ValueError("no configuration has such a value")
+    return json.dumps(value, ensure_ascii=False).replace("\x7f", "\\u007f")
+
+
+def parted(text: bytes) -> tuple[bytes, list[str] | None]:
+    """A configuration without its command, and the command. One that the master is to refuse stays as it is."""
+    try:
+        found = tomllib.loads(text.decode())
+        command = found.pop("command", None)
+        if not is_command(command):
+            return text, None
+        return "".join(f"{json.dumps(key)} = {toml_of(value)}\n" for key, value in found.items()).encode(), command
+    except ValueError:
+        return text, None
+
+
+class Commands:
+    """What workers are started by, and the configurations that the master reads."""
+
+    def __init__(self, folder: Folder, config: str, default: list[str] | None, before: list[str]):
+        self.config, self.default, self.before = pathlib.Path(config), default, before
+        self.place = folder.path / "commands"
+        self.place.mkdir(mode=0o700, exist_ok=True)
+        self.now, self.next = folder.path / "config.toml", folder.path / "next.toml"
+        self.known, self.is_changing, self.proposed = [], False, None
+        self.current = self.read(self.now)
+
+    def read(self, target: pathlib.Path) -> list[str] | None:
+        """Reads the configuration and writes it for the master, without its command; the command for its workers."""
+        try:
+            text, command = parted(self.config.read_bytes())
+        except OSError as fault:
+            # The master finds it missing, and says so.
+            target.unlink(missing_ok=True)
+            say(f"{self.config}: {fault.strerror}")
+            return self.default
+        target.write_bytes(text)
+        if not command and not self.default:
+            say(f"{self.config} has no command, and the command line names no program")
+        return command or self.default
+
+    def begin(self) -> None:
+        """Forgets all generations: a master is about to start."""
+        for file in self.generations():
+            file.unlink()
+        self.write_next(self.current)
+
+    def generations(self) -> list[pathlib.Path]:
+        return [file for file in self.place.iterdir() if file.name[0].isdigit()]
+
+    def write_next(self, command: list[str] | None) -> None:
+        words = [*self.before, *(command or ["false"])]
+        new = self.place / "new"
+        new.write_bytes(b"".join(word.encode("utf-8", "surrogateescape") + b"\0" for word in words))
+        new.replace(self.place / "next")
+
+    def change(self) -> None:
+        """The configuration is read again: the next word starts a new generation."""
+        self.known, self.is_changing = self.generations(), True
+        self.proposed = self.read(self.next)
+        self.write_next(self.proposed)
+
+    def settle(self, report: str) -> None:
+        """Takes the new command if the new generation runs, and forgets it otherwise."""
+        if not self.is_changing:
+            return
+        self.is_changing = False
+        if report.startswith(("done", "degraded target")):
+            self.current = self.proposed
+            self.next.replace(self.now)
+            dropped = self.known
+        else:
+            dropped = [file for file in self.generations() if file not in self.known]
+            self.write_next(self.current)
+        for file in dropped:
+            file.unlink(missing_ok=True)
+
+    def clear(self) -> None:
+        for file in [*self.place.iterdir(), self.now, self.next]:
+            file.unlink(missing_ok=True)
+        self.place.rmdir()

@@ -1,0 +1,89 @@
+"""What a worker written in Python needs: the master's lines, and the sockets of the keeper. See docs/WORKERS.md."""
+import os
+import select
+import socket
+import sys
+
+KEEPER_SECONDS = 10.0
+LONGEST_LINE = 4096
+
+
+class Unfit(Exception):
+    """The worker cannot serve. The text is for people, on standard error."""
+
+
+class Pipes:
+    """The master at the other end of the pipes.
+
+    They are moved away from descriptors 0 and 1, where the application and the processes that it starts read and print:
+    a printed line would be an answer to the master. Processes that the application forks do not have them.
+    """
+
+    def __init__(self):
+        self.lines, self.answers, self.unread = os.dup(0), os.dup(1), b""
+        nothing = os.open(os.devnull, os.O_RDONLY)
+        os.dup2(nothing, 0)
+        os.close(nothing)
+        os.dup2(2, 1)
+        os.register_at_fork(after_in_child=self.close)
+
+    def close(self) -> None:
+        for number in (self.lines, self.answers):
+            try:
+                os.close(number)
+            except OSError:
+                pass
+
+    def read(self, seconds: float) -> list[list[str]] | None:
+        """The lines that have come within some seconds, each as its words; None at the end of input."""
+        if not select.select([self.lines], [], [], seconds)[0]:
+            return []
+        got = os.read(self.lines, 65536)
+        if not got:
+            return None
+        *lines, self.unread = (self.unread + got).split(b"\n")
+        if len(self.unread) > LONGEST_LINE:
+            raise Unfit("a line that is too long")
+        return [line.decode("latin-1").split(" ") for line in lines]
+
+    def say(self, text: str) -> None:
+        try:
+            os.write(self.answers, f"{text}\n".encode())
+        except BrokenPipeError:
+            # The master has gone. The end of input follows.
+            pass
+
+    def has_master(self) -> bool:
+        """Whether somebody reads the answers."""
+        watched = select.poll()
+        watched.register(self.answers, 0)
+        return not watched.poll(0)
+
+
+def socket_of(address: str) -> tuple[socket.socket, socket.socket]:
+    """The listening socket of an address, and the connection to the keeper that holds it."""
+    place = os.environ.get("PREFORK_KEEPER")
+    if not place:
+        raise Unfit("PREFORK_KEEPER does not name the keeper's socket")
+    hold = socket.socket(socket.AF_UNIX, socket.SOCK_SEQPACKET)
+    hold.settimeout(KEEPER_SECONDS)
+    try:
+        hold.connect(place)
+        hold.send(address.encode())
+        said, given, _, _ = socket.recv_fds(hold, 200, 1)
+    except OSError as fault:
+        raise Unfit(f"{address}: no keeper: {fault}") from fault
+    if said != b"ok" or not given:
+        raise Unfit(f"{address}: {said.decode('latin-1')[3:] or 'the keeper has gone'}")
+    return socket.socket(fileno=given[0]), hold
+
+
+def clear_environment() -> None:
+    """Takes out what is between the master and the worker, for the application and what it starts."""
+    for name in list(os.environ):
+        if name.startswith(("PREFORK_", "LISTEN_", "WATCHDOG_")) or name == "NOTIFY_SOCKET":
+            del os.environ[name]
+
+
+def warn(text: str) -> None:
+    print(f"worker {os.getpid()}: {text}", file=sys.stderr, flush=True)

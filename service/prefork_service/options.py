@@ -1,0 +1,110 @@
+"""The command line of prefork-serve, and the command of a worker that it asks for."""
+import argparse
+import subprocess
+import sys
+
+from . import places
+
+USAGE = """prefork-serve [OPTIONS] CONFIG -- PROGRAM ARGUMENT..
+       prefork-serve [OPTIONS] --wsgi MODULE:APP CONFIG
+       prefork-serve [OPTIONS] CONFIG"""
+# Options that are handed on to the worker: what they take, and what they mean.
+SHARED = {
+    "--ready-within": ("SECONDS", "how long it may take to be ready (30)"),
+    "--finish": ("SECONDS", "how long it may take to finish (30)"),
+}
+PROGRAM = {
+    "--ready": ("HOW", "when it is ready: accept (default), notify, or probe PATH"),
+    "--probe": ("PATH", "ask it for PATH before each beat"),
+    "--probe-within": ("SECONDS", "how long such an answer may take (5)"),
+    "--probe-limit": ("SECONDS", "end a worker that has not answered for this long (30)"),
+    "--stop": ("SIGNAL", "the signal that tells it to finish (TERM)"),
+    "--usr1": ("SIGNAL", "the signal that tells it to reopen its logs (none)"),
+    "--env": ("NAME=VALUE", "a variable of its environment"),
+    "--no-listen-fds": (None, "do not set LISTEN_FDS"),
+    "--blocking": (None, "make the sockets block, for programs that wait in accept"),
+}
+WSGI = {
+    "--threads": ("N", "how many requests a worker answers at a time (4)"),
+    "--timeout": ("SECONDS", "end a worker whose threads have all been at one request for this long (30)"),
+    "--keep": ("SECONDS", "how long a kept connection may be idle (75)"),
+    "--chdir": ("FOLDER", "where MODULE is (the current folder)"),
+}
+
+
+def parser() -> argparse.ArgumentParser:
+    made = argparse.ArgumentParser(
+        prog="prefork-serve", usage=USAGE, allow_abbrev=False,
+        description="Runs a service: a keeper of its sockets, a master and its workers.",
+    )
+    made.add_argument("--folder", default="run", help="where its sockets, its pid file and the blocks are (run)")
+    made.add_argument("--prefork", default="prefork", help="the program of the master (prefork on the path)")
+    guard = "end a worker that does not answer its master within SECONDS"
+    made.add_argument("--guard", type=float, metavar="SECONDS", help=guard)
+    made.add_argument("--wsgi", metavar="MODULE:APP", help="a WSGI application; it is served by waitress")
+    python = "the Python that runs it (that of prefork-serve)"
+    made.add_argument("--python", default=sys.executable, metavar="PROGRAM", help=python)
+    for title, options in (("", SHARED), (" PROGRAM", PROGRAM), (" MODULE:APP", WSGI)):
+        group = made.add_argument_group(f"options of a worker{title}")
+        for option, (name, text) in options.items():
+            kind = {"action": "append", "metavar": name} if name else {"action": "append_const", "const": None}
+            group.add_argument(option, **kind, default=[], help=text)
+    made.add_argument("config", metavar="CONFIG", help="the configuration, as prefork(1) has it")
+    return made
+
+
+def joined(words: list[str]) -> list[str]:
+    """`--ready probe PATH` as two options."""
+    for at in range(len(words) - 2):
+        if words[at : at + 2] == ["--ready", "probe"] and words[at + 2].startswith("/"):
+            return [*words[: at + 2], "--probe", *words[at + 2 :]]
+    return words
+
+
+def arguments(words: list[str]) -> argparse.Namespace:
+    """The options, and the program behind `--`."""
+    cut = words.index("--") if "--" in words else len(words)
+    made = parser()
+    given = made.parse_args(joined(words[:cut]))
+    given.program = words[cut + 1 :]
+    if cut < len(words) and not given.program:
+        made.error("no PROGRAM after --")
+    if given.wsgi and given.program:
+        made.error("give --wsgi or a PROGRAM, not both")
+    for options, is_for, kind in ((PROGRAM, given.program, "a PROGRAM"), (WSGI, given.wsgi, "--wsgi")):
+        strange = handed_on(given, options)
+        if strange and not is_for:
+            made.error(f"{strange[0]} is an option of {kind}, and there is none")
+    return given
+
+
+def handed_on(given: argparse.Namespace, options: dict) -> list[str]:
+    """Those of the options that were given, with their values."""
+    found = []
+    for option in options:
+        for value in getattr(given, option[2:].replace("-", "_")):
+            found += [option] if value is None else [option, value]
+    return found
+
+
+def worker_command(given: argparse.Namespace) -> list[str] | None:
+    """What starts a worker, if the command line says it."""
+    if given.wsgi:
+        options = handed_on(given, SHARED | WSGI)
+        return checked([given.python, str(places.WSGI), *options], [given.wsgi])
+    if given.program:
+        options = handed_on(given, SHARED | PROGRAM)
+        return checked([str(places.ACTIVATE), *options], ["--", *given.program])
+    return None
+
+
+def checked(adapter: list[str], program: list[str]) -> list[str]:
+    """The adapter's command, whose options the adapter itself has looked at."""
+    streams = {"stdin": subprocess.DEVNULL, "capture_output": True, "text": True}
+    try:
+        found = subprocess.run([*adapter, "--check", *program], **streams)
+    except OSError as fault:
+        parser().error(f"{adapter[0]}: {fault.strerror}")
+    if found.returncode:
+        parser().error(found.stderr.strip().splitlines()[-1].partition(": ")[2].removeprefix("error: "))
+    return [*adapter, *program]

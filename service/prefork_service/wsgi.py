@@ -1,0 +1,178 @@
+"""prefork-wsgi [OPTIONS] MODULE:APP
+
+A worker of a Prefork master that serves a WSGI application, with waitress as its HTTP server.
+
+- `print`, and processes that the application starts, have nothing of the master's pipes.
+- A kept connection may be idle for --keep seconds (75), and for --idle seconds (2) while the worker finishes.
+- If all threads have been at one request for more than --timeout seconds (30), the worker ends, with the stacks of
+  its threads on standard error. The master starts another one.
+- An application that has not loaded --ready-within seconds (30) after `go` ends the worker: the reload is rolled back.
+"""
+import argparse
+import faulthandler
+import importlib
+import importlib.util
+import logging
+import os
+import sys
+import threading
+import time
+import traceback
+from collections.abc import Callable
+
+from .convention import Pipes, Unfit, clear_environment, socket_of, warn
+
+
+class Worker:
+    """The master's lines, heard by a thread of their own. The application is loaded and served by the main thread."""
+
+    def __init__(self, given: argparse.Namespace, pipes: Pipes):
+        self.given, self.pipes, self.server = given, pipes, None
+        self.start, self.sockets, self.holds = "", {}, {}
+        self.going, self.ready_by, self.was_told_to_quit = threading.Event(), 0.0, False
+
+    def converse(self) -> None:
+        """Hears the master to the end. What goes wrong ends the process at once."""
+        try:
+            while (lines := self.pipes.read(1.0)) is not None:
+                for words in lines:
+                    self.obey(*words)
+                self.end_if_stuck()
+        except (Unfit, TypeError, IndexError) as fault:
+            warn(f"ends: {fault}")
+            leave(1)
+        self.finish()
+
+    def obey(self, word: str, *rest: str) -> None:
+        if word == "worker" and len(rest) == 3:
+            self.start = rest[2]
+        elif word == "listener" and not self.going.is_set():
+            self.sockets[rest[0]], self.holds[rest[0]] = socket_of(rest[0])
+        elif word == "go" and self.sockets:
+            self.ready_by = time.monotonic() + self.given.ready_within
+            self.going.set()
+        elif word == "ping":
+            self.pipes.say("pong")
+        elif word == "tick" and self.start:
+            self.pipes.say(f"beat {rest[0]} {self.start}")
+        elif word == "close":
+            self.close(rest[0])
+        elif word == "quit":
+            self.was_told_to_quit = True
+            self.finish()
+        elif word == "usr1":
+            reopen_logs()
+        else:
+            raise Unfit(f"a line that no master says: {word[:100]}")
+
+    def close(self, address: str) -> None:
+        hold = self.holds.pop(address, None)
+        if hold:
+            hold.close()
+        if self.server:
+            self.server.close(address)
+
+    def finish(self) -> None:
+        """Lets the server finish. Without one there is nothing to finish."""
+        if self.server:
+            self.server.finish()
+        else:
+            self.leave()
+
+    def end_if_stuck(self) -> None:
+        if self.ready_by and not self.server and time.monotonic() > self.ready_by:
+            warn(f"{self.given.application} has not loaded after {self.given.ready_within:g} seconds")
+        elif self.server and not self.server.is_told_to_finish and self.server.is_stuck(self.given.timeout):
+            warn(f"all threads have been at one request for more than {self.given.timeout:g} seconds")
+        else:
+            return
+        faulthandler.dump_traceback(all_threads=True)
+        leave(1)
+
+    def serve(self, application: Callable) -> None:
+        """Serves up to the end."""
+        from .wsgi_server import Server
+
+        if self.pipes.has_master():
+            self.server = Server(application, self.sockets, self.given.threads, self.given.keep)
+            self.pipes.say("ready")
+            self.server.run(self.given.idle, self.given.finish)
+        self.leave()
+
+    def leave(self) -> None:
+        if self.was_told_to_quit:
+            self.pipes.say("gone")
+        leave(0)
+
+
+def leave(status: int) -> None:
+    """Ends the process, whatever its threads do."""
+    sys.stderr.flush()
+    os._exit(status)
+
+
+def reopen_logs() -> None:
+    """Closes log files. A handler opens its file again with the next line."""
+    for logger in [logging.getLogger(), *map(logging.getLogger, list(logging.root.manager.loggerDict))]:
+        for handler in logger.handlers:
+            if isinstance(handler, logging.FileHandler):
+                handler.close()
+
+
+def loaded(text: str) -> Callable:
+    """The application MODULE:APP; APP may be a path of attributes, and is `application` if it is missing."""
+    module, _, name = text.partition(":")
+    found = importlib.import_module(module)
+    for part in (name or "application").split("."):
+        found = getattr(found, part)
+    return found
+
+
+def arguments() -> argparse.Namespace:
+    parser = argparse.ArgumentParser(
+        prog="prefork-wsgi", description="A worker of a Prefork master that serves a WSGI application."
+    )
+    parser.add_argument("--threads", type=int, default=4, help="how many requests it answers at a time (4)")
+    for option, kind, seconds, text in (
+        ("--timeout", float, 30.0, "end if all threads have been at one request for this long (30)"),
+        ("--keep", int, 75, "how long a connection may be idle (75)"),
+        ("--idle", float, 2.0, "the same while it finishes (2)"),
+        ("--finish", float, 30.0, "how long it may finish (30)"),
+        ("--ready-within", float, 30.0, "how long it may load (30)"),
+    ):
+        parser.add_argument(option, type=kind, default=seconds, metavar="SECONDS", help=text)
+    parser.add_argument("--chdir", default=".", metavar="FOLDER", help="where the module is (the current folder)")
+    parser.add_argument("--check", action="store_true", help="only look at the command line, and for waitress")
+    parser.add_argument("application", metavar="MODULE:APP")
+    given = parser.parse_args()
+    if importlib.util.find_spec("waitress") is None:
+        parser.error(f"{sys.executable} has no waitress; install python3-waitress, or name another --python")
+    if given.threads < 1:
+        parser.error("--threads takes a number from 1 on")
+    return given
+
+
+def prepare(folder: str) -> None:
+    os.chdir(folder)
+    sys.path.insert(0, os.getcwd())
+    logging.basicConfig(level=logging.WARNING, format="%(asctime)s %(process)d %(name)s %(levelname)s %(message)s")
+    logging.getLogger("waitress.queue").setLevel(logging.ERROR)
+
+
+def main() -> int:
+    given = arguments()
+    if given.check:
+        return 0
+    pipes = Pipes()
+    worker = Worker(given, pipes)
+    threading.Thread(target=worker.converse, daemon=True).start()
+    worker.going.wait()
+    clear_environment()
+    try:
+        prepare(given.chdir)
+        worker.serve(loaded(given.application))
+    except BaseException:
+        # Threads of an application that fails, or that exits, must not keep it.
+        traceback.print_exc()
+        leave(1)
+    return 0

@@ -1,0 +1,122 @@
+"""A WSGI application served by waitress, on sockets that are given, with a stop that loses no request.
+
+The HTTP is waitress's: its parser, buffers, limits and threads. This module runs its loop, and stops it:
+
+- It accepts no more connections. A request that has begun to arrive is answered.
+- The next answer on a kept connection says `Connection: close`.
+- A kept connection that stays idle is closed, after some seconds.
+"""
+import socket
+import threading
+import time
+from collections.abc import Callable
+
+from waitress import wasyncore
+from waitress.channel import HTTPChannel
+from waitress.server import create_server
+from waitress.task import ErrorTask, WSGITask
+
+BACKLOG = 1024
+MOST_CONNECTIONS = 1000
+# The longest pause of the loop, in service and while it finishes.
+PAUSE, SHORT_PAUSE = 1.0, 0.1
+
+
+class Requests:
+    """The requests that are being answered, with the times of their beginnings."""
+
+    def __init__(self):
+        self.begun, self.is_finishing = {}, False
+
+    def oldest_if_all(self, threads: int) -> float | None:
+        """If every thread is at a request: since when the last of them is."""
+        begun = list(self.begun.values())
+        return max(begun) if len(begun) >= threads else None
+
+
+def channel_of(requests: Requests) -> type:
+    """waitress's channel, whose tasks are noted and close their connections while the server finishes."""
+
+    class Noted:
+        def service(self) -> None:
+            requests.begun[id(self)] = time.monotonic()
+            try:
+                super().service()
+            finally:
+                del requests.begun[id(self)]
+
+        def build_response_header(self) -> bytes:
+            if requests.is_finishing:
+                self.request.headers["CONNECTION"] = "close"
+            return super().build_response_header()
+
+    task, fault = type("Task", (Noted, WSGITask), {}), type("Fault", (Noted, ErrorTask), {})
+    return type("Channel", (HTTPChannel,), {"task_class": task, "error_task_class": fault})
+
+
+class Server:
+    """The loop of the main thread. Other threads call `close`, `finish` and `is_stuck`."""
+
+    def __init__(self, application: Callable, sockets: dict[str, socket.socket], threads: int, keep: int):
+        self.requests, self.map, self.threads, self.turned = Requests(), {}, threads, time.monotonic()
+        self.lock, self.wanted, self.is_told_to_finish = threading.Lock(), [], False
+        limits = {
+            "threads": threads, "backlog": BACKLOG, "connection_limit": MOST_CONNECTIONS, "channel_timeout": keep,
+            "cleanup_interval": 1, "asyncore_use_poll": True, "ident": None, "clear_untrusted_proxy_headers": True,
+        }
+        create_server(application, map=self.map, sockets=list(sockets.values()), **limits)
+        doors = {one.socket.getsockname(): one for one in list(self.map.values()) if hasattr(one, "active_channels")}
+        self.doors = {address: doors[listener.getsockname()] for address, listener in sockets.items()}
+        for door in self.doors.values():
+            door.channel_class = channel_of(self.requests)
+        self.trigger = next(iter(self.doors.values())).trigger
+
+    def run(self, idle: float, finish: float) -> None:
+        """Serves until it is told to finish, and then until all is answered, or `finish` seconds have passed."""
+        deadline = None
+        while True:
+            self.turned = time.monotonic()
+            self.act()
+            if self.is_told_to_finish:
+                deadline = deadline or self.turned + finish
+                if self.has_finished(idle) or self.turned > deadline:
+                    return
+            pause = SHORT_PAUSE if self.is_told_to_finish else PAUSE
+            wasyncore.loop(timeout=pause, use_poll=True, map=self.map, count=1)
+
+    def act(self) -> None:
+        """Closes what other threads want closed."""
+        with self.lock:
+            wanted, self.wanted = self.wanted, []
+        for address in wanted:
+            door = self.doors.pop(address, None)
+            if door:
+                # Its connections stay in the map, and so does its trigger, which threads pull.
+                door.accepting = False
+                door.del_channel(self.map)
+                door.socket.close()
+
+    def close(self, address: str) -> None:
+        with self.lock:
+            self.wanted.append(address)
+        self.trigger.pull_trigger()
+
+    def finish(self) -> None:
+        self.is_told_to_finish = self.requests.is_finishing = True
+        with self.lock:
+            self.wanted += list(self.doors)
+        self.trigger.pull_trigger()
+
+    def has_finished(self, idle: float) -> bool:
+        """Closes connections that are idle; whether none is open."""
+        channels = [one for one in self.map.values() if isinstance(one, HTTPChannel)]
+        for one in channels:
+            is_idle = not one.requests and not one.total_outbufs_len and not one.close_when_flushed
+            if is_idle and time.time() - one.last_activity > idle:
+                one.will_close = True
+        return not channels
+
+    def is_stuck(self, timeout: float) -> bool:
+        """Whether no thread has taken a new request for so long, or the loop has not turned."""
+        now, since = time.monotonic(), self.requests.oldest_if_all(self.threads)
+        return now - self.turned > timeout or since is not None and now - since > timeout

@@ -1,0 +1,122 @@
+"""What the tests of workers share."""
+import os
+import pathlib
+import random
+import signal
+import socket
+import subprocess
+import sys
+import tempfile
+import time
+import unittest
+import uuid
+
+from prefork_service.conversation import MARK, Conversation, marked
+
+SERVICE = pathlib.Path(__file__).resolve().parent.parent
+BIN, OUT, PROGRAMS = SERVICE / "bin", SERVICE / "out", SERVICE / "tests" / "programs"
+# Below the ports that the system gives to outgoing connections.
+PORTS = range(15000, 32000)
+
+
+def until(holds, seconds: float = 20.0) -> bool:
+    """Waits for something to hold; whether it did."""
+    deadline = time.monotonic() + seconds
+    while time.monotonic() < deadline:
+        if holds():
+            return True
+        time.sleep(0.02)
+    return False
+
+
+def free_address() -> str:
+    while True:
+        with socket.socket() as probe:
+            try:
+                probe.bind(("127.0.0.1", random.choice(PORTS)))
+            except OSError:
+                continue
+            return "127.0.0.1:%d" % probe.getsockname()[1]
+
+
+def is_open(address: str) -> bool:
+    """Whether somebody listens at an address."""
+    host, _, port = address.rpartition(":")
+    try:
+        socket.create_connection((host, int(port)), 5).close()
+        return True
+    except ConnectionRefusedError:
+        return False
+
+
+def end_all(running, seconds: float = 5.0) -> None:
+    """Ends the processes whose numbers `running` gives. A process that holds a program for an adapter kills all that the
+    program has started, and so it is left to end by itself, for some seconds."""
+    deadline = time.monotonic() + seconds
+    while left := running():
+        for number in left:
+            try:
+                name = pathlib.Path(f"/proc/{number}/comm").read_text()
+                if name != "prefork-hold\n" or time.monotonic() > deadline:
+                    os.kill(number, signal.SIGKILL)
+            except (OSError, ProcessLookupError):
+                pass
+        time.sleep(0.05)
+
+
+def answer_of(address: str, path: str = "/", seconds: float = 20.0) -> str:
+    """The text of an answer, on a connection of its own."""
+    host, _, port = address.rpartition(":")
+    with socket.create_connection((host, int(port)), seconds) as connection:
+        connection.sendall(f"GET {path} HTTP/1.1\r\nHost: test\r\nConnection: close\r\n\r\n".encode())
+        with connection.makefile("rb") as got:
+            return got.read().decode().partition("\r\n\r\n")[2]
+
+
+def built() -> None:
+    """Compiles the C programs, and that of the tests, if they are not there."""
+    if not (OUT / "prefork-activate").exists():
+        subprocess.run([SERVICE / "build"], check=True)
+    if not (OUT / "page").exists():
+        subprocess.run(["cc", "-std=gnu11", "-O2", "-o", OUT / "page", PROGRAMS / "page.c"], check=True)
+
+
+class WorkerTest(unittest.TestCase):
+    """Workers that are told lines, with a keeper of their own. Nothing of them may be left."""
+
+    @classmethod
+    def setUpClass(cls) -> None:
+        built()
+
+    def setUp(self) -> None:
+        room = tempfile.TemporaryDirectory(prefix="worker-")
+        self.addCleanup(room.cleanup)
+        self.room, self.mark, self.talks = pathlib.Path(room.name), uuid.uuid4().hex, []
+        self.path = self.room / "keeper.sock"
+        self.keeper = subprocess.Popen([BIN / "prefork-keeper", self.path], stdin=subprocess.PIPE)
+        self.addCleanup(self.end)
+        self.assertTrue(until(self.path.exists))
+
+    def end(self) -> None:
+        for talk in self.talks:
+            talk.close()
+        self.assertTrue(until(lambda: not marked(self.mark)), marked(self.mark))
+        self.keeper.stdin.close()
+        self.keeper.wait(20)
+
+    def started(self, *command, addresses: tuple[str, ...] = (), go: bool = True, **more: str) -> Conversation:
+        """A worker that was told its addresses."""
+        environment = {**os.environ, MARK: self.mark, "PREFORK_KEEPER": str(self.path), **more}
+        talk = Conversation([str(word) for word in command], environment)
+        self.talks.append(talk)
+        talk.say("worker 1.1 0 7", *(f"listener {address}" for address in addresses))
+        if go:
+            talk.say("go")
+        return talk
+
+    def left(self) -> list[str]:
+        """Files that workers have left beside the keeper's socket."""
+        return sorted(file.name for file in self.room.iterdir() if file.name != "keeper.sock")
+
+
+PYTHON = sys.executable

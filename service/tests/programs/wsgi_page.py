@@ -1,0 +1,41 @@
+"""A WSGI application for tests. Its paths show what a worker must cope with."""
+import os
+import subprocess
+import sys
+import time
+
+
+def application(environ, start_response):
+    path, text = environ["PATH_INFO"], f"version {os.environ.get('VERSION', '1')} process {os.getpid()}\n"
+    if path == "/slow":
+        time.sleep(1)
+    if path == "/stuck":
+        time.sleep(3600)
+    if path == "/print":
+        print("pong", flush=True)
+        subprocess.run(["sh", "-c", "echo pong; cat"], check=True)
+    if path == "/fork":
+        fork_a_printer()
+    if path == "/environment":
+        text = " ".join(sorted(os.environ)) + "\n"
+    if path == "/size":
+        text = f"{len(environ['wsgi.input'].read())}\n"
+    start_response("200 OK", [("Content-Type", "text/plain"), ("Content-Length", str(len(text)))])
+    return [text.encode()]
+
+
+def fork_a_printer() -> None:
+    """A process that only forks has the numbers of the pipes, if anybody has left them open."""
+    pid = os.fork()
+    if pid == 0:
+        for number in range(3, 64):
+            try:
+                os.write(number, b"pong\n")
+            except OSError:
+                pass
+        os._exit(0)
+    os.waitpid(pid, 0)
+
+
+print("pong", flush=True)
+sys.stdin.read()

@@ -1,0 +1,219 @@
+"""prefork-activate: a worker that is another program."""
+import os
+import signal
+import socket
+import threading
+import unittest
+
+from kit import OUT, PROGRAMS, PYTHON, WorkerTest, answer_of, free_address, marked, until
+from prefork_service.conversation import END, NOTHING
+
+ACTIVATE, PAGE = OUT / "prefork-activate", OUT / "page"
+SCRIPT = [PYTHON, PROGRAMS / "page.py"]
+
+
+class ReadyTest(WorkerTest):
+    def served(self, *command, addresses=None) -> None:
+        """The worker becomes ready, serves, and finishes."""
+        addresses = addresses or (free_address(),)
+        talk = self.started(ACTIVATE, *command, addresses=addresses)
+        self.assertEqual(talk.hear(), "ready")
+        for address in addresses:
+            self.assertIn("version 1 ", answer_of(address))
+        talk.say("ping", "tick 12345", "usr1", "ping", "quit")
+        self.assertEqual([talk.hear() for _ in range(5)], ["pong", "beat 12345 7", "pong", "gone", END])
+        self.assertEqual(talk.wait(), 0)
+        self.assertEqual(self.left(), [])
+
+    def test_a_number_in_an_argument(self) -> None:
+        self.served("--", PAGE, "{fd}")
+
+    def test_two_numbers(self) -> None:
+        self.served("--", PAGE, "{fd0}", "{fd1}", addresses=(free_address(), free_address()))
+
+    def test_the_environment(self) -> None:
+        self.served("--env", "SOCKET={fd}", "--", "sh", "-c", f'exec {PAGE} "$SOCKET"')
+
+    def test_listen_fds(self) -> None:
+        self.served("--", *SCRIPT)
+
+    def test_ready_by_notify(self) -> None:
+        self.served("--ready", "notify", "--", *SCRIPT)
+
+    def test_ready_by_a_request(self) -> None:
+        self.served("--ready", "probe", "--probe", "/", "--", *SCRIPT)
+
+    def test_a_unix_socket(self) -> None:
+        talk = self.started(ACTIVATE, "--", PAGE, "{fd}", addresses=(str(self.room / "site.sock"),))
+        self.assertEqual(talk.hear(), "ready")
+        talk.say("quit")
+        self.assertEqual(talk.hear(), "gone")
+
+    def test_names_are_filled_in(self) -> None:
+        one, two = free_address(), free_address()
+        script = 'test "$A" = "%s 3;4; %s=3,%s=4 {other} $R" -a -d "$R" && exec %s 3 4' % (two, one, two, PAGE)
+        values = ("--env", "A={address1} {fds} {fpm} {other} {room}", "--env", "R={room}")
+        talk = self.started(ACTIVATE, *values, "--", "sh", "-c", script, addresses=(one, two))
+        self.assertEqual(talk.hear(), "ready")
+
+    def test_ready_only_once_it_accepts(self) -> None:
+        flag = self.room / "flag"
+        wait = f"while [ ! -e {flag} ]; do sleep 0.05; done; exec {PAGE} {{fd}}"
+        for how in (["accept"], ["notify"], ["probe", "--probe", "/"]):
+            flag.unlink(missing_ok=True)
+            program = f"exec {PYTHON} {PROGRAMS / 'page.py'}"
+            script = wait if how == ["accept"] else wait.replace(f"exec {PAGE} {{fd}}", program)
+            # (the shell stays the process of LISTEN_PID)
+            talk = self.started(ACTIVATE, "--ready", *how, "--", "sh", "-c", script, addresses=(free_address(),))
+            self.assertEqual(talk.hear(0.5), NOTHING, how)
+            talk.say("ping")
+            self.assertEqual(talk.hear(), "pong")
+            flag.touch()
+            self.assertEqual(talk.hear(), "ready", how)
+
+    def test_one_of_two_sockets_is_not_enough(self) -> None:
+        talk = self.started(ACTIVATE, "--", PAGE, "{fd0}", addresses=(free_address(), free_address()))
+        self.assertEqual(talk.hear(1.0), NOTHING)
+
+    def test_not_ready_in_time(self) -> None:
+        talk = self.started(ACTIVATE, "--ready-within", "0.3", "--", "sleep", "1000", addresses=(free_address(),))
+        self.assertEqual((talk.hear(), talk.wait()), (END, 1))
+        self.assertEqual(marked(self.mark), [])
+
+    def test_what_the_program_inherits(self) -> None:
+        output = self.room / "out"
+        script = f"ls /proc/$$/fd >{output}; env >>{output}; echo pong; exec {PAGE} 3"
+        talk = self.started(ACTIVATE, "--", "sh", "-c", script, addresses=(free_address(),), NOTIFY_SOCKET="/x", PREFORK_FOLDER="/y")
+        self.assertEqual(talk.hear(), "ready")
+        text = output.read_text()
+        numbers = [line for line in text.splitlines() if line.isdigit()]
+        # (10 is the shell's own)
+        self.assertEqual(set(numbers) - {"10"}, {"0", "1", "2", "3"})
+        self.assertIn("LISTEN_FDS=1\n", text)
+        for name in ("PREFORK_KEEPER", "PREFORK_FOLDER", "NOTIFY_SOCKET"):
+            self.assertNotIn(f"{name}=", text)
+        output.unlink()
+
+
+class EndTest(WorkerTest):
+    def test_a_program_that_cannot_be_started(self) -> None:
+        talk = self.started(ACTIVATE, "--", "/nonexistent", addresses=(free_address(),))
+        self.assertEqual((talk.hear(), talk.wait(), self.left()), (END, 1, []))
+
+    def test_a_program_that_exits(self) -> None:
+        talk = self.started(ACTIVATE, "--", "sh", "-c", "exit 7", addresses=(free_address(),))
+        self.assertEqual((talk.hear(), talk.wait(), self.left()), (END, 1, []))
+
+    def test_it_ends_with_the_program(self) -> None:
+        address = free_address()
+        talk = self.started(ACTIVATE, "--", PAGE, "{fd}", addresses=(address,))
+        talk.hear()
+        os.kill(int(answer_of(address).split()[-1]), signal.SIGKILL)
+        self.assertEqual((talk.hear(), talk.wait(), self.left()), (END, 1, []))
+
+    def test_quit_lets_a_request_end(self) -> None:
+        address, answers = free_address(), []
+        talk = self.started(ACTIVATE, "--", *SCRIPT, addresses=(address,))
+        talk.hear()
+        asked = threading.Thread(target=lambda: answers.append(answer_of(address, "/slow")))
+        asked.start()
+        until(lambda: False, 0.3)
+        talk.say("quit")
+        self.assertEqual((talk.hear(), talk.wait()), ("gone", 0))
+        asked.join()
+        self.assertIn("version 1 ", answers[0])
+
+    def test_the_end_of_input_is_quit_without_an_answer(self) -> None:
+        talk = self.started(ACTIVATE, "--", PAGE, "{fd}", addresses=(free_address(),))
+        talk.hear()
+        talk.process.stdin.close()
+        self.assertEqual((talk.rest(), talk.wait(), self.left()), (b"", 0, []))
+
+    def test_a_program_that_does_not_finish_is_killed(self) -> None:
+        script = f"trap '' TERM; {PAGE} 3; sleep 1000"
+        talk = self.started(ACTIVATE, "--finish", "0.3", "--", "sh", "-c", script, addresses=(free_address(),))
+        talk.hear()
+        talk.say("quit")
+        self.assertEqual((talk.hear(), talk.wait(), self.left()), ("gone", 0, []))
+        self.assertEqual(marked(self.mark), [])
+
+    def test_killed_it_takes_all_with_it(self) -> None:
+        # One that has left its session, and one whose parent has ended.
+        script = f"setsid sleep 1000 & (sleep 1001 &) ; exec {PAGE} 3"
+        talk = self.started(ACTIVATE, "--", "sh", "-c", script, addresses=(free_address(),))
+        talk.hear()
+        self.assertGreaterEqual(len(marked(self.mark)), 5)
+        talk.process.kill()
+        talk.process.wait()
+        self.assertTrue(until(lambda: not marked(self.mark)), marked(self.mark))
+        self.assertTrue(until(lambda: not self.left()), self.left())
+
+    def test_what_a_program_leaves_ends_with_it(self) -> None:
+        talk = self.started(ACTIVATE, "--", "sh", "-c", f"setsid sleep 1000 & exec {PAGE} 3", addresses=(free_address(),))
+        talk.hear()
+        talk.say("quit")
+        self.assertEqual((talk.hear(), talk.wait()), ("gone", 0))
+        self.assertEqual(marked(self.mark), [])
+
+    def test_lines_that_no_master_says(self) -> None:
+        for line in ("pi", "tick", "listener 127.0.0.1:1", "go", "x" * 5000):
+            talk = self.started(ACTIVATE, "--", PAGE, "{fd}", addresses=(free_address(),))
+            talk.hear()
+            talk.say(line)
+            self.assertEqual((talk.hear(), talk.wait()), (END, 1), line)
+
+    def test_a_master_that_has_gone(self) -> None:
+        talk = self.started(ACTIVATE, "--", PAGE, "{fd}", addresses=(free_address(),), go=False)
+        talk.process.stdout.close()
+        talk.say("go")
+        self.assertEqual((talk.wait(), self.left()), (0, []))
+
+    def test_an_address_that_is_taken(self) -> None:
+        with socket.socket() as other:
+            other.bind(("127.0.0.1", 0))
+            other.listen()
+            talk = self.started(ACTIVATE, "--", PAGE, "{fd}", addresses=("127.0.0.1:%d" % other.getsockname()[1],))
+            self.assertEqual((talk.hear(), talk.wait()), (END, 1))
+
+    def test_a_keeper_that_hangs(self) -> None:
+        os.kill(self.keeper.pid, signal.SIGSTOP)
+        self.addCleanup(os.kill, self.keeper.pid, signal.SIGCONT)
+        talk = self.started(ACTIVATE, "--", PAGE, "{fd}", addresses=(free_address(),))
+        self.assertEqual((talk.hear(), talk.wait()), (END, 1))
+        os.kill(self.keeper.pid, signal.SIGCONT)
+
+
+class ProbeTest(WorkerTest):
+    def test_a_program_that_has_stopped_serving_misses_its_beats_and_is_ended(self) -> None:
+        address = free_address()
+        options = ("--ready", "probe", "--probe", "/", "--probe-within", "0.5", "--probe-limit", "6")
+        talk = self.started(ACTIVATE, *options, "--", *SCRIPT, addresses=(address,))
+        self.assertEqual(talk.hear(), "ready")
+        talk.say("tick 1")
+        self.assertEqual(talk.hear(), "beat 1 7")
+        threading.Thread(target=self.hangs, args=(address,), daemon=True).start()
+        said = []
+
+        def is_late() -> bool:
+            talk.say("tick 2")
+            said.append(talk.hear())
+            return said[-1] == "late"
+
+        self.assertTrue(until(is_late), said)
+        talk.say("ping")
+        self.assertEqual((talk.hear(), talk.hear(), talk.wait()), ("pong", END, 1))
+
+    def hangs(self, address: str) -> None:
+        try:
+            answer_of(address, "/stuck")
+        except OSError:
+            pass
+
+    def test_an_application_that_answers_with_errors_is_not_ready(self) -> None:
+        script = f"exec {PYTHON} -c \"exec(open('{PROGRAMS / 'page.py'}').read().replace('200 OK', '500 Wrong'))\""
+        talk = self.started(ACTIVATE, "--ready", "probe", "--probe", "/", "--", "sh", "-c", script, addresses=(free_address(),))
+        self.assertEqual(talk.hear(1.5), NOTHING)
+
+
+if __name__ == "__main__":
+    unittest.main()

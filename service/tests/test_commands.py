@@ -1,0 +1,157 @@
+"""Commands of generations, and what a worker's launcher does with them."""
+import os
+import pathlib
+import subprocess
+import tempfile
+import tomllib
+import types
+import unittest
+
+from kit import OUT, built
+from prefork_service.commands import Commands, parted
+
+
+def words_of(file: pathlib.Path) -> list[str]:
+    return file.read_bytes().decode().split("\0")[:-1]
+
+
+class PartedTest(unittest.TestCase):
+    def test_the_command_is_taken_out(self) -> None:
+        text = 'command = ["a b", "\\"é\\u007f"] # x\nworkers = 2\n[[groups]]\nlisteners = ["127.0.0.1:1"]\nworkers = 1\n'
+        rest, command = parted(text.encode())
+        self.assertEqual(command, ["a b", '"é\x7f'])
+        wanted = tomllib.loads(text)
+        del wanted["command"]
+        self.assertEqual(tomllib.loads(rest.decode()), wanted)
+
+    def test_texts_stay_the_same_text(self) -> None:
+        text = b'command = ["a"]\npid = "/tmp/\\u0001\\\\\\"\\u007f\\U0001f600"\n'
+        self.assertEqual(tomllib.loads(parted(text)[0].decode())["pid"], '/tmp/\x01\\"\x7f\U0001f600')
+
+    def test_what_the_master_is_to_refuse_stays_as_it_is(self) -> None:
+        wrong = [b"\xff", b"workers =", b"workers = 1", b"command = []", b"command = 1", b'command = [""]', b'command = ["a", 1]',
+                 b'command = ["a"]\nworkers = 1.5', b'command = ["a"]\nworkers = 2026-01-01', b'command = ["\\u0000"]',
+                 b'command = ["%s"]' % (b"x" * 256), b"command = [%s]" % b", ".join([b'"a"'] * 17)]
+        for text in wrong:
+            self.assertEqual(parted(text), (text, None), text)
+
+
+class CommandsTest(unittest.TestCase):
+    def setUp(self) -> None:
+        room = tempfile.TemporaryDirectory(prefix="commands-")
+        self.addCleanup(room.cleanup)
+        self.room = pathlib.Path(room.name)
+        self.config, self.place = self.room / "site.toml", self.room / "commands"
+        self.configure('command = ["one"]\nworkers = 1\n')
+        self.commands = self.made()
+        self.commands.begin()
+
+    def made(self, default: list[str] | None = None, before: list[str] | None = None) -> Commands:
+        return Commands(types.SimpleNamespace(path=self.room), str(self.config), default, before or [])
+
+    def configure(self, text: str) -> None:
+        self.config.write_text(text)
+
+    def start(self, generation: str) -> list[str]:
+        """A worker's start, as prefork-launch does it."""
+        file = self.place / generation
+        if not file.exists():
+            os.link(self.place / "next", file)
+        return words_of(file)
+
+    def test_a_reload_that_is_done(self) -> None:
+        self.assertEqual(self.start("1.1"), ["one"])
+        self.configure('command = ["two"]\nworkers = 2\n')
+        self.commands.change()
+        self.assertEqual((self.start("1.2"), self.start("1.1")), (["two"], ["one"]))
+        self.assertEqual(self.commands.next.read_text(), '"workers" = 2\n')
+        self.commands.settle("done cause none pid no-file")
+        self.assertEqual(self.commands.now.read_text(), '"workers" = 2\n')
+        self.assertEqual(sorted(file.name for file in self.place.iterdir()), ["1.2", "next"])
+        self.assertEqual(self.start("1.2"), ["two"])
+
+    def test_a_generation_that_was_rolled_back_is_forgotten(self) -> None:
+        self.start("1.1")
+        for command in ("two", "three"):
+            self.configure(f'command = ["{command}"]\n')
+            self.commands.change()
+            self.assertEqual(self.start("1.2"), [command])
+            self.commands.settle("rolled-back cause 2 pid no-file")
+            self.assertEqual((self.start("1.1"), words_of(self.place / "next")), (["one"], ["one"]))
+        self.assertEqual(self.commands.now.read_text(), '"workers" = 1\n')
+
+    def test_which_side_of_a_degraded_reload_runs(self) -> None:
+        for side, wanted in (("old", "one"), ("target", "two")):
+            self.configure('command = ["two"]\n')
+            self.commands.change()
+            self.commands.settle(f"degraded {side} 1 cause 2 pid no-file")
+            self.assertEqual(words_of(self.place / "next"), [wanted])
+
+    def test_a_master_that_starts_again_has_the_command_that_ran(self) -> None:
+        self.configure('command = ["two"]\n')
+        self.commands.change()
+        self.start("1.2")
+        self.commands.settle("lost")
+        self.commands.begin()
+        self.assertEqual(self.start("1.1"), ["one"])
+
+    def test_the_program_of_the_command_line_is_for_configurations_without_a_command(self) -> None:
+        commands = self.made(["program"], ["guard", "10"])
+        commands.begin()
+        self.assertEqual(words_of(self.place / "next"), ["guard", "10", "one"])
+        self.configure("workers = 1\n")
+        commands.change()
+        self.assertEqual(words_of(self.place / "next"), ["guard", "10", "program"])
+
+    def test_without_any_command_no_worker_starts(self) -> None:
+        self.configure("workers = 1\n")
+        self.commands.change()
+        self.assertEqual(words_of(self.place / "next"), ["false"])
+
+    def test_a_configuration_that_is_missing_is_missing_for_the_master(self) -> None:
+        self.config.unlink()
+        self.commands.change()
+        self.assertFalse(self.commands.next.exists())
+        self.commands.settle("refused W4")
+        self.assertEqual(words_of(self.place / "next"), ["one"])
+
+    def test_nothing_is_left(self) -> None:
+        self.start("1.1")
+        self.commands.clear()
+        self.assertEqual([file.name for file in self.room.iterdir()], ["site.toml"])
+
+
+class LaunchTest(unittest.TestCase):
+    @classmethod
+    def setUpClass(cls) -> None:
+        built()
+
+    def launched(self, room: str, word: str, text: str, **more: str) -> subprocess.CompletedProcess:
+        environment = {**os.environ, "PREFORK_FOLDER": room, **more}
+        return subprocess.run([OUT / "prefork-launch", word], input=text, capture_output=True, text=True, env=environment)
+
+    def test_a_worker_gets_its_command_and_all_its_lines(self) -> None:
+        with tempfile.TemporaryDirectory() as room:
+            place = pathlib.Path(room) / "commands"
+            place.mkdir()
+            (place / "next").write_bytes(b"sh\0-c\0echo a; cat\0")
+            (place / "2.7").write_bytes(b"sh\0-c\0echo b; cat\0")
+            for generation, wanted in (("1.1", "a"), ("2.7", "b")):
+                lines = f"worker {generation} 0 7\nlistener x\ngo\n"
+                self.assertEqual(self.launched(room, "child", lines).stdout, f"{wanted}\n{lines}")
+            self.assertEqual((place / "1.1").stat().st_ino, (place / "next").stat().st_ino)
+
+    def test_what_is_no_start_of_a_worker_is_refused(self) -> None:
+        with tempfile.TemporaryDirectory() as room:
+            for word, text in (("child", "go\n"), ("child", "worker 1.1 0 7\n"), ("child", "worker 1.1 0 7"), ("other", "")):
+                self.assertIn(self.launched(room, word, text).returncode, (1, 2), text)
+            self.assertEqual(self.launched(room, "child", "").returncode, 0)
+
+    def test_a_new_master_is_the_masters_program(self) -> None:
+        with tempfile.TemporaryDirectory() as room:
+            found = self.launched(room, "adopt", "", PREFORK_PROGRAM="echo").stdout
+            self.assertEqual(found, f"adopt --program {OUT / 'prefork-launch'}\n")
+
+
+if __name__ == "__main__":
+    unittest.main()

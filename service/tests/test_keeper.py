@@ -1,0 +1,85 @@
+"""The keeper: one socket for each address, as long as it is held."""
+import pathlib
+import socket
+import subprocess
+import tempfile
+import time
+import unittest
+
+BIN = pathlib.Path(__file__).resolve().parent.parent / "bin"
+
+
+def until(holds, seconds: float = 20.0) -> bool:
+    """Waits for something to hold; whether it did."""
+    deadline = time.monotonic() + seconds
+    while time.monotonic() < deadline:
+        if holds():
+            return True
+        time.sleep(0.02)
+    return False
+
+
+class KeeperTest(unittest.TestCase):
+    def setUp(self) -> None:
+        room = tempfile.TemporaryDirectory(prefix="keeper-")
+        self.addCleanup(room.cleanup)
+        self.room = pathlib.Path(room.name)
+        self.path = self.room / "keeper.sock"
+        command = [BIN / "prefork-keeper", self.path, "0.2"]
+        self.process = subprocess.Popen(command, stdin=subprocess.PIPE)
+        self.addCleanup(self.end)
+        self.assertTrue(until(self.path.exists))
+
+    def end(self) -> None:
+        self.process.stdin.close()
+        self.assertEqual(self.process.wait(20), 0)
+
+    def asked(self, address: str):
+        """The answer for an address, its socket, and the connection that holds it."""
+        hold = socket.socket(socket.AF_UNIX, socket.SOCK_SEQPACKET)
+        self.addCleanup(hold.close)
+        hold.connect(str(self.path))
+        hold.send(address.encode())
+        said, given, _, _ = socket.recv_fds(hold, 200, 1)
+        listener = socket.socket(fileno=given[0]) if given else None
+        if listener:
+            self.addCleanup(listener.close)
+        return said.decode(), listener, hold
+
+    def test_two_workers_get_the_same_socket(self) -> None:
+        place = str(self.room / "site.sock")
+        _, one, _ = self.asked(place)
+        said, other, _ = self.asked(place)
+        self.assertEqual(said, "ok")
+        with socket.socket(socket.AF_UNIX) as client:
+            client.connect(place)
+            one.accept()[0].close()
+        with self.assertRaises(BlockingIOError):
+            other.accept()
+
+    def test_an_address_that_is_taken_is_refused(self) -> None:
+        with socket.socket() as other:
+            other.bind(("127.0.0.1", 0))
+            other.listen()
+            said, listener, _ = self.asked(f"127.0.0.1:{other.getsockname()[1]}")
+        self.assertTrue(said.startswith("no "), said)
+        self.assertIsNone(listener)
+
+    def test_an_address_that_is_none_is_refused(self) -> None:
+        for address in ("nothing", "127.0.0.1:x", "127.0.0.1:99999"):
+            self.assertTrue(self.asked(address)[0].startswith("no "), address)
+
+    def test_a_dropped_address_is_closed_while_another_is_held(self) -> None:
+        kept, dropped = self.room / "kept", self.room / "dropped"
+        _, _, hold = self.asked(str(kept))
+        _, listener, other = self.asked(str(dropped))
+        other.close()
+        listener.close()
+        self.assertTrue(until(lambda: not dropped.exists()))
+        hold.close()
+        time.sleep(0.6)
+        self.assertTrue(kept.exists())
+
+
+if __name__ == "__main__":
+    unittest.main()

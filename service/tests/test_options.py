@@ -1,0 +1,64 @@
+"""The command line of prefork-serve."""
+import contextlib
+import io
+import unittest
+
+from kit import OUT, SERVICE, built
+from prefork_service.options import arguments, worker_command
+from test_wsgi import PYTHON as PYTHON_WITH_WAITRESS
+
+ACTIVATE = str(OUT / "prefork-activate")
+
+
+class OptionsTest(unittest.TestCase):
+    @classmethod
+    def setUpClass(cls) -> None:
+        built()
+
+    def command(self, *words: str) -> list[str] | None:
+        return worker_command(arguments(list(words)))
+
+    def refused(self, *words: str) -> str:
+        """What is said of a command line that is refused."""
+        said = io.StringIO()
+        with contextlib.redirect_stderr(said), self.assertRaises(SystemExit) as ended:
+            self.command(*words)
+        self.assertEqual(ended.exception.code, 2)
+        return said.getvalue().splitlines()[-1]
+
+    def test_a_program(self) -> None:
+        self.assertEqual(self.command("a.toml", "--", "p", "--wsgi", "--", "x"), [ACTIVATE, "--", "p", "--wsgi", "--", "x"])
+
+    def test_its_options(self) -> None:
+        given = self.command("--ready", "notify", "--stop", "QUIT", "--env", "A=b c", "--env", "C=", "--finish", "5", "--blocking", "a.toml", "--", "p")
+        self.assertEqual(given[:1] + given[-2:], [ACTIVATE, "--", "p"])
+        pairs = " ".join(given[1:-2])
+        for text in ("--ready notify", "--stop QUIT", "--env A=b c", "--env C=", "--finish 5", "--blocking"):
+            self.assertIn(text, pairs)
+
+    def test_a_probe(self) -> None:
+        given = self.command("--ready", "probe", "/alive", "a.toml", "--", "p")
+        self.assertEqual(given, [ACTIVATE, "--ready", "probe", "--probe", "/alive", "--", "p"])
+
+    def test_none(self) -> None:
+        self.assertIsNone(self.command("--guard", "5", "a.toml"))
+
+    @unittest.skipUnless(PYTHON_WITH_WAITRESS, "no Python with waitress")
+    def test_a_wsgi_application(self) -> None:
+        given = self.command("--python", PYTHON_WITH_WAITRESS, "--threads", "8", "--wsgi", "m:a", "a.toml")
+        self.assertEqual(given, [PYTHON_WITH_WAITRESS, str(SERVICE / "bin" / "prefork-wsgi"), "--threads", "8", "m:a"])
+
+    def test_what_is_refused(self) -> None:
+        for words, text in (
+            (["a.toml", "--"], "no PROGRAM"), (["--wsgi", "m", "a.toml", "--", "p"], "not both"),
+            (["--stop", "TERM", "a.toml"], "--stop is an option of a PROGRAM"), (["--threads", "2", "a.toml", "--", "p"], "--threads"),
+            (["--stop", "NO", "a.toml", "--", "p"], "unknown signal: NO"), (["--ready", "no", "a.toml", "--", "p"], "not: no"),
+            (["--finish", "x", "a.toml", "--", "p"], "invalid number of seconds: x"), (["--env", "x", "a.toml", "--", "p"], "NAME=VALUE"),
+            (["--ready", "probe", "a.toml", "--", "p"], "needs --probe"), (["--python", "/nonexistent", "--wsgi", "m", "a.toml"], "/nonexistent"),
+            ([], "CONFIG"), (["a.toml", "b.toml"], "b.toml"),
+        ):
+            self.assertIn(text, self.refused(*words), words)
+
+
+if __name__ == "__main__":
+    unittest.main()

@@ -1,0 +1,208 @@
+"""prefork-wsgi: a worker that serves a WSGI application."""
+import os
+import pathlib
+import signal
+import socket
+import subprocess
+import threading
+import time
+import unittest
+
+from kit import BIN, PROGRAMS, WorkerTest, answer_of, free_address, until
+from prefork_service.conversation import END, NOTHING
+
+
+def python_with_waitress() -> str | None:
+    for python in ("python3", "/usr/bin/python3"):
+        try:
+            if subprocess.run([python, "-c", "import waitress"], capture_output=True).returncode == 0:
+                return python
+        except OSError:
+            continue
+    return None
+
+
+PYTHON = python_with_waitress()
+
+
+def kept(address: str) -> socket.socket:
+    host, _, port = address.rpartition(":")
+    connection = socket.create_connection((host, int(port)), 20)
+    return connection
+
+
+def asked(connection: socket.socket, path: str = "/") -> bytes:
+    """An answer on a kept connection."""
+    connection.sendall(f"GET {path} HTTP/1.1\r\nHost: test\r\n\r\n".encode())
+    return received(connection)
+
+
+def received(connection: socket.socket) -> bytes:
+    """An answer with all of its body."""
+    got = b""
+    while piece := connection.recv(65536):
+        got += piece
+        head, end, body = got.partition(b"\r\n\r\n")
+        if end and len(body) >= int(head.lower().partition(b"content-length:")[2].split()[0]):
+            break
+    return got
+
+
+@unittest.skipUnless(PYTHON, "no Python with waitress")
+class WsgiTest(WorkerTest):
+    def begun(self, *options: str, application: str = "wsgi_page:application", address: str = "", **more):
+        """A worker of the application, and its address."""
+        address = address or free_address()
+        command = [PYTHON, BIN / "prefork-wsgi", "--chdir", PROGRAMS, *options, application]
+        return self.started(*command, addresses=(address,), **more), address
+
+    def test_it_serves_and_answers_and_finishes(self) -> None:
+        talk, address = self.begun()
+        self.assertEqual(talk.hear(), "ready")
+        self.assertIn("version 1 ", answer_of(address))
+        talk.say("ping", "tick 12345", "usr1", "close 127.0.0.1:1", "ping", "quit")
+        self.assertEqual([talk.hear() for _ in range(5)], ["pong", "beat 12345 7", "pong", "gone", END])
+        self.assertEqual(talk.wait(), 0)
+
+    def test_nothing_of_the_application_reaches_the_master(self) -> None:
+        talk, address = self.begun(PREFORK_FOLDER="x", NOTIFY_SOCKET="y")
+        self.assertEqual(talk.hear(), "ready")
+        for path in ("/print", "/fork"):
+            self.assertIn("version 1 ", answer_of(address, path))
+        names = answer_of(address, "/environment").split()
+        self.assertFalse([name for name in names if name.startswith(("PREFORK_", "NOTIFY_"))], names)
+        talk.say("quit")
+        self.assertEqual((talk.hear(), talk.hear()), ("gone", END))
+
+    def test_quit_answers_what_has_begun(self) -> None:
+        talk, address = self.begun()
+        talk.hear()
+        answers, slow, idle = [], kept(address), kept(address)
+        asked(slow)
+        asked(idle)
+        thread = threading.Thread(target=lambda: answers.append(asked(slow, "/slow")))
+        thread.start()
+        # A request of which only a part has come.
+        partial = kept(address)
+        partial.sendall(b"GET / HTTP/1.1\r\nHost: test\r\n")
+        time.sleep(0.3)
+        talk.say("quit")
+        time.sleep(0.3)
+        last = asked(idle)
+        partial.sendall(b"\r\n")
+        self.assertIn(b"200 OK", received(partial))
+        thread.join()
+        for answer in (answers[0], last):
+            self.assertIn(b"200 OK", answer)
+            self.assertIn(b"connection: close", answer.lower())
+        self.assertEqual((talk.hear(), talk.wait()), ("gone", 0))
+        for connection in (slow, idle, partial):
+            connection.close()
+
+    def test_an_idle_connection_is_kept_in_service_and_closed_at_the_end(self) -> None:
+        talk, address = self.begun()
+        talk.hear()
+        idle = kept(address)
+        asked(idle)
+        time.sleep(3)
+        self.assertIn(b"version 1 ", asked(idle))
+        talk.say("quit")
+        self.assertEqual((talk.hear(), talk.wait(), idle.recv(10)), ("gone", 0, b""))
+        idle.close()
+
+    def test_requests_that_never_end(self) -> None:
+        talk, address = self.begun("--threads", "2", "--timeout", "1")
+        self.assertEqual(talk.hear(), "ready")
+        stuck = [kept(address) for _ in range(2)]
+        stuck[0].sendall(b"GET /stuck HTTP/1.1\r\nHost: test\r\n\r\n")
+        # One that hangs leaves the other thread.
+        time.sleep(1.5)
+        self.assertIn("version 1 ", answer_of(address))
+        stuck[1].sendall(b"GET /stuck HTTP/1.1\r\nHost: test\r\n\r\n")
+        self.assertEqual((talk.hear(), talk.wait()), (END, 1))
+        for connection in stuck:
+            connection.close()
+
+    def test_requests_that_waitress_refuses(self) -> None:
+        talk, address = self.begun()
+        talk.hear()
+        wrong = (b"Content-Length: 3\r\nContent-Length: 4\r\n", b"Transfer-Encoding: x\r\n", b"Content-Length: x\r\n", b"A\nB: c\r\n")
+        for header in wrong:
+            connection = kept(address)
+            connection.sendall(b"POST /size HTTP/1.1\r\nHost: test\r\n" + header + b"\r\nabcd")
+            status = connection.recv(65536).split(b" ")[1]
+            self.assertIn(status[:1], (b"4", b"5"), header)
+            connection.close()
+        connection = kept(address)
+        connection.sendall(b"POST /size HTTP/1.1\r\nHost: test\r\nTransfer-Encoding: chunked\r\n\r\n3\r\nabc\r\n0\r\n\r\n")
+        self.assertTrue(received(connection).endswith(b"\r\n\r\n3\n"))
+        connection.close()
+
+    def test_a_stop_has_its_limit(self) -> None:
+        talk, address = self.begun("--finish", "0.5")
+        talk.hear()
+        stuck = kept(address)
+        stuck.sendall(b"GET /stuck HTTP/1.1\r\nHost: test\r\n\r\n")
+        time.sleep(0.3)
+        talk.say("quit")
+        self.assertEqual((talk.hear(), talk.wait()), ("gone", 0))
+        stuck.close()
+
+    def test_applications_that_cannot_be_served(self) -> None:
+        for name, text in (("fails", "1 / 0"), ("exits", "import sys; sys.exit(0)"), ("lacks", "other = 1"), ("syntax", "def")):
+            (self.room / f"{name}.py").write_text(text)
+            talk, _ = self.begun("--chdir", str(self.room), application=name)
+            self.assertEqual((talk.hear(), talk.wait()), (END, 1), name)
+            (self.room / f"{name}.py").unlink()
+
+    def test_an_application_that_hangs_at_its_start(self) -> None:
+        (self.room / "hangs.py").write_text("import time; time.sleep(3600)")
+        talk, _ = self.begun("--chdir", str(self.room), "--ready-within", "1", application="hangs")
+        talk.say("ping")
+        self.assertEqual((talk.hear(), talk.hear(), talk.wait()), ("pong", END, 1))
+        (self.room / "hangs.py").unlink()
+
+    def test_the_end_of_input_and_a_master_that_has_gone(self) -> None:
+        talk, _ = self.begun()
+        talk.hear()
+        talk.process.stdin.close()
+        self.assertEqual((talk.rest(), talk.wait()), (b"", 0))
+        talk, _ = self.begun(go=False)
+        talk.process.stdout.close()
+        talk.say("go")
+        self.assertEqual(talk.wait(), 0)
+
+    def test_lines_that_no_master_says(self) -> None:
+        for line in ("pi", "tick", "x" * 5000):
+            talk, _ = self.begun()
+            talk.hear()
+            talk.say(line)
+            self.assertEqual((talk.hear(), talk.wait()), (END, 1), line)
+
+    def test_a_unix_socket(self) -> None:
+        place = str(self.room / "site.sock")
+        talk, _ = self.begun(address=place)
+        self.assertEqual(talk.hear(), "ready")
+        with socket.socket(socket.AF_UNIX) as connection:
+            connection.connect(place)
+            self.assertIn(b"version 1 ", asked(connection))
+        talk.say("quit")
+        self.assertEqual((talk.hear(), talk.wait()), ("gone", 0))
+
+    def test_logs_are_reopened(self) -> None:
+        log = self.room / "log"
+        text = f"import logging\nlogging.getLogger().addHandler(logging.FileHandler({str(log)!r}))\n"
+        text += "def application(environ, start):\n    logging.warning('asked')\n    start('200 OK', [('Content-Length', '1')])\n    return [b'\\n']\n"
+        (self.room / "logs.py").write_text(text)
+        talk, address = self.begun("--chdir", str(self.room), application="logs")
+        talk.hear()
+        answer_of(address)
+        log.rename(self.room / "log.1")
+        talk.say("usr1", "ping")
+        talk.hear()
+        answer_of(address)
+        self.assertTrue(log.exists())
+
+
+if __name__ == "__main__":
+    unittest.main()
