@@ -2,6 +2,7 @@
 import fcntl
 import os
 import pathlib
+import shutil
 import socket
 import sys
 import time
@@ -64,3 +65,6 @@ class Folder:
     def clear(self) -> None:
         for own in (self.words, self.keeper, self.pid):
             own.unlink(missing_ok=True)
+        # Of an adapter that was killed together with the process that holds its program.
+        for room in self.path.glob("worker.*"):
+            shutil.rmtree(room, ignore_errors=True)

@@ -94,6 +94,15 @@ class CommandsTest(unittest.TestCase):
         self.commands.settle("lost")
         self.commands.begin()
         self.assertEqual(self.start("1.1"), ["one"])
+        self.commands.change()
+        self.commands.settle("done cause none pid no-file")
+        self.commands.begin()
+        self.assertEqual(self.start("1.1"), ["two"])
+
+    def test_a_word_that_changes_nothing_settles_nothing(self) -> None:
+        self.start("1.1")
+        self.commands.settle("done cause none pid no-file")
+        self.assertEqual((self.start("1.1"), words_of(self.place / "next")), (["one"], ["one"]))
 
     def test_the_program_of_the_command_line_is_for_configurations_without_a_command(self) -> None:
         commands = self.made(["program"], ["guard", "10"])
