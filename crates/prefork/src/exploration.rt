@@ -1,5 +1,5 @@
 //! `explore`: how a word ends, whatever goes wrong.
-ghost use Rattle.std.specs.Prelude.{◌≡◌, ◌↔◌, ⊥, Some, IsTrue, IfOk, IfErr, OnOk};
+ghost use Rattle.std.specs.Prelude.{◌≡◌, ◌↔◌, Some, false, IfOk, IfErr, OnOk};
 ghost use Rattle.std.specs.Io.KnownBytes.{Appends};
 ghost use Rattle.exploration_text.specs.RunText.{run_text};
 ghost use Rattle.faults.specs.Faults.{IsOfFile};
@@ -68,7 +68,7 @@ impl<'a, O: Write, E: Write> Listing<'a, O, E> {
 
 impl<O: Write, E: Write> Audience for Listing<'_, O, E> {
     fn wants_more(&self) -> bool
-        ensures { IsTrue result ↔ (self.now.left ≡ Some 0 → ⊥) }
+        ensures { (result ≡ false) ↔ (self.now.left ≡ Some 0) }
     {
         self.left != Some(0)
     }
