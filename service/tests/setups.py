@@ -93,7 +93,8 @@ class Setup:
 
     def write(self, site: pathlib.Path, version: int) -> None:
         """Writes the application in a version, each file by a rename."""
-        start = f"#!/bin/sh\n# $1: {{fd}}, $2: {{address}}, $3: {{room}}\nVERSION=@VERSION@; export VERSION\nexec {self.start}\n"
+        given = "# $1: {fd}, $2: {address}, $3: {room}"
+        start = f"#!/bin/sh\n{given}\nVERSION=@VERSION@; export VERSION\nexec {self.start}\n"
         for name, text in {"start": start, **self.files}.items():
             put(site / name, text.replace("@VERSION@", str(version)).replace("@SITE@", str(site)))
 
@@ -122,19 +123,23 @@ def path() -> str:
 
 def python_with(*modules: str) -> str | None:
     for python in (PYTHON, "/usr/bin/python3"):
-        if os.path.exists(python) and not subprocess.run([python, "-c", f"import {', '.join(modules)}"], capture_output=True).returncode:
+        command = [python, "-c", f"import {', '.join(modules)}"]
+        if os.path.exists(python) and subprocess.run(command, capture_output=True).returncode == 0:
             return python
     return None
 
 
 FLASK_PYTHON = python_with("waitress", "flask")
+FLASK_OPTIONS = ["--python", FLASK_PYTHON or "", "--chdir", "@SITE@", "--wsgi", "app:app"]
+GUNICORN_START = "gunicorn --chdir @SITE@ -w 1 -k gthread --threads 4 --log-level error app:app"
+# (nginx.conf is filled in by the script itself: $1 is the address then, and $2 the room)
+NGINX_FILLED = 'sed "s,@ADDRESS@,$1,;s,@ROOM@,$2,g" @SITE@/nginx.conf >"$2/nginx.conf"'
+NGINX_START = f"""sh -c '{NGINX_FILLED} && exec nginx -e stderr -c "$2/nginx.conf"' sh "$2" "$3\""""
 SETUPS = [
-    Setup("wsgi", ["--python", FLASK_PYTHON or "", "--chdir", "@SITE@", "--wsgi", "app:app"], "", {"app.py": FLASK}, "app.py",
-          lambda: FLASK_PYTHON is not None),
+    Setup("wsgi", FLASK_OPTIONS, "", {"app.py": FLASK}, "app.py", lambda: FLASK_PYTHON is not None),
     Setup("own program, by number", [], f'@SITE@/page "$1"', {}, "page"),
     Setup("own program, by LISTEN_FDS", ["--ready", "notify"], f"{PYTHON} @SITE@/page.py", {}, "page.py"),
-    Setup("gunicorn", [], "gunicorn --chdir @SITE@ -w 1 -k gthread --threads 4 --log-level error app:app", {"app.py": WSGI}, "app.py",
-          has("gunicorn")),
+    Setup("gunicorn", [], GUNICORN_START, {"app.py": WSGI}, "app.py", has("gunicorn")),
     Setup("uvicorn", [], 'uvicorn --fd "$1" --app-dir @SITE@ --log-level error app:app', {"app.py": ASGI}, "app.py", has("uvicorn"),
           may_lose=1),
     Setup("unicorn", ["--stop", "QUIT"], 'unicorn -E none -c @SITE@/unicorn.rb -l "$2" @SITE@/app.ru',
@@ -143,8 +148,7 @@ SETUPS = [
           has("puma"), may_lose=1),
     Setup("node", [], "node @SITE@/app.js", {"app.js": NODE}, "app.js", has("node")),
     Setup("nginx", ["--stop", "QUIT", "--no-listen-fds", "--env", "NGINX={fds}"],
-          'sh -c \'sed "s,@ADDRESS@,$1,;s,@ROOM@,$2,g" @SITE@/nginx.conf >"$2/nginx.conf" && exec nginx -e stderr -c "$2/nginx.conf"\' sh "$2" "$3"',
-          {"nginx.conf": NGINX, "index.html": "version @VERSION@\n", "slow": SLOW_PAGE}, "nginx.conf", has("nginx")),
+          NGINX_START, {"nginx.conf": NGINX, "index.html": "version @VERSION@\n", "slow": SLOW_PAGE}, "nginx.conf", has("nginx")),
     Setup("lighttpd", ["--stop", "INT"], "lighttpd -D -f @SITE@/lighttpd.conf",
           {"lighttpd.conf": LIGHTTPD, "index.html": "version @VERSION@\n", "slow": SLOW_PAGE}, "lighttpd.conf", has("lighttpd")),
 ]
@@ -168,4 +172,5 @@ def break_it(setup: Setup, site: pathlib.Path, how: str) -> None:
     elif setup.start:
         put(site / "start", {"exits": "#!/bin/sh\nexit 7\n", "hangs": "#!/bin/sh\nexec sleep 1000\n"}[how])
     else:
-        put(site / setup.needed, {"exits": "import sys\nsys.exit(0)\n", "hangs": "import time\ntime.sleep(1000)\n"}[how])
+        texts = {"exits": "import sys\nsys.exit(0)\n", "hangs": "import time\ntime.sleep(1000)\n"}
+        put(site / setup.needed, texts[how])

@@ -9,7 +9,9 @@ from test_wsgi import PYTHON as PYTHON_WITH_WAITRESS
 RIGHT = {
     "the test double": [SERVICE / "double" / "app", "child"],
     "prefork-activate": [OUT / "prefork-activate", "--", PYTHON, PROGRAMS / "page.py"],
-    "prefork-activate with a probe": [OUT / "prefork-activate", "--ready", "probe", "--probe", "/", "--", PYTHON, PROGRAMS / "page.py"],
+    "prefork-activate with a probe": [
+        OUT / "prefork-activate", "--ready", "probe", "--probe", "/", "--", PYTHON, PROGRAMS / "page.py"
+    ],
 }
 if PYTHON_WITH_WAITRESS:
     RIGHT["prefork-wsgi"] = [PYTHON_WITH_WAITRESS, BIN / "prefork-wsgi", "--chdir", PROGRAMS, "wsgi_page:application"]

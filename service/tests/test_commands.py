@@ -29,9 +29,11 @@ class PartedTest(unittest.TestCase):
         self.assertEqual(tomllib.loads(parted(text)[0].decode())["pid"], '/tmp/\x01\\"\x7f\U0001f600')
 
     def test_what_the_master_is_to_refuse_stays_as_it_is(self) -> None:
-        wrong = [b"\xff", b"workers =", b"workers = 1", b"command = []", b"command = 1", b'command = [""]', b'command = ["a", 1]',
-                 b'command = ["a"]\nworkers = 1.5', b'command = ["a"]\nworkers = 2026-01-01', b'command = ["\\u0000"]',
-                 b'command = ["%s"]' % (b"x" * 256), b"command = [%s]" % b", ".join([b'"a"'] * 17)]
+        wrong = [
+            b"\xff", b"workers =", b"workers = 1", b"command = []", b"command = 1", b'command = [""]',
+            b'command = ["a", 1]', b'command = ["a"]\nworkers = 1.5', b'command = ["a"]\nworkers = 2026-01-01',
+            b'command = ["\\u0000"]', b'command = ["%s"]' % (b"x" * 256), b"command = [%s]" % b", ".join([b'"a"'] * 17),
+        ]
         for text in wrong:
             self.assertEqual(parted(text), (text, None), text)
 
@@ -152,7 +154,8 @@ class LaunchTest(unittest.TestCase):
 
     def test_what_is_no_start_of_a_worker_is_refused(self) -> None:
         with tempfile.TemporaryDirectory() as room:
-            for word, text in (("child", "go\n"), ("child", "worker 1.1 0 7\n"), ("child", "worker 1.1 0 7"), ("other", "")):
+            worker = "worker 1.1 0 7"
+            for word, text in (("child", "go\n"), ("child", f"{worker}\n"), ("child", worker), ("other", "")):
                 self.assertIn(self.launched(room, word, text).returncode, (1, 2), text)
             self.assertEqual(self.launched(room, "child", "").returncode, 0)
 

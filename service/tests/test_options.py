@@ -30,7 +30,8 @@ class OptionsTest(unittest.TestCase):
         self.assertEqual(self.command("a.toml", "--", "p", "--wsgi", "--", "x"), [ACTIVATE, "--", "p", "--wsgi", "--", "x"])
 
     def test_its_options(self) -> None:
-        given = self.command("--ready", "notify", "--stop", "QUIT", "--env", "A=b c", "--env", "C=", "--finish", "5", "--blocking", "a.toml", "--", "p")
+        options = ["--ready", "notify", "--stop", "QUIT", "--env", "A=b c", "--env", "C=", "--finish", "5", "--blocking"]
+        given = self.command(*options, "a.toml", "--", "p")
         self.assertEqual(given[:1] + given[-2:], [ACTIVATE, "--", "p"])
         pairs = " ".join(given[1:-2])
         for text in ("--ready notify", "--stop QUIT", "--env A=b c", "--env C=", "--finish 5", "--blocking"):
@@ -49,13 +50,20 @@ class OptionsTest(unittest.TestCase):
         self.assertEqual(given, [PYTHON_WITH_WAITRESS, str(SERVICE / "bin" / "prefork-wsgi"), "--threads", "8", "m:a"])
 
     def test_what_is_refused(self) -> None:
+        program = ["a.toml", "--", "p"]
         for words, text in (
-            (["a.toml", "--"], "no PROGRAM"), (["--wsgi", "m", "a.toml", "--", "p"], "not both"),
-            (["--stop", "TERM", "a.toml"], "--stop is an option of a PROGRAM"), (["--threads", "2", "a.toml", "--", "p"], "--threads"),
-            (["--stop", "NO", "a.toml", "--", "p"], "unknown signal: NO"), (["--ready", "no", "a.toml", "--", "p"], "not: no"),
-            (["--finish", "x", "a.toml", "--", "p"], "invalid number of seconds: x"), (["--env", "x", "a.toml", "--", "p"], "NAME=VALUE"),
-            (["--ready", "probe", "a.toml", "--", "p"], "needs --probe"), (["--python", "/nonexistent", "--wsgi", "m", "a.toml"], "/nonexistent"),
-            ([], "CONFIG"), (["a.toml", "b.toml"], "b.toml"),
+            (["a.toml", "--"], "no PROGRAM"),
+            (["--wsgi", "m", *program], "not both"),
+            (["--stop", "TERM", "a.toml"], "--stop is an option of a PROGRAM"),
+            (["--threads", "2", *program], "--threads"),
+            (["--stop", "NO", *program], "unknown signal: NO"),
+            (["--ready", "no", *program], "not: no"),
+            (["--finish", "x", *program], "invalid number of seconds: x"),
+            (["--env", "x", *program], "NAME=VALUE"),
+            (["--ready", "probe", *program], "needs --probe"),
+            (["--python", "/nonexistent", "--wsgi", "m", "a.toml"], "/nonexistent"),
+            ([], "CONFIG"),
+            (["a.toml", "b.toml"], "b.toml"),
         ):
             self.assertIn(text, self.refused(*words), words)
 

@@ -126,7 +126,10 @@ class WsgiTest(WorkerTest):
     def test_requests_that_waitress_refuses(self) -> None:
         talk, address = self.begun()
         talk.hear()
-        wrong = (b"Content-Length: 3\r\nContent-Length: 4\r\n", b"Transfer-Encoding: x\r\n", b"Content-Length: x\r\n", b"A\nB: c\r\n")
+        wrong = (
+            b"Content-Length: 3\r\nContent-Length: 4\r\n", b"Transfer-Encoding: x\r\n", b"Content-Length: x\r\n",
+            b"A\nB: c\r\n",
+        )
         for header in wrong:
             connection = kept(address)
             connection.sendall(b"POST /size HTTP/1.1\r\nHost: test\r\n" + header + b"\r\nabcd")
