@@ -5,7 +5,7 @@ from collections.abc import Iterable
 
 ROOT = pathlib.Path(__file__).resolve().parent.parent.parent
 PROGRAM = ROOT / "crates" / "prefork" / "out" / "prefork"
-# So many lines of what is wrong are printed.
+# The most lines that are printed of what is wrong.
 MOST_LINES = 40
 
 

@@ -88,7 +88,7 @@ class Setup:
     # The file without which the application does not load.
     needed: str
     is_there: Callable[[], bool] = lambda: True
-    # How many requests its own stop may lose: puma and asyncio can have accepted a connection that they forget then.
+    # How many requests its own stop may lose. puma and uvicorn lost one now and then; the cause is not known.
     may_lose: int = 0
 
     def write(self, site: pathlib.Path, version: int) -> None:
