@@ -6,7 +6,7 @@ use Rattle.std.proofs.lemmas.List.{take-append-drop, length-take-le}
 use Rattle.vocabulary.specs.Settings.{Settings}
 use Rattle.kernel_model.specs.State.{State}
 use Rattle.word_runner.specs.declared.block.Block.{Block}
-use Rattle.word_runner.specs.Words.{Standing}
+use Rattle.word_runner.specs.declared.standing.Standing.{Standing}
 use Rattle.plan_executor.specs.Words.{Moments}
 use Rattle.certifier.specs.declared.mismatch.Mismatch.{Mismatch}
 use Rattle.certifier.specs.declared.mismatch.Mismatch.TheVariants as mismatch

@@ -9,13 +9,14 @@ use Rattle.vocabulary.specs.declared.reports.Report.{Report}
 use Rattle.definitions.specs.Record.{Record}
 use Rattle.definitions.specs.After.{next_record}
 use Rattle.kernel_model.specs.State.{State}
-use Rattle.worker_table.specs.Beats.{Workers, followed}
+use Rattle.worker_table.specs.Beats.{followed}
 use Rattle.control_words.specs.declared.words.Word.{Word}
 use Rattle.word_runner.specs.declared.asking.Asked.{Asked}
 use Rattle.word_runner.specs.declared.asking.Asked.TheVariants as asks
 use Rattle.word_runner.specs.Asking.{asked_by}
 use Rattle.word_runner.specs.Started.{started}
-use Rattle.word_runner.specs.Words.{Standing, standing}
+use Rattle.word_runner.specs.declared.enactor.Enacted.{Enacted}
+use Rattle.word_runner.specs.declared.standing.Standing.{Standing}
 use Rattle.plan_executor.specs.Words.{EnactsAt}
 use Rattle.certifier.specs.Certified.{HasEnacted}
 use Rattle.certifier.specs.Blocks.{IsFollowed, IsRunFault, IsRunFaultOf}
@@ -27,11 +28,10 @@ use Rattle.certifier.proofs.Matching.{IsExact}
 
 ---- What is certified is what is carried out
 
-pub leads-on : (settings : Option Settings) (word : Word) (entries : List Entry) (report : Report) (old : Standing State) (r : Record) (target : Target) (it : Certificate) (after : Option Record) (workers : Workers) →
-    old.state ≡ Some r → asked_by word r old.workers settings ≡ asks.Act target → HasEnacted old.world r target entries report it →
-    after ≡ next_record r target report it.kernel.table → workers ≡ followed old.workers report.ready (started after entries) →
-    IsFollowed settings word entries report old it.pattern (standing it.kernel after workers)
-leads-on settings word entries report old r target it after workers runs asked is left follows = record {
+pub leads-on : (settings : Option Settings) (word : Word) (entries : List Entry) (report : Report) (old : Standing State) (r : Record) (target : Target) (it : Certificate) (after : Option Record) (new : Standing State) →
+    old.record ≡ Some r → asked_by word r old.workers settings ≡ asks.Act target → HasEnacted old.world r target entries report it → after ≡ next_record r target report it.kernel.table →
+    new.world ≡ it.kernel → new.record ≡ after → new.workers ≡ followed old.workers report.ready (started after entries) → IsFollowed settings word entries report old it.pattern new
+leads-on settings word entries report old r target it after new runs asked is left world keeps follows = record {
   master = r;
   runs = runs;
   target = target;
@@ -40,8 +40,10 @@ leads-on settings word entries report old r target it after workers runs asked i
   room = 0;
   carried_out = record {
     enacted =
-        subst (λ (a : Option Record). EnactsAt (it.pattern ∷ []) old.world 0 r target (record { log = record { entries = entries; room = 0 }; report = report; after = a }) it.kernel) (sym left) (is.enacted 0);
-    workers = follows;
+        let told : Option Record → Enacted = λ a. record { log = record { entries = entries; room = 0 }; report = report; after = a } in
+        let there = subst (λ (a : Option Record). EnactsAt (it.pattern ∷ []) old.world 0 r target (told a) it.kernel) (sym (keeps ∙ left)) (is.enacted 0) in
+        subst (λ (k : State). EnactsAt (it.pattern ∷ []) old.world 0 r target (told new.record) k) (sym world) there;
+    workers = follows ∙ ap (λ (a : Option Record). followed old.workers report.ready (started a entries)) (sym keeps);
   };
 }
 

@@ -16,7 +16,8 @@ use Rattle.word_runner.specs.declared.block.Block.TheVariants.{Heard, Unread}
 use Rattle.word_runner.specs.declared.block.Body.{Body}
 use Rattle.word_runner.specs.declared.block.Body.TheVariants.{Nothing, Refused, Ran}
 use Rattle.word_runner.specs.Asking.{asked_by, IsActOn, IsNoted}
-use Rattle.word_runner.specs.Words.{Standing, standing, HasRun}
+use Rattle.word_runner.specs.declared.standing.Standing.{Standing}
+use Rattle.word_runner.specs.Words.{HasRun}
 use Rattle.plan_executor.specs.Words.{Moments, EnactsAt}
 use Rattle.certifier.specs.declared.mismatch.Mismatch.{Mismatch}
 use Rattle.certifier.specs.declared.mismatch.Mismatch.TheVariants as mismatch
@@ -34,7 +35,7 @@ asked_at settings word (Some r) workers = asked_by word r workers settings
 abbrev pub IsIdle : Asked → Standing State → Standing State → Type 0
 IsIdle asks.Nothing old new = new ≡ old
 IsIdle (asks.Beat beat) old new =
-    (body : Body) × IsNoted (beating old.workers beat.nr beat.now) beat.nr beat.now old.workers body new.workers × (new ≡ standing old.world old.state new.workers)
+    (body : Body) × IsNoted (beating old.workers beat.nr beat.now) beat.nr beat.now old.workers body new.workers × (new ≡ record old { workers = new.workers })
 IsIdle (asks.Act target) old new = ⊥
 IsIdle (asks.Refused code) old new = new ≡ old
 
@@ -42,7 +43,7 @@ IsIdle (asks.Refused code) old new = new ≡ old
 -- under that, which makes just these calls and this report, leads from the one standing to the other.
 pub record IsFollowed (settings : Option Settings) (word : Word) (entries : List Entry) (report : Report) (old : Standing State) (pattern : Moments) (new : Standing State) : Type 0 where
   pub master : Record
-  pub runs : old.state ≡ Some master
+  pub runs : old.record ≡ Some master
   pub target : Target
   pub asks : asked_by word master old.workers settings ≡ asks.Act target
   pub certified : IsCertified old.world.table master target entries report pattern
@@ -52,7 +53,7 @@ pub record IsFollowed (settings : Option Settings) (word : Word) (entries : List
 -- A pattern explains what a word came to, which leads from one standing to the other. A refused word changes nothing, and is taken
 -- as it is.
 abbrev pub IsBodyTaken : Option Settings → Word → Body → Standing State → Moments → Standing State → Type 0
-IsBodyTaken settings word Nothing old pattern new = (pattern ≡ []) × IsIdle (asked_at settings word old.state old.workers) old new
+IsBodyTaken settings word Nothing old pattern new = (pattern ≡ []) × IsIdle (asked_at settings word old.record old.workers) old new
 IsBodyTaken settings word (Refused code) old pattern new = (pattern ≡ []) × (new ≡ old)
 IsBodyTaken settings word (Ran log report) old pattern new = IsFollowed settings word log.entries report old pattern new
 
@@ -74,9 +75,9 @@ IsRunFaultOf (Some r) settings word s entries report why = IsRunFault (asked_by 
 
 -- What is wrong with what a word came to. Where it asks for a target, it does not come to nothing.
 abbrev pub IsBodyFault : Option Settings → Word → Body → Standing State → Mismatch → Type 0
-IsBodyFault settings word Nothing s why = (why ≡ mismatch.Short) × IsActOn (λ target. ⊤) (asked_at settings word s.state s.workers)
+IsBodyFault settings word Nothing s why = (why ≡ mismatch.Short) × IsActOn (λ target. ⊤) (asked_at settings word s.record s.workers)
 IsBodyFault settings word (Refused code) s why = ⊥
-IsBodyFault settings word (Ran log report) s why = IsRunFaultOf s.state settings word s log.entries report why
+IsBodyFault settings word (Ran log report) s why = IsRunFaultOf s.record settings word s log.entries report why
 
 -- What is wrong with a block, want of memory aside.
 abbrev pub IsFault : Option Settings → Block → Standing State → Mismatch → Type 0

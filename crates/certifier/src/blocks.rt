@@ -1,9 +1,6 @@
 //! Blocks, compared one after another with plans and kernel.
-ghost use Rattle.std.specs.Prelude.{⊤, ◌≡◌, ◌<◌, ◌⊎◌, ◌↔◌, [], ◌∷◌, Option, vec_capacity, vec_len, IfOk, IfErr, OnOk, OnErr, IsErrOf};
+ghost use Rattle.std.specs.Prelude.{⊤, ◌≡◌, ◌<◌, ◌⊎◌, ◌↔◌, [], vec_capacity, vec_len, IfOk, IfErr, OnOk, OnErr, IsErrOf};
 ghost use Rattle.std.specs.Option.{option_copied};
-ghost use Rattle.definitions.specs.Record.{Record as Known};
-ghost use Rattle.kernel_model.specs.State.{State};
-ghost use Rattle.word_runner.specs.Words.{standing};
 ghost use Rattle.word_runner.specs.Asking.{IsPossible, IsActOn};
 ghost use Rattle.certifier.specs.Blocks.{asked_at, IsIdle, IsFollowed, IsBodyTaken, IsTaken, IsRunFaultOf, IsBodyFault, IsFault, AreTaken, StopsAtBlock, LeadsUpTo};
 ghost use Rattle.certifier.specs.declared.mismatch.Mismatch.{Mismatch as Why};
@@ -17,7 +14,7 @@ use plan_runner::CallLog;
 use service_state::Record;
 use std::alloc::{AllocError, Global};
 use vocabulary::{Report, Settings};
-use word_runner::{Asked, Block, Body, asked_by, follow_run, note};
+use word_runner::{Asked, Block, Body, Standing, asked_by, note};
 use worker_table::WorkerTable;
 
 /// The first block that is none of the master's, counted from 1, and why.
@@ -32,21 +29,19 @@ pub struct BlockMismatch {
 /// master's is the mismatch, and things stand where the blocks before it leave them.
 pub fn certify_blocks(
     alloc: Global,
-    kernel: &mut Kernel,
-    state: &mut Option<Record>,
-    workers: &mut WorkerTable,
+    standing: &mut Standing<Kernel>,
     settings: Option<&Settings>,
     blocks: &[Block],
 ) -> Result<Vec<Pattern>, BlockMismatch>
-    ensures ok { IfOk result (λ patterns. AreTaken (option_copied settings.entry) blocks.now (standing kernel.old state.old workers.old) patterns.items (standing kernel.new state.new workers.new)) }
-    ensures err { IfErr result (λ e. StopsAtBlock (option_copied settings.entry) blocks.now (standing kernel.old state.old workers.old) e.number e.why) }
-    ensures stands { IfErr result (λ e. LeadsUpTo (option_copied settings.entry) blocks.now (standing kernel.old state.old workers.old) e.number (standing kernel.new state.new workers.new)) }
+    ensures ok { IfOk result (λ patterns. AreTaken (option_copied settings.entry) blocks.now standing.old patterns.items standing.new) }
+    ensures err { IfErr result (λ e. StopsAtBlock (option_copied settings.entry) blocks.now standing.old e.number e.why) }
+    ensures stands { IfErr result (λ e. LeadsUpTo (option_copied settings.entry) blocks.now standing.old e.number standing.new) }
 {
     let mut patterns = Vec::new(alloc);
     for (place, block) in blocks.iter().enumerate() {
         let number = place + 1;
         make_room(&mut patterns, number)?;
-        match certify_block(alloc, kernel, state, workers, settings, block) {
+        match certify_block(alloc, standing, settings, block) {
             Ok(pattern) => patterns.push_reserved(pattern),
             Err(why) => return Err(BlockMismatch { number, why }),
         }
@@ -74,49 +69,41 @@ fn make_room(patterns: &mut Vec<Pattern>, number: usize) -> Result<(), BlockMism
 /// `nothing` where the word asks for a target; Y1 1 for calls where it asks for none. They change nothing.
 pub fn certify_block(
     alloc: Global,
-    kernel: &mut Kernel,
-    state: &mut Option<Record>,
-    workers: &mut WorkerTable,
+    standing: &mut Standing<Kernel>,
     settings: Option<&Settings>,
     block: &Block,
 ) -> Result<Pattern, Mismatch>
-    ensures ok { IfOk result (λ pattern. IsTaken (option_copied settings.entry) block.now (standing kernel.old state.old workers.old) pattern (standing kernel.new state.new workers.new)) }
+    ensures ok { IfOk result (λ pattern. IsTaken (option_copied settings.entry) block.now standing.old pattern standing.new) }
     ensures exact { (why : Why)
-        → IsErrOf result Mismatch.Memory ⊎ (IsErrOf result why ↔ IsFault (option_copied settings.entry) block.now (standing kernel.old state.old workers.old) why) }
-    ensures err { OnErr result (standing kernel.new state.new workers.new ≡ standing kernel.old state.old workers.old) }
+        → IsErrOf result Mismatch.Memory ⊎ (IsErrOf result why ↔ IsFault (option_copied settings.entry) block.now standing.old why) }
+    ensures err { OnErr result (standing.new ≡ standing.old) }
 {
     match block {
         Block::Unread(_) => Ok(Pattern::new(alloc)),
-        Block::Heard(word, body) => certify_body(
-            alloc, kernel, state, workers, settings, *word, body,
-        ),
+        Block::Heard(word, body) => certify_body(alloc, standing, settings, *word, body),
     }
 }
 
 /// The pattern that explains what a word came to.
 fn certify_body(
     alloc: Global,
-    kernel: &mut Kernel,
-    state: &mut Option<Record>,
-    workers: &mut WorkerTable,
+    standing: &mut Standing<Kernel>,
     settings: Option<&Settings>,
     word: Word,
     body: &Body,
 ) -> Result<Pattern, Mismatch>
-    ensures ok { IfOk result (λ pattern. IsBodyTaken (option_copied settings.entry) word body.now (standing kernel.old state.old workers.old) pattern (standing kernel.new state.new workers.new)) }
+    ensures ok { IfOk result (λ pattern. IsBodyTaken (option_copied settings.entry) word body.now standing.old pattern standing.new) }
     ensures exact { (why : Why)
-        → IsErrOf result Mismatch.Memory ⊎ (IsErrOf result why ↔ IsBodyFault (option_copied settings.entry) word body.now (standing kernel.old state.old workers.old) why) }
-    ensures err { OnErr result (standing kernel.new state.new workers.new ≡ standing kernel.old state.old workers.old) }
+        → IsErrOf result Mismatch.Memory ⊎ (IsErrOf result why ↔ IsBodyFault (option_copied settings.entry) word body.now standing.old why) }
+    ensures err { OnErr result (standing.new ≡ standing.old) }
 {
     match body {
         Body::Nothing => {
-            let asked = asked_at(word, state.as_ref(), workers, settings);
-            certify_nothing(alloc, workers, asked)
+            let asked = asked_at(word, standing.record.as_ref(), &standing.workers, settings);
+            certify_nothing(alloc, standing, asked)
         }
         Body::Refused(_) => Ok(Pattern::new(alloc)),
-        Body::Ran(log, report) => certify_run(
-            alloc, kernel, state, workers, settings, word, log, report,
-        ),
+        Body::Ran(log, report) => certify_run(alloc, standing, settings, word, log, report),
     }
 }
 
@@ -139,17 +126,17 @@ fn asked_at(
 /// A word came to nothing. One with a target does not; a beat is noted, whatever the table says of it.
 fn certify_nothing(
     alloc: Global,
-    workers: &mut WorkerTable,
+    standing: &mut Standing<Kernel>,
     asked: Asked,
 ) -> Result<Pattern, Mismatch>
-    ensures ok { IfOk result (λ pattern. (pattern ≡ []) × ((k : State) (r : Option Known) → IsIdle asked (standing k r workers.old) (standing k r workers.new))) }
+    ensures ok { IfOk result (λ pattern. (pattern ≡ []) × IsIdle asked standing.old standing.new) }
     ensures err { (why : Why) → IsErrOf result why ↔ ((why ≡ Mismatch.Short) × IsActOn (λ _. ⊤) asked) }
-    ensures same { OnErr result (workers.new ≡ workers.old) }
+    ensures same { OnErr result (standing.new ≡ standing.old) }
 {
     match asked {
         Asked::Act(_) => Err(Mismatch::Short),
         Asked::Beat(heard) => {
-            let _ = note(workers, heard);
+            let _ = note(&mut standing.workers, heard);
             Ok(Pattern::new(alloc))
         }
         Asked::Nothing => Ok(Pattern::new(alloc)),
@@ -160,28 +147,26 @@ fn certify_nothing(
 /// A word came to calls and a report. The kernel on which they were replayed is as the word leaves it.
 fn certify_run(
     alloc: Global,
-    kernel: &mut Kernel,
-    state: &mut Option<Record>,
-    workers: &mut WorkerTable,
+    standing: &mut Standing<Kernel>,
     settings: Option<&Settings>,
     word: Word,
     log: &CallLog,
     report: &Report,
 ) -> Result<Pattern, Mismatch>
-    ensures ok { IfOk result (λ pattern. IsFollowed (option_copied settings.entry) word log.now.entries report.now (standing kernel.old state.old workers.old) pattern (standing kernel.new state.new workers.new)) }
+    ensures ok { IfOk result (λ pattern. IsFollowed (option_copied settings.entry) word log.now.entries report.now standing.old pattern standing.new) }
     ensures exact { (why : Why)
-        → IsErrOf result Mismatch.Memory ⊎ (IsErrOf result why ↔ IsRunFaultOf state.old (option_copied settings.entry) word (standing kernel.old state.old workers.old) log.now.entries report.now why) }
-    ensures err { OnErr result (standing kernel.new state.new workers.new ≡ standing kernel.old state.old workers.old) }
+        → IsErrOf result Mismatch.Memory ⊎ (IsErrOf result why ↔ IsRunFaultOf standing.old.record (option_copied settings.entry) word standing.old log.now.entries report.now why) }
+    ensures err { OnErr result (standing.new ≡ standing.old) }
 {
-    let Some(running) = *state else {
+    let Some(running) = standing.record else {
         return Err(Mismatch::Step(1));
     };
-    let Asked::Act(target) = asked_by(word, &running, workers, settings) else {
+    let Asked::Act(target) = asked_by(word, &running, &standing.workers, settings) else {
         return Err(Mismatch::Step(1));
     };
-    let certificate = certificate(alloc, kernel, &running, &target, log, report)?;
+    let certificate = certificate(alloc, &standing.world, &running, &target, log, report)?;
     let after = record_left(&running, &target, report, &certificate.kernel);
-    *kernel = certificate.kernel;
-    follow_run(state, workers, log, report, after);
+    standing.world = certificate.kernel;
+    standing.follow(log, report, after);
     Ok(certificate.pattern)
 }

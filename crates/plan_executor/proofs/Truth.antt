@@ -15,7 +15,8 @@ use Rattle.kernel_model.specs.Pattern.{moment_at}
 use Rattle.control_words.specs.declared.words.Word.{Word}
 use Rattle.word_runner.specs.declared.block.Block.{Block}
 use Rattle.word_runner.specs.Enactors.{HasCode}
-use Rattle.word_runner.specs.Words.{Standing, HasRun, AreDone}
+use Rattle.word_runner.specs.declared.standing.Standing.{Standing}
+use Rattle.word_runner.specs.Words.{HasRun, AreDone}
 use Rattle.word_runner.proofs.Keeping.{done-keeps}
 use Rattle.plan_runner.specs.Log.{Told}
 use Rattle.plan_executor.specs.declared.enactment.EnactRefusal.{EnactRefusal}
@@ -55,14 +56,14 @@ left-true (Attended s) r state ran is after = agreed (Attended s) r state (repor
 left-true (Stop quick) r state ran is after = subst (IsTrueOf ran.last.table) (sym (is ∙ after.0)) tt
 
 -- a run leaves a record that is true of the kernel
-ran-true : (patterns : List Moments) (place : ℕ) (old : Standing State) (r : Record) (target : Target) (log : Told) (report : Report) (new : Standing State) → HasRun (EnactsAt patterns) place old r target log report new → IsTrueOf new.world.table new.state
+ran-true : (patterns : List Moments) (place : ℕ) (old : Standing State) (r : Record) (target : Target) (log : Told) (report : Report) (new : Standing State) → HasRun (EnactsAt patterns) place old r target log report new → IsTrueOf new.world.table new.record
 ran-true patterns place old r target log report new h =
     let is = h.enacted in
     let ran = run_of r target (moment_at (pattern_at patterns place)) old.world.table in
-    let left : new.state ≡ next_record r target (report_of (sides_of r target) ran) ran.last.table = is.after ∙ (λ i. next_record r target (is.is_run.report_is i) (sym is.is_run.table i)) in
-    subst (λ (t : Table). IsTrueOf t new.state) is.is_run.table (left-true target r new.state ran left is.ends.after)
+    let left : new.record ≡ next_record r target (report_of (sides_of r target) ran) ran.last.table = is.after ∙ (λ i. next_record r target (is.is_run.report_is i) (sym is.is_run.table i)) in
+    subst (λ (t : Table). IsTrueOf t new.record) is.is_run.table (left-true target r new.record ran left is.ends.after)
 
-pub done-true : (patterns : List Moments) (settings : Option Settings) (words : List Word) (first : Standing State) (blocks : List Block) (last : Standing State) → AreDone (EnactsAt patterns) (DeclinesAt patterns) settings words 0 first blocks last → IsTrueOf first.world.table first.state → IsTrueOf last.world.table last.state
+pub done-true : (patterns : List Moments) (settings : Option Settings) (words : List Word) (first : Standing State) (blocks : List Block) (last : Standing State) → AreDone (EnactsAt patterns) (DeclinesAt patterns) settings words 0 first blocks last → IsTrueOf first.world.table first.record → IsTrueOf last.world.table last.record
 done-true patterns settings words first blocks last done true_of =
     done-keeps (EnactsAt patterns) (DeclinesAt patterns) (λ (k : State) (state : Option Record). IsTrueOf k.table state)
     (λ place old r target log report new h _. ran-true patterns place old r target log report new h) settings words 0 first blocks last done true_of

@@ -124,7 +124,7 @@ fn enact<R: AllocGlobal + Files, I: Read, O: Write>(
 fn show_state(rehearsal: &Rehearsal, is_wanted: bool, text: &mut Vec<u8>) -> Result<(), AllocError>
     ensures { IfOk result (λ _. (state : List ℕ)
         × (text.new.items ≡ text.old.items ++ state)
-        × IsState is_wanted rehearsal.now.kernel.table state) }
+        × IsState is_wanted rehearsal.now.standing.world.table state) }
 {
     if is_wanted {
         let state = rehearsal.state()?;

@@ -17,7 +17,7 @@ HoldsNamed (Some text) old new = Held text old new
 -- why nobody can hold it
 abbrev pub IsOfNamed : Option (List ℕ) → Rehearsal → Fault → Type 0
 IsOfNamed None old fault = ⊥
-IsOfNamed (Some text) old fault = IsOfHeld (reading text) old.kernel fault
+IsOfNamed (Some text) old fault = IsOfHeld (reading text) old.standing.world fault
 
 -- The master of a start that the options ask for, on a kernel where somebody holds the address that is named.
 pub record HasBegun (options : arguments.Start) (held : Option (List ℕ)) (it : Rehearsal) : Type 0 where

@@ -45,19 +45,19 @@ AreCounted r target t pairs before after (Told body) = HasNoRuns t r target body
 -- what is told of a word that a master is asked, where it has no runs
 abbrev pub IsToldOf : Asked → Record → Rehearsal → Body → Type 0
 IsToldOf asks.Nothing r m body = body ≡ Nothing
-IsToldOf (asks.Beat beat) r m body = (after : Workers) × IsNoted (beating m.workers beat.nr beat.now) beat.nr beat.now m.workers body after
-IsToldOf (asks.Act target) r m body = HasNoRuns m.kernel.table r target body
+IsToldOf (asks.Beat beat) r m body = (after : Workers) × IsNoted (beating m.standing.workers beat.nr beat.now) beat.nr beat.now m.standing.workers body after
+IsToldOf (asks.Act target) r m body = HasNoRuns m.standing.world.table r target body
 IsToldOf (asks.Refused code) r m body = body ≡ Refused code
 
 -- a master that has ended answers nothing
 abbrev pub IsToldInstead : Option Record → Rehearsal → Word → Body → Type 0
 IsToldInstead None m word body = body ≡ Nothing
-IsToldInstead (Some r) m word body = IsToldOf (asked_by word r m.workers (Some m.next)) r m body
+IsToldInstead (Some r) m word body = IsToldOf (asked_by word r m.standing.workers (Some m.next)) r m body
 
 -- Where all runs of a word are counted, they are those of the target that it asks for. Where it has none, it is told what it
 -- comes to instead.
 abbrev pub IsExplored : Rehearsal → Word → Bool → Tally → Tally → Explored → Type 0
 IsExplored m word pairs before after All =
-    AsksTarget (λ r target. after ≡ explored_from r target m.kernel.table pairs before) m.record (Some m.next) word m.workers
-IsExplored m word pairs before after Cut = AsksTarget (HasRuns m.kernel.table) m.record (Some m.next) word m.workers
-IsExplored m word pairs before after (Told body) = IsToldInstead m.record m word body
+    AsksTarget (λ r target. after ≡ explored_from r target m.standing.world.table pairs before) m.standing.record (Some m.next) word m.standing.workers
+IsExplored m word pairs before after Cut = AsksTarget (HasRuns m.standing.world.table) m.standing.record (Some m.next) word m.standing.workers
+IsExplored m word pairs before after (Told body) = IsToldInstead m.standing.record m word body

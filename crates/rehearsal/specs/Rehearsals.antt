@@ -12,7 +12,7 @@ use Rattle.kernel_model.specs.State.{State}
 use Rattle.kernel_model.specs.declared.refusal.ForeignRefusal.TheVariants as foreign
 use Rattle.control_words.specs.declared.words.Word.{Word}
 use Rattle.word_runner.specs.declared.block.Block.{Block}
-use Rattle.word_runner.specs.Words.{Standing, standing, AreDone}
+use Rattle.word_runner.specs.Words.{AreDone}
 use Rattle.word_runner.specs.Asking.{asked_by}
 use Rattle.word_runner.specs.declared.asking.Asked.{Asked}
 use Rattle.word_runner.specs.declared.asking.Asked.TheVariants as asks
@@ -33,8 +33,8 @@ pub record IsFree (address : List ℕ) (kernel : State) : Type 0 where
 pub record Held (text : List ℕ) (old new : Rehearsal) : Type 0 where
   pub address : List ℕ
   pub is_read : reading text ≡ Ok address
-  pub is_free : IsFree address old.kernel
-  pub kernel : new ≡ record old { kernel = record { table = with_foreign address old.kernel.table; room = old.kernel.room } }
+  pub is_free : IsFree address old.standing.world
+  pub kernel : new ≡ record old { standing = record old.standing { world = record { table = with_foreign address old.standing.world.table; room = old.standing.world.room } } }
 
 -- Why nobody can hold what a text is read as: it is no address, somebody holds it, no number is left, or else memory is wanted.
 abbrev pub IsOfHeld : Result (List ℕ) AddressRefusal → State → Fault → Type 0
@@ -43,12 +43,9 @@ IsOfHeld (Ok address) kernel (Foreign foreign.Held) = is_held address kernel.tab
 IsOfHeld (Ok address) kernel (Foreign foreign.NoNumbers) = (is_held address kernel.table.rows ≡ false) × LacksNumbers kernel.table (kernel.room + 1)
 IsOfHeld (Ok address) kernel fault = (fault ≡ Memory) × IsFree address kernel
 
-abbrev pub standing_of : Rehearsal → Standing State
-standing_of it = standing it.kernel it.record it.workers
-
 -- the first of these words come to these blocks, the i-th under the i-th pattern
 pub record IsRehearsed (patterns : List Moments) (words : List Word) (old : Rehearsal) (blocks : List Block) (new : Rehearsal) : Type 0 where
-  pub done : AreDone (EnactsAt patterns) (DeclinesAt patterns) (Some old.next) words 0 (standing_of old) blocks (standing_of new)
+  pub done : AreDone (EnactsAt patterns) (DeclinesAt patterns) (Some old.next) words 0 old.standing blocks new.standing
   pub next : new.next ≡ old.next
 
 ---- What the first calls of a word show
@@ -65,8 +62,8 @@ IsShownWhere _ t r entries pattern = pattern ≡ []
 
 abbrev pub IsShownTo : Option Record → Rehearsal → Word → List Entry → Moments → Type 0
 IsShownTo None it word entries pattern = pattern ≡ []
-IsShownTo (Some r) it word entries pattern = IsShownWhere (asked_by word r it.workers (Some it.next)) it.kernel.table r entries pattern
+IsShownTo (Some r) it word entries pattern = IsShownWhere (asked_by word r it.standing.workers (Some it.next)) it.standing.world.table r entries pattern
 
 -- The pattern that entries show which are a word's first calls; a quiet one where they begin no run of the master.
 abbrev pub IsShownBy : Rehearsal → Word → List Entry → Moments → Type 0
-IsShownBy it word entries pattern = IsShownTo it.record it word entries pattern
+IsShownBy it word entries pattern = IsShownTo it.standing.record it word entries pattern

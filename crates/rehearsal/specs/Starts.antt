@@ -64,7 +64,7 @@ limits = record { processes = 65535; descriptors = 64 }
 -- A master that has just started on the modelled kernel.
 pub record IsStarted (start : Start) (it : Rehearsal) : Type 0 where
   pub fits : record_at start ≡ Ok (first_record start)
-  pub kernel : it.kernel ≡ record { table = booted start.settings.listeners start.settings.groups start.running start.settings.pid limits; room = 0 }
-  pub knows : it.record ≡ Some (first_record start)
-  pub workers : it.workers ≡ silent_workers (first_record start)
+  pub kernel : it.standing.world ≡ record { table = booted start.settings.listeners start.settings.groups start.running start.settings.pid limits; room = 0 }
+  pub knows : it.standing.record ≡ Some (first_record start)
+  pub workers : it.standing.workers ≡ silent_workers (first_record start)
   pub next : it.next ≡ start.next

@@ -11,7 +11,7 @@ ghost use Rattle.definitions.specs.Start.{booted};
 ghost use Rattle.faults.specs.declared.fault.Fault.TheVariants.{Memory};
 ghost use Rattle.definitions.specs.Target.{IsTarget};
 ghost use Rattle.rehearsal.specs.Explorations.{IsExplored};
-ghost use Rattle.rehearsal.specs.Rehearsals.{Held, IsOfHeld, standing_of, IsRehearsed, IsShownOf, IsShownBy};
+ghost use Rattle.rehearsal.specs.Rehearsals.{Held, IsOfHeld, IsRehearsed, IsShownOf, IsShownBy};
 
 use crate::exploring::{Explored, counted};
 use crate::start::{Start, silent_workers};
@@ -26,8 +26,7 @@ use plan_runner::CallLog;
 use service_state::Record;
 use std::alloc::{AllocError, Global};
 use vocabulary::{Limits, Settings, Target};
-use word_runner::{Asked, Block, Body, asked_by, note};
-use worker_table::WorkerTable;
+use word_runner::{Asked, Block, Body, Standing, asked_by, note};
 
 /// What the modelled kernel of a rehearsal allows.
 const LIMITS: Limits = Limits {
@@ -38,12 +37,8 @@ const LIMITS: Limits = Limits {
 /// A running master on the modelled kernel.
 #[derive(Drop)]
 pub struct Rehearsal {
-    /// The kernel that it runs on.
-    pub kernel: Kernel,
-    /// What it knows of itself, as long as it runs.
-    pub record: Option<Record>,
-    /// Its workers, with their beats.
-    pub workers: WorkerTable,
+    /// Where it stands: the kernel that it runs on, what it knows of itself, and its workers.
+    pub standing: Standing<Kernel>,
     /// The settings that HUP and USR2 go over to.
     pub next: Settings,
 }
@@ -78,10 +73,13 @@ impl Rehearsal {
         let record = start.record()?;
         let kernel = booted(alloc, &start.settings, start.running)?;
         let workers = silent_workers(alloc, &record)?;
-        Ok(Rehearsal {
-            kernel,
+        let standing = Standing {
+            world: kernel,
             record: Some(record),
             workers,
+        };
+        Ok(Rehearsal {
+            standing,
             next: start.next,
         })
     }
@@ -89,11 +87,11 @@ impl Rehearsal {
     /// Lets a foreign process hold an address.
     pub fn hold(&mut self, address: &str) -> Result<(), Fault>
         ensures ok { OnOk result (Held address.now self.old self.new) }
-        ensures err { IfErr result (IsOfHeld (reading address.now) self.old.kernel) }
+        ensures err { IfErr result (IsOfHeld (reading address.now) self.old.standing.world) }
         ensures kept { OnErr result (self.new ≡ self.old) }
     {
         let address = Address::read(address.as_bytes()).map_err(Fault::Address)?;
-        self.kernel.foreign(&address)?;
+        self.standing.world.foreign(&address)?;
         Ok(())
     }
 
@@ -114,9 +112,7 @@ impl Rehearsal {
         let next = self.next;
         run_words(
             alloc,
-            &mut self.kernel,
-            &mut self.record,
-            &mut self.workers,
+            &mut self.standing,
             words,
             patterns,
             Some(&next),
@@ -131,19 +127,12 @@ impl Rehearsal {
         alloc: Global,
         blocks: &[Block],
     ) -> Result<Vec<Pattern>, BlockMismatch>
-        ensures ok { IfOk result (λ patterns. AreTaken (Some self.old.next) blocks.now (standing_of self.old) patterns.items (standing_of self.new)) }
-        ensures err { IfErr result (λ e. StopsAtBlock (Some self.old.next) blocks.now (standing_of self.old) e.number e.why) }
+        ensures ok { IfOk result (λ patterns. AreTaken (Some self.old.next) blocks.now self.old.standing patterns.items self.new.standing) }
+        ensures err { IfErr result (λ e. StopsAtBlock (Some self.old.next) blocks.now self.old.standing e.number e.why) }
         ensures next { self.new.next ≡ self.old.next }
     {
         let settings = self.next;
-        certify_blocks(
-            alloc,
-            &mut self.kernel,
-            &mut self.record,
-            &mut self.workers,
-            Some(&settings),
-            blocks,
-        )
+        certify_blocks(alloc, &mut self.standing, Some(&settings), blocks)
     }
 
     /// What a word comes to where its first calls are those of a log, as far as they begin a run of the master: the
@@ -169,13 +158,14 @@ impl Rehearsal {
     fn pattern_of(&self, alloc: Global, word: Word, begun: &CallLog) -> Result<Pattern, AllocError>
         ensures { IfOk result (IsShownBy self.now word begun.now.entries) }
     {
-        let Some(record) = self.record else {
+        let Some(record) = self.standing.record else {
             return Ok(Pattern::new(alloc));
         };
-        let Asked::Act(target) = asked_by(word, &record, &self.workers, Some(&self.next)) else {
+        let Asked::Act(target) = asked_by(word, &record, &self.standing.workers, Some(&self.next))
+        else {
             return Ok(Pattern::new(alloc));
         };
-        shown_of(alloc, &self.kernel, &record, &target, begun)
+        shown_of(alloc, &self.standing.world, &record, &target, begun)
     }
 
     /// Counts how a word ends under no event and under each event that this run meets and, where pairs are asked for, under
@@ -190,20 +180,20 @@ impl Rehearsal {
     ) -> Result<Explored, AllocError>
         ensures { IfOk result (IsExplored self.old word pairs found.old.tally found.new.tally) }
     {
-        let Some(record) = self.record else {
+        let Some(record) = self.standing.record else {
             return Ok(Explored::Told(Body::Nothing));
         };
-        match asked_by(word, &record, &self.workers, Some(&self.next)) {
+        match asked_by(word, &record, &self.standing.workers, Some(&self.next)) {
             Asked::Act(target) => counted(
                 alloc,
-                &self.kernel,
+                &self.standing.world,
                 &record,
                 &target,
                 pairs,
                 found,
                 audience,
             ),
-            Asked::Beat(heard) => Ok(Explored::Told(note(&mut self.workers, heard))),
+            Asked::Beat(heard) => Ok(Explored::Told(note(&mut self.standing.workers, heard))),
             Asked::Nothing => Ok(Explored::Told(Body::Nothing)),
             Asked::Refused(code) => Ok(Explored::Told(Body::Refused(code))),
         }
@@ -211,9 +201,9 @@ impl Rehearsal {
 
     /// The table of processes, files and the service.
     pub fn state(&self) -> Result<Vec<u8>, AllocError>
-        ensures { IfOk result (λ text. IsTextOf self.now.kernel.table text.items) }
+        ensures { IfOk result (λ text. IsTextOf self.now.standing.world.table text.items) }
     {
-        self.kernel.table_text()
+        self.standing.world.table_text()
     }
 }
 

@@ -7,7 +7,8 @@ use Rattle.control_words.specs.declared.words.Word.{Word}
 use Rattle.control_words.specs.declared.refusal.WordRefusal.{WordRefusal}
 use Rattle.child_family.specs.declared.family.Family.{Ghosts}
 use Rattle.child_edge.specs.declared.edge.Edge.{Edge}
-use Rattle.word_runner.specs.Words.{Standing, AreDone}
+use Rattle.word_runner.specs.declared.standing.Standing.{Standing}
+use Rattle.word_runner.specs.Words.{AreDone}
 use Rattle.word_runner.specs.declared.block.Block.{Block}
 use Rattle.supervisor.specs.declared.next.NextRefusal.{NextRefusal}
 use Rattle.supervisor.specs.declared.said.Said.{Said}

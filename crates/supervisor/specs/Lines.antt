@@ -16,13 +16,13 @@ use Rattle.child_family.specs.Talk.{Held}
 use Rattle.child_edge.specs.State.{state_of}
 use Rattle.child_edge.specs.Table.{tick_turn}
 use Rattle.child_edge.specs.declared.edge.Edge.{Edge}
-use Rattle.word_runner.specs.Words.{Standing, standing, AreDone}
+use Rattle.word_runner.specs.declared.standing.Standing.{Standing}
+use Rattle.word_runner.specs.Words.{AreDone}
 use Rattle.word_runner.specs.declared.block.Block.{Block}
 use Rattle.word_runner.specs.declared.block.Block.TheVariants.{Heard, Unread}
 use Rattle.word_runner.specs.declared.block.Body.TheVariants as body
 use Rattle.word_runner.specs.declared.enactor.Enacted.{Enacted}
 use Rattle.supervisor.specs.Carried.{IsUnplanned, IsCarriedOut}
-use Rattle.supervisor.specs.declared.master.Master.{Master}
 use Rattle.supervisor.specs.declared.next.NextRefusal.{NextRefusal}
 use Rattle.supervisor.specs.declared.next.NextRefusal.TheVariants.{Memory, Unreadable, Refused}
 use Rattle.supervisor.specs.declared.said.Said.{Said}
@@ -46,10 +46,6 @@ pub record IsShort (said : Said) : Type 0 where
   pub wanted : said.done ≡ Err alloc_error
   pub nothing : said.blocks.items ≡ []
 
--- where a master stands
-abbrev pub standing_of : {F : Type 0} {f : Ghosts F} → Master F f → Standing (Edge F f)
-standing_of m = standing m.edge m.state m.workers
-
 module _ {F : Type 0} {f : Ghosts F} where
   abbrev pub EnactsOn : Edge F f → ℕ → Record → Target → Enacted → Edge F f → Type 0
   EnactsOn first place r target e last = IsCarriedOut (f.told first.family) (f.told last.family) (state_of first.state) (state_of last.state) r target e
@@ -67,7 +63,7 @@ module _ {F : Type 0} {f : Ghosts F} where
   IsAsked now old said new =
       (edge : Edge F f) × (heard : List ℕ)
       × Held (f.told old.world.family) (f.told edge.family) (tick_turn (state_of old.world.state) now) (state_of edge.state, Counted heard)
-      × AreActed None (tick_words heard now) (standing edge old.state old.workers) said new
+      × AreActed None (tick_words heard now) (record old { world = edge }) said new
 
   -- A tick. Where a master runs, its workers are asked first.
   abbrev pub IsTicked : Option Record → ℕ → Standing (Edge F f) → Said → Standing (Edge F f) → Type 0
@@ -99,10 +95,10 @@ module _ {F N : Type 0} {f : Ghosts F} (reads : N → Result Settings NextRefusa
 
   -- What a word comes to.
   abbrev pub WordComesTo : Word → N → Standing (Edge F f) → Said → N → Standing (Edge F f) → Type 0
-  WordComesTo Hup n old said m new = IsRenewed old.state Hup n old said m new
-  WordComesTo Usr2 n old said m new = IsRenewed old.state Usr2 n old said m new
-  WordComesTo Usr2Attended n old said m new = IsRenewed old.state Usr2Attended n old said m new
-  WordComesTo (Tick now) n old said m new = IsTicked old.state now old said new × (m ≡ n)
+  WordComesTo Hup n old said m new = IsRenewed old.record Hup n old said m new
+  WordComesTo Usr2 n old said m new = IsRenewed old.record Usr2 n old said m new
+  WordComesTo Usr2Attended n old said m new = IsRenewed old.record Usr2Attended n old said m new
+  WordComesTo (Tick now) n old said m new = IsTicked old.record now old said new × (m ≡ n)
   WordComesTo Quit n old said m new = IsOther Quit n old said m new
   WordComesTo Int n old said m new = IsOther Int n old said m new
   WordComesTo Term n old said m new = IsOther Term n old said m new
@@ -132,9 +128,9 @@ module _ {F N : Type 0} {f : Ghosts F} (reads : N → Result Settings NextRefusa
     pub heard : List Block
     pub before_end : Standing (Edge F f)
     pub end : Said
-    pub is_ticked : IsTicked first.state 0 first tick ticked
+    pub is_ticked : IsTicked first.record 0 first tick ticked
     pub tick_whole : IsOk tick.done
     pub are_heard : AreHeard lines n ticked heard m before_end
-    pub is_ended : EndComesTo before_end.state before_end end last
+    pub is_ended : EndComesTo before_end.record before_end end last
     pub end_whole : IsOk end.done
     pub blocks_are : blocks ≡ tick.blocks.items ++ heard ++ end.blocks.items

@@ -8,7 +8,7 @@ use Rattle.child_edge.specs.Edge.{begun_by}
 use Rattle.child_edge.specs.Lines.{pid_text}
 use Rattle.child_edge.specs.State.{state_of}
 use Rattle.child_edge.specs.declared.edge.Edge.{Edge}
-use Rattle.word_runner.specs.Words.{Standing}
+use Rattle.word_runner.specs.declared.standing.Standing.{Standing}
 use Rattle.word_runner.specs.declared.block.Block.{Block}
 use Rattle.supervisor.specs.Lines.{IsRun}
 use Rattle.supervisor.specs.declared.next.NextRefusal.{NextRefusal}
@@ -26,7 +26,7 @@ first_record s pid = started s s.workers [] pid
 pub record IsFirst {F : Type 0} {f : Ghosts F} (s : Settings) (pid : ℕ) (family : F) (first : Standing (Edge F f)) : Type 0 where
   pub family_is : first.world.family ≡ family
   pub knows : state_of first.world.state ≡ begun_by (first_record s pid)
-  pub state : first.state ≡ Some (first_record s pid)
+  pub record_is : first.record ≡ Some (first_record s pid)
   pub workers : first.workers ≡ []
 
 -- The pid file was written, a master started over the family, and these are all the blocks that it came to. It gives the family

@@ -4,7 +4,7 @@ ghost use Rattle.std.specs.Option.{option_copied};
 ghost use Rattle.definitions.specs.Record.{started};
 ghost use Rattle.child_edge.specs.State.{state_of};
 ghost use Rattle.child_edge.specs.Edge.{begun_by};
-ghost use Rattle.supervisor.specs.Lines.{tick_words, standing_of, AreActed, IsAsked, IsTicked, IsRenewed, WordComesTo, LineComesTo, EndComesTo};
+ghost use Rattle.supervisor.specs.Lines.{tick_words, AreActed, IsAsked, IsTicked, IsRenewed, WordComesTo, LineComesTo, EndComesTo};
 
 use crate::said::Said;
 use crate::{NextRefusal, NextSettings, OnChildren, Start};
@@ -15,61 +15,58 @@ use listener_set::{Numbers, WORKER_LIMIT};
 use service_state::Record;
 use std::alloc::{AllocError, Global};
 use vocabulary::Settings;
-use word_runner::{Block, Body, run_words};
+use word_runner::{Block, Body, Standing, run_words};
 use worker_table::WorkerTable;
 
-/// A master over real children: its record as long as it runs, and the beats of its workers.
+/// A master over real children.
 #[derive(Drop)]
 pub(crate) struct Master<F: Family + Drop> {
     alloc: Global,
-    edge: Edge<F>,
-    state: Option<Record>,
-    workers: WorkerTable,
+    /// Where it stands: the edge to its children, what it knows of itself, and its workers.
+    standing: Standing<Edge<F>>,
 }
 
 impl<F: Family + Drop> Master<F> {
     /// A master that starts: as many workers are wanted as its settings say, and none is ready.
     pub(crate) fn begin(alloc: Global, family: F, start: &Start, workers: WorkerTable) -> Master<F>
         requires { 1 ≤ start.now.pid }
-        ensures family { result.edge.family ≡ family }
-        ensures state { state_of result.edge.state ≡ begun_by (started start.now.settings start.now.settings.workers [] start.now.pid) }
-        ensures record { result.state ≡ Some (started start.now.settings start.now.settings.workers [] start.now.pid) }
-        ensures workers { result.workers ≡ workers }
+        ensures family { result.standing.world.family ≡ family }
+        ensures state { state_of result.standing.world.state ≡ begun_by (started start.now.settings start.now.settings.workers [] start.now.pid) }
+        ensures record { result.standing.record ≡ Some (started start.now.settings start.now.settings.workers [] start.now.pid) }
+        ensures workers { result.standing.workers ≡ workers }
     {
         let settings = &start.settings;
         let record = Record::start(settings, settings.workers, &Numbers::none(), start.pid);
-        Master {
-            alloc,
-            edge: Edge::begin(alloc, family, &record),
-            state: Some(record),
+        let standing = Standing {
+            world: Edge::begin(alloc, family, &record),
+            record: Some(record),
             workers,
-        }
+        };
+        Master { alloc, standing }
     }
 
     /// The family of its children.
     pub(crate) fn into_family(self) -> F
-        ensures { result ≡ self.edge.family }
+        ensures { result ≡ self.standing.world.family }
     {
-        let Master {
-            alloc: _,
-            edge,
-            state: _,
+        let Master { alloc: _, standing } = self;
+        let Standing {
+            world,
+            record: _,
             workers: _,
-        } = self;
-        edge.into_family()
+        } = standing;
+        world.into_family()
     }
 
     /// Carries words out one after another.
     fn act(&mut self, words: &[Word], settings: Option<&Settings>) -> Said
-        ensures { AreActed (option_copied settings.entry) words.now (standing_of self.old) result (standing_of self.new) }
+        ensures { AreActed (option_copied settings.entry) words.now self.old.standing result self.new.standing }
     {
         let mut blocks = Vec::new(self.alloc);
         let done = run_words(
             self.alloc,
             &OnChildren::new(),
-            &mut self.edge,
-            &mut self.state,
-            &mut self.workers,
+            &mut self.standing,
             words,
             settings,
             &mut blocks,
@@ -83,7 +80,7 @@ impl<F: Family + Drop> Master<F> {
         line: Result<Word, WordRefusal>,
         next: &mut N,
     ) -> Said
-        ensures { LineComesTo N.reads line next.old (standing_of self.old) result next.new (standing_of self.new) }
+        ensures { LineComesTo N.reads line next.old self.old.standing result next.new self.new.standing }
     {
         match line {
             Ok(word) => self.obey(word, next),
@@ -93,7 +90,7 @@ impl<F: Family + Drop> Master<F> {
 
     /// What a word comes to.
     fn obey<N: NextSettings>(&mut self, word: Word, next: &mut N) -> Said
-        ensures { WordComesTo N.reads word next.old (standing_of self.old) result next.new (standing_of self.new) }
+        ensures { WordComesTo N.reads word next.old self.old.standing result next.new self.new.standing }
     {
         match word {
             Word::Tick { now } => self.tick(now),
@@ -105,9 +102,9 @@ impl<F: Family + Drop> Master<F> {
     /// What a tick comes to. Where a master runs, its workers are asked first, and each beat that is heard is a word of
     /// its own before the tick.
     pub(crate) fn tick(&mut self, now: u64) -> Said
-        ensures { IsTicked self.old.state now (standing_of self.old) result (standing_of self.new) }
+        ensures { IsTicked self.old.standing.record now self.old.standing result self.new.standing }
     {
-        if self.state.is_none() {
+        if self.standing.record.is_none() {
             return self.act(&[Word::Tick { now }], None);
         }
         self.ask_all(now)
@@ -115,9 +112,9 @@ impl<F: Family + Drop> Master<F> {
 
     /// Asks the workers at a tick, and acts on what is heard and on the tick.
     fn ask_all(&mut self, now: u64) -> Said
-        ensures { IsAsked now (standing_of self.old) result (standing_of self.new) }
+        ensures { IsAsked now self.old.standing result self.new.standing }
     {
-        let heard = self.edge.tick(now);
+        let heard = self.standing.world.tick(now);
         match tick_words(self.alloc, &heard, now) {
             Ok(words) => self.act(&words, None),
             Err(AllocError) => Said::short(self.alloc),
@@ -126,9 +123,9 @@ impl<F: Family + Drop> Master<F> {
 
     /// What a word comes to that takes the next settings up. Where a master runs they are read anew.
     fn renew<N: NextSettings>(&mut self, word: Word, next: &mut N) -> Said
-        ensures { IsRenewed N.reads self.old.state word next.old (standing_of self.old) result next.new (standing_of self.new) }
+        ensures { IsRenewed N.reads self.old.standing.record word next.old self.old.standing result next.new self.new.standing }
     {
-        if self.state.is_none() {
+        if self.standing.record.is_none() {
             return self.act(&[word], None);
         }
         match next.read() {
@@ -143,9 +140,9 @@ impl<F: Family + Drop> Master<F> {
 
     /// What the end of the input comes to: a master that runs quits.
     pub(crate) fn end(&mut self) -> Said
-        ensures { EndComesTo self.old.state (standing_of self.old) result (standing_of self.new) }
+        ensures { EndComesTo self.old.standing.record self.old.standing result self.new.standing }
     {
-        match self.state {
+        match self.standing.record {
             Some(_) => self.act(&[Word::Quit], None),
             None => Said::nothing(self.alloc),
         }

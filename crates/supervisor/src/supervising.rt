@@ -6,7 +6,7 @@ ghost use Rattle.control_words.specs.declared.words.Word.{Word as TheWord};
 ghost use Rattle.transcript.specs.Block.{block_text, transcript_text};
 ghost use Rattle.word_runner.specs.Status.{status_after, gravest};
 ghost use Rattle.word_runner.specs.declared.block.Block.{Block as Done};
-ghost use Rattle.supervisor.specs.Lines.{line_read, standing_of, AreHeard, IsRun};
+ghost use Rattle.supervisor.specs.Lines.{line_read, AreHeard, IsRun};
 ghost use Rattle.supervisor.specs.Starts.{IsWritten, IsSupervised};
 
 use crate::master::Master;
@@ -106,7 +106,7 @@ fn follow<F: Family + Drop, N: NextSettings, I: Read + Drop, O: Write, L: Log>(
     log: &L,
 ) -> Result<u8, SupervisorFault>
     ensures { IfOk result (λ status. (blocks : List Done)
-        × IsRun N.reads next.old (standing_of master.old) blocks next.new (standing_of master.new)
+        × IsRun N.reads next.old master.old.standing blocks next.new master.new.standing
         × Appends (O.contents output.old) (O.contents output.new) (transcript_text blocks)
         × (status ≡ gravest blocks)) }
 {
@@ -129,7 +129,7 @@ fn hear_all<F: Family + Drop, N: NextSettings, I: Read + Drop, O: Write, L: Log>
     log: &L,
 ) -> Result<u8, SupervisorFault>
     ensures { IfOk result (λ status. (lines : List (Result TheWord Refusal)) × (blocks : List Done)
-        × AreHeard N.reads lines next.old (standing_of master.old) blocks next.new (standing_of master.new)
+        × AreHeard N.reads lines next.old master.old.standing blocks next.new master.new.standing
         × Appends (O.contents output.old) (O.contents output.new) (transcript_text blocks)
         × (status ≡ status_after before blocks)) }
 {

@@ -11,7 +11,7 @@ use service_state::Record;
 use std::alloc::Global;
 use std::test::Fail;
 use vocabulary::{Settings, Target};
-use word_runner::Block;
+use word_runner::{Block, Standing};
 use worker_table::WorkerTable;
 
 /// A kernel with a master, whose process number is 100, and two workers.
@@ -54,14 +54,21 @@ fn a_certificate_wants_the_masters_own_number(rt: HostRuntime) -> Result<(), Fai
     Ok(())
 }
 
+/// Where a master stands that runs with two workers.
+fn standing(alloc: Global) -> Result<Standing<Kernel>, Fail> {
+    Ok(Standing {
+        world: booted(alloc)?,
+        record: Some(known(100)),
+        workers: WorkerTable::new(alloc)?,
+    })
+}
+
 /// The blocks of two TTIN.
 fn grown(alloc: Global) -> Result<Vec<Block>, Fail> {
     let mut blocks = Vec::new(alloc);
     run_words(
         alloc,
-        &mut booted(alloc)?,
-        &mut Some(known(100)),
-        &mut WorkerTable::new(alloc)?,
+        &mut standing(alloc)?,
         &[Word::Ttin, Word::Ttin],
         &[],
         None,
@@ -72,14 +79,7 @@ fn grown(alloc: Global) -> Result<Vec<Block>, Fail> {
 
 /// The patterns of blocks, from the start on.
 fn explained(alloc: Global, blocks: &[Block]) -> Result<Result<Vec<Pattern>, BlockMismatch>, Fail> {
-    Ok(certify_blocks(
-        alloc,
-        &mut booted(alloc)?,
-        &mut Some(known(100)),
-        &mut WorkerTable::new(alloc)?,
-        None,
-        blocks,
-    ))
+    Ok(certify_blocks(alloc, &mut standing(alloc)?, None, blocks))
 }
 
 #[test]

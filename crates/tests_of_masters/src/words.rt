@@ -8,26 +8,19 @@ use service_state::Record;
 use std::alloc::Global;
 use std::test::Fail;
 use vocabulary::Settings;
-use word_runner::{Block, Body, CodeText};
+use word_runner::{Block, Body, CodeText, Standing};
 use worker_table::{TableRefusal, WorkerTable};
 
 /// The body of a word's block, where no next settings are at hand.
 fn body_of(alloc: Global, state: Option<Record>, word: Word) -> Result<Body, Fail> {
     let settings = Settings::plain();
-    let mut kernel = with_two_workers(alloc, &settings, 65_535)?;
-    let mut state = state;
-    let mut workers = WorkerTable::new(alloc)?;
+    let mut standing = Standing {
+        world: with_two_workers(alloc, &settings, 65_535)?,
+        record: state,
+        workers: WorkerTable::new(alloc)?,
+    };
     let mut blocks = Vec::new(alloc);
-    run_words(
-        alloc,
-        &mut kernel,
-        &mut state,
-        &mut workers,
-        &[word],
-        &[],
-        None,
-        &mut blocks,
-    )?;
+    run_words(alloc, &mut standing, &[word], &[], None, &mut blocks)?;
     match blocks.pop() {
         Some(Block::Heard(_, body)) => Ok(body),
         _ => Err(Fail::from("no block of a word")),

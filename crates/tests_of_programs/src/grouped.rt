@@ -10,7 +10,7 @@ use supervisor::{NextRefusal, NextSettings, Start, supervise_on};
 use tests_of_children::Recorded;
 use transcript::{read_transcripts, write_transcript};
 use vocabulary::{Limits, Outcome, Settings, Side};
-use word_runner::{Block, Body};
+use word_runner::{Block, Body, Standing};
 use worker_table::WorkerTable;
 
 /// Settings with an address for each of two groups, which have one worker each.
@@ -81,7 +81,7 @@ fn are_certified(alloc: Global, settings: &Settings, blocks: &[Block]) -> Result
         processes: 65_535,
         descriptors: 64,
     };
-    let mut kernel = Kernel::boot(
+    let kernel = Kernel::boot(
         alloc,
         &settings.listeners,
         &settings.groups,
@@ -90,14 +90,12 @@ fn are_certified(alloc: Global, settings: &Settings, blocks: &[Block]) -> Result
         limits,
     )?;
     let record = Record::start(settings, settings.workers, &Numbers::none(), 100);
-    let certified = certify_blocks(
-        alloc,
-        &mut kernel,
-        &mut Some(record),
-        &mut WorkerTable::new(alloc)?,
-        Some(settings),
-        blocks,
-    );
+    let mut standing = Standing {
+        world: kernel,
+        record: Some(record),
+        workers: WorkerTable::new(alloc)?,
+    };
+    let certified = certify_blocks(alloc, &mut standing, Some(settings), blocks);
     Ok(certified.is_ok())
 }
 

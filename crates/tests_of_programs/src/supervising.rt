@@ -12,7 +12,7 @@ use supervisor::{NextRefusal, NextSettings, Start, Supervised, SupervisorFault, 
 use tests_of_children::{Asked, Recorded};
 use transcript::read_transcripts;
 use vocabulary::{Limits, Outcome, Settings};
-use word_runner::{Block, Body, CodeText};
+use word_runner::{Block, Body, CodeText, Standing};
 use worker_table::WorkerTable;
 
 /// What a reading of the next settings comes to.
@@ -334,7 +334,7 @@ fn are_certified(alloc: Global, blocks: &[Block]) -> Result<bool, Fail> {
         processes: 65_535,
         descriptors: 64,
     };
-    let mut kernel = Kernel::boot(
+    let kernel = Kernel::boot(
         alloc,
         &settings.listeners,
         &settings.groups,
@@ -343,14 +343,12 @@ fn are_certified(alloc: Global, blocks: &[Block]) -> Result<bool, Fail> {
         limits,
     )?;
     let record = Record::start(&settings, settings.workers, &Numbers::none(), 100);
-    let certified = certify_blocks(
-        alloc,
-        &mut kernel,
-        &mut Some(record),
-        &mut WorkerTable::new(alloc)?,
-        Some(&settings),
-        blocks,
-    );
+    let mut standing = Standing {
+        world: kernel,
+        record: Some(record),
+        workers: WorkerTable::new(alloc)?,
+    };
+    let certified = certify_blocks(alloc, &mut standing, Some(&settings), blocks);
     Ok(certified.is_ok())
 }
 

@@ -14,13 +14,14 @@ use Rattle.word_runner.specs.declared.enactor.Enacted.{Enacted}
 use Rattle.word_runner.specs.declared.asking.Asked.{Asked}
 use Rattle.word_runner.specs.declared.asking.Asked.TheVariants as asks
 use Rattle.word_runner.specs.Asking.{asked_by}
-use Rattle.word_runner.specs.Words.{Standing, HasRun, IsActed, IsAsked, IsHeard, AreDone}
+use Rattle.word_runner.specs.declared.standing.Standing.{Standing}
+use Rattle.word_runner.specs.Words.{HasRun, IsActed, IsAsked, IsHeard, AreDone}
 
 -- a fact on what targets are carried out on and on the record, which each run keeps
 module _ {G : Type 0} (enacts : G → ℕ → Record → Target → Enacted → G → Type 0) (declines : G → ℕ → Record → Target → List ℕ → Type 0) (Holds : G → Option Record → Type 0)
-    (runs : (place : ℕ) (old : Standing G) (r : Record) (target : Target) (log : Told) (report : Report) (new : Standing G) → HasRun enacts place old r target log report new → Holds old.world old.state → Holds new.world new.state) where
+    (runs : (place : ℕ) (old : Standing G) (r : Record) (target : Target) (log : Told) (report : Report) (new : Standing G) → HasRun enacts place old r target log report new → Holds old.world old.record → Holds new.world new.record) where
   abbrev There : Standing G → Type 0
-  There s = Holds s.world s.state
+  There s = Holds s.world s.record
 
   still : (old new : Standing G) → new ≡ old → There old → There new
   still old new same h = subst There (sym same) h
@@ -45,4 +46,4 @@ module _ {G : Type 0} (enacts : G → ℕ → Record → Target → Enacted → 
   done-keeps settings [] place first (b ∷ blocks) last done h = absurd done
   done-keeps settings (w ∷ words) place first (Unread refusal ∷ blocks) last done h = absurd done
   done-keeps settings (w ∷ words) place first (Heard own body ∷ blocks) last done h =
-      done-keeps settings words (place + 1) done.0 blocks last done.3 (heard first.state settings w place first body done.0 done.2 h)
+      done-keeps settings words (place + 1) done.0 blocks last done.3 (heard first.record settings w place first body done.0 done.2 h)

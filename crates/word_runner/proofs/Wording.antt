@@ -9,7 +9,8 @@ use Rattle.word_runner.specs.declared.block.Block.{Block}
 use Rattle.word_runner.specs.declared.block.Block.TheVariants.{Heard, Unread}
 use Rattle.word_runner.specs.declared.block.Body.{Body}
 use Rattle.word_runner.specs.declared.enactor.Enacted.{Enacted}
-use Rattle.word_runner.specs.Words.{Standing, ComesTo, AreDone}
+use Rattle.word_runner.specs.declared.standing.Standing.{Standing}
+use Rattle.word_runner.specs.Words.{ComesTo, AreDone}
 
 module _ {G : Type 0} (enacts : G → ℕ → Record → Target → Enacted → G → Type 0) (declines : G → ℕ → Record → Target → List ℕ → Type 0) where
   -- one word more

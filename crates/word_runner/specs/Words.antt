@@ -13,21 +13,12 @@ use Rattle.word_runner.specs.declared.block.Block.TheVariants.{Heard, Unread}
 use Rattle.word_runner.specs.declared.block.Body.{Body}
 use Rattle.word_runner.specs.declared.block.Body.TheVariants.{Nothing, Refused, Ran}
 use Rattle.word_runner.specs.declared.enactor.Enacted.{Enacted}
+use Rattle.word_runner.specs.declared.standing.Standing.{Standing}
 use Rattle.word_runner.specs.Codes.{stopped_code}
 use Rattle.word_runner.specs.Started.{started}
 use Rattle.word_runner.specs.declared.asking.Asked.{Asked}
 use Rattle.word_runner.specs.declared.asking.Asked.TheVariants as asks
 use Rattle.word_runner.specs.Asking.{asked_by, AsksTarget, IsNoted}
-
--- Where things stand between two words: what targets are carried out on, the record of the running master, if there
--- is one, and its workers' beats.
-pub record Standing (G : Type 0) : Type 0 where
-  pub world : G
-  pub state : Option Record
-  pub workers : Workers
-
-abbrev pub standing : {G : Type 0} → G → Option Record → Workers → Standing G
-standing world state workers = record { world = world; state = state; workers = workers }
 
 ---- A word that asks for no target
 
@@ -40,8 +31,8 @@ IsStill code old body new = (body ≡ Refused code) × (new ≡ old)
 -- The target was carried out from the one to the other. Then the record is the one that this leaves, and of the workers
 -- those that are ready stay, each with its last beat unless the run started it.
 pub record HasRun {G : Type 0} (enacts : G → ℕ → Record → Target → Enacted → G → Type 0) (place : ℕ) (old : Standing G) (r : Record) (target : Target) (log : Told) (report : Report) (new : Standing G) : Type 0 where
-  pub enacted : enacts old.world place r target (record { log = log; report = report; after = new.state }) new.world
-  pub workers : new.workers ≡ followed old.workers report.ready (started new.state log.entries)
+  pub enacted : enacts old.world place r target (record { log = log; report = report; after = new.record }) new.world
+  pub workers : new.workers ≡ followed old.workers report.ready (started new.record log.entries)
 
 -- What carries targets out declined this one with this code.
 pub record IsDeclined {G : Type 0} (declines : G → ℕ → Record → Target → List ℕ → Type 0) (place : ℕ) (old : Standing G) (r : Record) (target : Target) (code : List ℕ) (new : Standing G) : Type 0 where
@@ -51,7 +42,7 @@ pub record IsDeclined {G : Type 0} (declines : G → ℕ → Record → Target �
 -- A word asks the running master for a target, and memory is wanted to carry that out. Where there is no word, none is.
 abbrev pub WantsMemory : {G : Type 0} → (G → ℕ → Record → Target → Type 0) → Option Settings → Option Word → ℕ → Standing G → Type 0
 WantsMemory wants settings None place s = ⊥
-WantsMemory wants settings (Some word) place s = AsksTarget (wants s.world place) s.state settings word s.workers
+WantsMemory wants settings (Some word) place s = AsksTarget (wants s.world place) s.record settings word s.workers
 
 module _ {G : Type 0} (enacts : G → ℕ → Record → Target → Enacted → G → Type 0) (declines : G → ℕ → Record → Target → List ℕ → Type 0) where
   -- What a running master makes of a target.
@@ -64,7 +55,7 @@ module _ {G : Type 0} (enacts : G → ℕ → Record → Target → Enacted → 
   abbrev pub IsAsked : Asked → ℕ → Record → Standing G → Body → Standing G → Type 0
   IsAsked asks.Nothing place r old body new = (body ≡ Nothing) × (new ≡ old)
   IsAsked (asks.Beat beat) place r old body new =
-      IsNoted (beating old.workers beat.nr beat.now) beat.nr beat.now old.workers body new.workers × (new ≡ standing old.world old.state new.workers)
+      IsNoted (beating old.workers beat.nr beat.now) beat.nr beat.now old.workers body new.workers × (new ≡ record old { workers = new.workers })
   IsAsked (asks.Act target) place r old body new = IsActed place old r target body new
   IsAsked (asks.Refused code) place r old body new = IsStill code old body new
 
@@ -74,7 +65,7 @@ module _ {G : Type 0} (enacts : G → ℕ → Record → Target → Enacted → 
 
   -- What a word at a place comes to, from one standing to another.
   abbrev pub ComesTo : Option Settings → Word → ℕ → Standing G → Body → Standing G → Type 0
-  ComesTo settings word place old body new = IsHeard old.state settings word place old body new
+  ComesTo settings word place old body new = IsHeard old.record settings word place old body new
 
   -- The first words of a list, the first of which has this place, come to these blocks, and lead from one standing to the other.
   abbrev pub AreDone : Option Settings → List Word → ℕ → Standing G → List Block → Standing G → Type 0

@@ -2,7 +2,6 @@ use Rattle.std.proofs.Common.{◌≡◌, ◌+◌, List, [], ◌∷◌, ◌++◌,
 use Rattle.std.proofs.lemmas.List.{take_more}
 use Rattle.std.proofs.lemmas.Result.{err_from_is_err_and}
 use Rattle.word_runner.specs.declared.block.Block.{Block}
-use Rattle.word_runner.specs.Words.{standing}
 use Rattle.certifier.specs.Blocks.{AreTaken, StopsAtBlock, LeadsUpTo}
 use Rattle.certifier.specs.declared.blocks.BlockMismatch.{BlockMismatch}
 use Rattle.certifier.specs.declared.mismatch.Mismatch.TheVariants.{Memory}
@@ -12,9 +11,9 @@ use Rattle.certifier.proofs.blocks.certify_blocks.Goals as goal
 pub loop-place-preserved : goal.loop-place-preserved
 loop-place-preserved c =
     let settings = option_copied c.args.settings in
-    let old = standing c.args.kernel.now c.args.state.now c.args.workers.now in
-    let middle = standing c.loop-place.kernel c.loop-place.state c.loop-place.workers in
-    let new = standing c.certify_block.new.kernel c.certify_block.new.state c.certify_block.new.workers in
+    let old = c.args.standing.now in
+    let middle = c.loop-place.standing in
+    let new = c.certify_block.new.standing in
     let blocks = c.args.blocks.now in
     let place = c.loop-place.place in
     let b = c.index-blocks-place.result in
@@ -26,8 +25,8 @@ loop-place-preserved c =
 pub returns-in_err-make_room-clause-err : goal.returns-in_err-make_room-clause-err
 returns-in_err-make_room-clause-err c =
     let settings = option_copied c.args.settings in
-    let old = standing c.args.kernel.now c.args.state.now c.args.workers.now in
-    let middle = standing c.loop-place.kernel c.loop-place.state c.loop-place.workers in
+    let old = c.args.standing.now in
+    let middle = c.loop-place.standing in
     let blocks = c.args.blocks.now in
     let place = c.loop-place.place in
     let b = c.index-blocks-place.result in
@@ -41,8 +40,8 @@ returns-in_err-make_room-clause-err c =
 pub returns-in_err-make_room-clause-stands : goal.returns-in_err-make_room-clause-stands
 returns-in_err-make_room-clause-stands c =
     let settings = option_copied c.args.settings in
-    let old = standing c.args.kernel.now c.args.state.now c.args.workers.now in
-    let middle = standing c.loop-place.kernel c.loop-place.state c.loop-place.workers in
+    let old = c.args.standing.now in
+    let middle = c.loop-place.standing in
     let blocks = c.args.blocks.now in
     let p = err_from_is_err_and c.from_residual.result c.from_residual.ensures.1 in
     let same : p.0 ≡ c.in_err-make_room.field-0.0 = cc in
@@ -53,8 +52,8 @@ returns-in_err-make_room-clause-stands c =
 pub returns-in-Err-clause-err : goal.returns-in-Err-clause-err
 returns-in-Err-clause-err c =
     let settings = option_copied c.args.settings in
-    let old = standing c.args.kernel.now c.args.state.now c.args.workers.now in
-    let middle = standing c.loop-place.kernel c.loop-place.state c.loop-place.workers in
+    let old = c.args.standing.now in
+    let middle = c.loop-place.standing in
     let blocks = c.args.blocks.now in
     let place = c.loop-place.place in
     let b = c.index-blocks-place.result in
@@ -64,7 +63,7 @@ returns-in-Err-clause-err c =
 pub returns-in-Err-clause-stands : goal.returns-in-Err-clause-stands
 returns-in-Err-clause-stands c =
     let settings = option_copied c.args.settings in
-    let old = standing c.args.kernel.now c.args.state.now c.args.workers.now in
-    let middle = standing c.loop-place.kernel c.loop-place.state c.loop-place.workers in
-    let new = standing c.certify_block.new.kernel c.certify_block.new.state c.certify_block.new.workers in
+    let old = c.args.standing.now in
+    let middle = c.loop-place.standing in
+    let new = c.certify_block.new.standing in
     leads-there settings c.args.blocks.now old c.loop-place.place c.loop-place.patterns.items middle new c.loop-place.invariant c.in-Err.ensures.err

@@ -3,7 +3,6 @@ use Rattle.std.specs.Io.KnownBytes.{Appends}
 use Rattle.std.proofs.KnownBytes.{Appends-trans}
 use Rattle.transcript.specs.Block.{transcript_text}
 use Rattle.word_runner.specs.Status.{status_after}
-use Rattle.supervisor.specs.Lines.{standing_of}
 use Rattle.supervisor.proofs.Telling.{text-append, status-append}
 use Rattle.supervisor.proofs.supervising.follow.Goals as goal
 
@@ -25,10 +24,10 @@ returns g c =
       ticked ++ h.1 ++ ended,
       record {
         tick = c.tick-ticked.result;
-        ticked = standing_of c.tick-ticked.new.self;
+        ticked = c.tick-ticked.new.self.standing;
         lines = h.0;
         heard = h.1;
-        before_end = standing_of c.hear_all.new.master;
+        before_end = c.hear_all.new.master.standing;
         end = c.end-ended.result;
         is_ticked = c.tick-ticked.ensures;
         tick_whole = c.in_ok-first.ensures.whole;

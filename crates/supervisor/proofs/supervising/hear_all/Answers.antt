@@ -3,7 +3,6 @@ use Rattle.std.specs.Io.KnownBytes.{Appends}
 use Rattle.std.proofs.KnownBytes.{Appends-trans}
 use Rattle.transcript.specs.Block.{transcript_text}
 use Rattle.word_runner.specs.Status.{status_after}
-use Rattle.supervisor.specs.Lines.{standing_of}
 use Rattle.supervisor.proofs.Hearing.{heard-push}
 use Rattle.supervisor.proofs.Telling.{text-append, status-append}
 use Rattle.supervisor.proofs.supervising.hear_all.Goals as goal
@@ -16,7 +15,7 @@ loop-preserved g c =
     let last = g.O.Write.contents c.tell.new.output in (
       h.0 ++ c.in-Some.read ∷ [],
       h.1 ++ said.blocks.items,
-      heard-push g.N.NextSettings.reads h.0 c.args.next.now (standing_of c.args.master.now) h.1 c.loop.next (standing_of c.loop.master) c.in-Some.read said c.hear-said.new.next (standing_of c.hear-said.new.self) h.2
+      heard-push g.N.NextSettings.reads h.0 c.args.next.now c.args.master.now.standing h.1 c.loop.next c.loop.master.standing c.in-Some.read said c.hear-said.new.next c.hear-said.new.self.standing h.2
           c.in_ok-status.ensures.whole c.hear-said.ensures,
       subst (λ (text : List ℕ). Appends first last text) (sym (text-append h.1 said.blocks.items))
           (Appends-trans first (g.O.Write.contents c.loop.output) last (transcript_text h.1) (transcript_text said.blocks.items) h.3 c.in_ok-status.ensures.told),

@@ -3,7 +3,7 @@ use Rattle.std.specs.Io.KnownBytes.{Appends}
 use Rattle.transcript.specs.Block.{transcript_text}
 use Rattle.word_runner.specs.Status.{gravest}
 use Rattle.word_runner.specs.declared.block.Block.{Block}
-use Rattle.supervisor.specs.Lines.{standing_of, IsRun}
+use Rattle.supervisor.specs.Lines.{IsRun}
 use Rattle.supervisor.specs.Starts.{IsSupervised}
 use Rattle.supervisor.proofs.Results.{ok-map}
 use Rattle.supervisor.proofs.supervising.supervise_on.Goals as goal
@@ -16,7 +16,7 @@ returns g c =
     let before = g.O.Write.contents c.args.output.now in
     let after = g.O.Write.contents c.follow-status.new.output in
     ok-map
-    (λ (status : ℕ). (blocks : List Block) × IsRun reads c.args.next.now (standing_of begun) blocks c.follow-status.new.next (standing_of led) × Appends before after (transcript_text blocks) × (status ≡ gravest blocks))
+    (λ (status : ℕ). (blocks : List Block) × IsRun reads c.args.next.now begun.standing blocks c.follow-status.new.next led.standing × Appends before after (transcript_text blocks) × (status ≡ gravest blocks))
     (λ (status : ℕ). (blocks : List Block) × IsSupervised g.F.Family reads c.args.start.now.settings c.args.start.now.pid c.args.family c.args.next.now blocks c.follow-status.new.next c.into_family.result × Appends before after (transcript_text blocks) × (status ≡ gravest blocks))
     c.follow-status.result
     (λ status h. (
@@ -24,9 +24,9 @@ returns g c =
       record {
         begun = c.write_pid.new.family;
         written = c.write_pid.ensures (search rules);
-        first = standing_of begun;
-        is_first = record { family_is = c.begin-master.ensures.family; knows = c.begin-master.ensures.state; state = c.begin-master.ensures.record; workers = c.begin-master.ensures.workers ∙ c.in-Ok.ensures };
-        last = standing_of led;
+        first = begun.standing;
+        is_first = record { family_is = c.begin-master.ensures.family; knows = c.begin-master.ensures.state; record_is = c.begin-master.ensures.record; workers = c.begin-master.ensures.workers ∙ c.in-Ok.ensures };
+        last = led.standing;
         is_run = h.1;
         left_is = c.into_family.ensures;
       },

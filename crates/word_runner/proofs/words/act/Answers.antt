@@ -7,8 +7,8 @@ use Rattle.word_runner.proofs.words.act.Goals as goal
 pub returns-clause-ok : goal.returns-clause-ok
 returns-clause-ok g c =
     let e = c.in-Ok.enacted in
-    let left = sym c.follow_run.ensures.state in
+    let left = sym c.follow.ensures.record in
     record {
-      enacted = subst (λ (after : Option Record). g.E.Enactor.enacts c.args.enactor.now c.args.world.now c.args.place c.args.running.now c.args.target.now (record { log = e.log; report = e.report; after = after }) c.enact.new.world) left c.in-Ok.ensures.ok;
-      workers = c.follow_run.ensures.workers ∙ ap (λ (after : Option Record). followed c.args.workers.now e.report.ready (started after e.log.entries)) left;
+      enacted = subst (λ (after : Option Record). g.E.Enactor.enacts c.args.enactor.now c.args.standing.now.world c.args.place c.args.running.now c.args.target.now (record { log = e.log; report = e.report; after = after }) c.enact.new.world) left c.in-Ok.ensures.ok;
+      workers = c.follow.ensures.workers ∙ ap (λ (after : Option Record). followed c.args.standing.now.workers e.report.ready (started after e.log.entries)) left;
     }

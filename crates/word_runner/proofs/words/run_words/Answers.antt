@@ -3,7 +3,6 @@ use Rattle.std.proofs.lemmas.List.{append-nil}
 use Rattle.control_words.specs.declared.words.Word.TheVariants.{Hup}
 use Rattle.word_runner.specs.declared.block.Block.{Block}
 use Rattle.word_runner.specs.declared.block.Block.TheVariants.{Heard}
-use Rattle.word_runner.specs.Words.{standing}
 use Rattle.word_runner.proofs.Wording.{done-more}
 use Rattle.word_runner.proofs.words.run_words.Goals as goal
 
@@ -18,8 +17,8 @@ loop-place-preserved g c =
     let items = c.push_reserved.ensures.items ∙ (ap (λ xs. xs ++ block ∷ []) h.1 ∙ append_assoc old h.0 (block ∷ [])) in
     let count : length (h.0 ++ block ∷ []) ≡ c.loop-place.place + 1 = omega (arith, length-append h.0 (block ∷ []), h.2) in
     let done =
-    done-more (g.E.Enactor.enacts c.args.enactor.now) (g.E.Enactor.declines c.args.enactor.now) (option_copied c.args.settings) c.args.words.now (standing c.args.world.now c.args.state.now c.args.workers.now) h.0
-    (standing c.loop-place.world c.loop-place.state c.loop-place.workers) (standing c.run_word.new.world c.run_word.new.state c.run_word.new.workers) c.loop-place.place Hup
+    done-more (g.E.Enactor.enacts c.args.enactor.now) (g.E.Enactor.declines c.args.enactor.now) (option_copied c.args.settings) c.args.words.now c.args.standing.now h.0
+    c.loop-place.standing c.run_word.new.standing c.loop-place.place Hup
     c.in_ok-body.body c.loop-place-test.true h.2 h.3 c.in_ok-body.ensures.ok in
     (h.0 ++ block ∷ [], items, count, done, omega (arith, h.4, c.push_reserved.ensures.len, c.push_reserved.ensures.capacity))
 

@@ -2,8 +2,8 @@ use Rattle.std.proofs.Common.{◌<◌, ◌∙◌, length, ap, sym, subst, Some, 
 use Rattle.std.proofs.lemmas.Option.{get_or_from_slice_get}
 use Rattle.listener_set.specs.Numbers.{is_in}
 use Rattle.word_runner.proofs.Starting.{HasTaken, gathered-by, taken-above}
-use Rattle.word_runner.proofs.words.started_in.Goals as goal
-use Rattle.word_runner.proofs.words.started_in.Goals.{in-Some+then-nr-lt-WORKER_LIMIT, in-Some+else-nr-lt-WORKER_LIMIT, in_default}
+use Rattle.word_runner.proofs.standing.started_in.Goals as goal
+use Rattle.word_runner.proofs.standing.started_in.Goals.{in-Some+then-nr-lt-WORKER_LIMIT, in-Some+else-nr-lt-WORKER_LIMIT, in_default}
 
 pub loop-place-preserved : goal.loop-place-preserved
 loop-place-preserved c =

@@ -1,7 +1,7 @@
 //! Control words on the modelled kernel.
 ghost use Rattle.std.specs.Prelude.{◌≡◌, ◌+◌, ◌<◌, ◌++◌, ◌⊎◌, ℕ, List, [], length, slice_get, vec_capacity, vec_len, OnOk, OnErr};
 ghost use Rattle.std.specs.Option.{option_copied};
-ghost use Rattle.word_runner.specs.Words.{standing, AreDone, WantsMemory};
+ghost use Rattle.word_runner.specs.Words.{AreDone, WantsMemory};
 ghost use Rattle.word_runner.specs.declared.block.Block.{Block as Done};
 ghost use Rattle.plan_executor.specs.Words.{pattern_at, EnactsAt, DeclinesAt, WantsMemoryFor, IsTrueOf};
 
@@ -11,19 +11,18 @@ use kernel_model::{Kernel, Pattern};
 use service_state::Record;
 use std::alloc::{AllocError, Global};
 use vocabulary::{Settings, Target};
-use word_runner::{Block, Enacted, Enactor, TargetRefusal};
-use worker_table::WorkerTable;
+use word_runner::{Block, Enacted, Enactor, Standing, TargetRefusal};
 
 /// What carries targets out on the modelled kernel: that of the i-th word under the i-th pattern, and
 /// under a quiet one where there is none.
 #[derive(Clone, Copy)]
-struct Rehearsal<'a> {
+struct OnKernel<'a> {
     patterns: &'a [Pattern],
     quiet: &'a Pattern,
     ghost is_quiet: { quiet.now ≡ [] },
 }
 
-impl Enactor for Rehearsal<'_> {
+impl Enactor for OnKernel<'_> {
     type World = Kernel;
 
     ghost enacts = { λ it. EnactsAt it.patterns.now };
@@ -67,9 +66,7 @@ fn pattern_at<'a>(patterns: &'a [Pattern], quiet: &'a Pattern, place: usize) -> 
 /// else as they left it.
 pub fn run_words(
     alloc: Global,
-    kernel: &mut Kernel,
-    state: &mut Option<Record>,
-    workers: &mut WorkerTable,
+    standing: &mut Standing<Kernel>,
     words: &[Word],
     patterns: &[Pattern],
     settings: Option<&Settings>,
@@ -77,20 +74,18 @@ pub fn run_words(
 ) -> Result<(), AllocError>
     ensures done { (done : List Done)
         × (blocks.new.items ≡ blocks.old.items ++ done)
-        × AreDone (EnactsAt patterns.now) (DeclinesAt patterns.now) (option_copied settings.entry) words.now 0 (standing kernel.old state.old workers.old) done (standing kernel.new state.new workers.new) }
+        × AreDone (EnactsAt patterns.now) (DeclinesAt patterns.now) (option_copied settings.entry) words.now 0 standing.old done standing.new }
     ensures all { OnOk result (length blocks.new.items ≡ length blocks.old.items + length words.now) }
     ensures due { OnErr result ((n : ℕ)
         × (length blocks.new.items ≡ length blocks.old.items + n)
         × (((n ≡ 0) × (vec_capacity blocks.old < vec_len blocks.old + length words.now))
-        ⊎ WantsMemory WantsMemoryFor (option_copied settings.entry) (slice_get words.now n) n (standing kernel.new state.new workers.new))) }
-    ensures agrees { IsTrueOf kernel.old.table state.old → IsTrueOf kernel.new.table state.new }
+        ⊎ WantsMemory WantsMemoryFor (option_copied settings.entry) (slice_get words.now n) n standing.new)) }
+    ensures agrees { IsTrueOf standing.old.world.table standing.old.record → IsTrueOf standing.new.world.table standing.new.record }
 {
     let quiet = Pattern::new(alloc);
-    let rehearsal = Rehearsal {
+    let enactor = OnKernel {
         patterns,
         quiet: &quiet,
     };
-    word_runner::run_words(
-        alloc, &rehearsal, kernel, state, workers, words, settings, blocks,
-    )
+    word_runner::run_words(alloc, &enactor, standing, words, settings, blocks)
 }

@@ -5,7 +5,7 @@ use Rattle.word_runner.specs.Enactors.{HasCode}
 use Rattle.plan_executor.specs.Words.{Moments, DeclinesAt}
 use Rattle.plan_executor.proofs.Exact.{IsExact}
 use Rattle.plan_executor.proofs.Truth.{declined-is}
-use Rattle.plan_executor.proofs.rehearsal.RehearsalEnactor.enact.Goals as goal
+use Rattle.plan_executor.proofs.words.OnKernelEnactor.enact.Goals as goal
 
 pub returns-in-Err-clause-declined : goal.returns-in-Err-clause-declined
 returns-in-Err-clause-declined c =
