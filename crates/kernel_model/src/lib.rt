@@ -15,7 +15,7 @@ mod replies;
 mod running;
 mod service;
 
-pub use boot::BootRefusal;
+pub use boot::{BootRefusal, WIDEST_LIMITS};
 pub use event_pattern::{Moment, Pattern};
 pub use kernel::Kernel;
 pub use process_table::{FileRow, Row};
