@@ -8,6 +8,7 @@ ghost use Rattle.definitions.specs.Formed.{IsFormed};
 ghost use Rattle.definitions.specs.Start.{booted};
 ghost use Rattle.kernel_model.specs.Boot.{AreBadLimits};
 ghost use Rattle.process_table.specs.Room.{LacksNumbers};
+ghost use Rattle.process_table.specs.Seen.{seen};
 ghost use Rattle.process_table.specs.Foreign.{with_foreign};
 
 use crate::boot::{self, BootRefusal};
@@ -59,6 +60,14 @@ impl Kernel {
     {
         let store = boot::store(alloc, settings, workers, limits)?;
         Ok(Kernel { store, room: 0 })
+    }
+
+    /// The rows of the table, as they are kept.
+    pub fn store(&self) -> &Store
+        ensures { seen result.now ≡ self.now.table }
+    {
+        let _ = &self.room;
+        &self.store
     }
 
     /// For how many calls memory and numbers are reserved.

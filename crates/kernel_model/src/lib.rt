@@ -12,7 +12,6 @@ mod master_calls;
 mod readers;
 mod refusal;
 mod replies;
-mod running;
 mod service;
 
 pub use boot::{BootRefusal, WIDEST_LIMITS};
@@ -21,5 +20,4 @@ pub use kernel::Kernel;
 pub use process_table::{FileRow, Row};
 pub use readers::HoldRow;
 pub use refusal::{ForeignRefusal, ReserveRefusal};
-pub use running::Running;
 pub use service_counts::Service;

@@ -25,6 +25,7 @@ use plan_executor::run_words;
 use plan_runner::CallLog;
 use service_state::Record;
 use std::alloc::{AllocError, Global};
+use table_text::table_text;
 use vocabulary::{Settings, Target};
 use word_runner::{Asked, Block, Body, asked_by, note};
 use worker_table::WorkerTable;
@@ -200,7 +201,7 @@ impl Rehearsal {
     pub fn state(&self) -> Result<Vec<u8>, AllocError>
         ensures { IfOk result (λ text. IsTextOf self.now.kernel.table text.items) }
     {
-        self.kernel.table_text()
+        table_text(&self.kernel)
     }
 }
 

@@ -1,6 +1,7 @@
 //! Claims of masters that are true of a kernel, and such as are not.
 use crews::{Crew, Posts};
-use kernel_model::{Kernel, Moment, Running, WIDEST_LIMITS};
+use kernel_agreement::{Running, agrees_with};
+use kernel_model::{Kernel, Moment, WIDEST_LIMITS};
 use listener_set::{Address, FilePath, Generation, Group, Groups, ListenerSet, Numbers};
 use service_state::Record;
 use std::alloc::Global;
@@ -68,7 +69,7 @@ fn listener(descriptor: u32, text: &[u8]) -> Result<Listener, Fail> {
 fn agrees(kernel: &Kernel, claim: &Running<'_>) -> bool {
     match &claim.pid_path {
         Some(path) if path.bytes().len() > 100 => false,
-        _ => kernel.agrees_with(claim),
+        _ => agrees_with(kernel, claim),
     }
 }
 
