@@ -204,8 +204,11 @@ fn a_record_agrees_with_a_kernel_that_was_started_so(rt: HostRuntime) -> Result<
     assert!(rt; !plan_executor::agrees(&started(2, 101), &kernel));
     let one = Record::start(&Settings::plain(), 2, &Numbers::below(2), 100);
     assert!(rt; !plan_executor::agrees(&one, &kernel));
-    settings.pid = None;
-    let bare = Kernel::boot(rt.alloc(), &settings, 2, WIDEST_LIMITS)?;
+    let fileless = Settings {
+        pid: None,
+        ..settings
+    };
+    let bare = Kernel::boot(rt.alloc(), &fileless, 2, WIDEST_LIMITS)?;
     assert!(rt; !plan_executor::agrees(&started(2, 100), &bare));
     Ok(())
 }
