@@ -1,20 +1,19 @@
--- Numbers, sockets and listeners compared one by one.
-use Rattle.std.proofs.Common.{◌≡◌, ℕ, ◌+◌, ◌<◌, ◌≤◌, Bool, true, false, not, ◌&&◌, ◌||◌, nat_eq, nat_le, List, [], ◌∷◌, map, length, get_or, drop, Some, None, refl, sym, ap, ◌∙◌, inl, inr, arith}
+-- Numbers and sockets compared one by one.
+use Rattle.std.proofs.Common.{◌≡◌, ℕ, ◌+◌, ◌<◌, ◌≤◌, Bool, true, false, not, ◌&&◌, ◌||◌, nat_eq, nat_le, List, [], ◌∷◌, length, get_or, drop, Some, None, refl, sym, ap, ◌∙◌, inl, inr, arith}
 use Rattle.std.specs.List.{list_any}
 use Rattle.std.specs.Option.{option_eq}
 use Rattle.std.proofs.lemmas.Bool.{cases_lt, cases_eq, true≢false}
 use Rattle.std.proofs.lemmas.Bool.Decides.{nat_tests}
-use Rattle.std.proofs.lemmas.List.{drop_more}
 use Rattle.listener_set.specs.Numbers.{is_in, first_from, without_number, RisesFrom, AreBelow}
 use Rattle.listener_set.specs.Descriptors.{descriptors_of, socket_of}
 use Rattle.listener_set.proofs.Rising.{is_in-below}
 use Rattle.definitions.specs.Table.{Address, Hold, Process, Caller, Table, live_master}
-use Rattle.vocabulary.specs.declared.table.Listener.{Listener}
-use Rattle.definitions.specs.Record.{Agrees, listener_of}
+use Rattle.definitions.specs.Record.{Agrees}
 use Rattle.process_table.specs.declared.process.Holder.{Holder}
 use Rattle.process_table.specs.Holds.{seen_hold, seen_holds}
 use Rattle.kernel_agreement.specs.declared.agreement.Running.{Running}
 use Rattle.process_table.specs.Seen.{seen_holder, seen_rows}
+use Rattle.kernel_model.proofs.Listening.{drop-item}
 use Rattle.kernel_agreement.specs.Agreement.{running, MasterAgrees, WorkersAgree}
 
 ---- Numbers
@@ -113,23 +112,6 @@ same_sockets addresses (p ∷ ps) (q ∷ qs) e =
     (λ i. (fd i, socket i) ∷ others i)
 
 ---- Lists from a place on
-
-pub drop-item : {X : Type 0} (xs : List X) (i : ℕ) (x : X) → i < length xs → x ≡ get_or xs i x → drop i xs ≡ x ∷ drop (i + 1) xs
-drop-item xs i x lt is = drop_more xs i x lt ∙ ap (λ y. y ∷ drop (i + 1) xs) (sym is)
-
-module _ (addresses : List Address) (listeners : List Listener) (pairs rest : List (ℕ × ℕ)) (p : ℕ × ℕ) (i : ℕ) (l : Listener) (turn : pairs ≡ p ∷ rest) (lt : i < length listeners) (item : l ≡ get_or listeners i l) where
-  -- the next pair is the next listener, and the others are the others
-  pub next_listeners : map listener_of (seen_holds addresses pairs) ≡ drop i listeners → (listener_of (seen_hold addresses p) ≡ l) × (map listener_of (seen_holds addresses rest) ≡ drop (i + 1) listeners)
-  next_listeners e =
-      let all : listener_of (seen_hold addresses p) ∷ map listener_of (seen_holds addresses rest) ≡ l ∷ drop (i + 1) listeners =
-      ap (λ ps. map listener_of (seen_holds addresses ps)) (sym turn) ∙ e ∙ drop-item listeners i l lt item in
-      (cc, cc)
-
-  pub all_listeners : listener_of (seen_hold addresses p) ≡ l → map listener_of (seen_holds addresses rest) ≡ drop (i + 1) listeners → map listener_of (seen_holds addresses pairs) ≡ drop i listeners
-  all_listeners first others =
-      ap (λ ps. map listener_of (seen_holds addresses ps)) turn
-      ∙ (λ j. first j ∷ others j)
-      ∙ sym (drop-item listeners i l lt item)
 
 -- a test of the rows from a place on
 pub any_next : (test : Process → Bool) (addresses : List Address) (holders : List Holder) (i : ℕ) (h : Holder) → i < length holders → h ≡ get_or holders i h → list_any test (seen_rows addresses (drop i holders)) ≡ (test (seen_holder addresses h) || list_any test (seen_rows addresses (drop (i + 1) holders)))

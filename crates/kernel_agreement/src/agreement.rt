@@ -1,18 +1,18 @@
 //! What a record says of the table, held against it.
-ghost use Rattle.std.specs.Prelude.{ℕ, List, ◌≡◌, ◌↔◌, IsTrue, bytes_eq, map, count_by, ◌<◌};
+ghost use Rattle.std.specs.Prelude.{ℕ, List, ◌≡◌, ◌↔◌, IsTrue, map, count_by, ◌<◌};
 ghost use Rattle.std.specs.Bool.{OnTrue};
 ghost use Rattle.listener_set.specs.Numbers.{is_in};
 ghost use Rattle.vocabulary.specs.Settings.{HasSuffixRoom};
 ghost use Rattle.definitions.specs.Table.{is_master};
-ghost use Rattle.definitions.specs.Record.{Agrees, FilesAre, IsRunning, listener_of};
-ghost use Rattle.process_table.specs.Holds.{address_of, seen_holds};
+ghost use Rattle.definitions.specs.Record.{Agrees, FilesAre, IsRunning};
+ghost use Rattle.process_table.specs.Holds.{seen_holds};
 ghost use Rattle.process_table.specs.Seen.{seen, seen_caller, seen_file, seen_holder, seen_rows};
 ghost use Rattle.kernel_agreement.specs.Agreement.{running, AreRunning, AreReady, MasterAgrees, WorkersAgree};
 
 use crews::Crew;
-use kernel_model::Kernel;
+use kernel_model::{Kernel, are_listeners};
 use listener_set::{
-    Address, DescriptorTable, FIRST_DESCRIPTOR, FilePath, Generation, MOST_DESCRIPTORS, Numbers,
+    DescriptorTable, FIRST_DESCRIPTOR, FilePath, Generation, MOST_DESCRIPTORS, Numbers,
     WORKER_LIMIT,
 };
 use process_table::files::owner_at;
@@ -43,34 +43,6 @@ fn master_count(holders: &[Holder]) -> usize
         .iter()
         .filter(|holder| holder.row.is_master())
         .count()
-}
-
-/// Whether a socket is of an address. One that is nobody's has an empty text.
-fn is_socket_at(addresses: &[Address], socket: u32, address: &Address) -> bool
-    ensures { result ≡ bytes_eq (address_of addresses.now socket) address.now }
-{
-    match addresses.get((socket as usize).saturating_sub(1)) {
-        Some(own) => own == address,
-        None => address.bytes().is_empty(),
-    }
-}
-
-/// Whether the holds, in ascending descriptors, are the listeners.
-pub fn are_listeners(addresses: &[Address], holds: &DescriptorTable, listeners: &[Listener]) -> bool
-    ensures { IsTrue result ↔ (map listener_of (seen_holds addresses.now holds.now) ≡ listeners.now) }
-{
-    let mut pairs = holds.iter();
-    for listener in listeners {
-        let Some((descriptor, socket)) = pairs.next() else {
-            return false;
-        };
-        if descriptor != listener.descriptor
-            || !is_socket_at(addresses, socket, &listener.address)
-        {
-            return false;
-        }
-    }
-    pairs.next().is_none()
 }
 
 /// Whether two processes hold the same sockets under the same descriptors.

@@ -1,7 +1,7 @@
 use Rattle.std.proofs.Common.{◌≡◌, ◌↔◌, map, drop}
 use Rattle.definitions.specs.Record.{listener_of}
 use Rattle.process_table.specs.Holds.{seen_holds}
-use Rattle.kernel_agreement.proofs.agreement.are_listeners.Given as goal
+use Rattle.kernel_model.proofs.listening.are_listeners.Given as goal
 
 -- All are the same where what is left is.
 abbrev pub invariant-loop-listener : goal.invariant-loop-listener
