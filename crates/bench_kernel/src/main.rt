@@ -4,10 +4,10 @@
 #![tactic(auto)]
 
 use anyhow::Context;
-use kernel_model::{Kernel, Moment};
-use listener_set::{Address, DescriptorSet, Generation, Groups, ListenerSet, Numbers};
+use kernel_model::{Kernel, Moment, WIDEST_LIMITS};
+use listener_set::{DescriptorSet, Generation, Numbers};
 use std::time::{Duration, Instant};
-use vocabulary::{Actor, Answer, Call, Limits};
+use vocabulary::{Actor, Answer, Call, Settings};
 
 const RUNS: u32 = 50;
 
@@ -68,20 +68,7 @@ fn calls_of_stop(rt: &HostRuntime, workers: u32) -> anyhow::Result<Vec<Call>> {
 
 /// A kernel with a master and that many workers, and room for so many calls.
 fn started(rt: &HostRuntime, workers: u32, calls: u32) -> anyhow::Result<Kernel> {
-    let mut listeners = ListenerSet::new();
-    listeners.add(&Address::plain())?;
-    let limits = Limits {
-        processes: 65_535,
-        descriptors: 64,
-    };
-    let mut kernel = Kernel::boot(
-        rt.alloc(),
-        &listeners,
-        &Groups::one(1, 1),
-        workers,
-        None,
-        limits,
-    )?;
+    let mut kernel = Kernel::boot(rt.alloc(), &Settings::plain(), workers, WIDEST_LIMITS)?;
     kernel.reserve(calls)?;
     Ok(kernel)
 }

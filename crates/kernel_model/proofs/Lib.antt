@@ -8,6 +8,6 @@ pub mod Foreigners
 pub mod ExitLoop
 pub mod Room
 pub mod Booting
-pub mod Agreement
 pub mod Reading
 pub mod Serving
+pub mod Listening

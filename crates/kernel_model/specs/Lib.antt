@@ -4,5 +4,4 @@ pub mod State
 pub mod Boot
 pub mod Codes
 pub mod Readers
-pub mod Running
 pub mod Serving

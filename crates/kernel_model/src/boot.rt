@@ -7,17 +7,26 @@ ghost use Rattle.definitions.specs.Start.{booted, first_worker, first_rows, firs
 ghost use Rattle.kernel_model.specs.Boot.{first_pairs, AreBadLimits};
 
 use crews::Posts;
-use listener_set::{DescriptorTable, FilePath, Generation, Groups, ListenerSet};
+use listener_set::{DescriptorTable, FilePath, Generation, MOST_DESCRIPTORS, WORKER_LIMIT};
 use process_table::{FileRow, FreeNames, Holder, Row, Store, holds};
 use std::alloc::{AllocError, Global};
 use std::error::Error;
 use std::fmt;
-use vocabulary::{Limits, Stance};
+use vocabulary::{Limits, Settings, Stance};
+
+/// How many masters and workers a kernel may allow at most.
+pub const MOST_PROCESSES: u32 = 65_535;
+
+/// The widest limits that a kernel may have: as many processes and descriptors as can be.
+pub const WIDEST_LIMITS: Limits = Limits {
+    processes: MOST_PROCESSES,
+    descriptors: MOST_DESCRIPTORS as u32,
+};
 
 /// Why no kernel is started.
 #[derive(Clone, Copy, Debug, PartialEq, Eq)]
 pub enum BootRefusal {
-    /// B1: the limits do not allow the start, or the groups have more or fewer addresses than there are.
+    /// B1: the limits do not allow the start.
     BadLimits,
     /// Memory was refused.
     Memory,
@@ -51,22 +60,19 @@ impl fmt::Display for BootRefusal {
 
 impl Error for BootRefusal {}
 
-fn are_bad(listeners: usize, groups: &Groups, workers: u32, limits: Limits) -> bool
-    requires { listeners ≤ 64 }
-    ensures { IsTrue result ↔ AreBadLimits listeners groups.now workers limits }
+fn are_bad(listeners: usize, workers: u32, limits: Limits) -> bool
+    ensures { IsTrue result ↔ AreBadLimits listeners workers limits }
 {
-    let listeners = listeners as u32;
-    groups.addresses() != listeners
-        || 1024 < workers
+    WORKER_LIMIT < workers
         || limits.processes < 1 + workers
-        || 65_535 < limits.processes
-        || limits.descriptors < listeners
-        || 64 < limits.descriptors
+        || MOST_PROCESSES < limits.processes
+        || (limits.descriptors as usize) < listeners
+        || MOST_DESCRIPTORS < limits.descriptors as usize
 }
 
 /// The first sockets, from number 1 on, under the descriptors from 3 on.
 fn first_holds(count: u32) -> DescriptorTable
-    requires { count ≤ 64 }
+    requires { count ≤ MOST_DESCRIPTORS }
     ensures { result ≡ first_pairs count }
 {
     let mut holds = DescriptorTable::new();
@@ -83,7 +89,7 @@ fn holders(
     holds: &DescriptorTable,
     workers: u32,
 ) -> Result<Vec<Holder>, AllocError>
-    requires { workers ≤ 1024 }
+    requires { workers ≤ WORKER_LIMIT }
     ensures { (addresses : List (List ℕ)) → IfOk result (λ v. seen_rows addresses v.items ≡ first_rows posts.now (seen_holds addresses holds.now) workers) }
 {
     let mut holders = Vec::new(alloc);
@@ -103,7 +109,7 @@ fn holders(
 }
 
 fn first_worker(posts: &Posts, holds: &DescriptorTable, nr: u32) -> Holder
-    requires { nr < 1024 }
+    requires { nr < WORKER_LIMIT }
     ensures { (addresses : List (List ℕ)) → seen_holder addresses result ≡ first_worker posts.now (seen_holds addresses holds.now) nr }
 {
     let row = Row::Worker {
@@ -135,19 +141,18 @@ fn files(alloc: Global, pid_file: Option<FilePath>) -> Result<Vec<FileRow>, Allo
 
 fn allowed(
     alloc: Global,
-    listeners: &ListenerSet,
-    groups: &Groups,
+    settings: &Settings,
     workers: u32,
-    pid_file: Option<FilePath>,
     limits: Limits,
 ) -> Result<Store, AllocError>
-    requires few { workers ≤ 1024 }
-    requires most { limits.descriptors ≤ 64 }
-    ensures table { IfOk result (λ s. seen s ≡ booted listeners.now groups.now workers pid_file limits) }
+    requires few { workers ≤ WORKER_LIMIT }
+    requires most { limits.descriptors ≤ MOST_DESCRIPTORS }
+    ensures table { IfOk result (λ s. seen s ≡ booted settings.now.listeners settings.now.groups workers settings.now.pid limits) }
     ensures sound { IfOk result (λ s. IsSound 0 s) }
 {
+    let listeners = &settings.listeners;
     let holds = first_holds(listeners.len() as u32);
-    let holders = holders(alloc, &Posts::first(groups), &holds, workers)?;
+    let holders = holders(alloc, &Posts::first(&settings.groups), &holds, workers)?;
     let free = FreeNames::among(
         &holders,
         100,
@@ -159,7 +164,7 @@ fn allowed(
     Ok(Store {
         holders,
         addresses: Vec::from_slice(alloc, listeners.as_slice())?,
-        files: files(alloc, pid_file)?,
+        files: files(alloc, settings.pid)?,
         next_process: 101 + u64::from(workers),
         limits,
         last: 0,
@@ -170,18 +175,16 @@ fn allowed(
 /// The rows of a start, with room for no call.
 pub fn store(
     alloc: Global,
-    listeners: &ListenerSet,
-    groups: &Groups,
+    settings: &Settings,
     workers: u32,
-    pid_file: Option<FilePath>,
     limits: Limits,
 ) -> Result<Store, BootRefusal>
-    ensures table { IfOk result (λ s. seen s ≡ booted listeners.now groups.now workers pid_file limits) }
+    ensures table { IfOk result (λ s. seen s ≡ booted settings.now.listeners settings.now.groups workers settings.now.pid limits) }
     ensures sound { IfOk result (λ s. IsSound 0 s) }
-    ensures bad_limits { IsErrOf result BootRefusal.BadLimits ↔ AreBadLimits (length listeners.now) groups.now workers limits }
+    ensures bad_limits { IsErrOf result BootRefusal.BadLimits ↔ AreBadLimits (length settings.now.listeners) workers limits }
 {
-    if are_bad(listeners.len(), groups, workers, limits) {
+    if are_bad(settings.listeners.len(), workers, limits) {
         return Err(BootRefusal::BadLimits);
     }
-    allowed(alloc, listeners, groups, workers, pid_file, limits).map_err(|_| BootRefusal::Memory)
+    allowed(alloc, settings, workers, limits).map_err(|_| BootRefusal::Memory)
 }

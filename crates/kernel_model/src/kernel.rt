@@ -1,5 +1,5 @@
 //! The modelled kernel.
-ghost use Rattle.std.specs.Prelude.{true, false, ◌≡◌, ◌≤◌, ◌+◌, ◌↔◌, length, IsTrue, OnOk, OnErr, IfOk, IsErrOf};
+ghost use Rattle.std.specs.Prelude.{true, false, ◌≡◌, ◌≤◌, ◌+◌, ◌↔◌, length, max, IsTrue, OnOk, OnErr, IfOk, IsErrOf};
 ghost use Rattle.std.specs.Option.{option_map};
 ghost use Rattle.definitions.specs.Table.{is_held, live_master};
 ghost use Rattle.definitions.specs.Exits.{after_exits};
@@ -8,16 +8,17 @@ ghost use Rattle.definitions.specs.Formed.{IsFormed};
 ghost use Rattle.definitions.specs.Start.{booted};
 ghost use Rattle.kernel_model.specs.Boot.{AreBadLimits};
 ghost use Rattle.process_table.specs.Room.{LacksNumbers};
+ghost use Rattle.process_table.specs.Seen.{seen};
 ghost use Rattle.process_table.specs.Foreign.{with_foreign};
 
 use crate::boot::{self, BootRefusal};
 use crate::{ForeignRefusal, ReserveRefusal, calls, exits};
 use event_pattern::Moment;
-use listener_set::{Address, FilePath, Groups, ListenerSet};
+use listener_set::Address;
 use process_table::Store;
 use std::alloc::{AllocError, Global};
 use std::marker::Model;
-use vocabulary::{Actor, Answer, Call, Limits};
+use vocabulary::{Actor, Answer, Call, Limits, Settings};
 
 /// The kernel: its table, and for how many calls it has memory and numbers.
 #[derive(Drop)]
@@ -40,28 +41,33 @@ impl Model for Kernel {
 }
 
 impl Kernel {
-    /// A kernel with the master of image 1 and its Ready workers. The master has process number 100, parent 1 and the
-    /// listeners from descriptor 3 on in their order, of which each group has the next so many; the workers, of generation
-    /// 1.1, are numbered from 0, have process numbers from 101, and hold what their group has. Where there is a pid file it
-    /// holds 100. Room is for no call.
+    /// A kernel with the master of image 1 and that many Ready workers. The master has process number 100, parent 1 and the
+    /// listeners of the settings from descriptor 3 on in their order, of which each group has the next so many; the workers,
+    /// of generation 1.1, are numbered from 0, have process numbers from 101, and hold what their group has. Where the
+    /// settings have a pid file it holds 100. Room is for no call.
     ///
-    /// B1 where the groups have more or fewer addresses than there are listeners, the processes are limited to fewer than
-    /// these or to more than 65,535, the descriptors to fewer than the listeners or to more than 64, or there are more than
-    /// 1,024 workers.
+    /// B1 where there are more than 1,024 workers, the processes are limited to fewer than the master and these or to more
+    /// than 65,535, or the descriptors to fewer than the listeners or to more than 64.
     pub fn boot(
         alloc: Global,
-        listeners: &ListenerSet,
-        groups: &Groups,
+        settings: &Settings,
         workers: u32,
-        pid_file: Option<FilePath>,
         limits: Limits,
     ) -> Result<Self, BootRefusal>
-        ensures ok { IfOk result (λ k. k ≡ record { table = booted listeners.now groups.now workers pid_file limits; room = 0 }) }
-        ensures bad_limits { IsErrOf result BootRefusal.BadLimits ↔ AreBadLimits (length listeners.now) groups.now workers limits }
+        ensures ok { IfOk result (λ k. k ≡ record { table = booted settings.now.listeners settings.now.groups workers settings.now.pid limits; room = 0 }) }
+        ensures bad_limits { IsErrOf result BootRefusal.BadLimits ↔ AreBadLimits (length settings.now.listeners) workers limits }
         ensures formed { IfOk result (λ k. IsFormed k.table) }
     {
-        let store = boot::store(alloc, listeners, groups, workers, pid_file, limits)?;
+        let store = boot::store(alloc, settings, workers, limits)?;
         Ok(Kernel { store, room: 0 })
+    }
+
+    /// The rows of the table, as they are kept.
+    pub fn store(&self) -> &Store
+        ensures { seen result.now ≡ self.now.table }
+    {
+        let _ = &self.room;
+        &self.store
     }
 
     /// For how many calls memory and numbers are reserved.
@@ -79,8 +85,23 @@ impl Kernel {
         self.store.lacks_numbers(calls)
     }
 
-    /// Reserves memory and numbers for exactly that many calls. B3 where `lacks_numbers` says so.
+    /// Raises the room to that many calls where it is less: takes memory for them, and keeps numbers for them. B3 where
+    /// `lacks_numbers` says so.
     pub fn reserve(&mut self, calls: u32) -> Result<(), ReserveRefusal>
+        ensures ok { OnOk result (self.new ≡ record { table = self.old.table; room = max self.old.room calls }) }
+        ensures formed { IsFormed self.old.table }
+        ensures descriptors { self.old.table.limits.descriptors ≤ 64 }
+        ensures no_numbers { IsErrOf result ReserveRefusal.NoNumbers ↔ LacksNumbers self.old.table calls }
+        ensures err { OnErr result (self.new ≡ self.old) }
+    {
+        if calls <= self.room {
+            return Ok(());
+        }
+        self.set_room(calls)
+    }
+
+    /// Makes the room exactly that many calls, whatever it was. B3 as for `reserve`.
+    pub fn set_room(&mut self, calls: u32) -> Result<(), ReserveRefusal>
         ensures ok { OnOk result (self.new ≡ record { table = self.old.table; room = calls }) }
         ensures formed { IsFormed self.old.table }
         ensures descriptors { self.old.table.limits.descriptors ≤ 64 }

@@ -7,7 +7,7 @@ ghost use Rattle.process_table.specs.Holds.{seen_holds};
 ghost use Rattle.process_table.specs.Seen.{seen, seen_caller};
 ghost use Rattle.process_table.specs.Room.{GrowsByOne, HasRoomFor, IsKept};
 
-use crate::running::are_listeners;
+use crate::listening::are_listeners;
 use process_table::{Caller, Edit, Store};
 use vocabulary::Answer;
 

@@ -1,5 +1,5 @@
-//! Rows, holds and files of a kernel, one at a time, and the text of them all.
-ghost use Rattle.std.specs.Prelude.{◌≡◌, ◌+◌, ◌-◌, length, map, slice_get, IfOk};
+//! Rows, holds and files of a kernel, one at a time.
+ghost use Rattle.std.specs.Prelude.{◌≡◌, ◌+◌, ◌-◌, length, map, slice_get};
 ghost use Rattle.std.specs.Option.{option_map};
 ghost use Rattle.std.specs.List.{AllByRecursion};
 ghost use Rattle.process_table.specs.Seen.{seen_holder, seen_rows};
@@ -9,7 +9,6 @@ ghost use Rattle.kernel_model.specs.Readers.{holds_in};
 use crate::Kernel;
 use listener_set::{Address, DescriptorTable};
 use process_table::{FileRow, Holder, Row};
-use std::alloc::AllocError;
 
 /// A socket that a process holds.
 #[derive(Clone, Copy, Debug)]
@@ -88,7 +87,6 @@ impl HoldRow {
 
 impl Kernel {
     ghost use Rattle.kernel_model.specs.Readers.{row_of, hold_rows, file_row};
-    ghost use Rattle.table_text.specs.TableText.{IsTextOf};
 
     /// The i-th process, counted from 0, in ascending process numbers.
     pub fn row(&self, i: usize) -> Option<Row>
@@ -109,16 +107,5 @@ impl Kernel {
         ensures { result ≡ slice_get (map file_row self.now.table.files) i }
     {
         file_at(&self.store.files, i)
-    }
-
-    /// The text of the table, a line for each process, in ascending numbers, as `process 100 parent 1 m1 live fds
-    /// 3=0.0.0.0:8080` or `process 101 parent 100 w1.1.0 ready fds none`; then one for each file, in ascending paths, as
-    /// `file /run/app.pid 100`; then one for each address of the service, ascending, as `service 0.0.0.0:8080 1.1=4`.
-    /// `AllocError` where memory for the text, or for the files in order or the service, is refused.
-    pub fn table_text(&self) -> Result<Vec<u8>, AllocError>
-        ensures { IfOk result (λ text. IsTextOf self.now.table text.items) }
-    {
-        let service = self.service()?;
-        table_text::table_text(&self.store, &service)
     }
 }

@@ -3,7 +3,8 @@ ghost use Rattle.std.specs.Prelude.{◌↔◌, IsTrue, map};
 ghost use Rattle.listener_set.specs.Numbers.{IsRising, RisesFrom};
 ghost use Rattle.definitions.specs.Record.{Agrees, IsRecord};
 
-use kernel_model::{Kernel, Running};
+use kernel_agreement::{Running, agrees_with};
+use kernel_model::Kernel;
 use service_state::Record;
 
 /// Whether the kernel runs what the record says: one master, with the record's image, process number and listeners;
@@ -17,12 +18,13 @@ pub fn agrees(state: &Record, kernel: &Kernel) -> bool
 {
     // Only a reading of the set tells that its numbers rise.
     let _ = state.ready.lowest();
-    kernel.agrees_with(&Running {
+    let claim = Running {
         listeners: state.listeners.as_slice(),
         crew: state.crew(),
         ready: state.ready,
         pid_path: state.pid_path,
         note: state.note,
         pid: state.pid,
-    })
+    };
+    agrees_with(kernel, &claim)
 }

@@ -175,6 +175,6 @@ fn reserve(kernel: &mut Kernel, calls: u32) -> Result<(), EnactRefusal>
     ensures exact { IsErrOf result EnactRefusal.NoNumbers ↔ LacksNumbers kernel.old.table calls }
     ensures err { OnErr result (kernel.new ≡ kernel.old) }
 {
-    kernel.reserve(calls)?;
+    kernel.set_room(calls)?;
     Ok(())
 }

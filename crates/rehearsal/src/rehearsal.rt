@@ -19,20 +19,15 @@ use certifier::{BlockMismatch, Mismatch, certify_beginning, certify_blocks};
 use control_words::Word;
 use explorer::{Audience, Findings};
 use faults::Fault;
-use kernel_model::{Kernel, Pattern};
+use kernel_model::{Kernel, Pattern, WIDEST_LIMITS};
 use listener_set::{Address, WORKER_LIMIT};
 use plan_executor::run_words;
 use plan_runner::CallLog;
 use service_state::Record;
 use std::alloc::{AllocError, Global};
-use vocabulary::{Limits, Settings, Target};
+use table_text::table_text;
+use vocabulary::{Settings, Target};
 use word_runner::{Asked, Block, Body, Standing, asked_by, note};
-
-/// What the modelled kernel of a rehearsal allows.
-const LIMITS: Limits = Limits {
-    processes: 65_535,
-    descriptors: 64,
-};
 
 /// A running master on the modelled kernel.
 #[derive(Drop)]
@@ -52,14 +47,7 @@ fn booted(alloc: Global, settings: &Settings, running: u32) -> Result<Kernel, Fa
     // So the limits allow it.
     let addresses = settings.listeners.len();
     prove!(addresses <= 64);
-    let kernel = Kernel::boot(
-        alloc,
-        &settings.listeners,
-        &settings.groups,
-        running,
-        settings.pid,
-        LIMITS,
-    )?;
+    let kernel = Kernel::boot(alloc, settings, running, WIDEST_LIMITS)?;
     Ok(kernel)
 }
 
@@ -203,7 +191,7 @@ impl Rehearsal {
     pub fn state(&self) -> Result<Vec<u8>, AllocError>
         ensures { IfOk result (λ text. IsTextOf self.now.standing.world.table text.items) }
     {
-        self.standing.world.table_text()
+        table_text(&self.standing.world)
     }
 }
 

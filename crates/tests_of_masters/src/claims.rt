@@ -1,20 +1,16 @@
 //! Claims of masters that are true of a kernel, and such as are not.
 use crews::{Crew, Posts};
-use kernel_model::{Kernel, Moment, Running};
+use kernel_agreement::{Running, agrees_with};
+use kernel_model::{Kernel, Moment, WIDEST_LIMITS};
 use listener_set::{Address, FilePath, Generation, Group, Groups, ListenerSet, Numbers};
 use service_state::Record;
 use std::alloc::Global;
 use std::test::Fail;
-use vocabulary::{Actor, Call, Limits, Listener, PidNote, Settings};
+use vocabulary::{Actor, Call, Listener, PidNote, Settings};
 
 const FIRST: Generation = Generation {
     image: 1,
     config: 1,
-};
-
-const LIMITS: Limits = Limits {
-    processes: 16,
-    descriptors: 64,
 };
 
 fn booted(
@@ -27,7 +23,14 @@ fn booted(
     for listener in listeners {
         addresses.add(&listener.address)?;
     }
-    Ok(Kernel::boot(alloc, &addresses, groups, 2, Some(path), LIMITS)?)
+    let settings = Settings {
+        listeners: addresses,
+        workers: 2,
+        groups: *groups,
+        pid: Some(path),
+        ..Settings::plain()
+    };
+    Ok(Kernel::boot(alloc, &settings, 2, WIDEST_LIMITS)?)
 }
 
 /// A kernel whose master has two addresses, and workers of one group.
@@ -66,7 +69,7 @@ fn listener(descriptor: u32, text: &[u8]) -> Result<Listener, Fail> {
 fn agrees(kernel: &Kernel, claim: &Running<'_>) -> bool {
     match &claim.pid_path {
         Some(path) if path.bytes().len() > 100 => false,
-        _ => kernel.agrees_with(claim),
+        _ => agrees_with(kernel, claim),
     }
 }
 
@@ -194,28 +197,18 @@ fn a_record_agrees_with_a_kernel_that_was_started_so(rt: HostRuntime) -> Result<
     settings.groups = Groups::one(2, 1);
     settings.listeners.add(&Address::read(b"0.0.0.0:9090")?)?;
     settings.pid = Some(FilePath::read(b"/run/a.pid")?);
-    let kernel = Kernel::boot(
-        rt.alloc(),
-        &settings.listeners,
-        &settings.groups,
-        2,
-        settings.pid,
-        LIMITS,
-    )?;
+    let kernel = Kernel::boot(rt.alloc(), &settings, 2, WIDEST_LIMITS)?;
     let started = |ready, pid| Record::start(&settings, 2, &Numbers::below(ready), pid);
     assert!(rt; plan_executor::agrees(&started(2, 100), &kernel));
     assert!(rt; !plan_executor::agrees(&started(1, 100), &kernel));
     assert!(rt; !plan_executor::agrees(&started(2, 101), &kernel));
     let one = Record::start(&Settings::plain(), 2, &Numbers::below(2), 100);
     assert!(rt; !plan_executor::agrees(&one, &kernel));
-    let bare = Kernel::boot(
-        rt.alloc(),
-        &settings.listeners,
-        &settings.groups,
-        2,
-        None,
-        LIMITS,
-    )?;
+    let fileless = Settings {
+        pid: None,
+        ..settings
+    };
+    let bare = Kernel::boot(rt.alloc(), &fileless, 2, WIDEST_LIMITS)?;
     assert!(rt; !plan_executor::agrees(&started(2, 100), &bare));
     Ok(())
 }

@@ -1,6 +1,6 @@
 //! Calls on a modelled kernel that a program makes no plan for, and what its table has afterwards.
-use kernel_model::{BootRefusal, Kernel, Moment, ReserveRefusal, Row};
-use listener_set::{Address, DescriptorSet, FilePath, Generation, Groups, ListenerSet, Numbers};
+use kernel_model::{BootRefusal, Kernel, Moment, ReserveRefusal, Row, WIDEST_LIMITS};
+use listener_set::{Address, DescriptorSet, FilePath, Generation, Numbers};
 use std::alloc::Global;
 use std::test::Fail;
 use vocabulary::{Actor, Answer, Call, Fate, Limits, Name, Settings, Stance};
@@ -58,35 +58,20 @@ pub(crate) fn with_two_workers(
 ) -> Result<Kernel, Fail> {
     let limits = Limits {
         processes,
-        descriptors: 64,
+        ..WIDEST_LIMITS
     };
-    Ok(Kernel::boot(
-        alloc,
-        &settings.listeners,
-        &settings.groups,
-        2,
-        settings.pid,
-        limits,
-    )?)
+    Ok(Kernel::boot(alloc, settings, 2, limits)?)
 }
 
 /// A kernel with the listener 0.0.0.0:8080 and a pid file.
 fn started(alloc: Global, workers: u32, processes: u32) -> Result<Kernel, Fail> {
-    let mut listeners = ListenerSet::new();
-    listeners.add(&Address::plain())?;
     let limits = Limits {
         processes,
         descriptors: 2,
     };
-    let pid_file = FilePath::read(b"/run/app.pid")?;
-    Ok(Kernel::boot(
-        alloc,
-        &listeners,
-        &Groups::one(1, 1),
-        workers,
-        Some(pid_file),
-        limits,
-    )?)
+    let mut settings = Settings::plain();
+    settings.pid = Some(FilePath::read(b"/run/app.pid")?);
+    Ok(Kernel::boot(alloc, &settings, workers, limits)?)
 }
 
 fn worker(number: u32, generation: Generation, nr: u32, stance: Stance) -> Option<Row> {
@@ -134,10 +119,9 @@ fn a_start_has_a_master_and_ready_workers(rt: HostRuntime) -> Result<(), Fail> {
 
 #[test]
 fn limits_and_numbers_are_refused(rt: HostRuntime) -> Result<(), Fail> {
-    let mut listeners = ListenerSet::new();
-    listeners.add(&Address::plain())?;
     for (workers, processes, descriptors) in [
         (2, 2, 64),
+        (2, 3, 0),
         (0, 65_536, 64),
         (0, 1, 65),
         (1025, 65_535, 64),
@@ -146,19 +130,12 @@ fn limits_and_numbers_are_refused(rt: HostRuntime) -> Result<(), Fail> {
             processes,
             descriptors,
         };
-        let groups = Groups::one(1, 1);
-        let refused = Kernel::boot(rt.alloc(), &listeners, &groups, workers, None, limits);
+        let refused = Kernel::boot(rt.alloc(), &Settings::plain(), workers, limits);
         assert!(rt;
             matches!(&refused, Err(BootRefusal::BadLimits)),
             "{workers} workers"
         );
     }
-    let limits = Limits {
-        processes: 65_535,
-        descriptors: 64,
-    };
-    let apart = Kernel::boot(rt.alloc(), &listeners, &Groups::one(2, 2), 2, None, limits);
-    assert!(rt; matches!(&apart, Err(BootRefusal::BadLimits)));
     let mut kernel = started(rt.alloc(), 2, 3)?;
     assert_eq!(rt;
         kernel.reserve(4_294_967_295),
@@ -166,6 +143,8 @@ fn limits_and_numbers_are_refused(rt: HostRuntime) -> Result<(), Fail> {
     );
     assert_eq!(rt; kernel.reserve(8), Ok(()));
     assert_eq!(rt; kernel.reserve(4), Ok(()));
+    assert_eq!(rt; kernel.room(), 8);
+    assert_eq!(rt; kernel.set_room(4), Ok(()));
     assert_eq!(rt; kernel.room(), 4);
     assert_eq!(rt; kernel.copy(0)?.room(), 0);
     assert_eq!(rt; kernel.copy(3)?.row(2), kernel.row(2));

@@ -1,6 +1,6 @@
 //! A master whose workers are in two groups: what it writes, read back and held against a modelled kernel.
 use certifier::certify_blocks;
-use kernel_model::Kernel;
+use kernel_model::{Kernel, WIDEST_LIMITS};
 use listener_set::{Address, Group, Groups, ListenerSet, Numbers};
 use log::sink::Discard;
 use service_state::Record;
@@ -9,7 +9,7 @@ use std::test::Fail;
 use supervisor::{NextRefusal, NextSettings, Start, supervise_on};
 use tests_of_children::Recorded;
 use transcript::{read_transcripts, write_transcript};
-use vocabulary::{Limits, Outcome, Settings, Side};
+use vocabulary::{Outcome, Settings, Side};
 use word_runner::{Block, Body, Standing};
 use worker_table::WorkerTable;
 
@@ -77,18 +77,7 @@ fn text_of(alloc: Global, blocks: &[Block]) -> Result<Vec<u8>, AllocError> {
 
 /// Whether a modelled kernel could have given these blocks to a master of these settings that began without workers.
 fn are_certified(alloc: Global, settings: &Settings, blocks: &[Block]) -> Result<bool, Fail> {
-    let limits = Limits {
-        processes: 65_535,
-        descriptors: 64,
-    };
-    let kernel = Kernel::boot(
-        alloc,
-        &settings.listeners,
-        &settings.groups,
-        0,
-        settings.pid,
-        limits,
-    )?;
+    let kernel = Kernel::boot(alloc, settings, 0, WIDEST_LIMITS)?;
     let record = Record::start(settings, settings.workers, &Numbers::none(), 100);
     let mut standing = Standing {
         world: kernel,

@@ -1,6 +1,6 @@
 //! Control words of an input, carried out on children in memory.
 use certifier::certify_blocks;
-use kernel_model::Kernel;
+use kernel_model::{Kernel, WIDEST_LIMITS};
 use listener_set::{FilePath, Groups, Numbers};
 use log::sink::{Discard, Memory};
 use log::{LevelFilter, Logged};
@@ -11,7 +11,7 @@ use std::test::Fail;
 use supervisor::{NextRefusal, NextSettings, Start, Supervised, SupervisorFault, supervise_on};
 use tests_of_children::{Asked, Recorded};
 use transcript::read_transcripts;
-use vocabulary::{Limits, Outcome, Settings};
+use vocabulary::{Outcome, Settings};
 use word_runner::{Block, Body, CodeText, Standing};
 use worker_table::WorkerTable;
 
@@ -330,18 +330,7 @@ fn is_lost(block: &Block) -> bool {
 /// Whether a modelled kernel could have given these blocks to a master that began without workers.
 fn are_certified(alloc: Global, blocks: &[Block]) -> Result<bool, Fail> {
     let settings = Settings::plain();
-    let limits = Limits {
-        processes: 65_535,
-        descriptors: 64,
-    };
-    let kernel = Kernel::boot(
-        alloc,
-        &settings.listeners,
-        &settings.groups,
-        0,
-        settings.pid,
-        limits,
-    )?;
+    let kernel = Kernel::boot(alloc, &settings, 0, WIDEST_LIMITS)?;
     let record = Record::start(&settings, settings.workers, &Numbers::none(), 100);
     let mut standing = Standing {
         world: kernel,

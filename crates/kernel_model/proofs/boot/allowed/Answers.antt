@@ -10,12 +10,12 @@ use Rattle.kernel_model.proofs.boot.allowed.Goals as goal
 pub returns-clause-table : goal.returns-clause-table
 returns-clause-table c =
     let s : Store = record { holders = c.in_ok-holders.holders; addresses = c.in_ok-from_slice.field-0; files = c.in_ok-files.field-0; next_process = 101 + c.from.result; limits = c.args.limits; last = 0; free = c.among-free.result } in
-    seen-booted s c.args.listeners.now c.args.groups.now c.args.workers c.args.pid_file c.args.limits c.first_holds-holds.result
+    seen-booted s c.args.settings.now.listeners c.args.settings.now.groups c.args.workers c.args.settings.now.pid c.args.limits c.first_holds-holds.result
     (c.in_ok-from_slice.ensures.items ∙ c.as_slice.ensures.items) (c.first_holds-holds.ensures ∙ ap first_pairs c.len.ensures.count) (rw c.first.ensures.posts at c.in_ok-holders.ensures) c.in_ok-files.ensures (ap (λ k. 101 + k) c.from.ensures) refl
 
 pub returns-clause-sound : goal.returns-clause-sound
 returns-clause-sound c =
     let s : Store = record { holders = c.in_ok-holders.holders; addresses = c.in_ok-from_slice.field-0; files = c.in_ok-files.field-0; next_process = 101 + c.from.result; limits = c.args.limits; last = 0; free = c.among-free.result } in
-    sound-booted s c.args.listeners.now c.args.groups.now c.args.workers c.args.pid_file c.args.limits c.first_holds-holds.result
+    sound-booted s c.args.settings.now.listeners c.args.settings.now.groups c.args.workers c.args.settings.now.pid c.args.limits c.first_holds-holds.result
     (c.in_ok-from_slice.ensures.items ∙ c.as_slice.ensures.items) (c.first_holds-holds.ensures ∙ ap first_pairs c.len.ensures.count) (rw c.first.ensures.posts at c.in_ok-holders.ensures) c.in_ok-files.ensures (ap (λ k. 101 + k) c.from.ensures) refl
     c.requires.few c.requires.most c.len.ensures.most (subst (λ (hs : List Holder). AreFree c.among-free.result (seen_rows c.in_ok-from_slice.field-0.items hs)) c.deref.ensures.value (c.among-free.ensures.free c.in_ok-from_slice.field-0.items))

@@ -1,0 +1,12 @@
+use Rattle.std.proofs.Common.{ℕ, List, ◌↔◌, drop}
+use Rattle.process_table.specs.Holds.{seen_holds}
+use Rattle.process_table.specs.Seen.{seen_rows}
+use Rattle.kernel_agreement.specs.Agreement.{AreRunning}
+use Rattle.kernel_agreement.proofs.agreement.are_running.Given as goal
+
+-- All run where those that are left do.
+abbrev pub invariant-loop-holder : goal.invariant-loop-holder
+invariant-loop-holder l =
+    (addresses : List (List ℕ))
+    → AreRunning l.master.number l.crew (seen_holds addresses l.master.holds) (seen_rows addresses (drop l.holder-index l.holders))
+    ↔ AreRunning l.master.number l.crew (seen_holds addresses l.master.holds) (seen_rows addresses l.holders)

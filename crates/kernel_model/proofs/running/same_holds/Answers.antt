@@ -1,8 +1,0 @@
-use Rattle.std.proofs.Common.{refl, arith}
-use Rattle.kernel_model.proofs.Agreement.{same_pairs}
-use Rattle.kernel_model.proofs.running.same_holds.Goals as goal
-
-pub returns : goal.returns
-returns c =
-    let loop = c.loop-descriptor.invariant in
-    (λ t. same_pairs c.args.holds.now c.args.others.now 3 67 loop.holds.rising loop.others.rising loop.holds.below loop.others.below (λ d from below. loop.same d from (omega arith)), λ e. refl)
