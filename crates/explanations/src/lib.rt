@@ -1,8 +1,19 @@
-//! What the codes of refusals mean, and what to do. The sentences stand here and nowhere else.
+//! What the codes of refusals mean, and what to do, and what is said of a fault for people. The sentences stand here and
+//! nowhere else.
 #![tactic(auto)]
 
+mod asking;
+mod codes;
 mod explanation;
+mod lines;
+mod places;
 mod sentences;
+mod why;
 
+pub use asking::is_asked;
+pub use codes::explain;
+use codes::meaning_of;
 pub use explanation::{Explanation, explanation_of};
-pub use sentences::{FAULTS, WORDS};
+pub use places::Evidence;
+use sentences::{FAULTS, WORDS};
+pub use why::{tell, tell_usage};

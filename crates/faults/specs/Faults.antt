@@ -25,7 +25,7 @@ use Rattle.certifier.specs.declared.mismatch.Mismatch.{Mismatch}
 use Rattle.certifier.specs.declared.mismatch.Mismatch.TheVariants as mismatch
 use Rattle.faults.specs.declared.fault.Fault.TheVariants.{Usage, Word, Config, Boot, Address, Foreign, Pattern, Transcript, Certify, Code, File, Memory}
 
----- Which fault a refusal is: want of memory where it is that, and else its own
+---- Which fault a refusal is: want of memory or a file where it is that, and else its own
 
 abbrev pub command_fault : Refusal → Fault
 command_fault command.Memory = Memory
@@ -33,6 +33,7 @@ command_fault command.Usage = Usage
 
 abbrev pub config_fault : ConfigRefusal → Fault
 config_fault config.Memory = Memory
+config_fault config.Unreadable = File
 config_fault refusal = Config refusal
 
 abbrev pub boot_fault : BootRefusal → Fault

@@ -113,13 +113,14 @@ impl From<Refusal> for Fault {
     }
 }
 
-/// Want of memory, or the fault of a configuration.
+/// Want of memory, a file that can't be read, or the fault of a configuration.
 impl From<ConfigRefusal> for Fault {
     ghost from_gives = { λ refusal fault. fault ≡ config_fault refusal };
 
     fn from(refusal: ConfigRefusal) -> Fault {
         match refusal {
             ConfigRefusal::Memory => Fault::Memory,
+            ConfigRefusal::Unreadable => Fault::File,
             refusal => Fault::Config(refusal),
         }
     }

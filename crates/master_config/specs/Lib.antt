@@ -1,5 +1,6 @@
 pub mod Codes
 pub mod Configuration
+pub mod Files
 pub mod Groups
 pub mod KeyNames
 pub mod Listening

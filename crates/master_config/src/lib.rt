@@ -7,6 +7,7 @@
 
 mod command;
 mod config;
+mod files;
 mod group_fault;
 mod groups;
 mod key;
@@ -17,6 +18,7 @@ mod rest;
 mod values;
 
 pub use config::{Config, read};
+pub use files::{config_in, settings_in, text_in};
 pub use group_fault::GroupFault;
 pub use key::Key;
 pub use refusal::ConfigRefusal;

@@ -1,4 +1,4 @@
-//! Why a text is no configuration.
+//! Why there is no configuration.
 ghost use Rattle.std.specs.Prelude.{◌≡◌};
 
 use crate::{GroupFault, Key};
@@ -7,9 +7,9 @@ use std::alloc::AllocError;
 use std::error::Error;
 use std::fmt;
 
-/// Why a text is no configuration: the first rule that it breaks, or that memory was refused. It is written as its
-/// code, with the key, the index or the address's code that it is about, or the group's index and its fault: `C1`,
-/// `C3 workers`, `C6 1`, `C5 0 A3`, `C11 1 C6 0`.
+/// Why there is no configuration: the first rule that its text breaks, or that its file can't be read, or that memory was
+/// refused. It is written as its code, with the key, the index or the address's code that it is about, or the group's
+/// index and its fault: `C1`, `C3 workers`, `C6 1`, `C5 0 A3`, `C11 1 C6 0`.
 #[derive(Clone, Copy, Debug, PartialEq, Eq)]
 pub enum ConfigRefusal {
     /// C1: the text is not TOML.
@@ -34,6 +34,8 @@ pub enum ConfigRefusal {
     Mixed,
     /// C11: the group at the index, counted from 0, breaks this rule.
     Group(usize, GroupFault),
+    /// The file can't be read.
+    Unreadable,
     /// Memory was refused.
     Memory,
 }
@@ -41,7 +43,8 @@ pub enum ConfigRefusal {
 impl ConfigRefusal {
     ghost use Rattle.master_config.specs.Codes.{config_code};
 
-    /// The code of the rule, without what it is about; `memory` where memory was refused.
+    /// The code of the rule, without what it is about; `file` where the file can't be read, and `memory` where memory was
+    /// refused.
     pub fn code(&self) -> &'static str
         ensures { result.now ≡ config_code self.now }
     {
@@ -57,6 +60,7 @@ impl ConfigRefusal {
             ConfigRefusal::BadCommand => "C9",
             ConfigRefusal::Mixed => "C10",
             ConfigRefusal::Group(..) => "C11",
+            ConfigRefusal::Unreadable => "file",
             ConfigRefusal::Memory => "memory",
         }
     }

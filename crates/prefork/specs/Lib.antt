@@ -1,5 +1,4 @@
 pub mod Explorations
 pub mod Faults
 pub mod Input
-pub mod Output
 pub mod Refusals

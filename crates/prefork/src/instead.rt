@@ -1,17 +1,36 @@
 //! How a run would have gone on where a block is none of the master's.
+use crate::setup::begin;
 use certifier::Mismatch;
-use command_line::CertifyOptions;
+use command_line::{CertifyOptions, Request};
 use faults::Fault;
 use plan_runner::CallLog;
-use rehearsal::begin;
 use std::alloc::{AllocError, Global};
 use std::rt::Files;
 use transcript::{read_transcripts, write_transcript};
 use word_runner::{Block, Body};
 
-/// The line that the master would have had in a block where the first is that is not its own, among the blocks of a
-/// text. None where the block is no block of a word.
+/// The line that the master would have had in a block where the first is that is not its own, where that is the fault of
+/// a request. None where the block is no block of a word, and where memory is refused or a file.
 pub fn line_instead<R: AllocGlobal + Files>(
+    rt: &R,
+    request: &Request<'_>,
+    given: &[u8],
+    fault: &Fault,
+) -> Option<Vec<u8>> {
+    let Request::Certify(options) = request else {
+        return None;
+    };
+    let Fault::Certify(number, mismatch) = fault else {
+        return None;
+    };
+    match line_in(rt, options, given, *number, mismatch) {
+        Ok(line) => line,
+        Err(_) => None,
+    }
+}
+
+/// That line in the block with this number, from 1, of a text.
+fn line_in<R: AllocGlobal + Files>(
     rt: &R,
     options: &CertifyOptions<'_>,
     text: &[u8],

@@ -1,13 +1,11 @@
 //! `prefork`: a preforking master, whose plans are proved.
 #![tactic(auto)]
 
-mod explaining;
 mod exploration;
 mod instead;
-mod lines;
 mod program;
 mod serving;
-mod why;
+mod setup;
 
 use faults::Fault;
 pub use program::run;

@@ -1,32 +1,37 @@
 //! The program over any reader and any two writers.
-ghost use Rattle.std.specs.Prelude.{◌≡◌, ◌↔◌, ◌++◌, ℕ, List, length, map, Some, IsTrue, IfOk, IfErr, IfSome, OnOk, Ok};
+ghost use Rattle.std.specs.Prelude.{◌≡◌, ◌↔◌, map, Some, IsTrue, IfOk, IfErr, IfSome, OnOk, Ok};
 ghost use Rattle.kernel_model.specs.Pattern.{moment_at};
 ghost use Rattle.pattern_text.specs.PatternsText.{patterns_of};
+ghost use Rattle.transcript.specs.Reading.{blocks_of};
 ghost use Rattle.std.specs.Io.KnownBytes.{Appends};
-ghost use Rattle.table_text.specs.TableText.{IsTextOf};
-ghost use Rattle.word_runner.specs.declared.block.Block.{Block as Done};
 ghost use Rattle.faults.specs.Faults.{IsOfFile};
-ghost use Rattle.prefork.specs.Input.{IsOfPatterns};
-ghost use Rattle.prefork.specs.Output.{blocks_text, IsState};
-ghost use Rattle.rehearsal.specs.Rehearsals.{IsRehearsed};
-ghost use Rattle.word_runner.specs.Status.{gravest};
+ghost use Rattle.prefork.specs.Input.{IsOfPatterns, IsOfBlocks};
 
-use crate::explaining::explain;
 use crate::exploration::{Listing, summary};
+use crate::instead::line_instead;
 use crate::serving::{adopt, child, supervise};
-use crate::why;
+use crate::setup::{begin, setup_of};
 use command_line::{CertifyOptions, EnactOptions, ExploreOptions, PlanOptions, Request};
 use control_words::Word;
+use explanations::{Evidence, explain, is_asked, tell, tell_usage};
 use explorer::Findings;
 use faults::Fault;
 use kernel_model::Pattern;
-use rehearsal::{Form, Rehearsal, Start, begin, certify_all, look_ahead};
+use rehearsal::{Form, Start, certify_all, look_ahead, rehearse, show_state};
 use std::alloc::{AllocError, Global};
 use std::io::{Read, Write};
 use std::process::Processes;
 use std::rt::Files;
 use transcript::read_transcripts;
-use word_runner::{Block, gravest};
+use word_runner::Block;
+
+/// Standard input.
+#[derive(Drop)]
+struct Input<'a, I> {
+    reader: &'a mut I,
+    /// What was read of it.
+    given: Vec<u8>,
+}
 
 /// Runs the program, and gives its exit status.
 ///
@@ -40,38 +45,84 @@ pub fn run<R: AllocGlobal + Files + Processes, I: Read, O: Write, E: Write>(
     output: &mut O,
     errors: &mut E,
 ) -> u8 {
-    let mut given = Vec::new(rt.alloc());
-    match answer(rt, number, args, input, &mut given, output, errors) {
-        Ok(status) => status,
-        Err(fault) => {
+    match command_line::read(rt.alloc(), args) {
+        Ok(request) => serve(rt, number, &request, input, output, errors),
+        Err(refusal) => {
+            let fault = Fault::from(refusal);
             let status = fault.tell(errors);
-            why::tell(rt, args, given.as_slice(), &fault, errors);
+            tell_usage(rt.alloc(), args, &fault, errors);
             status
         }
     }
 }
 
-/// Answers the arguments. What is read of standard input is left in `given`.
+/// Answers a request, or tells its fault.
+fn serve<R: AllocGlobal + Files + Processes, I: Read, O: Write, E: Write>(
+    rt: &R,
+    number: u32,
+    request: &Request<'_>,
+    input: &mut I,
+    output: &mut O,
+    errors: &mut E,
+) -> u8 {
+    let mut input = Input {
+        reader: input,
+        given: Vec::new(rt.alloc()),
+    };
+    match answer(rt, number, request, &mut input, output, errors) {
+        Ok(status) => status,
+        Err(fault) => {
+            let status = fault.tell(errors);
+            if is_asked(request) {
+                tell_more(rt, request, input.given.as_slice(), &fault, errors);
+            }
+            status
+        }
+    }
+}
+
+/// Says more of a fault, for people.
+#[inline(never)]
+fn tell_more<R: AllocGlobal + Files, E: Write>(
+    rt: &R,
+    request: &Request<'_>,
+    given: &[u8],
+    fault: &Fault,
+    errors: &mut E,
+) {
+    let instead = line_instead(rt, request, given, fault);
+    let evidence = Evidence {
+        given,
+        instead: match &instead {
+            Some(line) => Some(line.as_slice()),
+            None => None,
+        },
+    };
+    tell(rt, request, &evidence, fault, errors);
+}
+
+/// Answers a request. What is read of standard input is kept.
 ///
 /// No subcommand is inlined here, nor what tells of faults above: settings have 8 KB each, so that the frames of all of
 /// them would take 0.15 MB of each run.
 fn answer<R: AllocGlobal + Files + Processes, I: Read, O: Write, E: Write>(
     rt: &R,
     number: u32,
-    args: &[String],
-    input: &mut I,
-    given: &mut Vec<u8>,
+    request: &Request<'_>,
+    input: &mut Input<'_, I>,
     output: &mut O,
     errors: &mut E,
 ) -> Result<u8, Fault> {
-    match command_line::read(rt.alloc(), args)? {
-        Request::Enact(options) => enact(rt, &options, input, given, output),
-        Request::Plan(options) => plan(rt, &options, output),
-        Request::Explore(options) => explore(rt, &options, output, errors),
-        Request::Certify(options) => certify(rt, &options, input, given, output),
-        Request::Supervise(options) => supervise(rt, number, &options, input, output, errors),
-        Request::Adopt(options) => adopt(rt, number, &options, input, output),
-        Request::Child => Ok(child(input, output)),
+    match request {
+        Request::Enact(options) => enact(rt, options, input, output),
+        Request::Plan(options) => plan(rt, options, output),
+        Request::Explore(options) => explore(rt, options, output, errors),
+        Request::Certify(options) => certify(rt, options, input, output),
+        Request::Supervise(options) => {
+            supervise(rt, number, options, &mut *input.reader, output, errors)
+        }
+        Request::Adopt(options) => adopt(rt, number, options, &mut *input.reader, output),
+        Request::Child => Ok(child(&mut *input.reader, output)),
         Request::Explain(options) => {
             let text = explain(rt.alloc(), options.code)?;
             write(output, text.as_slice())?;
@@ -101,14 +152,13 @@ fn write<O: Write>(output: &mut O, text: &[u8]) -> Result<(), Fault>
 fn enact<R: AllocGlobal + Files, I: Read, O: Write>(
     rt: &R,
     options: &EnactOptions<'_>,
-    input: &mut I,
-    given: &mut Vec<u8>,
+    input: &mut Input<'_, I>,
     output: &mut O,
 ) -> Result<u8, Fault> {
     let alloc = rt.alloc();
     let words = read_words(alloc, &options.words)?;
     let mut rehearsal = begin(rt, &options.start, options.held)?;
-    let patterns = read_patterns(alloc, input, given)?;
+    let patterns = read_patterns(alloc, &mut *input.reader, &mut input.given)?;
     let mut text = Vec::new(alloc);
     let done = rehearse(alloc, &mut rehearsal, &words, &patterns, &mut text);
     let shown = match done {
@@ -120,33 +170,18 @@ fn enact<R: AllocGlobal + Files, I: Read, O: Write>(
     Ok(done?)
 }
 
-/// Appends the table of processes, files and the service where it is asked for.
-fn show_state(rehearsal: &Rehearsal, is_wanted: bool, text: &mut Vec<u8>) -> Result<(), AllocError>
-    ensures { IfOk result (λ _. (state : List ℕ)
-        × (text.new.items ≡ text.old.items ++ state)
-        × IsState is_wanted rehearsal.now.standing.world.table state) }
-{
-    if is_wanted {
-        let state = rehearsal.state()?;
-        text.extend_from_slice(state.as_slice())?;
-    }
-    Ok(())
-}
-
 /// `certify`: compares the blocks of standard input with plans and kernel, and writes the patterns
 /// that explain them, a section for each.
 #[inline(never)]
 fn certify<R: AllocGlobal + Files, I: Read, O: Write>(
     rt: &R,
     options: &CertifyOptions<'_>,
-    input: &mut I,
-    given: &mut Vec<u8>,
+    input: &mut Input<'_, I>,
     output: &mut O,
 ) -> Result<u8, Fault> {
     let alloc = rt.alloc();
     let mut rehearsal = begin(rt, &options.start, options.held)?;
-    input.read_to_end(given)?;
-    let blocks = read_transcripts(alloc, given.as_slice()).map_err(Fault::of_transcript)?;
+    let blocks = read_blocks(alloc, &mut *input.reader, &mut input.given)?;
     let text = certify_all(alloc, &mut rehearsal, blocks.as_slice())?;
     write(output, text.as_slice())?;
     Ok(0)
@@ -163,7 +198,7 @@ fn plan<R: AllocGlobal + Files, O: Write>(
     let word = control_words::read(options.word.as_bytes()).map_err(|refusal| Fault::Word(
         1, refusal,
     ))?;
-    let start = Start::read(rt, &options.start)?;
+    let start = Start::read(rt, &setup_of(&options.start))?;
     let form = if options.dot {
         Form::Picture
     } else {
@@ -230,6 +265,16 @@ fn read_words(alloc: Global, texts: &[&str]) -> Result<Vec<Word>, Fault> {
     Ok(words)
 }
 
+/// All that is left of standard input.
+fn read_all<I: Read>(alloc: Global, input: &mut I) -> Result<Vec<u8>, Fault>
+    ensures ok { IfOk result (λ text. IfSome (I.remaining input.old) (λ bytes. text.items ≡ bytes)) }
+    ensures err { IfErr result IsOfFile }
+{
+    let mut text = Vec::new(alloc);
+    input.read_to_end(&mut text)?;
+    Ok(text)
+}
+
 /// The patterns of standard input, one for each word from the first on.
 fn read_patterns<I: Read>(
     alloc: Global,
@@ -240,52 +285,26 @@ fn read_patterns<I: Read>(
         (λ text. patterns_of text ≡ Ok (map moment_at patterns.items))) }
     ensures err { IfErr result (IsOfPatterns (I.remaining input.old)) }
 {
-    let mut text = Vec::new(alloc);
-    input.read_to_end(&mut text)?;
+    let text = read_all(alloc, input)?;
     let patterns = pattern_text::read_patterns(alloc, text.as_slice());
     *given = text;
     Ok(patterns?)
 }
 
-/// Carries the words out one after another, and appends the block of each to the text. A word
-/// beyond the patterns runs under a quiet one. Gives the exit status.
-fn rehearse(
+/// The blocks of standard input.
+fn read_blocks<I: Read>(
     alloc: Global,
-    rehearsal: &mut Rehearsal,
-    words: &[Word],
-    patterns: &[Pattern],
-    text: &mut Vec<u8>,
-) -> Result<u8, AllocError>
-    ensures { (blocks : List Done)
-        × IsRehearsed patterns.now words.now rehearsal.old blocks rehearsal.new
-        × IfOk result (λ status. (length blocks ≡ length words.now)
-        × (text.new.items ≡ text.old.items ++ blocks_text blocks)
-        × (status ≡ gravest blocks)) }
+    input: &mut I,
+    given: &mut Vec<u8>,
+) -> Result<Vec<Block>, Fault>
+    ensures ok { IfOk result (λ blocks. IfSome (I.remaining input.old) (λ text. blocks_of text ≡ Ok blocks.items)) }
+    ensures err { IfErr result (IsOfBlocks (I.remaining input.old)) }
 {
-    let mut blocks = Vec::new(alloc);
-    let done = rehearsal.act(alloc, words, patterns, &mut blocks);
-    write_blocks(alloc, &blocks, text)?;
-    done?;
-    Ok(gravest(&blocks))
-}
-
-/// Appends the blocks; those before one that memory was refused for are there then.
-fn write_blocks(alloc: Global, blocks: &[Block], text: &mut Vec<u8>) -> Result<(), AllocError>
-    ensures { OnOk result (text.new.items ≡ text.old.items ++ blocks_text blocks.now) }
-{
-    for block in blocks {
-        append(text, transcript::write_transcript(alloc, block)?)?;
+    let text = read_all(alloc, input)?;
+    let blocks = read_transcripts(alloc, text.as_slice());
+    *given = text;
+    match blocks {
+        Ok(blocks) => Ok(blocks),
+        Err(refusal) => Err(Fault::of_transcript(refusal)),
     }
-    Ok(())
-}
-
-/// Appends a text. The first is taken over as it is: a long one does not stand in memory twice.
-fn append(text: &mut Vec<u8>, more: Vec<u8>) -> Result<(), AllocError>
-    ensures { OnOk result (text.new.items ≡ text.old.items ++ more.items) }
-{
-    if text.is_empty() {
-        *text = more;
-        return Ok(());
-    }
-    Ok(text.extend_from_slice(more.as_slice())?)
 }

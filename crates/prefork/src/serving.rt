@@ -1,7 +1,7 @@
 //! `supervise`, `adopt` and `child`: masters and workers that run.
 ghost use Rattle.std.specs.Prelude.{◌≡◌, option_map};
 ghost use Rattle.prefork.specs.Faults.{supervisor_fault};
-ghost use Rattle.prefork.specs.Refusals.{IsDeclined, IsNext, IsRefusalFor};
+ghost use Rattle.prefork.specs.Refusals.{IsDeclined, IsNext};
 
 use child_processes::OsFamily;
 use child_programs::{Served, serve_master, serve_worker};
@@ -9,13 +9,12 @@ use command_line::{AdoptOptions, SuperviseOptions};
 use faults::Fault;
 use log::sink::Writer;
 use log::{LevelFilter, Logged};
-use master_config::{Config, ConfigRefusal};
-use rehearsal::settings_in;
+use master_config::{ConfigRefusal, config_in, settings_in};
 use std::alloc::Global;
+use std::env;
 use std::io::{Read, Write};
 use std::process::Processes;
 use std::rt::Files;
-use std::{env, fs};
 use supervisor::{NextRefusal, NextSettings, Start, SupervisorFault, supervise_on};
 use vocabulary::Settings;
 use word_runner::CodeText;
@@ -34,32 +33,23 @@ impl<R: AllocGlobal + Files> NextSettings for NextFile<'_, R> {
     fn read(&mut self) -> Result<Settings, NextRefusal> {
         match settings_in(self.rt, self.path, Settings::plain()) {
             Ok(settings) => Ok(settings),
-            Err(fault) => Err(refusal_for(self.rt.alloc(), &fault)),
+            Err(refusal) => Err(declined(self.rt.alloc(), &refusal)),
         }
     }
 }
 
-/// Why settings that can't be had are not taken up.
-fn refusal_for(alloc: Global, fault: &Fault) -> NextRefusal
-    ensures { IsRefusalFor fault.now result }
-{
-    match fault {
-        Fault::Config(refusal) => declined(alloc, refusal),
-        Fault::Memory => NextRefusal::Memory,
-        _ => NextRefusal::Unreadable,
-    }
-}
-
-/// Why a configuration is not taken up: want of memory, or its code with what it is about.
+/// Why a configuration is not taken up: want of memory, a file that can't be read, or the code of its refusal with what
+/// that is about.
 fn declined(alloc: Global, refusal: &ConfigRefusal) -> NextRefusal
     ensures { IsDeclined refusal.now result }
 {
-    if matches!(refusal, ConfigRefusal::Memory) {
-        return NextRefusal::Memory;
-    }
-    match format!(in alloc; "{refusal}") {
-        Ok(code) => NextRefusal::Refused(CodeText::long(code)),
-        Err(_) => NextRefusal::Memory,
+    match refusal {
+        ConfigRefusal::Memory => NextRefusal::Memory,
+        ConfigRefusal::Unreadable => NextRefusal::Unreadable,
+        _ => match format!(in alloc; "{refusal}") {
+            Ok(code) => NextRefusal::Refused(CodeText::long(code)),
+            Err(_) => NextRefusal::Memory,
+        },
     }
 }
 
@@ -104,15 +94,6 @@ fn fault_of(fault: SupervisorFault) -> Fault
         SupervisorFault::Memory => Fault::Memory,
         SupervisorFault::File => Fault::File,
     }
-}
-
-/// The configuration of the start; the defaults where no file is named.
-fn config_in<R: AllocGlobal + Files>(rt: &R, path: Option<&str>) -> Result<Config, Fault> {
-    let text = match path {
-        Some(path) => fs::read(rt, path)?,
-        None => Vec::new(rt.alloc()),
-    };
-    Ok(master_config::read(rt.alloc(), text.as_slice())?)
 }
 
 /// `adopt`: the new master of an upgrade. Its workers are the program that is named, or its own executable. `number` is

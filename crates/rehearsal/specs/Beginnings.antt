@@ -1,10 +1,10 @@
 -- How a master on the modelled kernel begins, as options say.
 use Rattle.std.specs.Prelude.{◌≡◌, ◌⊎◌, ℕ, List, Option, Some, None}
 use Rattle.listener_set.specs.AddressText.{reading}
-use Rattle.command_line.specs.Arguments as arguments
 use Rattle.faults.specs.declared.fault.Fault.{Fault}
 use Rattle.faults.specs.Faults.{IsDue}
 use Rattle.rehearsal.specs.declared.rehearsal.Rehearsal.{Rehearsal}
+use Rattle.rehearsal.specs.declared.start.Setup.{Setup}
 use Rattle.rehearsal.specs.declared.start.Start.{Start}
 use Rattle.rehearsal.specs.Starts.{IsStart, IsOfStart, IsStarted, record_at}
 use Rattle.rehearsal.specs.Rehearsals.{Held, IsOfHeld}
@@ -19,14 +19,14 @@ abbrev pub IsOfNamed : Option (List ℕ) → Rehearsal → Fault → Type 0
 IsOfNamed None old fault = ⊥
 IsOfNamed (Some text) old fault = IsOfHeld (reading text) old.standing.world fault
 
--- The master of a start that the options ask for, on a kernel where somebody holds the address that is named.
-pub record HasBegun (options : arguments.Start) (held : Option (List ℕ)) (it : Rehearsal) : Type 0 where
+-- The master of a start that is asked for, on a kernel where somebody holds the address that is named.
+pub record HasBegun (setup : Setup) (held : Option (List ℕ)) (it : Rehearsal) : Type 0 where
   pub start : Start
-  pub is_read : IsStart options start
+  pub is_read : IsStart setup start
   pub before : Rehearsal
   pub is_started : IsStarted start before
   pub is_held : HoldsNamed held before it
 
 -- Why it can't begin: the start can't be read; no master can start so; or nobody can hold the address.
-abbrev pub IsOfBeginning : arguments.Start → Option (List ℕ) → Fault → Type 0
-IsOfBeginning options held fault = IsOfStart options fault ⊎ ((start : Start) × IsStart options start × (IsDue (record_at start) fault ⊎ ((it : Rehearsal) × IsStarted start it × IsOfNamed held it fault)))
+abbrev pub IsOfBeginning : Setup → Option (List ℕ) → Fault → Type 0
+IsOfBeginning setup held fault = IsOfStart setup fault ⊎ ((start : Start) × IsStart setup start × (IsDue (record_at start) fault ⊎ ((it : Rehearsal) × IsStarted start it × IsOfNamed held it fault)))

@@ -1,49 +1,36 @@
 -- How a master starts.
-use Rattle.std.specs.Prelude.{◌≡◌, ◌⊎◌, ℕ, nat_lt, ◌||◌, List, [], Option, Some, None, Result, Ok, Err, unwrap_or, if◌then◌else◌}
+use Rattle.std.specs.Prelude.{◌≡◌, ◌⊎◌, ℕ, nat_lt, ◌||◌, List, [], Option, Some, None, Result, Ok, Err, unwrap_or, option_map, if◌then◌else◌}
 use Rattle.listener_set.specs.Numbers.{numbers_below}
 use Rattle.vocabulary.specs.Settings.{Settings, plain_settings}
 use Rattle.vocabulary.specs.declared.table.Limits.{Limits}
 use Rattle.definitions.specs.Record.{Record, started}
 use Rattle.definitions.specs.Start.{booted}
 use Rattle.worker_table.specs.Beats.{Workers, followed}
-use Rattle.master_config.specs.Configuration.{Configuration, IsReadingOf}
-use Rattle.command_line.specs.Arguments as arguments
+use Rattle.master_config.specs.Files.{AreNamed, IsRefusalOf}
+use Rattle.master_config.specs.declared.refusal.ConfigRefusal.{ConfigRefusal}
 use Rattle.faults.specs.declared.fault.Fault.{Fault}
-use Rattle.faults.specs.declared.fault.Fault.TheVariants.{Boot, Config}
-use Rattle.faults.specs.Faults.{IsOfFile}
+use Rattle.faults.specs.declared.fault.Fault.TheVariants.{Boot}
+use Rattle.faults.specs.Faults.{config_fault}
 use Rattle.kernel_model.specs.declared.boot.BootRefusal.TheVariants.{BadLimits}
+use Rattle.rehearsal.specs.declared.start.Setup.{Setup}
 use Rattle.rehearsal.specs.declared.start.Start.{Start}
 use Rattle.rehearsal.specs.declared.rehearsal.Rehearsal.{Rehearsal}
 
--- settings that a text of a file says
-pub record AreConfigured (settings : Settings) : Type 0 where
-  pub text : List ℕ
-  pub config : Configuration
-  pub is_read : IsReadingOf text (Ok config)
-  pub are_its : settings ≡ config.settings
-
--- those of the file that is named, and others where none is
-abbrev pub AreNamed : Option (List ℕ) → Settings → Settings → Type 0
-AreNamed None others settings = settings ≡ others
-AreNamed (Some path) others settings = AreConfigured settings
-
--- Why the settings of a file can't be had: it is named, and a text is no configuration, or else the read failed or memory is wanted.
+-- Why the settings of a file can't be had: the file that is named has no configuration.
 abbrev pub IsOfSettings : Option (List ℕ) → Fault → Type 0
-IsOfSettings None fault = ⊥
-IsOfSettings (Some path) (Config refusal) = (text : List ℕ) × IsReadingOf text (Err refusal)
-IsOfSettings (Some path) fault = IsOfFile fault
+IsOfSettings path fault = (refusal : ConfigRefusal) × IsRefusalOf path refusal × (fault ≡ config_fault refusal)
 
--- How a master starts that options ask for: the settings of the files, or the plain ones and those of the start; as many workers
+-- How a master starts that is asked for: the settings of the files, or the plain ones and those of the start; as many workers
 -- as an option says, or else the start's settings; and none of them runs where the start is bare.
-pub record IsStart (options : arguments.Start) (start : Start) : Type 0 where
-  pub settings : AreNamed options.from plain_settings start.settings
-  pub next : AreNamed options.to start.settings start.next
-  pub wanted : start.wanted ≡ unwrap_or options.workers start.settings.workers
-  pub running : start.running ≡ (if options.bare then 0 else start.wanted)
+pub record IsStart (setup : Setup) (start : Start) : Type 0 where
+  pub settings : AreNamed (option_map (λ text. text.now) setup.from) plain_settings start.settings
+  pub next : AreNamed (option_map (λ text. text.now) setup.to) start.settings start.next
+  pub wanted : start.wanted ≡ unwrap_or setup.workers start.settings.workers
+  pub running : start.running ≡ (if setup.bare then 0 else start.wanted)
 
 -- Why a start can't be read: the settings of one of its files can't be had.
-abbrev pub IsOfStart : arguments.Start → Fault → Type 0
-IsOfStart options fault = IsOfSettings options.from fault ⊎ IsOfSettings options.to fault
+abbrev pub IsOfStart : Setup → Fault → Type 0
+IsOfStart setup fault = IsOfSettings (option_map (λ text. text.now) setup.from) fault ⊎ IsOfSettings (option_map (λ text. text.now) setup.to) fault
 
 -- what the master knows of itself at first
 abbrev pub first_record : Start → Record

@@ -1,23 +1,21 @@
-//! How a master on the modelled kernel begins: as options and files say.
+//! How a master on the modelled kernel begins: as is asked, and as files say.
 ghost use Rattle.std.specs.Prelude.{IfOk, IfErr, OnOk, option_map};
-ghost use Rattle.command_line.specs.Arguments.{start_of};
 ghost use Rattle.rehearsal.specs.Beginnings.{HasBegun, HoldsNamed, IsOfBeginning, IsOfNamed};
 
-use crate::{Rehearsal, Start};
-use command_line::StartOptions;
+use crate::{Rehearsal, Setup, Start};
 use faults::Fault;
 use std::rt::Files;
 
 /// Reads the files and boots the master, and lets a foreign process hold the address that is named.
 pub fn begin<R: AllocGlobal + Files>(
     rt: &R,
-    options: &StartOptions<'_>,
+    setup: &Setup<'_>,
     held: Option<&str>,
 ) -> Result<Rehearsal, Fault>
-    ensures ok { IfOk result (HasBegun (start_of options.now) (option_map (λ text. text.now) held.entry)) }
-    ensures err { IfErr result (IsOfBeginning (start_of options.now) (option_map (λ text. text.now) held.entry)) }
+    ensures ok { IfOk result (HasBegun setup.now (option_map (λ text. text.now) held.entry)) }
+    ensures err { IfErr result (IsOfBeginning setup.now (option_map (λ text. text.now) held.entry)) }
 {
-    let start = Start::read(rt, options)?;
+    let start = Start::read(rt, setup)?;
     let mut rehearsal = Rehearsal::start(rt.alloc(), &start)?;
     hold(&mut rehearsal, held)?;
     Ok(rehearsal)

@@ -4,6 +4,7 @@
 
 mod beginning;
 mod certifying;
+mod enacting;
 mod exploring;
 mod planning;
 mod rehearsal;
@@ -11,7 +12,8 @@ mod start;
 
 pub use beginning::begin;
 pub use certifying::certify_all;
+pub use enacting::{rehearse, show_state};
 pub use exploring::Explored;
 pub use planning::{Form, Outlook, look_ahead, told};
 pub use rehearsal::Rehearsal;
-pub use start::{Start, settings_in};
+pub use start::{Setup, Start};

@@ -1,18 +1,29 @@
 //! How a master starts: its configuration, and the one that a reload goes over to.
-ghost use Rattle.std.specs.Prelude.{◌≡◌, IfOk, IfErr, option_map};
-ghost use Rattle.command_line.specs.Arguments.{start_of};
-ghost use Rattle.rehearsal.specs.Starts.{AreNamed, IsOfSettings, IsOfStart, IsStart, record_at, silent_workers};
+ghost use Rattle.std.specs.Prelude.{◌≡◌, IfOk, IfErr};
+ghost use Rattle.rehearsal.specs.Starts.{IsOfStart, IsStart, record_at, silent_workers};
 
-use command_line::StartOptions;
 use faults::Fault;
 use kernel_model::BootRefusal;
 use listener_set::{Numbers, WORKER_LIMIT};
+use master_config::settings_in;
 use service_state::Record;
 use std::alloc::{AllocError, Global};
-use std::fs;
 use std::rt::Files;
 use vocabulary::Settings;
 use worker_table::WorkerTable;
+
+/// What a start is asked for: the files that it reads, and how many workers it has.
+#[derive(Clone, Copy)]
+pub struct Setup<'a> {
+    /// The file of the settings. Without it the defaults hold.
+    pub from: Option<&'a str>,
+    /// The file of the settings that HUP and USR2 go over to. Without it they are those of the start.
+    pub to: Option<&'a str>,
+    /// How many workers are wanted. Without it the settings say so.
+    pub workers: Option<u32>,
+    /// No worker runs at first, however many are wanted.
+    pub bare: bool,
+}
 
 /// What the files and options of a start say.
 #[derive(Clone, Copy)]
@@ -30,18 +41,18 @@ pub struct Start {
 impl Start {
     /// Reads the files, that of the start first. Without one the defaults hold; the start's
     /// settings are taken up again where no other file is named.
-    pub fn read<R: AllocGlobal + Files>(rt: &R, options: &StartOptions<'_>) -> Result<Start, Fault>
-        ensures ok { IfOk result (IsStart (start_of options.now)) }
-        ensures err { IfErr result (IsOfStart (start_of options.now)) }
+    pub fn read<R: AllocGlobal + Files>(rt: &R, setup: &Setup<'_>) -> Result<Start, Fault>
+        ensures ok { IfOk result (IsStart setup.now) }
+        ensures err { IfErr result (IsOfStart setup.now) }
     {
-        let settings = settings_in(rt, options.from, Settings::plain())?;
-        let next = settings_in(rt, options.to, settings)?;
-        let wanted = options.workers.unwrap_or(settings.workers);
+        let settings = settings_in(rt, setup.from, Settings::plain())?;
+        let next = settings_in(rt, setup.to, settings)?;
+        let wanted = setup.workers.unwrap_or(settings.workers);
         Ok(Start {
             settings,
             next,
             wanted,
-            running: if options.bare { 0 } else { wanted },
+            running: if setup.bare { 0 } else { wanted },
         })
     }
 
@@ -64,21 +75,4 @@ pub(crate) fn silent_workers(alloc: Global, state: &Record) -> Result<WorkerTabl
     let mut workers = WorkerTable::new(alloc)?;
     workers.follow(&state.ready, &Numbers::none());
     Ok(workers)
-}
-
-/// The settings of a file, where one is named.
-pub fn settings_in<R: AllocGlobal + Files>(
-    rt: &R,
-    path: Option<&str>,
-    without: Settings,
-) -> Result<Settings, Fault>
-    ensures ok { IfOk result (AreNamed (option_map (λ text. text.now) path.entry) without) }
-    ensures err { IfErr result (IsOfSettings (option_map (λ text. text.now) path.entry)) }
-{
-    let Some(path) = path else {
-        return Ok(without);
-    };
-    let text = fs::read(rt, path)?;
-    let config = master_config::read(rt.alloc(), text.as_slice())?;
-    Ok(config.settings)
 }

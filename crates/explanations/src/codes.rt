@@ -1,5 +1,5 @@
 //! `explain`: what the codes mean.
-use explanations::{Explanation, FAULTS, WORDS, explanation_of};
+use crate::{Explanation, FAULTS, WORDS, explanation_of};
 use faults::Fault;
 use std::alloc::{AllocError, Global};
 
