@@ -113,8 +113,10 @@ def shown_name(function):
     """The end of a function's name as a check prints it."""
     if not function.block:
         return "::".join([*function.module[-1:], function.name])
-    trait = bodies.named(function.block.trait)[0] if function.in_trait else ""
-    return f"{bodies.named(function.block.ty)[0]}{trait}::{function.name}"
+    # (that of `impl From<S> for X` is `XFromS::from`)
+    trait, _, inside = bodies.named(function.block.trait) if function.in_trait else ("", "", [])
+    given = "".join(bodies.named(it)[0] for it in inside)
+    return f"{bodies.named(function.block.ty)[0]}{trait}{given}::{function.name}"
 
 
 def is_stale(output):
