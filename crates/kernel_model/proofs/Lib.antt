@@ -10,4 +10,4 @@ pub mod Room
 pub mod Booting
 pub mod Reading
 pub mod Serving
-pub mod Listening
+pub mod HeldListeners

@@ -1,6 +1,6 @@
 use Rattle.std.proofs.Common.{ap, ◌∙◌, Some, nat_eq}
 use Rattle.std.specs.Option.{option_eq}
-use Rattle.kernel_agreement.proofs.Agreement.{first_from-itself}
+use Rattle.kernel_agreement.proofs.Comparing.{first_from-itself}
 use Rattle.kernel_agreement.proofs.agreement.has_number.Goals as goal
 
 pub returns-clause-value : goal.returns-clause-value

@@ -5,7 +5,7 @@ use Rattle.definitions.specs.Calls.{shared}
 use Rattle.definitions.specs.Crew.{fds_of}
 use Rattle.definitions.specs.Table.{Generation}
 use Rattle.process_table.specs.Holds.{seen_holds}
-use Rattle.kernel_agreement.proofs.Agreement.{same_sockets}
+use Rattle.kernel_agreement.proofs.Comparing.{same_sockets}
 use Rattle.kernel_agreement.proofs.agreement.is_running.Goals as goal
 
 same_generation : (g h : Generation) → (nat_eq g.image h.image && nat_eq g.config h.config) ≡ true → g ≡ h

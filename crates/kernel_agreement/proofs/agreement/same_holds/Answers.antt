@@ -1,5 +1,5 @@
 use Rattle.std.proofs.Common.{refl, arith}
-use Rattle.kernel_agreement.proofs.Agreement.{same_pairs}
+use Rattle.kernel_agreement.proofs.Comparing.{same_pairs}
 use Rattle.kernel_agreement.proofs.agreement.same_holds.Goals as goal
 
 pub returns : goal.returns

@@ -13,7 +13,7 @@ use Rattle.process_table.specs.declared.process.Holder.{Holder}
 use Rattle.process_table.specs.Holds.{seen_hold, seen_holds}
 use Rattle.kernel_agreement.specs.declared.agreement.Running.{Running}
 use Rattle.process_table.specs.Seen.{seen_holder, seen_rows}
-use Rattle.kernel_model.proofs.Listening.{drop-item}
+use Rattle.kernel_model.proofs.HeldListeners.{drop-item}
 use Rattle.kernel_agreement.specs.Agreement.{running, MasterAgrees, WorkersAgree}
 
 ---- Numbers
