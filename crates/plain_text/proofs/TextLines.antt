@@ -3,7 +3,7 @@ use Rattle.std.proofs.Common.{◌≡◌, ℕ, ◌==◌, eqb, ◌⊎◌, Bool, tr
 use Rattle.std.proofs.lemmas.Bool.Decides.{nat_tests}
 use Rattle.plain_text.proofs.NumberTextLemmas.{both}
 use Rattle.plain_text.proofs.CutTexts.{lacks}
-use Rattle.call_text.specs.Lines.{onto_first, lines_of}
+use Rattle.plain_text.specs.Lines.{onto_first, lines_of}
 
 -- lines, each with its newline
 abbrev pub ended_lines : List (List ℕ) → List ℕ

@@ -5,7 +5,7 @@ use Rattle.std.proofs.lemmas.List.{length-drop}
 use Rattle.std.proofs.lemmas.Bool.{cases_Bool}
 use Rattle.plain_text.specs.Cuts.{cut}
 use Rattle.plain_text.proofs.CutTexts.{with_first, cut-cons, cut_parts, cut_missing}
-use Rattle.call_text.specs.Lines.{lines_of}
+use Rattle.plain_text.specs.Lines.{lines_of}
 
 -- what a cut at a newline says of the lines
 abbrev AreLines : List ℕ → Option (List ℕ × List ℕ) → Type 0

@@ -1,19 +1,19 @@
 -- What is said to children, and what their answers mean.
 use Rattle.std.specs.Prelude.{ℕ, Bool, true, false, List, [], ◌∷◌, ◌++◌, Option, None, bytes_eq, codes, option_and_then}
 use Rattle.std.specs.Fmt.{decimal}
-use Rattle.definitions.specs.Table.{Address, Generation}
-use Rattle.definitions.specs.Handover.{after_prefix}
+use Rattle.listener_set.specs.declared.generation.Generation.{Generation}
+use Rattle.listener_set.specs.GenerationText.{generation_text}
+use Rattle.plain_text.specs.Cuts.{after_prefix}
 use Rattle.plain_text.specs.NumberText.{number_of}
-use Rattle.call_text.specs.CallText.{worker_text}
 use Rattle.child_family.specs.Told.{Hearing, line, too_long, ended}
 
 abbrev pub worker_line : Generation → ℕ → ℕ → List ℕ
-worker_line g nr start = codes "worker " ++ worker_text g nr ++ 32 ∷ decimal start
+worker_line g nr start = codes "worker " ++ (generation_text g ++ 32 ∷ decimal nr) ++ 32 ∷ decimal start
 
-abbrev pub listener_line : Address → List ℕ
+abbrev pub listener_line : List ℕ → List ℕ
 listener_line a = codes "listener " ++ a
 
-abbrev pub close_line : Address → List ℕ
+abbrev pub close_line : List ℕ → List ℕ
 close_line a = codes "close " ++ a
 
 abbrev pub tick_line : ℕ → List ℕ

@@ -1,8 +1,8 @@
 //! Lines of texts.
 ghost use Rattle.std.specs.Prelude.{◌≡◌, ◌<◌, ◌∷◌, length};
-ghost use Rattle.call_text.specs.Lines.{lines_of};
+ghost use Rattle.plain_text.specs.Lines.{lines_of};
 
-use plain_text::around;
+use crate::cuts::around;
 
 /// The first line of a text, without its newline, and what stands behind it.
 pub fn first_line(text: &[u8]) -> (&[u8], &[u8])

@@ -1,7 +1,7 @@
 use Rattle.std.proofs.Common.{◌∷◌, ◌<◌, length, sym, subst, ◌∙◌}
-use Rattle.call_text.specs.Lines.{lines_of}
-use Rattle.call_text.proofs.LineTexts.{lines_around, behind_shorter}
-use Rattle.call_text.proofs.lines.first_line.Goals as goal
+use Rattle.plain_text.specs.Lines.{lines_of}
+use Rattle.plain_text.proofs.LineTexts.{lines_around, behind_shorter}
+use Rattle.plain_text.proofs.lines.first_line.Goals as goal
 
 pub returns-clause-line : goal.returns-clause-line
 returns-clause-line c =
