@@ -1,8 +1,9 @@
 -- Forks are read as they are written.
-use Rattle.std.proofs.Common.{◌≡◌, ◌≢◌, ℕ, ◌+◌, ◌<◌, ◌≤◌, leb, ltb, Bool, true, false, List, [], ◌∷◌, ◌++◌, Option, Some, None, refl, sym, ap, subst, ◌∙◌, arith, append_assoc}
-use Rattle.std.specs.Prelude.{codes, option_map, option_and_then}
+use Rattle.std.proofs.Common.{◌≡◌, ℕ, ◌+◌, ◌<◌, ◌≤◌, leb, ltb, Bool, true, false, List, [], ◌∷◌, ◌++◌, Option, Some, None, refl, sym, ap, subst, ◌∙◌, arith, append_assoc, true≢false}
+use Rattle.std.specs.Prelude.{codes, option_map, option_and_then, IfSome, IsSome, ◌↔◌}
 use Rattle.std.specs.Fmt.{decimal}
 use Rattle.std.specs.List.{All, list_all}
+use Rattle.std.proofs.lemmas.Bool.{both_ways}
 use Rattle.std.proofs.lemmas.Bool.Decides.{nat_tests}
 use Rattle.std.proofs.lemmas.List.Sums.{AllPass-from_list_all, list_all-from_AllPass}
 use Rattle.listener_set.specs.declared.generation.Generation.{Generation}
@@ -18,7 +19,7 @@ use Rattle.call_text.specs.CallText.{forked_text}
 use Rattle.call_text.specs.Ranges.{IsGeneration, IsWorkerNumber, IsShare}
 use Rattle.call_text.specs.Reading.{some_if, joined, behind, worker_number, generation_of}
 use Rattle.call_text.specs.SetReading.{set_of}
-use Rattle.call_text.specs.CallReading.{is_descriptor, some_descriptors, descriptors_of, named_from, named_of}
+use Rattle.call_text.specs.CallReading.{is_descriptor, all_descriptors, descriptors_of, named_from, named_of}
 use Rattle.call_text.proofs.Readers.{IsReader, mapped, then, chosen, joined_reads, behind_found, behind_at, worker_number_reads}
 use Rattle.call_text.proofs.PartTexts.{number_lacks, generation_lacks, generation_reads}
 use Rattle.call_text.proofs.SetTexts.{set_reads}
@@ -63,30 +64,24 @@ all_ones (n ∷ ns) low from rising below =
     rw (is_one n (omega (arith, from, rising.0), below.0)) (all_ones ns (n + 1) (omega (arith, from, rising.0)) rising.1 below.1)
 
 -- ---- a set of descriptors
-abbrev pub AreSome : List ℕ → Type 0
-AreSome fds = AreDescriptorNumbers fds × (fds ≢ [])
-
-pub descriptors_reads : IsReader AreSome set_text descriptors_of
-descriptors_reads = record { found = found; only = λ fds h. ap (option_and_then some_descriptors) (set_reads.only fds (are_numbers fds h.0)) ∙ again fds h }
+pub descriptors_reads : IsReader AreDescriptorNumbers set_text descriptors_of
+descriptors_reads = record { found = found; only = λ fds h. ap (option_and_then all_descriptors) (set_reads.only fds (are_numbers fds h)) ∙ again fds h }
   where
-    some_found : (ns fds : List ℕ) → some_descriptors ns ≡ Some fds → AreNumbers 1024 ns → AreSome fds × (ns ≡ fds)
-    some_found [] fds e are = let none : Option (List ℕ) = None in let no : none ≡ Some fds = e in absurd cc
-    some_found (n ∷ ns) fds e are =
-        let is = chosen (list_all is_descriptor (n ∷ ns)) (n ∷ ns) fds e in
-        let some : (n ∷ ns) ≢ [] = (λ empty. let nothing : List ℕ = [] in let no : n ∷ ns ≡ nothing = empty in cc) in
-        let S : List ℕ → Type 0 = λ fds. AreSome fds × ((n ∷ ns) ≡ fds) in
-        subst S is.1 ((record { rising = rises (n ∷ ns) is.0 are.rising; below = all_below (n ∷ ns) is.0 }, some), refl)
+    all_found : (ns fds : List ℕ) → all_descriptors ns ≡ Some fds → AreNumbers 1024 ns → AreDescriptorNumbers fds × (ns ≡ fds)
+    all_found ns fds e are =
+        let is = chosen (list_all is_descriptor ns) ns fds e in
+        let S : List ℕ → Type 0 = λ fds. AreDescriptorNumbers fds × (ns ≡ fds) in
+        subst S is.1 (record { rising = rises ns is.0 are.rising; below = all_below ns is.0 }, refl)
 
-    found : (text fds : List ℕ) → descriptors_of text ≡ Some fds → AreSome fds × (text ≡ set_text fds)
+    found : (text fds : List ℕ) → descriptors_of text ≡ Some fds → AreDescriptorNumbers fds × (text ≡ set_text fds)
     found text fds e =
-        let ns = then some_descriptors (set_of text) fds e in
+        let ns = then all_descriptors (set_of text) fds e in
         let got = set_reads.found text ns.0 ns.1 in
-        let is = some_found ns.0 fds ns.2 got.0 in
+        let is = all_found ns.0 fds ns.2 got.0 in
         (is.0, got.1 ∙ ap set_text is.1)
 
-    again : (fds : List ℕ) → AreSome fds → some_descriptors fds ≡ Some fds
-    again [] h = absurd (h.1 refl)
-    again (n ∷ ns) h = ap (λ b. some_if b (n ∷ ns)) (all_ones (n ∷ ns) 3 (omega arith) h.0.rising h.0.below)
+    again : (fds : List ℕ) → AreDescriptorNumbers fds → all_descriptors fds ≡ Some fds
+    again fds h = ap (λ b. some_if b fds) (all_ones fds 3 (omega arith) h.rising h.below)
 
 -- ---- a new worker's number and its descriptors
 abbrev pub named_text : ℕ → Option (List ℕ) → List ℕ
@@ -142,14 +137,11 @@ forked_text_is g nr None = refl
 forked_text_is g nr (Some fds) = sym (append_assoc (generation_text g) (32 ∷ decimal nr) (codes " fds " ++ set_text fds))
 
 -- ---- numbers that make a set of descriptors
-pub no_set : (ns : List ℕ) → (All IsDescriptor ns → ⊥) → None ≡ some_descriptors ns
-no_set [] h = refl
-no_set (n ∷ ns) h = at (list_all is_descriptor (n ∷ ns)) refl
+pub set_made : (ns : List ℕ) (o : Option (List ℕ)) → IfSome o (λ set. set ≡ ns) → (IsSome o ↔ All IsDescriptor ns) → o ≡ all_descriptors ns
+set_made ns o is made = at (list_all is_descriptor ns) refl o is made
   where
-    at : (b : Bool) → list_all is_descriptor (n ∷ ns) ≡ b → None ≡ some_descriptors (n ∷ ns)
-    at true e = absurd (h (λ k d lt. descriptor _ (AllPass-from_list_all is_descriptor (n ∷ ns) e k d lt)))
-    at false e = sym (ap (λ b. some_if b (n ∷ ns)) e)
-
-pub a_set : (ns : List ℕ) → ns ≢ [] → All IsDescriptor ns → Some ns ≡ some_descriptors ns
-a_set [] some all = absurd (some refl)
-a_set (n ∷ ns) some all = sym (ap (λ b. some_if b (n ∷ ns)) (list_all-from_AllPass is_descriptor (n ∷ ns) (λ k d lt. is_one _ (all k d lt))))
+    at : (b : Bool) → list_all is_descriptor ns ≡ b → (o : Option (List ℕ)) → IfSome o (λ set. set ≡ ns) → (IsSome o ↔ All IsDescriptor ns) → o ≡ all_descriptors ns
+    at true e None is made = absurd (true≢false (sym (made.1 (λ k d lt. descriptor _ (AllPass-from_list_all is_descriptor ns e k d lt)))))
+    at true e (Some set) is made = ap Some is ∙ sym (ap (λ b. some_if b ns) e)
+    at false e None is made = sym (ap (λ b. some_if b ns) e)
+    at false e (Some set) is made = absurd (both_ways (list_all is_descriptor ns) e (list_all-from_AllPass is_descriptor ns (λ k d lt. is_one _ (made.0 refl k d lt))))

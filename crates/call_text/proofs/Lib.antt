@@ -8,6 +8,4 @@ pub mod ShortfallTexts
 pub mod AnswerTexts
 pub mod NameTexts
 pub mod ReportTexts
-pub mod LineTexts
 pub mod ShortTexts
-pub mod TextLines

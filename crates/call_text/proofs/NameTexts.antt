@@ -9,12 +9,13 @@ use Rattle.vocabulary.specs.declared.names.Name.{Name}
 use Rattle.vocabulary.specs.declared.names.Name.TheVariants as name
 use Rattle.vocabulary.specs.declared.calls.Fate.{Fate}
 use Rattle.vocabulary.specs.declared.calls.Fate.TheVariants as fate
+use Rattle.vocabulary.specs.Fates.{all_fates}
 use Rattle.call_text.specs.Words.{fate_text}
 use Rattle.call_text.specs.NameText.{worker_name, name_text}
 use Rattle.call_text.specs.Reads.{Reads}
 use Rattle.call_text.specs.Ranges.{IsNumber, IsWorkerNumber, IsWorker, IsName}
 use Rattle.call_text.specs.Reading.{joined, worker_number}
-use Rattle.call_text.specs.NameReading.{three_of, worker_from, worker_name_of, name_of, all_fates, fate_of}
+use Rattle.call_text.specs.NameReading.{three_of, worker_from, worker_name_of, name_of, fate_of}
 use Rattle.call_text.proofs.Readers.{IsReader, reads, mapped, joined_reads, mapped_reads, find_found, number_reads, worker_number_reads}
 use Rattle.call_text.proofs.PartTexts.{number_lacks}
 

@@ -45,13 +45,13 @@ verb_of text = find (is_verb text) all_verbs
 abbrev pub is_descriptor : ℕ → Bool
 is_descriptor n = nat_le 3 n && nat_lt n 67
 
--- descriptors, of which there is one at least
-abbrev pub some_descriptors : List ℕ → Option (List ℕ)
-some_descriptors [] = None
-some_descriptors (n ∷ ns) = some_if (list_all is_descriptor (n ∷ ns)) (n ∷ ns)
+-- numbers, where all of them are descriptors
+abbrev pub all_descriptors : List ℕ → Option (List ℕ)
+all_descriptors ns = some_if (list_all is_descriptor ns) ns
 
+-- a set of descriptors, which may have none
 abbrev pub descriptors_of : List ℕ → Option (List ℕ)
-descriptors_of text = set_of text >>= some_descriptors
+descriptors_of text = set_of text >>= all_descriptors
 
 -- the number of a new worker, and the descriptors that it gets, where they are named behind it
 abbrev pub named_from : List ℕ → Option (List ℕ × List ℕ) → Option (ℕ × Option (List ℕ))

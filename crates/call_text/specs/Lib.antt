@@ -11,5 +11,4 @@ pub mod AnswerReading
 pub mod NameText
 pub mod NameReading
 pub mod ReportReading
-pub mod Lines
 pub mod Codes

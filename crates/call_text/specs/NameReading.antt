@@ -5,7 +5,7 @@ use Rattle.listener_set.specs.declared.generation.Generation.{Generation}
 use Rattle.vocabulary.specs.declared.names.Name.{Name}
 use Rattle.vocabulary.specs.declared.names.Name.TheVariants as name
 use Rattle.vocabulary.specs.declared.calls.Fate.{Fate}
-use Rattle.vocabulary.specs.declared.calls.Fate.TheVariants as fate
+use Rattle.vocabulary.specs.Fates.{all_fates}
 use Rattle.call_text.specs.Words.{fate_text}
 use Rattle.call_text.specs.Reading.{joined, worker_number}
 
@@ -29,9 +29,6 @@ name_of (c ∷ cs) =
 
 abbrev pub is_fate : List ℕ → Fate → Bool
 is_fate text f = bytes_eq (fate_text f) text
-
-abbrev pub all_fates : List Fate
-all_fates = fate.InUse ∷ fate.TooMany ∷ fate.Denied ∷ fate.NoMemory ∷ fate.Again ∷ fate.Late ∷ fate.NoImage ∷ fate.Refused ∷ fate.IoFault ∷ fate.Back ∷ []
 
 -- the fate with a word
 abbrev pub fate_of : List ℕ → Option Fate

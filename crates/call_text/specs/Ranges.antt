@@ -1,5 +1,5 @@
 -- The values that have a text which is read.
-use Rattle.std.specs.Prelude.{⊤, ℕ, ◌≡◌, ◌≢◌, ◌≤◌, ◌<◌, ◌^◌, true, ◌⊎◌, List, [], ◌++◌, length, Option, Some, None, codes}
+use Rattle.std.specs.Prelude.{⊤, ℕ, ◌≡◌, ◌≤◌, ◌<◌, ◌^◌, true, ◌⊎◌, List, [], ◌++◌, length, Option, Some, None, codes}
 use Rattle.std.specs.List.{sum}
 use Rattle.listener_set.specs.declared.generation.Generation.{Generation}
 use Rattle.listener_set.specs.AddressText.{IsAddress}
@@ -39,10 +39,10 @@ IsName (name.Master i) = IsNumber i
 abbrev pub IsPath : List ℕ → Type 0
 IsPath path = (is_path path ≡ true) ⊎ ((stem : List ℕ) × (is_path stem ≡ true) × (path ≡ stem ++ codes ".oldbin"))
 
--- the descriptors that a new worker gets: all of its master's, or ascending ones from 3 to 66, of which there is one at least
+-- the descriptors that a new worker gets: all of its master's, or a set of ascending ones from 3 to 66
 abbrev pub IsShare : Option (List ℕ) → Type 0
 IsShare None = ⊤
-IsShare (Some fds) = AreDescriptorNumbers fds × (fds ≢ [])
+IsShare (Some fds) = AreDescriptorNumbers fds
 
 abbrev pub IsCall : Call → Type 0
 IsCall (OpenAt a) = IsAddress a

@@ -1,26 +1,19 @@
 //! Forks, read.
 ghost use Rattle.std.specs.Prelude.{◌≡◌};
-ghost use Rattle.call_text.specs.CallReading.{some_descriptors, descriptors_of, named_of, fork_of};
+ghost use Rattle.call_text.specs.CallReading.{descriptors_of, named_of, fork_of};
 
 use crate::parts::{behind, read_generation, read_worker_number};
 use crate::sets::read_numbers;
-use listener_set::{DescriptorSet, Numbers};
+use listener_set::DescriptorSet;
 use plain_text::cut;
 use vocabulary::Call;
 
-/// A set of descriptors, where the numbers are all descriptors and there is one at least.
-fn some_descriptors(numbers: &Numbers) -> Option<DescriptorSet>
-    ensures { result ≡ some_descriptors numbers.now }
-{
-    let set = DescriptorSet::of(numbers)?;
-    if set.is_empty() { None } else { Some(set) }
-}
-
+/// A set of descriptors.
 fn read_descriptors(text: &[u8]) -> Option<DescriptorSet>
     ensures { result ≡ descriptors_of text.now }
 {
     let numbers = read_numbers(text)?;
-    some_descriptors(&numbers)
+    DescriptorSet::of(&numbers)
 }
 
 /// The number of a new worker, and the descriptors that it gets, where they are named behind it.

@@ -1,4 +1,4 @@
-//! Texts of calls and their answers, of exits and fates, and of reports; lines of texts.
+//! Texts of calls and their answers, of exits and fates, and of reports.
 //!
 //! Each text is a function to bytes in `specs/`. Writers put it behind what was written before, and
 //! readers accept it and nothing else.
@@ -8,7 +8,6 @@ mod answers;
 mod calls;
 mod ends;
 mod forks;
-mod lines;
 mod names;
 mod parts;
 mod refusal;
@@ -21,7 +20,6 @@ mod words;
 pub use answers::{read_answer, write_answer};
 pub use calls::{write_call, write_order};
 pub use ends::read_report;
-pub use lines::first_line;
 pub use names::{read_fate, read_name, write_name};
 pub use refusal::TextRefusal;
 pub use reports::{write_entry, write_report};

@@ -82,20 +82,6 @@ pub fn read_name(text: &[u8]) -> Option<Name>
     read_any(text)
 }
 
-/// All fates.
-const FATES: [Fate; 10] = [
-    Fate::InUse,
-    Fate::TooMany,
-    Fate::Denied,
-    Fate::NoMemory,
-    Fate::Again,
-    Fate::Late,
-    Fate::NoImage,
-    Fate::Refused,
-    Fate::IoFault,
-    Fate::Back,
-];
-
 fn is_fate(fate: Fate, text: &[u8]) -> bool
     ensures { result ≡ is_fate text.now fate }
 {
@@ -105,7 +91,7 @@ fn is_fate(fate: Fate, text: &[u8]) -> bool
 fn find_fate(text: &[u8]) -> Option<Fate>
     ensures { result ≡ fate_of text.now }
 {
-    FATES.iter().copied().find(|fate| is_fate(*fate, text))
+    Fate::ALL.iter().copied().find(|fate| is_fate(*fate, text))
 }
 
 /// Reads the word of a fate, and no other text. Any bytes may come.

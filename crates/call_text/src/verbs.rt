@@ -156,7 +156,7 @@ fn read_line(text: &[u8]) -> Option<(Actor, Call)>
 
 /// Reads a call as `write_call` writes it, without a newline, and no other text. Images and
 /// configurations are at most 4,294,967,295, a worker's number is below 1024, the descriptors of a
-/// fork, where it names them, are from 3 to 66 and not none, addresses and paths are as
+/// fork, where it names a set of them, are from 3 to 66, addresses and paths are as
 /// `Address::read` and `FilePath::read` accept them, or such a path with `.oldbin` behind it. Any
 /// bytes may come.
 pub fn read_call(text: &[u8]) -> Option<(Actor, Call)>

@@ -10,7 +10,7 @@ use Rattle.vocabulary.specs.declared.table.Listener.{Listener}
 use Rattle.child_edge.specs.Table.{Turn, greeted}
 use Rattle.child_edge.specs.Turns.{GoesOn, Begins}
 use Rattle.child_edge.specs.Each.{says_each, says_lines, stops_each, counts_each, awaits_each, beats_each, beaten, with_beat}
-use Rattle.child_edge.specs.Lines.{is_line, is_going, beat_of, worker_line, listener_line}
+use Rattle.child_family.specs.Lines.{is_line, is_going, beat_of, worker_line, listener_line}
 
 ---- Calls and turns
 

@@ -2,7 +2,7 @@
 use Rattle.std.specs.Prelude.{ℕ, Bool, true, false, List, [], ◌∷◌, ◌++◌, Option, Some, None, codes, if◌then◌else◌}
 use Rattle.child_family.specs.Talk.{Talk, says, hears, stops, awaits}
 use Rattle.child_edge.specs.Workers.{Worker, Who, means, IsReady, with_number_of}
-use Rattle.child_edge.specs.Lines.{is_line, is_going, beat_of}
+use Rattle.child_family.specs.Lines.{is_line, is_going, beat_of}
 
 -- a line to each worker that is meant, in order, whatever becomes of it
 abbrev pub says_each : {A : Type 0} → Who → List ℕ → List Worker → Talk A → Talk A

@@ -1,6 +1,5 @@
 pub mod Workers
 pub mod State
-pub mod Lines
 pub mod Each
 pub mod Table
 pub mod Turns

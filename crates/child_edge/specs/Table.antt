@@ -8,7 +8,7 @@ use Rattle.definitions.specs.Calls.{Call, OpenAt, CloseAt, Fork, AwaitReady, Qui
 use Rattle.vocabulary.specs.declared.calls.Answer.TheVariants as answer
 use Rattle.call_text.specs.CallText.{call_line}
 use Rattle.call_text.specs.AnswerReading.{answer_to}
-use Rattle.call_text.specs.Lines.{lines_of}
+use Rattle.plain_text.specs.Lines.{lines_of}
 use Rattle.child_family.specs.Told.{Hearing, line, too_long, ended}
 use Rattle.child_family.specs.declared.role.Role.TheVariants as role
 use Rattle.child_family.specs.declared.role.StartFault.{StartFault}
@@ -16,7 +16,7 @@ use Rattle.child_family.specs.declared.role.StartFault.TheVariants as fault
 use Rattle.child_family.specs.Talk.{Talk, ends, starts, says, hears, stops, writes, renames, removes}
 use Rattle.child_edge.specs.Workers.{Worker, Any, Serving, ReadyOf, Named, ServingNamed, StartingNamed, ReadyNamed, IsReady, Starting, Ready, Draining, means, in_place, without, without_id, moved, moved_first, without_first, numbers_of}
 use Rattle.child_edge.specs.State.{State, Listener, ChildMaster}
-use Rattle.child_edge.specs.Lines.{worker_line, listener_line, close_line, tick_line, is_line, pid_text}
+use Rattle.child_family.specs.Lines.{worker_line, listener_line, close_line, tick_line, is_line, pid_text}
 use Rattle.child_edge.specs.Each.{says_each, says_lines, says_unless, stops_each, counts_each, awaits_each, beats_each}
 
 -- what an edge does: it ends with what the edge knows then, and the answer

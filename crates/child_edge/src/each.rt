@@ -2,17 +2,16 @@
 ghost use Rattle.std.specs.Prelude.{◌≡◌, ◌≤◌, ◌-◌, ℕ, Bool, List, [], vec_len, vec_capacity, codes, if◌then◌else◌};
 ghost use Rattle.child_family.specs.Told.{Hearing, Tells, heard};
 ghost use Rattle.child_family.specs.Talk.{hears, stops, awaits};
-ghost use Rattle.child_edge.specs.Lines.{is_line, is_going, beat_of};
+ghost use Rattle.child_family.specs.Lines.{is_line, is_going, beat_of};
 ghost use Rattle.child_edge.specs.Each.{says_each, stops_each, counts_each, awaits_each, beats_each, beaten, with_beat};
 ghost use Rattle.child_edge.specs.Table.{Turn};
 ghost use Rattle.child_edge.specs.Workers.{Worker as Listed};
 ghost use Rattle.child_edge.specs.Turns.{Begins, Finds, GoesOn};
 
 use crate::hearing::hears_line;
-use crate::lines::beat_start;
 use crate::who::Who;
 use crate::worker::Worker;
-use child_family::{Family, Heard};
+use child_family::{Family, Heard, beat_start};
 use listener_set::Numbers;
 use plain_text::Line;
 

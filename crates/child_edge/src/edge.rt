@@ -12,12 +12,11 @@ ghost use Rattle.child_edge.specs.Edge.{begun, begun_by, begun_from, start_of, s
 ghost use Rattle.child_edge.specs.Turns.{GoesOn};
 
 use crate::each::{beat_each, say_each};
-use crate::lines::tick_line;
 use crate::state::EdgeState;
 use crate::who::Who;
 use crate::worker::Worker;
 use crate::{own, passing};
-use child_family::Family;
+use child_family::{Family, tick_line};
 use handover_text::{Handover, Listeners};
 use listener_set::Numbers;
 use plan_runner::Calls;

@@ -3,14 +3,13 @@ ghost use Rattle.std.specs.Prelude.{◌≡◌, IsTrue};
 ghost use Rattle.definitions.specs.Tree.{is_listed};
 ghost use Rattle.vocabulary.specs.declared.calls.Call.TheVariants.{WritePid, MovePid, RemovePid};
 ghost use Rattle.child_family.specs.Talk.{writes, renames, removes};
-ghost use Rattle.child_edge.specs.Lines.{pid_text};
+ghost use Rattle.child_family.specs.Lines.{pid_text};
 ghost use Rattle.child_edge.specs.State.{state_of};
 ghost use Rattle.child_edge.specs.Table.{answers, fine_or_fault};
 ghost use Rattle.child_edge.specs.Turns.{GoesOn};
 
-use crate::lines::pid_text;
 use crate::state::EdgeState;
-use child_family::Family;
+use child_family::{Family, pid_text};
 use listener_set::FilePath;
 use vocabulary::Answer;
 

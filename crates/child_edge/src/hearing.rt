@@ -1,7 +1,7 @@
 //! What children are heard to say.
 ghost use Rattle.std.specs.Prelude.{◌≡◌};
 ghost use Rattle.child_family.specs.Told.{Hearing, Tells, heard};
-ghost use Rattle.child_edge.specs.Lines.{is_line};
+ghost use Rattle.child_family.specs.Lines.{is_line};
 
 use child_family::{Family, Heard};
 use plain_text::Line;

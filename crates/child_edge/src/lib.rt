@@ -5,7 +5,6 @@ mod each;
 mod edge;
 mod files;
 mod hearing;
-mod lines;
 mod list;
 mod listening;
 mod masters;
@@ -19,7 +18,6 @@ mod worker;
 mod workers;
 
 pub use edge::Edge;
-pub use lines::pid_text;
 pub use state::{ChildMaster, EdgeState};
 pub use who::Who;
 pub use worker::{Stage, Worker};

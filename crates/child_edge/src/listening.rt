@@ -7,10 +7,9 @@ ghost use Rattle.child_edge.specs.Table.{answers, opening, closing, descriptor_o
 ghost use Rattle.child_edge.specs.Turns.{GoesOn};
 
 use crate::each::say_each;
-use crate::lines::close_line;
 use crate::state::EdgeState;
 use crate::who::Who;
-use child_family::Family;
+use child_family::{Family, close_line};
 use handover_text::Listeners;
 use listener_set::{Address, ListenerSet, MOST_DESCRIPTORS};
 use vocabulary::{Answer, Listener};

@@ -3,7 +3,7 @@ ghost use Rattle.std.specs.Prelude.{◌≡◌, IsTrue, IfSome, if◌then◌else�
 ghost use Rattle.definitions.specs.Tree.{is_listed};
 ghost use Rattle.vocabulary.specs.declared.calls.Answer.{Answer as Answered};
 ghost use Rattle.call_text.specs.CallText.{call_line};
-ghost use Rattle.call_text.specs.Lines.{lines_of};
+ghost use Rattle.plain_text.specs.Lines.{lines_of};
 ghost use Rattle.child_family.specs.Told.{Hearing, Tells, said, heard};
 ghost use Rattle.child_edge.specs.State.{state_of};
 ghost use Rattle.child_edge.specs.Each.{says_unless};
@@ -11,9 +11,9 @@ ghost use Rattle.child_edge.specs.Table.{Turn, answers, answer_heard, lines_of_c
 ghost use Rattle.child_edge.specs.Turns.{GoesOn};
 
 use crate::state::EdgeState;
-use call_text::{first_line, read_answer, write_call};
+use call_text::{read_answer, write_call};
 use child_family::{Family, Heard};
-use plain_text::Line;
+use plain_text::{Line, first_line};
 use vocabulary::{Actor, Answer, Call};
 
 /// Says each line of a text, up to the first that cannot be said. Whether all were said.

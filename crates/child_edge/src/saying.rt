@@ -1,14 +1,13 @@
 //! Lines that are said to one child.
 ghost use Rattle.std.specs.Prelude.{map, length, ◌≤◌};
 ghost use Rattle.vocabulary.specs.declared.table.Listener.{Listener as Listed};
-ghost use Rattle.call_text.specs.Lines.{lines_of};
-ghost use Rattle.child_edge.specs.Lines.{listener_line};
+ghost use Rattle.plain_text.specs.Lines.{lines_of};
+ghost use Rattle.child_family.specs.Lines.{listener_line};
 ghost use Rattle.child_edge.specs.Each.{says_lines};
 ghost use Rattle.child_edge.specs.Turns.{Begins};
 
-use crate::lines::listener_line;
-use call_text::first_line;
-use child_family::Family;
+use child_family::{Family, listener_line};
+use plain_text::first_line;
 use vocabulary::Listener;
 
 /// Tells a worker where it listens, whatever becomes of it.

@@ -7,13 +7,12 @@ ghost use Rattle.child_edge.specs.Table.{answers, forking, forked, greeted, give
 ghost use Rattle.child_edge.specs.Workers.{means, in_place, without_id};
 ghost use Rattle.child_edge.specs.Turns.{Begins, GoesOn};
 
-use crate::lines::worker_line;
 use crate::list::{drop_first, drop_id, first, is_any, move_first, put_in_place};
 use crate::saying::say_listeners;
 use crate::state::EdgeState;
 use crate::who::Who;
 use crate::worker::{Stage, Worker};
-use child_family::{Family, Heard, Role, StartFault};
+use child_family::{Family, Heard, Role, StartFault, worker_line};
 use handover_text::Listeners;
 use listener_set::{DescriptorSet, Generation};
 use plain_text::Line;

@@ -48,7 +48,7 @@ fn keep(line: &mut Line, text: &[u8])
     ensures { line.new ≡ text.now }
 {
     line.clear();
-    line.push(text);
+    line.put(text);
 }
 
 impl LineBuffer {

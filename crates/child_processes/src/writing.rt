@@ -27,8 +27,8 @@ fn text_of(bytes: &[u8]) -> io::Result<&str> {
 /// Writes a file beside its place and renames it, so that nobody reads a part of it.
 pub(crate) fn write_whole<R: Files>(rt: &R, path: &FilePath, contents: &[u8]) -> io::Result<()> {
     let mut beside = Line::new();
-    beside.push(path.bytes());
-    beside.push(b".new");
+    beside.put(path.bytes());
+    beside.put(b".new");
     let beside = text_of(beside.bytes())?;
     let mut file = fs::File::create(rt, beside)?;
     file.write_all(contents)?;

@@ -6,7 +6,7 @@ use Rattle.plain_text.specs.NumberText.{number_of, number64_of}
 use Rattle.plain_text.specs.Cuts.{cut}
 use Rattle.call_text.specs.Reading.{joined, generation_of, worker_number, address_of}
 use Rattle.call_text.specs.Ranges.{IsNumber, IsWorker}
-use Rattle.child_edge.specs.Lines.{worker_line, listener_line, close_line, tick_line}
+use Rattle.child_family.specs.Lines.{worker_line, listener_line, close_line, tick_line}
 pub use Rattle.child_programs.specs.declared.worker_lines.WorkerLine.{WorkerLine}
 pub use Rattle.child_programs.specs.declared.worker_lines.WorkerLine.TheVariants.{Named, Listener, Go, Ping, Tick, Usr1, Close, Quit}
 

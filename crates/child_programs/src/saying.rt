@@ -4,7 +4,6 @@ ghost use Rattle.std.specs.Io.KnownBytes.{Appends};
 ghost use Rattle.child_programs.specs.Response.{response_of, HasRoom, IsActed};
 
 use crate::hearing::Step;
-use crate::lines::put;
 use plain_text::Line;
 use std::io;
 use std::io::Write;
@@ -14,7 +13,7 @@ fn say<O: Write>(line: &mut Line, output: &mut O) -> io::Result<()>
     requires { length line.old < 4096 }
     ensures { OnOk result (Appends (O.contents output.old) (O.contents output.new) (line.old ++ 10 ∷ [])) }
 {
-    put(line, b"\n");
+    line.put(b"\n");
     output.write_all(line.bytes())?;
     output.flush()
 }

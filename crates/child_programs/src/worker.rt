@@ -5,7 +5,7 @@ ghost use Rattle.child_programs.specs.WorkerLines.{line_of};
 ghost use Rattle.child_programs.specs.Worker.{beat_line, beating, obeyed, start_after};
 
 use crate::hearing::{Hears, Step};
-use crate::lines::{put, put_number, write_text};
+use crate::lines::write_text;
 use crate::worker_lines::{WorkerLine, read_worker_line};
 use plain_text::Line;
 use std::marker::Model;
@@ -30,10 +30,10 @@ fn write_beat(line: &mut Line, now: u64, start: u32)
     ensures room { length line.new < 4096 }
 {
     line.clear();
-    put(line, b"beat ");
-    put_number(line, now);
-    put(line, b" ");
-    put_number(line, u64::from(start));
+    line.put(b"beat ");
+    line.put_number(now);
+    line.put(b" ");
+    line.put_number(u64::from(start));
 }
 
 impl Worker {

@@ -1,6 +1,9 @@
 //! Control words and how they are written.
-ghost use Rattle.std.specs.Prelude.{◌≡◌};
+ghost use Rattle.std.specs.Prelude.{◌≡◌, ◌++◌, ◌∷◌, IfOk};
+ghost use Rattle.std.specs.Fmt.{decimal};
+ghost use Rattle.plain_text.specs.Kept.{kept};
 
+use plain_text::{Sink, write_number};
 use std::fmt;
 
 /// What an operator asks of a master. The words without a number are named after Unicorn's signals.
@@ -46,8 +49,17 @@ const SIGNALS: [Word; 10] = [
     Word::Ttou,
 ];
 
+/// A number after a space.
+#[tactic(auto, using(plain_text::proofs::KeptTexts::kept_on))]
+fn write_spaced<S: Sink>(out: &mut S, number: u64) -> Result<(), S::Refusal>
+    ensures { IfOk result (λ _. S.text out.new ≡ kept S.most (S.text out.old ++ 32 ∷ decimal number)) }
+{
+    out.put(b" ")?;
+    write_number(out, number)
+}
+
 impl Word {
-    ghost use Rattle.control_words.specs.Words.{word_name, signal_of};
+    ghost use Rattle.control_words.specs.Words.{word_name, word_text, signal_of};
 
     /// The name of the word, which its numbers follow where it has some.
     pub fn name(&self) -> &'static str
@@ -66,6 +78,22 @@ impl Word {
             Word::Ttou => "TTOU",
             Word::Beat { .. } => "beat",
             Word::Tick { .. } => "tick",
+        }
+    }
+
+    /// Puts the word after what was written: its name, and each of its numbers after a space.
+    #[tactic(auto, using(plain_text::proofs::KeptTexts::kept_on))]
+    pub fn write<S: Sink>(&self, out: &mut S) -> Result<(), S::Refusal>
+        ensures { IfOk result (λ _. S.text out.new ≡ kept S.most (S.text out.old ++ word_text self.now)) }
+    {
+        out.put(self.name().as_bytes())?;
+        match self {
+            Word::Beat { nr, now } => {
+                write_spaced(out, u64::from(*nr))?;
+                write_spaced(out, *now)
+            }
+            Word::Tick { now } => write_spaced(out, *now),
+            _ => Ok(()),
         }
     }
 

@@ -1,8 +1,9 @@
 -- The handover: the text by which an old master tells a new one what it has and what is wanted.
-use Rattle.std.specs.Prelude.{ℕ, ◌+◌, ◌==◌, nat_lt, not, Bool, true, false, ◌&&◌, List, [], ◌∷◌, ◌++◌, length, take, drop, Option, Some, None, is_none, Result, Ok, Err, if◌then◌else◌, codes, bytes_eq}
+use Rattle.std.specs.Prelude.{ℕ, ◌+◌, ◌==◌, nat_lt, nat_le, not, Bool, true, false, ◌&&◌, List, [], ◌∷◌, ◌++◌, length, take, drop, Option, Some, None, is_none, Result, Ok, Err, if◌then◌else◌, codes, bytes_eq}
 use Rattle.std.specs.List.{flat_map, list_any, list_all, before_first, after_first, slice_split}
 use Rattle.std.specs.Fmt.{decimal}
 use Rattle.plain_text.specs.NumberText.{number_of, number_within}
+use Rattle.plain_text.specs.Cuts.{after_prefix}
 use Rattle.listener_set.specs.AddressText.{check}
 use Rattle.listener_set.specs.declared.address.AddressRefusal.{AddressRefusal}
 use Rattle.listener_set.specs.PathText.{is_path}
@@ -71,12 +72,6 @@ abbrev pub spelling : Handover → List ℕ
 spelling h = spelled Two h
 
 ---- Values in lines
-
--- what follows a prefix
-abbrev pub after_prefix : List ℕ → List ℕ → Option (List ℕ)
-after_prefix [] text = Some text
-after_prefix (c ∷ cs) [] = None
-after_prefix (c ∷ cs) (d ∷ ds) = if c == d then after_prefix cs ds else None
 
 abbrev pub is_space : ℕ → Bool
 is_space c = c == 32
@@ -167,11 +162,15 @@ abbrev pub with_workers : ℕ → Handover → Option ℕ → Read
 with_workers n h None = Err (refusal.Line n)
 with_workers n h (Some workers) = with_groups n AtPidFile h (joined [] (record { addresses = length h.want; workers = workers }))
 
--- A group begins, where one with an address can stand behind those that were read.
+-- whether a group of so many workers can begin behind others: they are fewer than 16, and all their workers are at most 1024
+abbrev pub can_begin : List Group → ℕ → Bool
+can_begin groups workers = nat_lt (length groups) 16 && nat_le (workers_in groups + workers) 1024
+
+-- A group begins. Its line names no address, so it passes no limit of addresses: one behind it may.
 abbrev pub with_group : ℕ → Handover → Option ℕ → Read
 with_group n h None = Err (refusal.Line n)
 with_group n h (Some workers) =
-    if is_none (group_refused h.groups (record { addresses = 1; workers = workers }))
+    if can_begin h.groups workers
     then Ok (AtGroup (record { addresses = 0; workers = workers }), h)
     else Err (refusal.Line n)
 

@@ -24,7 +24,8 @@ use Rattle.explorer.specs.declared.events.Mishap.TheVariants.{Exit, Fail}
 use Rattle.explorer.specs.declared.events.Event.{Event}
 use Rattle.explorer.specs.declared.events.Tried.{Tried}
 use Rattle.explorer.specs.declared.events.Tried.TheVariants.{Nothing, One, Two}
-use Rattle.explorer.specs.Events.{every_fate, pattern_of, events_in, takes_effect, exit_of, mishaps_at, beside, open_at, waiting, event_at, met}
+use Rattle.vocabulary.specs.Fates.{all_fates}
+use Rattle.explorer.specs.Events.{pattern_of, events_in, takes_effect, exit_of, mishaps_at, beside, open_at, waiting, event_at, met}
 use Rattle.explorer.specs.Explored.{events_after, with_pairs, each_with_pairs, all_tried, IsBeside, IsBehind, IsInOrder, most_events, AreOnce}
 use Rattle.explorer.proofs.Numbers.{Rises, rises-exits, rises-step}
 
@@ -105,8 +106,8 @@ place fate.Refused = 7
 place fate.IoFault = 8
 place fate.Back = 9
 
-fates-differ : Differ every_fate
-fates-differ = differ-rising place 0 every_fate (omega arith, (omega arith, (omega arith, (omega arith, (omega arith, (omega arith, (omega arith, (omega arith, (omega arith, (omega arith, tt))))))))))
+fates-differ : Differ all_fates
+fates-differ = differ-rising place 0 all_fates (omega arith, (omega arith, (omega arith, (omega arith, (omega arith, (omega arith, (omega arith, (omega arith, (omega arith, (omega arith, tt))))))))))
 
 abbrev process_in : Mishap → ℕ
 process_in (Exit n q) = q
@@ -159,7 +160,7 @@ module _ (heirs : List ℕ) (least : ℕ) where
 
 module _ (text : List ℕ) (by : ℕ) (call : Call) (heirs : List ℕ) (t : Table) where
   abbrev fails : List Fate
-  fails = filter (takes_effect text by call t) every_fate
+  fails = filter (takes_effect text by call t) all_fates
 
   no-fail : (least : ℕ) (m : Mishap) → IsExitAbove least m → AllByRecursion (λ y. m ≢ y) (map Fail fails)
   no-fail least (Exit n q) is = all-map (λ y. Exit n q ≢ y) Fail fails (everywhere (λ f. Exit n q ≢ Fail f) (λ f same. cc) fails)
@@ -169,7 +170,7 @@ module _ (text : List ℕ) (by : ℕ) (call : Call) (heirs : List ℕ) (t : Tabl
   mishaps-differ least h =
       let gone = exits heirs least t.rows in
       differ-append gone (map Fail fails) (differ-rising process_in 0 gone (exits-rise heirs least t.rows 0 t.next_process h))
-      (differ-map Fail (λ x y same. cc) fails (differ-filter (takes_effect text by call t) every_fate fates-differ))
+      (differ-map Fail (λ x y same. cc) fails (differ-filter (takes_effect text by call t) all_fates fates-differ))
       (weaken (IsExitAbove least) (λ m. AllByRecursion (λ y. m ≢ y) (map Fail fails)) (no-fail least) gone (are-exits heirs least t.rows))
 
   beside-differ : (m : Mishap) → Rises t → Differ (beside text by call heirs m t)

@@ -6,7 +6,7 @@ use Rattle.vocabulary.specs.declared.names.Name.TheVariants as name
 use Rattle.definitions.specs.Table.{Table, is_active}
 use Rattle.definitions.specs.Exits.{after_exits}
 use Rattle.definitions.specs.Calls.{Call, Fate, step_with}
-use Rattle.vocabulary.specs.declared.calls.Fate.TheVariants as fate
+use Rattle.vocabulary.specs.Fates.{all_fates}
 use Rattle.definitions.specs.Path.{Entry}
 use Rattle.definitions.specs.Tree.{reply_of, same_reply}
 use Rattle.definitions.specs.Manner.{is_leave_call}
@@ -20,9 +20,6 @@ use Rattle.explorer.specs.declared.events.Mishap.TheVariants.{Exit, Fail}
 use Rattle.explorer.specs.declared.events.Event.{Event}
 use Rattle.explorer.specs.declared.events.Tried.{Tried}
 use Rattle.explorer.specs.declared.events.Tried.TheVariants.{Nothing, One, Two}
-
-abbrev pub every_fate : List Fate
-every_fate = fate.InUse ∷ fate.TooMany ∷ fate.Denied ∷ fate.NoMemory ∷ fate.Again ∷ fate.Late ∷ fate.NoImage ∷ fate.Refused ∷ fate.IoFault ∷ fate.Back ∷ []
 
 ---- Patterns of what goes wrong
 
@@ -60,7 +57,7 @@ exit_of heirs above (row.Foreign n) = None
 
 -- The exits before a call that matter, and the fates of the call that take effect.
 abbrev pub mishaps_at : List ℕ → ℕ → Call → List ℕ → ℕ → Table → List Mishap
-mishaps_at text by call heirs above t = filter_map (exit_of heirs above) (map row_of t.rows) ++ map Fail (filter (takes_effect text by call t) every_fate)
+mishaps_at text by call heirs above t = filter_map (exit_of heirs above) (map row_of t.rows) ++ map Fail (filter (takes_effect text by call t) all_fates)
 
 -- What more can go wrong at the call of a mishap, where the table is the one after it: of two exits before one call the process
 -- with the lower number exits first, and a call fails in one way.

@@ -5,7 +5,8 @@ ghost use Rattle.definitions.specs.Table.{is_active};
 ghost use Rattle.definitions.specs.Exits.{after_exits};
 ghost use Rattle.kernel_model.specs.Readers.{row_of};
 ghost use Rattle.plan_executor.specs.Naming.{listed};
-ghost use Rattle.explorer.specs.Events.{every_fate, takes_effect, exit_of, mishaps_at, waiting};
+ghost use Rattle.vocabulary.specs.Fates.{all_fates};
+ghost use Rattle.explorer.specs.Events.{takes_effect, exit_of, mishaps_at, waiting};
 
 use crate::events::Mishap;
 use call_replies::reply_to;
@@ -16,20 +17,6 @@ use plan_executor::reserved_copy;
 use process_table::Row;
 use std::alloc::{AllocError, Global};
 use vocabulary::{Actor, Call, Fate, Name, Stance};
-
-/// Each way in which a call can be made to fail.
-const EVERY_FATE: [Fate; 10] = [
-    Fate::InUse,
-    Fate::TooMany,
-    Fate::Denied,
-    Fate::NoMemory,
-    Fate::Again,
-    Fate::Late,
-    Fate::NoImage,
-    Fate::Refused,
-    Fate::IoFault,
-    Fate::Back,
-];
 
 /// A copy of a kernel that had room for as many calls, or has made some of them: so no number is lacking, only memory can be.
 pub(crate) fn copied(kernel: &Kernel, calls: u32) -> Result<Kernel, AllocError>
@@ -148,9 +135,9 @@ fn add_fates(
     text: &[u8],
     mishaps: &mut Vec<Mishap>,
 ) -> Result<(), AllocError>
-    ensures { OnOk result (mishaps.new.items ≡ mishaps.old.items ++ map Mishap.Fail (filter (takes_effect text.now by call.now kernel.now.table) every_fate)) }
+    ensures { OnOk result (mishaps.new.items ≡ mishaps.old.items ++ map Mishap.Fail (filter (takes_effect text.now by call.now kernel.now.table) all_fates)) }
 {
-    for fate in &EVERY_FATE {
+    for fate in &Fate::ALL {
         if takes_effect(kernel, by, call, text, *fate)? {
             push(mishaps, Mishap::Fail(*fate))?;
         }

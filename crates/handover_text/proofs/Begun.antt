@@ -1,19 +1,17 @@
 -- What stands before a faulty line begins the text of some handover.
 use Rattle.std.proofs.Common.{◌≡◌, ◌≢◌, ℕ, zero, suc, ◌+◌, ◌-◌, ◌<◌, ◌≤◌, Bool, true, false, ◌&&◌, ◌||◌, nat_eq, nat_lt, not, Option, Some, None, Result, Ok, Err, List, [], ◌∷◌, ◌++◌, length, map, take, replicate, refl, sym, ap, subst, ◌∙◌, arith, ◌⊎◌, ⊎_elim, inl, inr, append_assoc}
-use Rattle.std.specs.Prelude.{bytes_eq, codes, is_none, ⊤, if◌then◌else◌}
+use Rattle.std.specs.Prelude.{bytes_eq, codes, ⊤, if◌then◌else◌}
 use Rattle.std.specs.Char.{is_ascii_graphic}
 use Rattle.std.specs.List.{flat_map, list_any, list_all, before_first, after_first, slice_split}
 use Rattle.std.specs.Cmp.Lexicographic.{same_text}
-use Rattle.std.proofs.lemmas.Bool.{cond_both, le-ltb, lt-ltb, and_from, both_ways}
+use Rattle.std.proofs.lemmas.Bool.{cases_lt, le-ltb, lt-ltb, le-leb, and_from, both_ways}
 use Rattle.std.proofs.lemmas.Bool.Decides.{eqb_tells}
 use Rattle.std.proofs.lemmas.List.{append-nil, length-append, length-replicate, length-map}
-use Rattle.std.proofs.lemmas.List.Folds.{list_all-append}
 use Rattle.std.proofs.lemmas.List.Sums.{sum_by_push}
 use Rattle.std.proofs.lemmas.Map.Steps.{le-length_from_below}
 use Rattle.plain_text.specs.NumberText.{number_of, number_within}
 use Rattle.listener_set.specs.PathText.{is_path}
-use Rattle.listener_set.specs.AddressText.{check, path_check}
-use Rattle.listener_set.specs.AddressList.{AreDistinct, has}
+use Rattle.listener_set.specs.AddressList.{has}
 use Rattle.listener_set.specs.declared.groups.Group.{Group}
 use Rattle.listener_set.specs.Groups.{AreGroups, addresses_in, workers_in, group_refused}
 use Rattle.listener_set.proofs.GroupShares.{Fits, fits-where, none-where, groups-more}
@@ -23,11 +21,12 @@ use Rattle.vocabulary.specs.declared.handover.HandoverRefusal.TheVariants as ref
 use Rattle.vocabulary.specs.declared.table.Listener.{Listener}
 use Rattle.definitions.specs.Table.{Address}
 use Rattle.definitions.specs.After.{listens_on}
-use Rattle.definitions.specs.Handover.{Handover, HandoverVersion, One, Two, Reached, AtVersion, AtOldPid, AtGeneration, AtFirstListener, AtListeners, AtWants, AtGroup, AtPidFile, AtEnd, Over, Read, nothing_read, line_of, version_line, listener_line, want_line, workers_line, group_line, pid_file_line, group_lines, wanted_lines, spelled, after_prefix, is_space, is_address, is_above, listener_read, one_more, joined, with_old_pid, with_generation, with_listener, with_want, with_groups, with_workers, with_group, with_pid_file, read_wanted, read_behind, read_pid_file, read_end, read_if, read_line, then_read, read_rest, read_pieces, reading}
-use Rattle.handover_text.specs.Ranges.{IsHandover, IsTold, IsUnasked, IsBegun, IsAsked, AreParts, IsReadTo}
-use Rattle.handover_text.specs.Faults.{Begins, lines_before}
-use Rattle.handover_text.proofs.SoFar.{IfRead, line_read, nothing_in_range, read_in_range, sole-groups, closed-asked, parts-more, is_newline}
-use Rattle.handover_text.proofs.Spelled.{old_pid_line, generation_line, to_generation, to_listeners, to_wants, to_pid_file, to_end, so_far, IsText, line_went, group-begun, group-more}
+use Rattle.definitions.specs.Handover.{Handover, HandoverVersion, One, Two, Reached, AtVersion, AtOldPid, AtGeneration, AtFirstListener, AtListeners, AtWants, AtGroup, AtPidFile, AtEnd, Over, Read, nothing_read, line_of, version_line, listener_line, want_line, workers_line, group_line, pid_file_line, group_lines, is_space, is_address, is_above, listener_read, one_more, joined, with_old_pid, with_generation, with_listener, with_want, with_groups, with_workers, can_begin, with_group, read_wanted, read_behind, read_pid_file, read_end, read_if, read_line, then_read, read_rest, read_pieces, reading}
+use Rattle.plain_text.specs.Cuts.{after_prefix}
+use Rattle.handover_text.specs.Ranges.{IsUnasked, IsBegun, IsAsked, AreParts, IsReadTo}
+use Rattle.handover_text.specs.Faults.{Begins, IsFull, IsFaultless, lines_before}
+use Rattle.handover_text.proofs.SoFar.{IfRead, line_read, nothing_in_range, read_in_range, sole-groups, parts-more, is_newline}
+use Rattle.handover_text.proofs.Spelled.{old_pid_line, generation_line, to_generation, to_listeners, to_wants, to_pid_file, so_far, IsText, line_went, group-begun, group-more}
 
 ---- An address that is not among some
 
@@ -105,17 +104,13 @@ asked-begins version h parts pid listener asked none = record {
   goes_on = ap (λ t. t ++ line_of (codes "end")) (sym (append-nil (to_pid_file version h)) ∙ ap (λ o. to_pid_file version h ++ pid_file_line o) (sym none));
 }
 
-abbrev one-worker-less : Group
-one-worker-less = record { addresses = 1; workers = 0 }
-
 -- an address more, in a group that can have one
 group-begins : (g : Group) (h : Handover) → AreParts h → 1 ≤ h.old_pid → 1 ≤ length h.listeners → IsBegun g h → h.pid_file ≡ None → g.addresses ≡ 0 → length h.want < 64 → Begins (so_far (AtGroup g) h)
 group-begins g h parts pid listener begun none empty few =
     let new = fresh h.want few in
     let a = new.0 in
     let g' : Group = one_more g in
-    let least : g' ≡ record { addresses = 1; workers = g.workers } = ap (λ k. record { addresses = k; workers = g.workers }) (omega (arith, empty)) in
-    let refused : group_refused h.groups g' ≡ None = ap (group_refused h.groups) least ∙ begun.fits in
+    let refused : group_refused h.groups g' ≡ None = none-where h.groups g' (record { few = λ e. absurd (omega (arith, e, begun.few)); listens = omega arith; addresses = omega (arith, begun.counts, empty, few); workers = begun.workers }) in
     let h' : Handover = record h { want = h.want ++ a ∷ []; groups = h.groups ++ g' ∷ [] } in
     let p = parts-more 0 h parts a new.1 new.2 few in
     let parts' : AreParts h' = record { old_pid = p.old_pid; image = p.image; config = p.config; listed = p.listed; listened = p.listened; wanted = p.wanted; distinct = p.distinct; most = p.most; path = p.path } in
@@ -127,25 +122,44 @@ group-begins g h parts pid listener begun none empty few =
 
 closed-begins : (g : Group) (h : Handover) → AreParts h → 1 ≤ h.old_pid → 1 ≤ length h.listeners → IsBegun g h → h.pid_file ≡ None → 1 ≤ g.addresses → Begins (so_far (AtGroup g) h)
 closed-begins g h parts pid listener begun none some =
-    let least = fits-where h.groups (record { addresses = 1; workers = g.workers }) begun.fits in
-    let fits : Fits h.groups g = record { few = least.few; listens = some; addresses = omega (arith, begun.counts, parts.most); workers = least.workers } in
+    let fits : Fits h.groups g = record { few = λ e. absurd (omega (arith, e, begun.few)); listens = some; addresses = omega (arith, begun.counts, parts.most); workers = begun.workers } in
     let refused : group_refused h.groups g ≡ None = none-where h.groups g fits in
     let h' : Handover = record h { groups = h.groups ++ g ∷ [] } in
     let parts' : AreParts h' = record { old_pid = parts.old_pid; image = parts.image; config = parts.config; listed = parts.listed; listened = parts.listened; wanted = parts.wanted; distinct = parts.distinct; most = parts.most; path = parts.path } in
     let groups' : AreGroups (h.groups ++ g ∷ []) = ⊎_elim (λ nobody. subst (λ gs. AreGroups (gs ++ g ∷ [])) (sym nobody) (sole-groups g (ap (λ gs. group_refused gs g) (sym nobody) ∙ refused))) (λ groups. groups-more h.groups g groups fits) begun.before in
     asked-begins Two h' parts' pid listener (record { groups = groups'; add_up = sum_by_push (λ (x : Group). x.addresses) h.groups g ∙ begun.counts; tells = tt }) none
 
-begun-begins : (g : Group) (h : Handover) → AreParts h → 1 ≤ h.old_pid → 1 ≤ length h.listeners → IsBegun g h → h.pid_file ≡ None → Begins (so_far (AtGroup g) h)
-begun-begins g h parts pid listener begun none = at (nat_eq g.addresses 0) refl
+-- A group that was begun where 64 addresses were read before.
+full-group : (g : Group) (h : Handover) → AreParts h → 1 ≤ h.old_pid → 1 ≤ length h.listeners → IsBegun g h → h.pid_file ≡ None → g.addresses ≡ 0 → 64 ≤ length h.want → IsFull (so_far (AtGroup g) h)
+full-group g h parts pid listener begun none empty many =
+    let g' : Group = record { addresses = 0; workers = g.workers } in
+    let same : g ≡ g' = ap (λ k. record { addresses = k; workers = g.workers }) empty in
+    let are : AreGroups h.groups = ⊎_elim (λ nobody. absurd (omega (arith, ap addresses_in nobody, begun.counts, empty, many))) (λ some. some) begun.before in
+    record {
+      told = h;
+      is = record { parts = parts; in_range = record { old_pid = pid; listens = listener; add_up = omega (arith, begun.counts, empty); pid_file = subst HasSuffixRoom (sym none) tt }; groups = are };
+      full = omega (arith, many, parts.most);
+      no_path = none;
+      before = to_pid_file Two h;
+      ends = ap (λ t. t ++ line_of (codes "end")) (sym (append-nil (to_pid_file Two h)) ∙ ap (λ o. to_pid_file Two h ++ pid_file_line o) (sym none));
+      workers = g.workers;
+      begins = and_from _ _ (lt-ltb (length h.groups) 16 begun.few) (le-leb (workers_in h.groups + g.workers) 1024 begun.workers);
+      goes_on = append_assoc (to_wants Two h) (group_lines h.groups h.want) (group_line g.workers) ∙ ap (λ t. to_wants Two h ++ t) (sym (group-begun h.groups g.workers h.want)) ∙ ap (λ (x : Group). to_wants Two h ++ group_lines (h.groups ++ x ∷ []) h.want) (sym same);
+    }
+
+begun-faultless : (g : Group) (h : Handover) → AreParts h → 1 ≤ h.old_pid → 1 ≤ length h.listeners → IsBegun g h → h.pid_file ≡ None → IsFaultless (so_far (AtGroup g) h)
+begun-faultless g h parts pid listener begun none = at (nat_eq g.addresses 0) refl
   where
-    at : (b : Bool) → nat_eq g.addresses 0 ≡ b → Begins (so_far (AtGroup g) h)
+    at : (b : Bool) → nat_eq g.addresses 0 ≡ b → IsFaultless (so_far (AtGroup g) h)
     at true e =
         let empty : g.addresses ≡ 0 = elim (eqb_tells g.addresses 0) [ inl t ↦ t.1 | inr t ↦ absurd (both_ways (nat_eq g.addresses 0) t.0 e) ] in
-        let least = fits-where h.groups (record { addresses = 1; workers = g.workers }) begun.fits in
-        group-begins g h parts pid listener begun none empty (omega (arith, empty, begun.counts, least.addresses))
+        elim (cases_lt (length h.want) 64) [
+          | inl few ↦ inl (group-begins g h parts pid listener begun none empty few)
+          | inr many ↦ inr (full-group g h parts pid listener begun none empty many)
+        ]
     at false e =
         let some : g.addresses ≢ 0 = elim (eqb_tells g.addresses 0) [ inl t ↦ absurd (both_ways (nat_eq g.addresses 0) e t.0) | inr t ↦ t.1 ] in
-        closed-begins g h parts pid listener begun none (omega (arith, some))
+        inl (closed-begins g h parts pid listener begun none (omega (arith, some)))
 
 -- The addresses of version 1, of which there is one at least: its workers can follow.
 some-begins : (h : Handover) → AreParts h → 1 ≤ h.old_pid → 1 ≤ length h.listeners → h.pid_file ≡ None → 1 ≤ length h.want → Begins (to_wants One h ++ flat_map want_line h.want)
@@ -171,8 +185,8 @@ listeners-begin : (version : HandoverVersion) (h : Handover) → AreParts h → 
 listeners-begin One h parts pid listener none unasked = wants-begin h parts pid listener none unasked.0
 listeners-begin Two h parts pid listener none unasked =
     let g : Group = record { addresses = 0; workers = 0 } in
-    let begun : IsBegun g h = record { before = inl unasked.1; counts = omega (arith, ap addresses_in unasked.1, ap length unasked.0); fits = ap (λ gs. group_refused gs one-worker-less) unasked.1 } in
-    begins-part (to_wants Two h) (group_lines (h.groups ++ g ∷ []) h.want) (begun-begins g h parts pid listener begun none)
+    let begun : IsBegun g h = record { before = inl unasked.1; counts = omega (arith, ap addresses_in unasked.1, ap length unasked.0); few = omega (arith, ap length unasked.1); workers = omega (arith, ap workers_in unasked.1) } in
+    begins-part (to_wants Two h) (group_lines (h.groups ++ g ∷ []) h.want) (group-begins g h parts pid listener begun none refl (omega (arith, ap length unasked.0)))
 
 first-begins : (version : HandoverVersion) (h : Handover) → AreParts h → 1 ≤ h.old_pid → h.listeners ≡ [] → h.pid_file ≡ None → IsUnasked h → Begins (to_listeners version h)
 first-begins version h parts pid nobody none unasked =
@@ -190,36 +204,61 @@ version-begins version h parts nobody none unasked =
     let parts' : AreParts h' = record { old_pid = omega arith; image = parts.image; config = parts.config; listed = parts.listed; listened = parts.listened; wanted = parts.wanted; distinct = parts.distinct; most = parts.most; path = parts.path } in
     begins-part (version_line version) (old_pid_line 1) (generation-begins version h' parts' (omega arith) nobody none unasked)
 
-begins-at : (n : ℕ) (place : Reached) (h : Handover) → IsReadTo n place h → Begins (so_far place h)
-begins-at n AtVersion h s = begins-part [] (version_line Two) (version-begins Two h s.parts s.listener s.no_path s.groups)
-begins-at n (AtOldPid version) h s = version-begins version h s.parts s.listener s.no_path s.groups
-begins-at n (AtGeneration version) h s = generation-begins version h s.parts s.pid s.listener s.no_path s.groups
-begins-at n (AtFirstListener version) h s = subst Begins (sym (ap (λ ls. to_listeners version h ++ flat_map listener_line ls) s.listener ∙ append-nil (to_listeners version h))) (first-begins version h s.parts s.pid s.listener s.no_path s.groups)
-begins-at n (AtListeners version) h s = listeners-begin version h s.parts s.pid s.listener s.no_path s.groups
-begins-at n AtWants h s = at h.want refl
+-- No group was begun.
+abbrev IsUngrouped : Reached → Type 0
+IsUngrouped (AtGroup g) = ⊥
+IsUngrouped AtVersion = ⊤
+IsUngrouped (AtOldPid version) = ⊤
+IsUngrouped (AtGeneration version) = ⊤
+IsUngrouped (AtFirstListener version) = ⊤
+IsUngrouped (AtListeners version) = ⊤
+IsUngrouped AtWants = ⊤
+IsUngrouped AtPidFile = ⊤
+IsUngrouped (AtEnd version) = ⊤
+IsUngrouped (Over version) = ⊤
+
+begins-at : (n : ℕ) (place : Reached) (h : Handover) → IsReadTo n place h → IsUngrouped place → Begins (so_far place h)
+begins-at n AtVersion h s other = begins-part [] (version_line Two) (version-begins Two h s.parts s.listener s.no_path s.groups)
+begins-at n (AtOldPid version) h s other = version-begins version h s.parts s.listener s.no_path s.groups
+begins-at n (AtGeneration version) h s other = generation-begins version h s.parts s.pid s.listener s.no_path s.groups
+begins-at n (AtFirstListener version) h s other = subst Begins (sym (ap (λ ls. to_listeners version h ++ flat_map listener_line ls) s.listener ∙ append-nil (to_listeners version h))) (first-begins version h s.parts s.pid s.listener s.no_path s.groups)
+begins-at n (AtListeners version) h s other = listeners-begin version h s.parts s.pid s.listener s.no_path s.groups
+begins-at n AtWants h s other = at h.want refl
   where
     at : (ws : List Address) → h.want ≡ ws → Begins (to_wants One h ++ flat_map want_line h.want)
     at [] none = subst Begins (sym (ap (λ ws. to_wants One h ++ flat_map want_line ws) none ∙ append-nil (to_wants One h))) (wants-begin h s.parts s.pid s.listener s.no_path none)
     at (w ∷ ws) some = some-begins h s.parts s.pid s.listener s.no_path (omega (arith, ap length some))
-begins-at n (AtGroup g) h s = begun-begins g h s.parts s.pid s.listener s.groups s.no_path
-begins-at n AtPidFile h s = asked-begins One h s.parts s.pid s.listener s.groups s.no_path
-begins-at n (AtEnd version) h s = record { version = version; told = h; is = read_in_range (n + 1) version h (over n version h s); tells = s.groups.tells; more = line_of (codes "end"); goes_on = refl }
+begins-at n (AtGroup g) h s grouped = absurd grouped
+begins-at n AtPidFile h s other = asked-begins One h s.parts s.pid s.listener s.groups s.no_path
+begins-at n (AtEnd version) h s other = record { version = version; told = h; is = read_in_range (n + 1) version h (over n version h s); tells = s.groups.tells; more = line_of (codes "end"); goes_on = refl }
   where
     over : (n : ℕ) (version : HandoverVersion) (h : Handover) → IsReadTo n (AtEnd version) h → IsReadTo (n + 1) (Over version) h
     over n version h s = record { parts = s.parts; count = omega (arith, s.count); pid = s.pid; listener = s.listener; groups = s.groups; no_path = tt }
-begins-at n (Over version) h s = record { version = version; told = h; is = read_in_range n version h s; tells = s.groups.tells; more = []; goes_on = append-nil (so_far (Over version) h) }
+begins-at n (Over version) h s other = record { version = version; told = h; is = read_in_range n version h s; tells = s.groups.tells; more = []; goes_on = append-nil (so_far (Over version) h) }
+
+faultless-at : (n : ℕ) (place : Reached) (h : Handover) → IsReadTo n place h → IsFaultless (so_far place h)
+faultless-at n AtVersion h s = inl (begins-at n AtVersion h s tt)
+faultless-at n (AtOldPid version) h s = inl (begins-at n (AtOldPid version) h s tt)
+faultless-at n (AtGeneration version) h s = inl (begins-at n (AtGeneration version) h s tt)
+faultless-at n (AtFirstListener version) h s = inl (begins-at n (AtFirstListener version) h s tt)
+faultless-at n (AtListeners version) h s = inl (begins-at n (AtListeners version) h s tt)
+faultless-at n AtWants h s = inl (begins-at n AtWants h s tt)
+faultless-at n (AtGroup g) h s = begun-faultless g h s.parts s.pid s.listener s.groups s.no_path
+faultless-at n AtPidFile h s = inl (begins-at n AtPidFile h s tt)
+faultless-at n (AtEnd version) h s = inl (begins-at n (AtEnd version) h s tt)
+faultless-at n (Over version) h s = inl (begins-at n (Over version) h s tt)
 
 ---- Which line is refused
 
 -- a fault that names a line names this one
-abbrev NamesLine : ℕ → HandoverRefusal → Type 0
+abbrev pub NamesLine : ℕ → HandoverRefusal → Type 0
 NamesLine n refusal.Version = ⊤
 NamesLine n (refusal.Line m) = m ≡ n
 NamesLine n (refusal.OutOfOrder m) = m ≡ n
 NamesLine n refusal.Cut = ⊤
 NamesLine n refusal.Trailing = ⊤
 
-abbrev IfFault : ℕ → Read → Type 0
+abbrev pub IfFault : ℕ → Read → Type 0
 IfFault n (Ok at) = ⊤
 IfFault n (Err e) = NamesLine n e
 
@@ -258,7 +297,7 @@ module _ (n : ℕ) where
 
   group-names : (h : Handover) (o : Option ℕ) → IfFault n (with_group n h o)
   group-names h None = refl
-  group-names h (Some w) = either (is_none (group_refused h.groups (record { addresses = 1; workers = w }))) _ _ tt refl
+  group-names h (Some w) = either (can_begin h.groups w) _ _ tt refl
 
   end-names : (version : HandoverVersion) (h : Handover) (line : List ℕ) → IfFault n (read_end n version h line)
   end-names version h line = either (bytes_eq line (codes "end")) _ _ tt refl
@@ -274,7 +313,7 @@ module _ (n : ℕ) where
   behind-names h None line = refl
   behind-names h (Some gs) line = if-fault n (after_prefix (codes "group ") line) _ _ (λ rest. group-names (record h { groups = gs }) (number_within 0 1024 rest)) (file-names Two (record h { groups = gs }) line)
 
-  line-names : (place : Reached) (h : Handover) (line : List ℕ) → IfFault n (read_line n place h line)
+  pub line-names : (place : Reached) (h : Handover) (line : List ℕ) → IfFault n (read_line n place h line)
   line-names AtVersion h line = either (bytes_eq line (codes "handover 1")) _ _ tt (either (bytes_eq line (codes "handover 2")) _ _ tt tt)
   line-names (AtOldPid version) h line = if-fault n (after_prefix (codes "old-pid ") line) _ _ (λ rest. pid-names version h (number_within 1 4294967295 rest)) refl
   line-names (AtGeneration version) h line = if-fault n (after_prefix (codes "generation ") line) _ _ (λ rest. generation-names version h (number_of (before_first is_space rest)) (number_of (after_first is_space rest))) refl
@@ -287,25 +326,25 @@ module _ (n : ℕ) where
   line-names (Over version) h line = tt
 
 -- the number of the line that a fault names
-abbrev Named : HandoverRefusal → ℕ → Type 0
+abbrev pub Named : HandoverRefusal → ℕ → Type 0
 Named refusal.Version m = ⊥
 Named (refusal.Line n) m = n ≡ m
 Named (refusal.OutOfOrder n) m = n ≡ m
 Named refusal.Cut m = ⊥
 Named refusal.Trailing m = ⊥
 
-names-it : (n m : ℕ) (e : HandoverRefusal) → NamesLine n e → Named e m → m ≡ n
+pub names-it : (n m : ℕ) (e : HandoverRefusal) → NamesLine n e → Named e m → m ≡ n
 names-it n m refusal.Version h named = absurd named
 names-it n m (refusal.Line k) h named = sym named ∙ h
 names-it n m (refusal.OutOfOrder k) h named = sym named ∙ h
 names-it n m refusal.Cut h named = absurd named
 names-it n m refusal.Trailing h named = absurd named
 
--- so many pieces before the faulty line are lines that begin a handover
+-- none of the so many pieces before the faulty line is faulty
 record Before (n m : ℕ) (text : List ℕ) (pieces : List (List ℕ)) : Type 0 where
   lines : ℕ
   counted : m ≡ n + lines
-  begins : Begins (text ++ flat_map line_of (take lines pieces))
+  begins : IsFaultless (text ++ flat_map line_of (take lines pieces))
 
 cut-unnamed : (e : HandoverRefusal) (m : ℕ) (r : Result Handover HandoverRefusal) → r ≡ Err refusal.Cut → r ≡ Err e → Named e m → ⊥
 cut-unnamed refusal.Version m r is same named = named
@@ -321,7 +360,7 @@ trailing-unnamed (refusal.OutOfOrder k) m r is same named = cc
 trailing-unnamed refusal.Cut m r is same named = named
 trailing-unnamed refusal.Trailing m r is same named = named
 
-rest-names : (place : Reached) (h : Handover) (rest : List ℕ) (e : HandoverRefusal) (m : ℕ) → read_rest place h rest ≡ Err e → Named e m → ⊥
+pub rest-names : (place : Reached) (h : Handover) (rest : List ℕ) (e : HandoverRefusal) (m : ℕ) → read_rest place h rest ≡ Err e → Named e m → ⊥
 rest-names AtVersion h rest e m is named = cut-unnamed e m (read_rest AtVersion h rest) refl is named
 rest-names (AtOldPid version) h rest e m is named = cut-unnamed e m (read_rest (AtOldPid version) h rest) refl is named
 rest-names (AtGeneration version) h rest e m is named = cut-unnamed e m (read_rest (AtGeneration version) h rest) refl is named
@@ -343,13 +382,13 @@ pieces-begin n place h text (line ∷ next ∷ more) e m s t is named =
     at : (r : Read) → IfRead (IsReadTo (n + 1)) r → IfRead (IsText (text ++ line_of line)) r → IfFault n r → then_read r (λ place' h'. read_pieces (n + 1) place' h' (next ∷ more)) ≡ Err e → ((place' : Reached) (h' : Handover) → IsReadTo (n + 1) place' h' → IsText (text ++ line_of line) place' h' → read_pieces (n + 1) place' h' (next ∷ more) ≡ Err e → Named e m → Before (n + 1) m (text ++ line_of line) (next ∷ more)) → Before n m text (line ∷ next ∷ more)
     at (Err why) read went names is' later =
         let same : why ≡ e = cc in
-        record { lines = 0; counted = names-it n m e (subst (NamesLine n) same names) named ∙ omega arith; begins = subst Begins (t ∙ sym (append-nil text)) (begins-at n place h s) }
+        record { lines = 0; counted = names-it n m e (subst (NamesLine n) same names) named ∙ omega arith; begins = subst IsFaultless (t ∙ sym (append-nil text)) (faultless-at n place h s) }
     at (Ok state) read went names is' later =
         let b = later state.0 state.1 read went is' named in
-        record { lines = suc b.lines; counted = b.counted ∙ omega arith; begins = subst Begins (append_assoc text (line_of line) (flat_map line_of (take b.lines (next ∷ more)))) b.begins }
+        record { lines = suc b.lines; counted = b.counted ∙ omega arith; begins = subst IsFaultless (append_assoc text (line_of line) (flat_map line_of (take b.lines (next ∷ more)))) b.begins }
 
--- Where a line is refused, those before it begin the text of a handover.
-pub lines-begin : (text : List ℕ) (e : HandoverRefusal) (m : ℕ) → reading text ≡ Err e → Named e m → Begins (lines_before m text)
+-- Where a line is refused, none of those before it is faulty.
+pub lines-begin : (text : List ℕ) (e : HandoverRefusal) (m : ℕ) → reading text ≡ Err e → Named e m → IsFaultless (lines_before m text)
 lines-begin text e m is named =
     let b = pieces-begin 1 AtVersion nothing_read [] (slice_split is_newline text) e m nothing_in_range refl is named in
-    subst (λ k. Begins (flat_map line_of (take k (slice_split is_newline text)))) (omega (arith, b.counted)) b.begins
+    subst (λ k. IsFaultless (flat_map line_of (take k (slice_split is_newline text)))) (omega (arith, b.counted)) b.begins

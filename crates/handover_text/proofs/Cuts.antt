@@ -7,7 +7,7 @@ use Rattle.std.proofs.lemmas.List.Splits.{length-slice_split}
 use Rattle.vocabulary.specs.declared.handover.HandoverRefusal.{HandoverRefusal}
 use Rattle.vocabulary.specs.declared.handover.HandoverRefusal.TheVariants as refusal
 use Rattle.definitions.specs.Handover.{Handover, HandoverVersion, Reached, AtVersion, AtOldPid, AtGeneration, AtFirstListener, AtListeners, AtWants, AtGroup, AtPidFile, AtEnd, Over, Read, nothing_read, read_line, then_read, read_rest, read_pieces, reading, spelled}
-use Rattle.handover_text.specs.Ranges.{IsHandover, IsTold, IsSpelling}
+use Rattle.handover_text.specs.Ranges.{IsHandover, IsTold}
 use Rattle.handover_text.proofs.SoFar.{is_newline, reading_in_range}
 use Rattle.handover_text.proofs.Spelled.{spelling-reading}
 use Rattle.handover_text.proofs.Taken.{reading-spelling, spellings_apart}
@@ -48,7 +48,7 @@ pieces_joined (c ∷ cs) b =
 ---- Refusals that stay
 
 -- where a text is refused for another cause than a cut, so is one that it begins
-abbrev IsKept : Result Handover HandoverRefusal → Result Handover HandoverRefusal → Type 0
+abbrev pub IsKept : Result Handover HandoverRefusal → Result Handover HandoverRefusal → Type 0
 IsKept (Ok told) r = ⊤
 IsKept (Err refusal.Version) r = r ≡ Err refusal.Version
 IsKept (Err (refusal.Line n)) r = r ≡ Err (refusal.Line n)
@@ -93,7 +93,7 @@ pieces_kept n place h line (next ∷ more) zs =
     at (Err e) later = kept_itself e
     at (Ok state) later = later state.0 state.1
 
-reading_kept : (a b : List ℕ) → IsKept (reading a) (reading (a ++ b))
+pub reading_kept : (a b : List ℕ) → IsKept (reading a) (reading (a ++ b))
 reading_kept a b =
     subst (λ pieces. IsKept (reading a) (read_pieces 1 AtVersion nothing_read pieces)) (sym (pieces_joined a b))
     (split_cases (λ xs. IsKept (read_pieces 1 AtVersion nothing_read xs) (read_pieces 1 AtVersion nothing_read (joined xs (slice_split is_newline b)))) a

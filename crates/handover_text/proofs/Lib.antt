@@ -2,9 +2,9 @@ pub mod Additions
 pub mod Cuts
 pub mod Insertion
 pub mod Listed
-pub mod Prefixes
 pub mod LinesRead
 pub mod SoFar
 pub mod Spelled
 pub mod Taken
 pub mod Begun
+pub mod First

@@ -17,13 +17,14 @@ use Rattle.listener_set.proofs.AddressLists.{has_address}
 use Rattle.vocabulary.specs.declared.handover.HandoverRefusal.{HandoverRefusal}
 use Rattle.vocabulary.specs.declared.table.Listener.{Listener}
 use Rattle.definitions.specs.After.{listens_on}
-use Rattle.definitions.specs.Handover.{Handover, HandoverVersion, One, Two, Reached, AtVersion, AtOldPid, AtGeneration, AtFirstListener, AtListeners, AtWants, AtGroup, AtPidFile, AtEnd, Over, Read, after_prefix, nothing_read, then_read, read_rest, read_pieces, reading, is_space, is_address, is_above, listener_read, one_more, joined, with_old_pid, with_generation, with_listener, with_want, with_groups, with_workers, with_group, with_pid_file, read_wanted, read_behind, read_pid_file, read_end, read_if, read_line}
+use Rattle.definitions.specs.Handover.{Handover, HandoverVersion, One, Two, Reached, AtVersion, AtOldPid, AtGeneration, AtFirstListener, AtListeners, AtWants, AtGroup, AtPidFile, AtEnd, Over, Read, nothing_read, then_read, read_rest, read_pieces, reading, is_space, is_address, is_above, listener_read, one_more, joined, with_old_pid, with_generation, with_listener, with_want, with_groups, with_workers, can_begin, with_group, with_pid_file, read_wanted, read_behind, read_pid_file, read_end, read_if, read_line}
+use Rattle.plain_text.specs.Cuts.{after_prefix}
 use Rattle.vocabulary.specs.Settings.{HasSuffixRoom}
 use Rattle.handover_text.specs.Reader.{read_to}
 use Rattle.handover_text.specs.Ranges.{IsHandover, IsTold, IsUnasked, IsBegun, IsAsked, AreParts, IsReadTo, lines_to, is_path_if}
 use Rattle.listener_set.specs.declared.groups.Group.{Group}
 use Rattle.listener_set.specs.declared.groups.GroupRefusal.{GroupRefusal}
-use Rattle.listener_set.specs.Groups.{AreGroups, addresses_in, group_refused}
+use Rattle.listener_set.specs.Groups.{AreGroups, addresses_in, workers_in, group_refused}
 use Rattle.listener_set.proofs.GroupShares.{fits-where, groups-more}
 use Rattle.std.proofs.lemmas.Option.{none-some, same_Some}
 use Rattle.std.proofs.lemmas.List.Sums.{sum_by_push}
@@ -38,11 +39,6 @@ IfRead P (Err refusal) = ⊤
 if_read : (P : Reached → Handover → Type 0) (o : Option (List ℕ)) (read : List ℕ → Read) (otherwise : Read) → ((rest : List ℕ) → IfRead P (read rest)) → IfRead P otherwise → IfRead P (read_if o read otherwise)
 if_read P None read otherwise some none = none
 if_read P (Some rest) read otherwise some none = some rest
-
--- an option that has nothing
-pub none-is : {X : Type 0} (o : Option X) → is_none o ≡ true → o ≡ None
-none-is None e = refl
-none-is (Some x) e = cc
 
 -- a group that is joined keeps the rules
 pub joined-some : (gs : List Group) (g : Group) (groups : List Group) → joined gs g ≡ Some groups → (groups ≡ gs ++ g ∷ []) × (group_refused gs g ≡ None)
@@ -160,13 +156,13 @@ module _ (n : ℕ) (h : Handover) (parts : AreParts h) where
   group_read : (o : Option ℕ) → (h.groups ≡ []) ⊎ AreGroups h.groups → addresses_in h.groups ≡ length h.want → 1 ≤ h.old_pid → 1 ≤ length h.listeners → h.pid_file ≡ None → n ≤ 4 + length h.listeners + length h.groups + length h.want → IfRead Next (with_group n h o)
   group_read None before add_up pid listener no_path count = tt
   group_read (Some w) before add_up pid listener no_path count =
-      cond_both (is_none (group_refused h.groups (record { addresses = 1; workers = w }))) _ _ (IfRead Next)
-      (λ fits. record {
+      cond_both (can_begin h.groups w) _ _ (IfRead Next)
+      (λ begins. let tests = and_parts (nat_lt (length h.groups) 16) (nat_le (workers_in h.groups + w) 1024) begins in record {
         parts = parts;
         count = omega (arith, count);
         pid = pid;
         listener = listener;
-        groups = record { before = before; counts = omega (arith, add_up); fits = none-is (group_refused h.groups (record { addresses = 1; workers = w })) fits };
+        groups = record { before = before; counts = omega (arith, add_up); few = ltb-true (length h.groups) 16 tests.0; workers = leb-true (workers_in h.groups + w) 1024 tests.1 };
         no_path = no_path;
       })
       (λ refused. tt)
@@ -268,7 +264,7 @@ line_read n (AtGroup g) h line s =
       count = omega (arith, s.count, length-append h.want (rest ∷ []));
       pid = s.pid;
       listener = s.listener;
-      groups = record { before = s.groups.before; counts = omega (arith, s.groups.counts, length-append h.want (rest ∷ [])); fits = s.groups.fits };
+      groups = record { before = s.groups.before; counts = omega (arith, s.groups.counts, length-append h.want (rest ∷ [])); few = s.groups.few; workers = s.groups.workers };
       no_path = s.no_path;
     }))
     (behind_read n h g line (joined h.groups g) refl s)

@@ -1,6 +1,6 @@
 -- What is read is spelled as it stands.
 use Rattle.std.proofs.Common.{◌≡◌, ℕ, ◌+◌, Bool, true, false, ◌&&◌, nat_eq, nat_lt, not, Option, Some, None, Result, Ok, Err, List, [], ◌∷◌, ◌++◌, length, take, drop, ◌≤◌, refl, sym, ap, subst, ◌∙◌, arith, inl, inr, append_assoc}
-use Rattle.std.specs.Prelude.{bytes_eq, codes, IfOk, is_none}
+use Rattle.std.specs.Prelude.{bytes_eq, codes, IfOk}
 use Rattle.std.specs.Fmt.{decimal}
 use Rattle.std.specs.List.{flat_map, before_first, after_first, slice_split, join_with_byte, position_or_len}
 use Rattle.std.specs.Cmp.Lexicographic.{same_text}
@@ -18,10 +18,11 @@ use Rattle.plain_text.proofs.NumberTextLemmas.{decimal-number_of, decimal-number
 use Rattle.vocabulary.specs.declared.handover.HandoverRefusal.{HandoverRefusal}
 use Rattle.vocabulary.specs.declared.table.Listener.{Listener}
 use Rattle.definitions.specs.After.{listens_on}
-use Rattle.definitions.specs.Handover.{Handover, HandoverVersion, One, Two, Reached, AtVersion, AtOldPid, AtGeneration, AtFirstListener, AtListeners, AtWants, AtGroup, AtPidFile, AtEnd, Over, Read, nothing_read, line_of, version_line, listener_line, want_line, workers_line, group_line, pid_file_line, group_lines, wanted_lines, spelled, after_prefix, is_space, is_address, is_above, listener_if, listener_read, one_more, joined, with_old_pid, with_generation, with_listener, with_want, with_groups, with_workers, with_group, with_pid_file, read_wanted, read_behind, read_pid_file, read_end, read_if, read_line, then_read, read_rest, read_pieces, reading}
+use Rattle.definitions.specs.Handover.{Handover, HandoverVersion, One, Two, Reached, AtVersion, AtOldPid, AtGeneration, AtFirstListener, AtListeners, AtWants, AtGroup, AtPidFile, AtEnd, Over, Read, nothing_read, line_of, version_line, listener_line, want_line, workers_line, group_line, pid_file_line, group_lines, wanted_lines, spelled, is_space, is_address, is_above, listener_if, listener_read, one_more, joined, with_old_pid, with_generation, with_listener, with_want, with_groups, with_workers, can_begin, with_group, with_pid_file, read_wanted, read_behind, read_pid_file, read_end, read_if, read_line, then_read, read_rest, read_pieces, reading}
+use Rattle.plain_text.specs.Cuts.{after_prefix}
 use Rattle.definitions.specs.Table.{Address}
 use Rattle.listener_set.specs.declared.groups.Group.{Group}
-use Rattle.listener_set.specs.Groups.{addresses_in, workers_in, group_refused}
+use Rattle.listener_set.specs.Groups.{addresses_in, workers_in}
 use Rattle.handover_text.specs.Ranges.{IsTold, IsReadTo, IsSpelling}
 use Rattle.handover_text.proofs.SoFar.{IfRead, line_read, nothing_in_range, joined-some}
 
@@ -194,7 +195,7 @@ module _ (n : ℕ) (h : Handover) (line text : List ℕ) where
   group_went : (o : Option ℕ) → ((w : ℕ) → o ≡ Some w → line ≡ codes "group " ++ decimal w) → to_pid_file Two h ≡ text → IfRead Went (with_group n h o)
   group_went None spelled start = tt
   group_went (Some w) spelled start =
-      cond_both (is_none (group_refused h.groups (record { addresses = 1; workers = w }))) _ _ (IfRead Went)
+      cond_both (can_begin h.groups w) _ _ (IfRead Went)
       (λ fits.
       ap (λ t. to_wants Two h ++ t) (group-begun h.groups w h.want)
       ∙ sym (append_assoc (to_wants Two h) (group_lines h.groups h.want) (group_line w))

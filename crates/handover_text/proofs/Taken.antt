@@ -5,7 +5,7 @@ use Rattle.std.specs.Fmt.{decimal}
 use Rattle.std.specs.Char.{is_ascii_digit, is_ascii_graphic}
 use Rattle.std.specs.List.{All, AllByRecursion, AllPass, list_all, flat_map, after_first, slice_split, onto_first}
 use Rattle.std.specs.Cmp.Lexicographic.{nat_list_eq_equiv, same_text}
-use Rattle.std.proofs.lemmas.Bool.{and_parts, and_from, or_parts, or_from, both_ways, not-true, not_from_false, false_from_ne_true, lt-ltb, cond_both}
+use Rattle.std.proofs.lemmas.Bool.{and_parts, and_from, or_parts, or_from, both_ways, not-true, not_from_false, false_from_ne_true, lt-ltb, le-leb, cond_both}
 use Rattle.std.proofs.lemmas.Bool.Decides.{eqb_tells}
 use Rattle.std.proofs.lemmas.List.{append-nil, length-append, length-drop, length-take-le, take-append-drop}
 use Rattle.std.proofs.lemmas.List.Folds.{list_all-append}
@@ -22,10 +22,11 @@ use Rattle.listener_set.proofs.AddressGrammar.{graphic_from_reading, digit_apart
 use Rattle.vocabulary.specs.declared.handover.HandoverRefusal.TheVariants as refusal
 use Rattle.vocabulary.specs.declared.table.Listener.{Listener}
 use Rattle.definitions.specs.After.{listens_on}
-use Rattle.definitions.specs.Handover.{Handover, HandoverVersion, One, Two, Reached, AtVersion, AtOldPid, AtGeneration, AtFirstListener, AtListeners, AtWants, AtGroup, AtPidFile, AtEnd, Over, nothing_read, line_of, version_line, listener_line, want_line, workers_line, group_line, pid_file_line, group_lines, wanted_lines, spelled, after_prefix, passes, is_space, is_address, is_above, listener_if, listener_read, one_more, joined, with_old_pid, with_generation, with_listener, with_want, with_groups, with_workers, with_group, read_behind, read_pid_file, read_if, read_line, then_read, read_pieces, reading}
+use Rattle.definitions.specs.Handover.{Handover, HandoverVersion, One, Two, Reached, AtVersion, AtOldPid, AtGeneration, AtFirstListener, AtListeners, AtWants, AtGroup, AtPidFile, AtEnd, Over, nothing_read, line_of, version_line, listener_line, want_line, workers_line, group_line, pid_file_line, group_lines, wanted_lines, spelled, passes, is_space, is_address, is_above, listener_if, listener_read, one_more, joined, with_old_pid, with_generation, with_listener, with_want, with_groups, with_workers, can_begin, with_group, read_behind, read_pid_file, read_if, read_line, then_read, read_pieces, reading}
+use Rattle.plain_text.specs.Cuts.{after_prefix}
 use Rattle.handover_text.specs.Listeners.{AreListedFrom}
 use Rattle.listener_set.specs.declared.groups.Group.{Group}
-use Rattle.listener_set.specs.Groups.{AreGroups, addresses_in, workers_in, group_refused}
+use Rattle.listener_set.specs.Groups.{AreGroups, addresses_in, workers_in}
 use Rattle.listener_set.proofs.GroupShares.{Fits, none-where}
 use Rattle.handover_text.specs.Ranges.{IsHandover, IsTold, is_path_if}
 use Rattle.handover_text.proofs.SoFar.{is_newline, pieces_more}
@@ -33,10 +34,10 @@ use Rattle.handover_text.proofs.Spelled.{old_pid_line, generation_line}
 
 ---- Texts with no newline inside
 
-abbrev is_inside : ℕ → Bool
+abbrev pub is_inside : ℕ → Bool
 is_inside c = not (c == 10)
 
-abbrev IsLine : List ℕ → Type 0
+abbrev pub IsLine : List ℕ → Type 0
 IsLine text = list_all is_inside text ≡ true
 
 line-append : (a b : List ℕ) → IsLine a → IsLine b → IsLine (a ++ b)
@@ -202,8 +203,11 @@ module _ (t : Handover) where
         workers = omega (arith, workers, are.workers);
       }
 
-  least-fits : (ds : List Group) (g : Group) → Fits ds g → group_refused ds (record { addresses = 1; workers = g.workers }) ≡ None
-  least-fits ds g fits = none-where ds (record { addresses = 1; workers = g.workers }) (record { few = fits.few; listens = omega arith; addresses = omega (arith, fits.addresses, fits.listens); workers = fits.workers })
+  few-part : (ds : List Group) (g : Group) (gs : List Group) → AreGroups (ds ++ g ∷ gs) → length ds < 16
+  few-part ds g gs are = omega (arith, are.most, length-append ds (g ∷ gs))
+
+  can-begin : (ds : List Group) (g : Group) → length ds < 16 → Fits ds g → can_begin ds g.workers ≡ true
+  can-begin ds g few fits = and_from _ _ (lt-ltb (length ds) 16 few) (le-leb (workers_in ds + g.workers) 1024 fits.workers)
 
   joined-fits : (ds : List Group) (g : Group) → Fits ds g → joined ds g ≡ Some (ds ++ g ∷ [])
   joined-fits ds g fits = ap (λ o. if is_none o then Some (ds ++ g ∷ []) else None) (none-where ds g fits)
@@ -212,16 +216,16 @@ module _ (t : Handover) where
   line-group w most = line-append (codes "group ") (decimal w) refl (line-decimal w (omega (arith, most)))
 
   -- a group begins behind others
-  begins : (n : ℕ) (ds : List Group) (dw : List (List ℕ)) (g : Group) → Fits ds g → with_group n (at_asked ds dw) (number_within 0 1024 (decimal g.workers)) ≡ Ok (AtGroup (record { addresses = 0; workers = g.workers }), at_asked ds dw)
-  begins n ds dw g fits =
+  begins : (n : ℕ) (ds : List Group) (dw : List (List ℕ)) (g : Group) → length ds < 16 → Fits ds g → with_group n (at_asked ds dw) (number_within 0 1024 (decimal g.workers)) ≡ Ok (AtGroup (record { addresses = 0; workers = g.workers }), at_asked ds dw)
+  begins n ds dw g few fits =
       ap (with_group n (at_asked ds dw)) (number_within-decimal 0 1024 g.workers (omega arith) (omega (arith, fits.workers)) (omega (arith, fits.workers)))
-      ∙ rw (least-fits ds g fits) refl
+      ∙ rw (can-begin ds g few fits) refl
 
   -- a group's line and those of its addresses, from where its line can be read
-  group_goes : (place : Reached) (from : Handover) (ds : List Group) (dw ws rest : List (List ℕ)) (g : Group) (more : List ℕ) → Fits ds g → length ws ≡ g.addresses → AreDistinct (dw ++ (ws ++ rest)) → length (dw ++ (ws ++ rest)) ≤ 64 → list_all is_address ws ≡ true → ((n : ℕ) → read_line n place from (codes "group " ++ decimal g.workers) ≡ with_group n (at_asked ds dw) (number_within 0 1024 (decimal g.workers))) → Goes place from (group_line g.workers ++ (flat_map want_line ws ++ more)) (AtGroup g) (at_asked ds (dw ++ ws)) more
-  group_goes place from ds dw ws rest g more fits counted distinct most addresses reads =
+  group_goes : (place : Reached) (from : Handover) (ds : List Group) (dw ws rest : List (List ℕ)) (g : Group) (more : List ℕ) → length ds < 16 → Fits ds g → length ws ≡ g.addresses → AreDistinct (dw ++ (ws ++ rest)) → length (dw ++ (ws ++ rest)) ≤ 64 → list_all is_address ws ≡ true → ((n : ℕ) → read_line n place from (codes "group " ++ decimal g.workers) ≡ with_group n (at_asked ds dw) (number_within 0 1024 (decimal g.workers))) → Goes place from (group_line g.workers ++ (flat_map want_line ws ++ more)) (AtGroup g) (at_asked ds (dw ++ ws)) more
+  group_goes place from ds dw ws rest g more few fits counted distinct most addresses reads =
       let begun : Group = record { addresses = 0; workers = g.workers } in
-      let first = goes_line place from (codes "group " ++ decimal g.workers) (flat_map want_line ws ++ more) (AtGroup begun) (at_asked ds dw) (line-group g.workers (omega (arith, fits.workers))) (λ n. reads n ∙ begins n ds dw g fits) in
+      let first = goes_line place from (codes "group " ++ decimal g.workers) (flat_map want_line ws ++ more) (AtGroup begun) (at_asked ds dw) (line-group g.workers (omega (arith, fits.workers))) (λ n. reads n ∙ begins n ds dw g few fits) in
       let behind = wants_go (λ k. AtGroup (record { addresses = k; workers = g.workers })) ds (λ n k h a. refl) 0 dw ws rest more distinct most addresses in
       subst (λ k. Goes place from (group_line g.workers ++ (flat_map want_line ws ++ more)) (AtGroup (record { addresses = k; workers = g.workers })) (at_asked ds (dw ++ ws)) more) (omega (arith, counted)) (goes_then first behind)
 
@@ -258,7 +262,7 @@ module _ (t : Handover) where
       let all : list_all is_address own && list_all is_address others ≡ true = sym (list_all-append is_address own others) ∙ (ap (list_all is_address) parts ∙ addresses) in
       let tests = and_parts (list_all is_address own) (list_all is_address others) all in
       let own_counts : length own ≡ x.addresses = length-take-le x.addresses ws room in
-      let first = group_goes (AtGroup g) (at_asked ds dw) (ds ++ g ∷ []) dw own others x (group_lines gs others ++ more) (fits-part (ds ++ g ∷ []) x gs are') own_counts (rw parts distinct) (rw parts most) tests.0 (λ n. ap (λ o. read_behind n (at_asked ds dw) o (codes "group " ++ decimal x.workers)) (joined-fits ds g (fits-part ds g (x ∷ gs) are))) in
+      let first = group_goes (AtGroup g) (at_asked ds dw) (ds ++ g ∷ []) dw own others x (group_lines gs others ++ more) (few-part (ds ++ g ∷ []) x gs are') (fits-part (ds ++ g ∷ []) x gs are') own_counts (rw parts distinct) (rw parts most) tests.0 (λ n. ap (λ o. read_behind n (at_asked ds dw) o (codes "group " ++ decimal x.workers)) (joined-fits ds g (fits-part ds g (x ∷ gs) are))) in
       let joint : (dw ++ own) ++ others ≡ dw ++ ws = append_assoc dw own others ∙ ap (λ ks. dw ++ ks) parts in
       let behind = groups_go gs (ds ++ g ∷ []) x (dw ++ own) others more are' (omega (arith, counts, sum, length-drop x.addresses ws)) (subst AreDistinct (sym joint) distinct) (rw joint most) tests.1 in
       record {
@@ -378,7 +382,7 @@ asked_two t h more = at t.groups refl
         let room : g.addresses ≤ length t.want = omega (arith, counts, sum) in
         let all : list_all is_address own && list_all is_address others ≡ true = sym (list_all-append is_address own others) ∙ (ap (list_all is_address) parts ∙ h.parts.wanted) in
         let tests = and_parts (list_all is_address own) (list_all is_address others) all in
-        let first = group_goes t (AtListeners Two) (at_asked t [] []) [] [] own others g (group_lines gs others ++ to_end) (fits-part t [] g gs are) (length-take-le g.addresses t.want room) (rw parts h.parts.distinct) (rw parts h.parts.most) tests.0 (λ n. refl) in
+        let first = group_goes t (AtListeners Two) (at_asked t [] []) [] [] own others g (group_lines gs others ++ to_end) (few-part t [] g gs are) (fits-part t [] g gs are) (length-take-le g.addresses t.want room) (rw parts h.parts.distinct) (rw parts h.parts.most) tests.0 (λ n. refl) in
         let behind = groups_go t gs [] g own others to_end are (omega (arith, counts, sum, length-drop g.addresses t.want)) (rw parts h.parts.distinct) (rw parts h.parts.most) tests.1 in
         let last = end_goes Two t h (AtGroup behind.last) (at_asked t behind.before (own ++ others)) more
         (λ n line want group. ends n line behind.before behind.last (own ++ others) (behind.are ∙ is) parts behind.fits want group) in

@@ -1,10 +1,10 @@
 -- What each handover keeps, and what is read of one so far.
-use Rattle.std.specs.Prelude.{ℕ, ◌≡◌, ◌+◌, ◌≤◌, true, Bool, List, [], Option, Some, None, length, ⊤, ◌⊎◌}
+use Rattle.std.specs.Prelude.{ℕ, ◌≡◌, ◌+◌, ◌≤◌, ◌<◌, true, Bool, List, [], Option, Some, None, length, ⊤, ◌⊎◌}
 use Rattle.std.specs.List.{list_all}
 use Rattle.listener_set.specs.AddressList.{AreDistinct}
 use Rattle.listener_set.specs.PathText.{is_path}
 use Rattle.listener_set.specs.declared.groups.Group.{Group}
-use Rattle.listener_set.specs.Groups.{AreGroups, addresses_in, group_refused}
+use Rattle.listener_set.specs.Groups.{AreGroups, addresses_in, workers_in}
 use Rattle.vocabulary.specs.Settings.{HasSuffixRoom}
 use Rattle.definitions.specs.Table.{FilePath}
 use Rattle.definitions.specs.Handover.{Handover, HandoverVersion, One, Two, spelled, Reached, AtVersion, AtOldPid, AtGeneration, AtFirstListener, AtListeners, AtWants, AtGroup, AtPidFile, AtEnd, Over, is_address}
@@ -94,11 +94,12 @@ HasListener (Over version) h = 1 ≤ length h.listeners
 abbrev pub IsUnasked : Handover → Type 0
 IsUnasked h = (h.want ≡ []) × (h.groups ≡ [])
 
--- A group was begun behind others, so many of whose addresses were read, and one with an address can stand there.
+-- A group was begun behind others, and so many of its addresses were read.
 pub record IsBegun (g : Group) (h : Handover) : Type 0 where
   pub before : (h.groups ≡ []) ⊎ AreGroups h.groups
   pub counts : addresses_in h.groups + g.addresses ≡ length h.want
-  pub fits : group_refused h.groups (record { addresses = 1; workers = g.workers }) ≡ None
+  pub few : length h.groups < 16
+  pub workers : workers_in h.groups + g.workers ≤ 1024
 
 -- all that is wanted was read
 pub record IsAsked (version : HandoverVersion) (h : Handover) : Type 0 where

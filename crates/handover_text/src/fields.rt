@@ -1,18 +1,11 @@
 //! The values in a line of a handover.
-ghost use Rattle.std.specs.Prelude.{◌≡◌, None, Some, MatchOption};
+ghost use Rattle.std.specs.Prelude.{◌≡◌};
 ghost use Rattle.plain_text.specs.NumberText.{number_within};
-ghost use Rattle.definitions.specs.Handover.{after_prefix, listener_read};
+ghost use Rattle.definitions.specs.Handover.{listener_read};
 
 use listener_set::Address;
 use plain_text::{around, number_within};
 use vocabulary::Listener;
-
-/// What follows a prefix.
-pub(crate) fn after_prefix<'a>(text: &'a [u8], prefix: &[u8]) -> Option<&'a [u8]>
-    ensures { MatchOption result (after_prefix prefix.now text.now ≡ None) (λ rest. after_prefix prefix.now text.now ≡ Some rest.now) }
-{
-    text.strip_prefix(prefix)
-}
 
 /// The listener of a line: its descriptor, a space and its address.
 pub(crate) fn read_listener(rest: &[u8]) -> Option<Listener>

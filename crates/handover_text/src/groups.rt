@@ -1,9 +1,9 @@
 //! Groups that are read one after another.
 ghost use Rattle.std.specs.Prelude.{◌≡◌, []};
-ghost use Rattle.definitions.specs.Handover.{joined};
+ghost use Rattle.definitions.specs.Handover.{joined, can_begin};
 ghost use Rattle.handover_text.specs.Reader.{groups_in};
 
-use listener_set::{Group, Groups, MOST_LISTENERS, WORKER_LIMIT};
+use listener_set::{Group, Groups, MOST_GROUPS, MOST_LISTENERS, WORKER_LIMIT};
 
 /// The first group, where it keeps the rules of groups.
 fn first(group: Group) -> Option<Groups>
@@ -26,5 +26,17 @@ pub(crate) fn joined(groups: Option<Groups>, group: Group) -> Option<Groups>
     match groups.add(group) {
         Ok(()) => Some(groups),
         Err(_) => None,
+    }
+}
+
+/// Whether a group of so many workers can begin behind the groups: its line passes no limit.
+pub(crate) fn can_begin(groups: Option<Groups>, workers: u32) -> bool
+    ensures { result ≡ can_begin (groups_in groups) workers }
+{
+    match groups {
+        None => workers <= WORKER_LIMIT,
+        Some(groups) => {
+            groups.as_slice().len() < MOST_GROUPS && workers <= WORKER_LIMIT - groups.workers()
+        }
     }
 }

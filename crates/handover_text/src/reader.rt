@@ -5,11 +5,11 @@ ghost use Rattle.definitions.specs.Handover.{AtVersion, AtOldPid, AtGeneration, 
 ghost use Rattle.handover_text.specs.Ranges.{IsReadTo};
 ghost use Rattle.handover_text.specs.Reader.{read_to, place_of};
 
-use crate::fields::{after_prefix, read_listener, read_workers};
-use crate::groups::joined;
+use crate::fields::{read_listener, read_workers};
+use crate::groups::{can_begin, joined};
 use crate::{Handover, Listeners};
 use listener_set::{Address, FilePath, Generation, Group, Groups, ListenerSet, MOST_LISTENERS};
-use plain_text::{around, read_count, read_number};
+use plain_text::{after_prefix, around, read_count, read_number};
 use std::marker::Model;
 use vocabulary::{HandoverRefusal, HandoverVersion};
 
@@ -178,18 +178,14 @@ impl Reader {
         Ok(())
     }
 
-    /// Begins a group, where one with an address can stand behind the others.
+    /// Begins a group, unless there are too many groups or workers then.
     fn take_group(&mut self, number: u32, rest: &[u8]) -> Result<(), HandoverRefusal>
         ensures { read_to result self.new ≡ with_group number self.old.1 (number_within 0 1024 rest.now) }
     {
         let Some(workers) = read_workers(rest) else {
             return Err(HandoverRefusal::Line(number));
         };
-        let least = Group {
-            addresses: 1,
-            workers,
-        };
-        if joined(self.groups, least).is_none() {
+        if !can_begin(self.groups, workers) {
             return Err(HandoverRefusal::Line(number));
         }
         self.next = Next::Group(Group {

@@ -13,13 +13,13 @@ use Rattle.vocabulary.specs.declared.calls.Fate.TheVariants as fate
 use Rattle.definitions.specs.Run.{Moment, quiet, Pattern}
 use Rattle.event_pattern.specs.Pattern.{moment_at, with_exit, with_fate, RiseFrom}
 use Rattle.plain_text.proofs.CutTexts.{lacks, lacks-append}
-use Rattle.call_text.specs.Lines.{lines_of}
+use Rattle.plain_text.specs.Lines.{lines_of}
 use Rattle.call_text.specs.Words.{fate_text}
 use Rattle.call_text.specs.NameText.{worker_name, name_text}
 use Rattle.call_text.specs.Ranges.{IsWorker, IsName, IsCount}
 use Rattle.call_text.specs.declared.refusal.TextRefusal.TheVariants.{Order}
 use Rattle.call_text.proofs.PartTexts.{number_lacks}
-use Rattle.call_text.proofs.TextLines.{lines_line}
+use Rattle.plain_text.proofs.TextLines.{lines_line}
 use Rattle.pattern_text.specs.declared.pattern_line.PatternLine.{PatternLine}
 use Rattle.pattern_text.specs.declared.pattern_line.PatternLine.TheVariants.{Exit, Fail, Next}
 use Rattle.pattern_text.specs.LineText.{line_text, IsLine}

@@ -6,7 +6,7 @@ use Rattle.definitions.specs.Run.{quiet, Pattern}
 use Rattle.event_pattern.specs.Pattern.{with_exit, with_fate}
 use Rattle.pattern_text.specs.declared.pattern_line.PatternLine.{PatternLine}
 use Rattle.pattern_text.specs.declared.pattern_line.PatternLine.TheVariants.{Exit, Fail, Next}
-use Rattle.call_text.specs.Lines.{lines_of}
+use Rattle.plain_text.specs.Lines.{lines_of}
 use Rattle.pattern_text.specs.LineReading.{line_of}
 use Rattle.call_text.specs.declared.refusal.TextRefusal.{TextRefusal}
 use Rattle.call_text.specs.declared.refusal.TextRefusal.TheVariants.{Line, Order}

@@ -8,8 +8,9 @@ ghost use Rattle.pattern_text.specs.PatternsWriting.{patterns_text};
 ghost use Rattle.pattern_text.specs.Written.{AreSections};
 
 use crate::PatternLine;
-use call_text::{TextRefusal, first_line};
+use call_text::TextRefusal;
 use event_pattern::Pattern;
+use plain_text::first_line;
 use std::alloc::{AllocError, Global};
 use std::mem;
 use vocabulary::{Fate, Name};

@@ -1,8 +1,7 @@
 -- What is kept of a text that is put behind what was kept before.
-use Rattle.std.proofs.Common.{◌≡◌, ℕ, zero, suc, List, [], ◌∷◌, ap, ◌++◌, take, Option, Some, None, refl, arith, append_assoc, ◌+◌, ◌-◌, ◌≤◌, ◌<◌, ◌^◌, lit<, min, length, length-take-le, sym, ◌∙◌}
+use Rattle.std.proofs.Common.{◌≡◌, ℕ, Bool, true, zero, suc, List, [], ◌∷◌, ap, ◌++◌, take, Option, Some, None, refl, arith, append_assoc, ◌+◌, ◌-◌, ◌≤◌, ◌<◌, ◌^◌, lit<, min, length, length-take-le, sym, ◌∙◌}
 use Rattle.std.proofs.lemmas.List.{take_min}
-use Rattle.std.proofs.lemmas.Slice.{take-put_mid}
-use borrow.Rule.Slice.PartMut.{put_mid}
+use Rattle.std.specs.Prelude.{IsTrue, ◌↔◌, if◌then◌else◌}
 use Rattle.std.specs.Fmt.{decimal}
 use Rattle.std.proofs.lemmas.Fmt.{length-decimal-le}
 use Rattle.std.proofs.Math.Seq.{take-append-add}
@@ -30,13 +29,14 @@ take_onto most len before text size fits =
     let all : length before + (most - len) ≡ most = omega arith in
     rw take_min (sym (take-append-add before text (most - len)) ∙ ap (λ n. take n (before ++ text)) all)
 
--- a text that is copied behind the first ones of so many places
-pub copied_behind : (most len taken : ℕ) (places before text new : List ℕ) → length places ≡ most → len ≤ most → take len places ≡ before → taken ≡ min (most - len) (length text) → new ≡ take taken text → take (len + taken) (put_mid len (len + taken - len) places new) ≡ take most (before ++ text)
-copied_behind most len taken places before text new size fits kept_is taken_is new_is =
+-- as much of a text as there is room for, put behind the first ones of so many places
+pub put_cut : (most len taken : ℕ) (places before text new : List ℕ) (fits : Bool) → length places ≡ most → len ≤ most → take len places ≡ before → taken ≡ min (most - len) (length text)
+    → (IsTrue fits ↔ (length before + length (take taken text) ≤ most)) → new ≡ (if fits then before ++ take taken text else before) → new ≡ take most (before ++ text)
+put_cut most len taken places before text new fits size within kept_is taken_is room new_is =
     let filled : length before ≡ len = rw (← kept_is) (length-take-le len places (omega arith)) in
-    let sized : length new ≡ taken = rw new_is (length-take-le taken text (omega arith)) in
-    take-put_mid len (len + taken - len) places new (len + taken) (omega arith) (omega arith)
-    ∙ rw (kept_is, new_is, taken_is) (take_onto most len before text filled fits)
+    let sized : length (take taken text) ≡ taken = length-take-le taken text (omega arith) in
+    let yes : fits ≡ true = room.1 (omega arith) in
+    new_is ∙ ap (λ b. if b then before ++ take taken text else before) yes ∙ ap (λ n. before ++ take n text) taken_is ∙ take_onto most len before text filled within
 
 pub short_decimal : (n : ℕ) → n < 2 ^ 64 → length (decimal n) ≤ 20
 short_decimal n small = length-decimal-le 20 n (lit< tt) (omega (arith, small)) small

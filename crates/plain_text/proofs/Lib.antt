@@ -1,3 +1,6 @@
 pub mod NumberTextLemmas
 pub mod CutTexts
 pub mod KeptTexts
+pub mod Prefixes
+pub mod LineTexts
+pub mod TextLines

@@ -1,3 +1,4 @@
 pub mod NumberText
 pub mod Cuts
 pub mod Kept
+pub mod Lines

@@ -1,7 +1,7 @@
 //! Texts cut in two.
-ghost use Rattle.std.specs.Prelude.{◌≡◌, ◌==◌, option_map, position};
+ghost use Rattle.std.specs.Prelude.{◌≡◌, ◌==◌, None, Some, MatchOption, option_map, position};
 ghost use Rattle.std.specs.List.{before_first, after_first};
-ghost use Rattle.plain_text.specs.Cuts.{cut};
+ghost use Rattle.plain_text.specs.Cuts.{cut, after_prefix};
 
 /// Where the first such byte stands.
 fn first(text: &[u8], byte: u8) -> Option<usize>
@@ -29,4 +29,11 @@ pub fn around(text: &[u8], byte: u8) -> (&[u8], &[u8])
         Some(parts) => parts,
         None => (text, &[]),
     }
+}
+
+/// What follows a prefix; none where the text does not begin with it.
+pub fn after_prefix<'a>(text: &'a [u8], prefix: &[u8]) -> Option<&'a [u8]>
+    ensures { MatchOption result (after_prefix prefix.now text.now ≡ None) (λ rest. after_prefix prefix.now text.now ≡ Some rest.now) }
+{
+    text.strip_prefix(prefix)
 }

@@ -1,7 +1,9 @@
 //! Lines of pipes.
-ghost use Rattle.std.specs.Prelude.{◌≡◌, ◌≤◌, ◌↔◌, ◌++◌, [], take, length, IsTrue};
+ghost use Rattle.std.specs.Prelude.{◌≡◌, ◌≤◌, ◌+◌, ◌↔◌, ◌++◌, [], length, IsTrue, if◌then◌else◌};
+ghost use Rattle.std.specs.Fmt.{decimal};
 
 use crate::sink::Sink;
+use itoa::Buffer;
 use std::convert::Infallible;
 use std::marker::Model;
 
@@ -58,14 +60,28 @@ impl Line {
         self.len = 0;
     }
 
-    /// Puts bytes behind those of the line. It keeps the first 4,096 of them all.
-    pub fn push(&mut self, bytes: &[u8])
-        ensures { self.new ≡ take LINE_BYTES (self.old ++ bytes.now) }
+    /// Puts bytes after those of the line. Where the line would pass 4,096 bytes, it stays as it is, and the answer is false.
+    pub fn put(&mut self, bytes: &[u8]) -> bool
+        ensures fits { IsTrue result ↔ (length self.old + length bytes.now ≤ LINE_BYTES) }
+        ensures text { self.new ≡ (if result then self.old ++ bytes.now else self.old) }
     {
-        let taken = (LINE_BYTES - self.len).min(bytes.len());
-        let end = self.len + taken;
-        self.bytes[self.len..end].copy_from_slice(&bytes[..taken]);
+        if bytes.len() > LINE_BYTES - self.len {
+            return false;
+        }
+        let end = self.len + bytes.len();
+        self.bytes[self.len..end].copy_from_slice(bytes);
         self.len = end;
+        true
+    }
+
+    /// Puts a number in decimal digits after the bytes of the line, as `put` does.
+    pub fn put_number(&mut self, number: u64) -> bool
+        ensures fits { IsTrue result ↔ (length self.old + length (decimal number) ≤ LINE_BYTES) }
+        ensures text { self.new ≡ (if result then self.old ++ decimal number else self.old) }
+        ensures short { length (decimal number) ≤ 20 }
+    {
+        let mut buffer = Buffer::new();
+        self.put(buffer.format(number).as_bytes())
     }
 }
 
@@ -80,7 +96,9 @@ impl Sink for Line {
     ghost text = { λ line. line };
 
     fn put(&mut self, bytes: &[u8]) -> Result<(), Infallible> {
-        self.push(bytes);
+        let room = LINE_BYTES - self.len;
+        let taken = room.min(bytes.len());
+        let _ = Line::put(self, &bytes[..taken]);
         Ok(())
     }
 }

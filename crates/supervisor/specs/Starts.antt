@@ -5,7 +5,7 @@ use Rattle.definitions.specs.Record.{Record, started}
 use Rattle.child_family.specs.Told.{Told, Tells, wrote}
 use Rattle.child_family.specs.declared.family.Family.{Ghosts}
 use Rattle.child_edge.specs.Edge.{begun_by}
-use Rattle.child_edge.specs.Lines.{pid_text}
+use Rattle.child_family.specs.Lines.{pid_text}
 use Rattle.child_edge.specs.State.{state_of}
 use Rattle.child_edge.specs.declared.edge.Edge.{Edge}
 use Rattle.word_runner.specs.declared.standing.Standing.{Standing}

@@ -1,6 +1,5 @@
 //! A block in one line.
 use call_text::side_text;
-use control_words::Word;
 use crews::Shortfalls;
 use std::fmt;
 use vocabulary::Outcome;
@@ -19,27 +18,8 @@ impl fmt::Display for Summary<'_> {
 
     fn fmt<W: fmt::Write>(&self, f: &mut fmt::Formatter<W>) -> fmt::Result {
         match self.0 {
-            Block::Heard(word, body) => write!(f, "{}: {}", WordText(*word), BodyText(body)),
+            Block::Heard(word, body) => write!(f, "{word}: {}", BodyText(body)),
             Block::Unread(refusal) => write!(f, "unread {}", refusal.code()),
-        }
-    }
-}
-
-/// A word as it is written in a line.
-#[derive(Clone, Copy)]
-struct WordText(Word);
-
-impl fmt::Display for WordText {
-    ghost use Rattle.std.specs.Prelude.{Some};
-    ghost use Rattle.control_words.specs.Words.{word_text};
-
-    ghost output = { λ word. Some (word_text word.0) };
-
-    fn fmt<W: fmt::Write>(&self, f: &mut fmt::Formatter<W>) -> fmt::Result {
-        match self.0 {
-            Word::Beat { nr, now } => write!(f, "beat {nr} {now}"),
-            Word::Tick { now } => write!(f, "tick {now}"),
-            word => f.write_str(word.name()),
         }
     }
 }

@@ -30,20 +30,16 @@ fn last_word(line: &[u8]) -> &[u8] {
 /// What a worker answers.
 fn obey(child: &Child, line: &mut Line) -> bool {
     match child.last.as_slice() {
-        b"go" => line.push(b"ready"),
-        b"ping" => line.push(b"pong"),
-        b"quit" => line.push(b"gone"),
+        b"go" => line.put(b"ready"),
+        b"ping" => line.put(b"pong"),
+        b"quit" => line.put(b"gone"),
         last => match last.strip_prefix(b"tick ".as_slice()) {
             Some(now) => {
-                line.push(b"beat ");
-                line.push(now);
-                line.push(b" ");
-                line.push(&child.start);
+                line.put(b"beat ") && line.put(now) && line.put(b" ") && line.put(&child.start)
             }
-            None => return false,
+            None => false,
         },
     }
-    true
 }
 
 /// The verb of a call line, `mI VERB ..`.
@@ -54,19 +50,17 @@ fn verb(line: &[u8]) -> &[u8] {
 /// What a master answers: plainly, but for a call that asks for another master.
 fn pass(child: &Child, line: &mut Line) -> bool {
     if child.last.as_slice() == b"alive".as_slice() {
-        line.push(b"alive");
-        return true;
+        return line.put(b"alive");
     }
     match verb(&child.last) {
-        b"adopt" => line.push(b"adopted"),
-        b"open" => line.push(b"opened 4"),
-        b"fork" => line.push(b"forked"),
-        b"await-ready" => line.push(b"ready"),
-        b"census" => line.push(b"counted 0"),
-        b"alive" => line.push(b"what"),
-        _ => line.push(b"ok"),
+        b"adopt" => line.put(b"adopted"),
+        b"open" => line.put(b"opened 4"),
+        b"fork" => line.put(b"forked"),
+        b"await-ready" => line.put(b"ready"),
+        b"census" => line.put(b"counted 0"),
+        b"alive" => line.put(b"what"),
+        _ => line.put(b"ok"),
     }
-    true
 }
 
 impl Obeying {

@@ -127,6 +127,7 @@ fn fork_with(numbers: &[u32]) -> Call {
 #[test]
 fn forks_with_descriptors_are_read_as_they_are_written(rt: HostRuntime) {
     let texts = [
+        (fork_with(&[]), "m7 fork 1.1 2 fds none"),
         (fork_with(&[3]), "m7 fork 1.1 2 fds 3"),
         (fork_with(&[66]), "m7 fork 1.1 2 fds 66"),
         (fork_with(&[7, 3, 4, 5]), "m7 fork 1.1 2 fds 3-5,7"),
@@ -138,24 +139,12 @@ fn forks_with_descriptors_are_read_as_they_are_written(rt: HostRuntime) {
     assert!(rt; read_answer(&fork_with(&[3]), b"no-memory") == Some(Answer::NoMemory));
 }
 
-/// A set without descriptors has a text, but no fork has it.
-#[test]
-fn forks_without_descriptors_are_written_and_not_read(rt: HostRuntime) {
-    let mut line = Line::new();
-    write_call(
-        Actor(1),
-        &Call::Fork(FIRST, 2, Some(DescriptorSet::none())),
-        &mut line,
-    );
-    assert!(rt; line.bytes() == b"m1 fork 1.1 2 fds none".as_slice());
-    assert!(rt; read_call(line.bytes()).is_none());
-}
-
-const OTHER_FORKS: [&str; 17] = [
+const OTHER_FORKS: [&str; 18] = [
     "m1 fork 1.1 2 ",
     "m1 fork 1.1 2 fds",
     "m1 fork 1.1 2 fds ",
-    "m1 fork 1.1 2 fds none",
+    "m1 fork 1.1 2 fds none,3",
+    "m1 fork 1.1 2 fds None",
     "m1 fork 1.1 2 fds 2",
     "m1 fork 1.1 2 fds 2-4",
     "m1 fork 1.1 2 fds 67",

@@ -265,9 +265,9 @@ fn a_handover_is_refused_by_its_first_faulty_line(rt: HostRuntime) -> Result<(),
     Ok(())
 }
 
-/// A group that no address could follow cannot stand: 64 are the most, and 16 the most groups.
+/// The line that passes a limit is refused: 64 addresses are the most, and 16 groups. The line of a group names no address.
 #[test]
-fn a_group_is_refused_where_none_can_stand(rt: HostRuntime) -> Result<(), Fail> {
+fn a_handover_is_refused_by_the_line_that_passes_a_limit(rt: HostRuntime) -> Result<(), Fail> {
     let mut text = begun(rt.alloc(), "handover 2", "group 0\n")?;
     for port in 1..65_u32 {
         let line = format!(in rt.alloc(); "want 0.0.0.0:{port}")?;
@@ -275,8 +275,26 @@ fn a_group_is_refused_where_none_can_stand(rt: HostRuntime) -> Result<(), Fail> 
     }
     let mut more = text.clone()?;
     put(&mut more, "group 0")?;
+    assert_eq!(rt; read(more.as_slice()).err(), Some(HandoverRefusal::Cut));
+    for line in ["want /b", "group 0", "pid-file /run/a.pid", "end"] {
+        let mut behind = more.clone()?;
+        put(&mut behind, line)?;
+        assert_eq!(rt;
+            read(behind.as_slice()).err(),
+            Some(HandoverRefusal::Line(71)),
+            "{line}"
+        );
+    }
+    let mut wanted = text.clone()?;
+    put(&mut wanted, "want /b")?;
     assert_eq!(rt;
-        read(more.as_slice()).err(),
+        read(wanted.as_slice()).err(),
+        Some(HandoverRefusal::Line(70))
+    );
+    let mut many = text.clone()?;
+    put(&mut many, "group 1025")?;
+    assert_eq!(rt;
+        read(many.as_slice()).err(),
         Some(HandoverRefusal::Line(70))
     );
     put(&mut text, "end")?;

@@ -73,7 +73,7 @@ fn the_longest_answer_fits_and_is_read(rt: HostRuntime) -> Result<(), Fail> {
 #[test]
 fn an_empty_line_is_no_call_and_no_answer(rt: HostRuntime) -> Result<(), Fail> {
     let mut line = Line::new();
-    line.push(b"");
+    assert!(rt; line.put(b""));
     assert!(rt; line.bytes().is_empty());
     assert!(rt; read_call(line.bytes()).is_none());
     assert!(rt; read_answer(&Call::Leave, line.bytes()).is_none());
@@ -81,18 +81,23 @@ fn an_empty_line_is_no_call_and_no_answer(rt: HostRuntime) -> Result<(), Fail> {
 }
 
 #[test]
-fn a_line_keeps_its_first_bytes_until_it_is_cleared(rt: HostRuntime) -> Result<(), Fail> {
+fn a_line_takes_a_text_whole_or_not_at_all(rt: HostRuntime) -> Result<(), Fail> {
     let mut line = Line::new();
-    line.push(&[b'a'; LINE_BYTES - 2]);
+    assert!(rt; line.put(&[b'a'; LINE_BYTES - 2]));
+    assert!(rt; !line.put(b"bcd"));
+    assert!(rt; !line.put_number(100));
+    assert!(rt; line.bytes().len() == LINE_BYTES - 2);
+    assert!(rt; line.bytes().ends_with(b"aaa"));
     assert!(rt; !line.is_full());
-    line.push(b"bcd");
+    assert!(rt; line.put_number(42));
     assert!(rt; line.is_full());
-    line.push(b"e");
-    assert!(rt; line.bytes().len() == LINE_BYTES);
-    assert!(rt; line.bytes().ends_with(b"abc"));
+    assert!(rt; !line.put(b"e"));
+    assert!(rt; line.put(b""));
+    assert!(rt; line.bytes().ends_with(b"a42"));
     line.clear();
     assert!(rt; line.bytes().is_empty());
-    line.push(b"d");
+    assert!(rt; !line.put(&[b'a'; LINE_BYTES + 1]));
+    assert!(rt; line.put(b"d"));
     assert!(rt; line.bytes() == b"d".as_slice());
     Ok(())
 }
@@ -101,7 +106,7 @@ fn a_line_keeps_its_first_bytes_until_it_is_cleared(rt: HostRuntime) -> Result<(
 fn a_vector_and_a_line_hold_the_same_text(rt: HostRuntime) -> Result<(), Fail> {
     let mut line = Line::new();
     let mut bytes = Vec::new(rt.alloc());
-    line.put(b"at ")?;
+    assert!(rt; line.put(b"at "));
     bytes.put(b"at ")?;
     write_number(&mut line, u64::MAX)?;
     write_number(&mut bytes, u64::MAX)?;

@@ -11,7 +11,7 @@ use Rattle.word_runner.specs.declared.block.Block.{Block}
 use Rattle.word_runner.specs.declared.block.Block.TheVariants as block
 use Rattle.word_runner.specs.declared.block.Body.{Body}
 use Rattle.word_runner.specs.declared.block.Body.TheVariants as body
-use Rattle.call_text.specs.Lines.{lines_of}
+use Rattle.plain_text.specs.Lines.{lines_of}
 use Rattle.call_text.specs.ReportText.{report_text, entry_line, entries_text}
 use Rattle.call_text.specs.declared.refusal.TextRefusal.{TextRefusal}
 use Rattle.call_text.specs.declared.refusal.TextRefusal.TheVariants as text
@@ -23,7 +23,7 @@ use Rattle.transcript.specs.Reading.{last_count, with_ready, Opened, Reading, be
 use Rattle.transcript.specs.Block.{body_text, block_text, transcript_text, IsBody, IsBlock, AreBlocks, body_read, block_read, IsTextOf}
 use Rattle.transcript.proofs.OneLine.{line_lacks}
 use Rattle.transcript.proofs.BlockLines.{block_line_reads}
-use Rattle.call_text.proofs.TextLines.{ended_lines, lines_ended, lines_line, lines_lack}
+use Rattle.plain_text.proofs.TextLines.{ended_lines, lines_ended, lines_line, lines_lack}
 
 abbrev AreEntries : List Entry → Type 0
 AreEntries es = AllByRecursion IsEntry es

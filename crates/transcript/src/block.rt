@@ -1,34 +1,12 @@
 //! Blocks as texts.
 ghost use Rattle.std.specs.Prelude.{◌≡◌, ◌++◌, IfOk};
 ghost use Rattle.call_text.specs.ReportText.{entries_text};
-ghost use Rattle.control_words.specs.Words.{word_text};
 ghost use Rattle.transcript.specs.Block.{body_text, block_text};
 
 use call_text::{write_entry, write_report};
-use control_words::Word;
-use plain_text::write_number;
 use plan_runner::CallLog;
 use std::alloc::{AllocError, Global};
 use word_runner::{Block, Body};
-
-/// A word as it is written: its name, and the numbers of a beat or of a tick.
-fn write_word(out: &mut Vec<u8>, word: Word) -> Result<(), AllocError>
-    ensures { IfOk result (λ _. out.new.items ≡ out.old.items ++ word_text word) }
-{
-    match word {
-        Word::Beat { nr, now } => {
-            out.extend_from_slice(b"beat ")?;
-            write_number(out, u64::from(nr))?;
-            out.extend_from_slice(b" ")?;
-            write_number(out, now)
-        }
-        Word::Tick { now } => {
-            out.extend_from_slice(b"tick ")?;
-            write_number(out, now)
-        }
-        _ => out.extend_from_slice(word.name().as_bytes()),
-    }
-}
 
 /// A line for each call, numbered from 1.
 fn write_entries(out: &mut Vec<u8>, log: &CallLog) -> Result<(), AllocError>
@@ -69,7 +47,7 @@ pub fn write_transcript(alloc: Global, block: &Block) -> Result<Vec<u8>, AllocEr
     match block {
         Block::Heard(word, body) => {
             out.extend_from_slice(b"word ")?;
-            write_word(&mut out, *word)?;
+            word.write(&mut out)?;
             out.extend_from_slice(b"\n")?;
             write_body(&mut out, body)?;
         }

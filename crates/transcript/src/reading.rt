@@ -8,9 +8,10 @@ ghost use Rattle.word_runner.specs.declared.block.Block.{Block as Done};
 
 use crate::block_line::BlockLine;
 use crate::codes::code_of;
-use call_text::{TextRefusal, first_line};
+use call_text::TextRefusal;
 use control_words::Word;
 use listener_set::Numbers;
+use plain_text::first_line;
 use plan_runner::CallLog;
 use std::alloc::{AllocError, Global};
 use vocabulary::{Answer, Entry, Report};

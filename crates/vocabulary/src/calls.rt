@@ -106,6 +106,22 @@ pub enum Fate {
     Back,
 }
 
+impl Fate {
+    /// Each fate, once.
+    pub const ALL: [Fate; 10] = [
+        Fate::InUse,
+        Fate::TooMany,
+        Fate::Denied,
+        Fate::NoMemory,
+        Fate::Again,
+        Fate::Late,
+        Fate::NoImage,
+        Fate::Refused,
+        Fate::IoFault,
+        Fate::Back,
+    ];
+}
+
 /// What an edge of a plan tells apart of an answer.
 #[derive(Clone, Copy, Debug, PartialEq, Eq)]
 pub enum Reply {

@@ -2,7 +2,7 @@ use Rattle.std.proofs.Common.{◌≡◌, ℕ, Bool, Option, Some, refl, ap, code
 use Rattle.vocabulary.specs.declared.calls.Answer.TheVariants as answer
 use Rattle.child_family.specs.Talk.{says, hears}
 use Rattle.child_edge.specs.State.{State, ChildMaster, state_of}
-use Rattle.child_edge.specs.Lines.{is_line}
+use Rattle.child_family.specs.Lines.{is_line}
 use Rattle.child_edge.specs.Table.{answers, alone, ended_master, living}
 use Rattle.child_edge.proofs.Turning.{goes-from, goes-into, goes-both, goes-stops}
 use Rattle.child_edge.proofs.masters.alive.Goals as goal

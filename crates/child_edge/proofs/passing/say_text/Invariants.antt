@@ -1,5 +1,5 @@
 use Rattle.std.proofs.Common.{length}
-use Rattle.call_text.specs.Lines.{lines_of}
+use Rattle.plain_text.specs.Lines.{lines_of}
 use Rattle.child_edge.specs.Each.{says_unless}
 use Rattle.child_edge.specs.Table.{Turn}
 use Rattle.child_edge.specs.Turns.{GoesOn}

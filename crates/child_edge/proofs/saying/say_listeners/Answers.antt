@@ -1,7 +1,7 @@
 use Rattle.std.proofs.Common.{List, map}
 use Rattle.std.proofs.lemmas.List.{at_drop_all}
 use Rattle.vocabulary.specs.declared.table.Listener.{Listener}
-use Rattle.child_edge.specs.Lines.{listener_line}
+use Rattle.child_family.specs.Lines.{listener_line}
 use Rattle.child_edge.specs.Each.{says_lines}
 use Rattle.child_edge.proofs.Turning.{goes-into}
 use Rattle.child_edge.proofs.saying.say_listeners.Goals as goal

@@ -1,6 +1,6 @@
 use Rattle.std.proofs.Common.{drop, map}
 use Rattle.vocabulary.specs.declared.table.Listener.{Listener}
-use Rattle.child_edge.specs.Lines.{listener_line}
+use Rattle.child_family.specs.Lines.{listener_line}
 use Rattle.child_edge.specs.Each.{says_lines}
 use Rattle.child_edge.specs.Table.{Turn}
 use Rattle.child_edge.specs.Turns.{GoesOn}

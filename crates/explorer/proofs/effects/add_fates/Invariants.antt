@@ -1,10 +1,11 @@
 use Rattle.std.proofs.Common.{◌≡◌, ◌++◌, map, drop}
 use Rattle.std.specs.List.{filter}
 use Rattle.explorer.specs.declared.events.Mishap.TheVariants.{Fail}
-use Rattle.explorer.specs.Events.{every_fate, takes_effect}
+use Rattle.vocabulary.specs.Fates.{all_fates}
+use Rattle.explorer.specs.Events.{takes_effect}
 use Rattle.explorer.proofs.effects.add_fates.Given as goal
 
 abbrev pub invariant-loop-fate : goal.invariant-loop-fate
 invariant-loop-fate l =
     let test = takes_effect l.text l.by l.call l.kernel.table in
-    l.mishaps.items ++ map Fail (filter test (drop l.fate-index every_fate)) ≡ l.fn.mishaps.items ++ map Fail (filter test every_fate)
+    l.mishaps.items ++ map Fail (filter test (drop l.fate-index all_fates)) ≡ l.fn.mishaps.items ++ map Fail (filter test all_fates)

@@ -2,6 +2,7 @@ use Rattle.std.proofs.Common.{refl}
 use Rattle.vocabulary.specs.declared.handover.HandoverRefusal.TheVariants as refusal
 use Rattle.handover_text.proofs.Begun.{lines-begin}
 use Rattle.handover_text.proofs.Cuts.{cut_short}
+use Rattle.handover_text.proofs.First.{none-begins}
 use Rattle.handover_text.proofs.SoFar.{reading_in_range}
 use Rattle.handover_text.proofs.Spelled.{spelling-reading}
 use Rattle.handover_text.proofs.Taken.{reading-spelling, trailing, spellings_apart}
@@ -26,7 +27,7 @@ pub returns-clause-cut : goal.returns-clause-cut
 returns-clause-cut c = cut_short
 
 pub returns-clause-line : goal.returns-clause-line
-returns-clause-line c = λ text n e. lines-begin text (refusal.Line n) n e refl
+returns-clause-line c = λ text n e. (lines-begin text (refusal.Line n) n e refl, none-begins text (refusal.Line n) n e refl)
 
 pub returns-clause-order : goal.returns-clause-order
-returns-clause-order c = λ text n e. lines-begin text (refusal.OutOfOrder n) n e refl
+returns-clause-order c = λ text n e. (lines-begin text (refusal.OutOfOrder n) n e refl, none-begins text (refusal.OutOfOrder n) n e refl)

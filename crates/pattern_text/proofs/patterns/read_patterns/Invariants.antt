@@ -1,5 +1,5 @@
 use Rattle.std.proofs.Common.{◌≡◌, ◌+◌, ◌≤◌, length}
-use Rattle.call_text.specs.Lines.{lines_of}
+use Rattle.plain_text.specs.Lines.{lines_of}
 use Rattle.pattern_text.specs.PatternsText.{reading_of, patterns_of}
 use Rattle.pattern_text.specs.Reader.{seen}
 use Rattle.pattern_text.proofs.patterns.read_patterns.Given as goal

@@ -1,5 +1,5 @@
 use Rattle.std.proofs.Common.{◌≡◌, ◌+◌, ◌≤◌, length}
-use Rattle.call_text.specs.Lines.{lines_of}
+use Rattle.plain_text.specs.Lines.{lines_of}
 use Rattle.transcript.specs.Reading.{reading_of, blocks_of}
 use Rattle.transcript.specs.Reader.{seen}
 use Rattle.transcript.proofs.reading.read_lines.Given as goal
