@@ -5,7 +5,7 @@ use Rattle.word_runner.proofs.Starting.{IsLike, followed-like}
 use Rattle.word_runner.proofs.standing.Standing.follow.Goals as goal
 
 pub returns-clause-workers : goal.returns-clause-workers
-returns-clause-workers c =
+returns-clause-workers g c =
     let old = c.args.self.now.workers in
     let after = c.args.after in
     let entries = c.args.log.now.entries in
