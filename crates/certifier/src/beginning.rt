@@ -17,7 +17,7 @@ use crate::mismatch::Mismatch;
 use crate::replay::Replay;
 use kernel_model::{Kernel, Pattern};
 use plan_executor::{agrees, heir_of, plan_of, reserved_copy};
-use plan_runner::CallLog;
+use plan_runner::Transcript;
 use rollback_plan::Plan;
 use service_state::Record;
 use std::alloc::Global;
@@ -30,7 +30,7 @@ fn show_all(
     kernel: Kernel,
     image: u32,
     heir: Option<u32>,
-    log: &CallLog,
+    log: &Transcript,
 ) -> Result<Pattern, Mismatch>
     requires { kernel.room ≡ height (tree_of plan.now) }
     ensures ok { IfOk result (Shows (text_of plan.now) (listed heir) (record { trail = begin (tree_of plan.now) (note_of plan.now); table = kernel.table; executing = image ∷ [] }) log.now.entries) }
@@ -51,7 +51,7 @@ pub fn certify_beginning(
     kernel: &Kernel,
     state: &Record,
     target: &Target,
-    log: &CallLog,
+    log: &Transcript,
 ) -> Result<Pattern, Mismatch>
     requires { IsTarget target.now }
     ensures ok { IfOk result (IsBeginning kernel.now.table state.now target.now log.now.entries) }

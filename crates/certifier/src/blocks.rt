@@ -10,7 +10,7 @@ use crate::mismatch::Mismatch;
 use control_words::Word;
 use kernel_model::{Kernel, Pattern};
 use plan_executor::record_left;
-use plan_runner::CallLog;
+use plan_runner::Transcript;
 use service_state::Record;
 use std::alloc::{AllocError, Global};
 use vocabulary::{Report, Settings};
@@ -150,7 +150,7 @@ fn certify_run(
     standing: &mut Standing<Kernel>,
     settings: Option<&Settings>,
     word: Word,
-    log: &CallLog,
+    log: &Transcript,
     report: &Report,
 ) -> Result<Pattern, Mismatch>
     ensures ok { IfOk result (λ pattern. IsFollowed (option_copied settings.entry) word log.now.entries report.now standing.old pattern standing.new) }

@@ -16,21 +16,21 @@ use crate::mismatch::Mismatch;
 use crate::replay::{Certificate, Replay};
 use kernel_model::{Kernel, Pattern};
 use plan_executor::{agrees, ends_as_reported, heir_of, plan_of, reserved_copy};
-use plan_runner::CallLog;
+use plan_runner::Transcript;
 use rollback_plan::Plan;
 use service_state::Record;
 use std::alloc::Global;
 use vocabulary::{Report, Target};
 
 /// Replays all entries; the first that can't stand there is a mismatch.
-pub(crate) fn replay_all(replay: &mut Replay<'_>, log: &CallLog) -> Result<(), Mismatch>
+pub(crate) fn replay_all(replay: &mut Replay<'_>, log: &Transcript) -> Result<(), Mismatch>
     requires { HasTaken replay.old.text.now (listed replay.old.heir) (sides_in replay.old.walk) (place_of replay.old) [] replay.old }
     ensures ok { OnOk result (HasTaken replay.old.text.now (listed replay.old.heir) (sides_in replay.old.walk) (place_of replay.old) log.now.entries replay.new) }
     ensures err { IfErr result (StopsBy replay.old.text.now (listed replay.old.heir) (place_of replay.old) log.now.entries) }
     ensures left { OnOk result (replay.new.kernel.room + length log.now.entries ≡ replay.old.kernel.room) }
 {
     for place in 0..log.len() {
-        if !replay.take(&log.entry(place))? {
+        if !replay.take(&log.get(place))? {
             return Err(Mismatch::Step(place + 1));
         }
     }
@@ -44,7 +44,7 @@ fn hold(
     kernel: Kernel,
     image: u32,
     heir: Option<u32>,
-    log: &CallLog,
+    log: &Transcript,
     report: &Report,
 ) -> Result<Certificate, Mismatch>
     requires { kernel.room ≡ height (tree_of plan.now) }
@@ -64,7 +64,7 @@ pub(crate) fn certificate(
     kernel: &Kernel,
     state: &Record,
     target: &Target,
-    log: &CallLog,
+    log: &Transcript,
     report: &Report,
 ) -> Result<Certificate, Mismatch>
     requires { IsTarget target.now }
@@ -105,7 +105,7 @@ pub fn certify(
     kernel: &Kernel,
     state: &Record,
     target: &Target,
-    log: &CallLog,
+    log: &Transcript,
     report: &Report,
 ) -> Result<Pattern, Mismatch>
     requires { IsTarget target.now }

@@ -3,7 +3,7 @@ use Rattle.std.specs.Prelude.{◌≡◌, ℕ, List, [], Option, Some, None, code
 use Rattle.definitions.specs.Calls.{Call, SpawnMaster, Answer}
 use Rattle.call_text.specs.CallText.{answer_text}
 use Rattle.child_programs.specs.declared.master.Spawn.{Spawn}
-use Rattle.child_programs.specs.Requests.{Request, IsAlive, Make, request_of, Part, More, Whole, Other, part_of, with_line}
+use Rattle.child_programs.specs.Requests.{MasterRequest, IsAlive, Make, request_of, Part, More, Whole, Other, part_of, with_line}
 use Rattle.child_programs.specs.Response.{Response, quiet, says, fails}
 
 -- What it waits for: a line that asks something, or the next line of the handover of a master that it is to start. That one has
@@ -29,7 +29,7 @@ abbrev pub called : ℕ → Call → Asked × Waits
 called by (SpawnMaster image) = (nothing, for_handover by image [])
 called by call = (calls by call [], for_requests)
 
-abbrev pub requested : Option Request → Asked × Waits
+abbrev pub requested : Option MasterRequest → Asked × Waits
 requested None = (other, for_requests)
 requested (Some IsAlive) = (alive, for_requests)
 requested (Some (Make made)) = called made.by made.call

@@ -3,16 +3,16 @@ use Rattle.std.specs.Prelude.{ℕ, List, [], ◌∷◌, ◌++◌, Option, Some, 
 use Rattle.definitions.specs.Calls.{Call, Adopt, Answer}
 use Rattle.vocabulary.specs.declared.calls.Answer.TheVariants.{Refused, MasterGone}
 use Rattle.call_text.specs.CallReading.{line_of}
-pub use Rattle.child_programs.specs.declared.requests.Request.{Request}
-pub use Rattle.child_programs.specs.declared.requests.Request.TheVariants.{IsAlive, Make}
+pub use Rattle.child_programs.specs.declared.requests.MasterRequest.{MasterRequest}
+pub use Rattle.child_programs.specs.declared.requests.MasterRequest.TheVariants.{IsAlive, Make}
 pub use Rattle.child_programs.specs.declared.handover_lines.Part.{Part}
 pub use Rattle.child_programs.specs.declared.handover_lines.Part.TheVariants.{More, Whole, Other}
 
 -- a line that asks for an answer: whether the master is alive, or a call
-abbrev pub made_by : ℕ × Call → Request
+abbrev pub made_by : ℕ × Call → MasterRequest
 made_by c = Make (record { by = c.0; call = c.1 })
 
-abbrev pub request_of : List ℕ → Option Request
+abbrev pub request_of : List ℕ → Option MasterRequest
 request_of line = if bytes_eq line (codes "alive") then Some IsAlive else option_map made_by (line_of line)
 
 -- what a line is to a handover that is read: its last one, none of it where it asks for an answer, or one more

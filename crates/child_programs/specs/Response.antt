@@ -1,7 +1,7 @@
 -- What a program does at a line.
 use Rattle.std.specs.Prelude.{⊤, ◌≡◌, ℕ, ◌<◌, ◌⊎◌, List, [], ◌∷◌, ◌++◌, Option, Some, None, length}
-use Rattle.child_programs.specs.declared.hearing.Step.{Step}
-use Rattle.child_programs.specs.declared.hearing.Step.TheVariants.{Quiet, Says, Leaves, Fails}
+use Rattle.child_programs.specs.declared.hearing.Reaction.{Reaction}
+use Rattle.child_programs.specs.declared.hearing.Reaction.TheVariants.{Quiet, Says, Leaves, Fails}
 
 -- Nothing is said; an answer is said; it is said, and the program ends with status 0; or the program ends with status 1.
 pub data Response : Type 0 where
@@ -11,7 +11,7 @@ pub data Response : Type 0 where
   fails : Response
 
 -- by what is to be done, and the line that has the answer
-abbrev pub response_of : Step → List ℕ → Response
+abbrev pub response_of : Reaction → List ℕ → Response
 response_of Quiet text = quiet
 response_of Says text = says text
 response_of Leaves text = leaves text

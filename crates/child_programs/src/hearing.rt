@@ -3,7 +3,7 @@ use plain_text::Line;
 
 /// What a program does at a line.
 #[derive(Clone, Copy, Debug, PartialEq, Eq)]
-pub enum Step {
+pub enum Reaction {
     /// It says nothing.
     Quiet,
     /// It says its answer.
@@ -23,7 +23,7 @@ pub trait Hears {
     ghost hears: { Self → List ℕ → Self → Response → Type 0 };
 
     /// Hears a line, without its newline. An answer is put into `answer`.
-    fn hear(&mut self, line: &[u8], answer: &mut Line) -> Step
+    fn hear(&mut self, line: &[u8], answer: &mut Line) -> Reaction
         ensures heard { hears self.old line.now self.new (response_of result answer.new) }
         ensures room { HasRoom (response_of result answer.new) };
 }

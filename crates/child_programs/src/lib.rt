@@ -14,9 +14,9 @@ mod worker_lines;
 
 pub use answering::{Answers, Refusing};
 pub use handover_lines::{HandoverLines, Part};
-pub use hearing::{Hears, Step};
+pub use hearing::{Hears, Reaction};
 pub use master::{NewMaster, Spawn};
-pub use requests::{CallLine, Request, read_request};
-pub use serving::{Served, serve_master, serve_worker};
-pub use worker::Worker;
+pub use requests::{CallLine, MasterRequest, read_request};
+pub use serving::{ServedMaster, serve_master, serve_worker};
+pub use worker::WorkerProgram;
 pub use worker_lines::{WorkerLine, read_worker_line};

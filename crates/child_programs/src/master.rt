@@ -8,9 +8,9 @@ ghost use Rattle.child_programs.specs.Master.{waits_of, called, requested, hande
 
 use crate::answering::Answers;
 use crate::handover_lines::{HandoverLines, Part};
-use crate::hearing::{Hears, Step};
+use crate::hearing::{Hears, Reaction};
 use crate::lines::write_text;
-use crate::requests::{CallLine, Request, read_request};
+use crate::requests::{CallLine, MasterRequest, read_request};
 use call_text::write_answer;
 use plain_text::Line;
 use std::alloc::AllocError;
@@ -42,13 +42,13 @@ fn make<A: Answers>(
     call: &Call,
     text: &[u8],
     answer: &mut Line,
-) -> Result<Step, AllocError>
+) -> Result<Reaction, AllocError>
     ensures response { IfOk result (λ step. (a : Answered) × (response_of step answer.new ≡ says (answer_text a)) × A.answers answers.old by call.now text.now answers.new a) }
     ensures room { OnOk result (length answer.new < 4096) }
 {
     let made = answers.answer(by, call, text)?;
     write_answer(&made, answer);
-    Ok(Step::Says)
+    Ok(Reaction::Says)
 }
 
 impl<A: Answers + Drop> NewMaster<A> {
@@ -72,7 +72,7 @@ impl<A: Answers + Drop> NewMaster<A> {
     }
 
     /// Has a call made; one that starts a master waits for its handover.
-    fn take_call(&mut self, made: CallLine, answer: &mut Line) -> Result<Step, AllocError>
+    fn take_call(&mut self, made: CallLine, answer: &mut Line) -> Result<Reaction, AllocError>
         requires { self.old.waiting ≡ None }
         ensures heard { IfOk result (λ step. IsHeard A.answers (called made.by made.call).0 self.old.answers self.new.answers (response_of step answer.new)) }
         ensures waits { OnOk result (waits_of self.new.waiting self.new.handover ≡ (called made.by made.call).1) }
@@ -81,25 +81,25 @@ impl<A: Answers + Drop> NewMaster<A> {
         if let Call::SpawnMaster(image) = made.call {
             self.handover.clear();
             self.waiting = Some(Spawn { by: made.by, image });
-            return Ok(Step::Quiet);
+            return Ok(Reaction::Quiet);
         }
         make(&mut self.answers, made.by, &made.call, &[], answer)
     }
 
     /// Hears a line where it waits for one that asks something.
-    fn hear_request(&mut self, line: &[u8], answer: &mut Line) -> Result<Step, AllocError>
+    fn hear_request(&mut self, line: &[u8], answer: &mut Line) -> Result<Reaction, AllocError>
         requires { self.old.waiting ≡ None }
         ensures heard { IfOk result (λ step. IsHeard A.answers (requested (request_of line.now)).0 self.old.answers self.new.answers (response_of step answer.new)) }
         ensures waits { OnOk result (waits_of self.new.waiting self.new.handover ≡ (requested (request_of line.now)).1) }
         ensures room { IfOk result (λ step. HasRoom (response_of step answer.new)) }
     {
         match read_request(line) {
-            None => Ok(Step::Fails),
-            Some(Request::IsAlive) => {
+            None => Ok(Reaction::Fails),
+            Some(MasterRequest::IsAlive) => {
                 write_text(answer, b"alive");
-                Ok(Step::Says)
+                Ok(Reaction::Says)
             }
-            Some(Request::Make(made)) => self.take_call(made, answer),
+            Some(MasterRequest::Make(made)) => self.take_call(made, answer),
         }
     }
 
@@ -109,15 +109,15 @@ impl<A: Answers + Drop> NewMaster<A> {
         spawn: Spawn,
         line: &[u8],
         answer: &mut Line,
-    ) -> Result<Step, AllocError>
+    ) -> Result<Reaction, AllocError>
         requires { self.old.waiting ≡ Some spawn }
         ensures heard { IfOk result (λ step. IsHeard A.answers (handed spawn.by spawn.image self.old.handover line.now (part_of line.now)).0 self.old.answers self.new.answers (response_of step answer.new)) }
         ensures waits { OnOk result (waits_of self.new.waiting self.new.handover ≡ (handed spawn.by spawn.image self.old.handover line.now (part_of line.now)).1) }
         ensures room { IfOk result (λ step. HasRoom (response_of step answer.new)) }
     {
         match self.handover.take(line)? {
-            Part::More => Ok(Step::Quiet),
-            Part::Other => Ok(Step::Fails),
+            Part::More => Ok(Reaction::Quiet),
+            Part::Other => Ok(Reaction::Fails),
             Part::Whole => {
                 self.waiting = None;
                 let call = Call::SpawnMaster(spawn.image);
@@ -136,7 +136,7 @@ impl<A: Answers + Drop> NewMaster<A> {
     /// said; one that starts a master waits for the lines of the handover that follow it, up to the line `end`, and is
     /// made then. At any other line it fails, and at a line that asks for an answer where a handover isn't at its end.
     /// The only refusal is want of memory.
-    pub fn hear(&mut self, line: &[u8], answer: &mut Line) -> Result<Step, AllocError>
+    pub fn hear(&mut self, line: &[u8], answer: &mut Line) -> Result<Reaction, AllocError>
         ensures heard { IfOk result (λ step. IsHeard A.answers (asked (waits_of self.old.waiting self.old.handover) line.now).0 self.old.answers self.new.answers (response_of step answer.new)) }
         ensures waits { OnOk result (waits_of self.new.waiting self.new.handover ≡ (asked (waits_of self.old.waiting self.old.handover) line.now).1) }
         ensures room { IfOk result (λ step. HasRoom (response_of step answer.new)) }
@@ -158,10 +158,10 @@ impl<A: Answers + Drop> Hears for NewMaster<A> {
         (IsHeard A.answers (asked (waits_of old.waiting old.handover) line).0 old.answers new.answers r × (waits_of new.waiting new.handover ≡ (asked (waits_of old.waiting old.handover) line).1))
         ⊎ (r ≡ fails) };
 
-    fn hear(&mut self, line: &[u8], answer: &mut Line) -> Step {
+    fn hear(&mut self, line: &[u8], answer: &mut Line) -> Reaction {
         match self.hear(line, answer) {
             Ok(step) => step,
-            Err(_) => Step::Fails,
+            Err(_) => Reaction::Fails,
         }
     }
 }

@@ -14,7 +14,7 @@ pub struct CallLine {
 
 /// A line that asks for an answer.
 #[derive(Clone, Copy, Debug)]
-pub enum Request {
+pub enum MasterRequest {
     /// Whether the master is alive.
     IsAlive,
     /// To make a call.
@@ -22,12 +22,12 @@ pub enum Request {
 }
 
 /// Reads the line `alive`, or a call as `read_call` accepts it.
-pub fn read_request(line: &[u8]) -> Option<Request>
+pub fn read_request(line: &[u8]) -> Option<MasterRequest>
     ensures { result ≡ request_of line.now }
 {
     if line == b"alive".as_slice() {
-        return Some(Request::IsAlive);
+        return Some(MasterRequest::IsAlive);
     }
     let (by, call) = read_call(line)?;
-    Some(Request::Make(CallLine { by, call }))
+    Some(MasterRequest::Make(CallLine { by, call }))
 }

@@ -3,7 +3,7 @@ ghost use Rattle.std.specs.Prelude.{◌<◌, ◌++◌, ◌∷◌, [], length, On
 ghost use Rattle.std.specs.Io.KnownBytes.{Appends};
 ghost use Rattle.child_programs.specs.Response.{response_of, HasRoom, IsActed};
 
-use crate::hearing::Step;
+use crate::hearing::Reaction;
 use plain_text::Line;
 use std::io;
 use std::io::Write;
@@ -19,20 +19,20 @@ fn say<O: Write>(line: &mut Line, output: &mut O) -> io::Result<()>
 }
 
 /// Does what is to be done. The exit status where the program ends then: 1 where it can't say its answer.
-pub(crate) fn act<O: Write>(step: Step, answer: &mut Line, output: &mut O) -> Option<u8>
+pub(crate) fn act<O: Write>(step: Reaction, answer: &mut Line, output: &mut O) -> Option<u8>
     requires { HasRoom (response_of step answer.old) }
     ensures { IsActed (response_of step answer.old) result (λ text. Appends (O.contents output.old) (O.contents output.new) text) }
 {
     match step {
-        Step::Quiet => None,
-        Step::Says => match say(answer, output) {
+        Reaction::Quiet => None,
+        Reaction::Says => match say(answer, output) {
             Ok(()) => None,
             Err(_) => Some(1),
         },
-        Step::Leaves => match say(answer, output) {
+        Reaction::Leaves => match say(answer, output) {
             Ok(()) => Some(0),
             Err(_) => Some(1),
         },
-        Step::Fails => Some(1),
+        Reaction::Fails => Some(1),
     }
 }

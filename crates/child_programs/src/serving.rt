@@ -7,7 +7,7 @@ use crate::handover_lines::{HandoverLines, Part};
 use crate::hearing::Hears;
 use crate::master::NewMaster;
 use crate::saying::act;
-use crate::worker::Worker;
+use crate::worker::WorkerProgram;
 use child_edge::Edge;
 use child_family::{Family, Heard};
 use child_processes::LineReader;
@@ -51,14 +51,14 @@ fn serve<H: Hears, I: Read + Drop, O: Write>(
 }
 
 /// A worker on pipes. Gives the exit status: 0 after `quit` and at the end of input, and 1 at a line that it can't be told
-/// ([`Worker::hear`]), one of more than 4,096 bytes too, and where an answer can't be written.
+/// ([`WorkerProgram::hear`]), one of more than 4,096 bytes too, and where an answer can't be written.
 pub fn serve_worker<I: Read + Drop, O: Write>(input: I, output: &mut O) -> u8 {
-    serve(&mut Worker::new(), &mut LineReader::new(input), output)
+    serve(&mut WorkerProgram::new(), &mut LineReader::new(input), output)
 }
 
 /// How a new master ended.
 #[derive(Drop)]
-pub struct Served<F: Family + Drop> {
+pub struct ServedMaster<F: Family + Drop> {
     /// The exit status.
     pub status: u8,
     /// Its children. None where there was no memory to begin; it had no child then.
@@ -108,16 +108,16 @@ fn serve_adopted<F: Family + Drop, I: Read + Drop, O: Write>(
     handover: HandoverLines,
     lines: &mut LineReader<I>,
     output: &mut O,
-) -> Served<F> {
+) -> ServedMaster<F> {
     let Ok(edge) = Edge::adopt(alloc, family, told, pid, ROOM) else {
-        return Served {
+        return ServedMaster {
             status: 1,
             family: None,
         };
     };
     let mut master = NewMaster::new(edge, handover);
     let status = serve(&mut master, lines, output);
-    Served {
+    ServedMaster {
         status,
         family: Some(master.into_answers().into_family()),
     }
@@ -152,7 +152,7 @@ pub fn serve_master<F: Family + Drop, I: Read + Drop, O: Write>(
     pid: u32,
     input: I,
     output: &mut O,
-) -> Served<F> {
+) -> ServedMaster<F> {
     let mut lines = LineReader::new(input);
     let mut line = Line::new();
     let status = match receive(alloc, &mut lines, &mut line) {
@@ -168,7 +168,7 @@ pub fn serve_master<F: Family + Drop, I: Read + Drop, O: Write>(
         Ok(Received::Ended) => 0,
         Err(_) => 1,
     };
-    Served {
+    ServedMaster {
         status,
         family: Some(family),
     }

@@ -4,7 +4,7 @@ ghost use Rattle.child_programs.specs.Response.{response_of, HasRoom};
 ghost use Rattle.child_programs.specs.WorkerLines.{line_of};
 ghost use Rattle.child_programs.specs.Worker.{beat_line, beating, obeyed, start_after};
 
-use crate::hearing::{Hears, Step};
+use crate::hearing::{Hears, Reaction};
 use crate::lines::write_text;
 use crate::worker_lines::{WorkerLine, read_worker_line};
 use plain_text::Line;
@@ -12,11 +12,11 @@ use std::marker::Model;
 
 /// A worker: the number of its start, once it was told that. Contracts see this number.
 #[derive(Drop)]
-pub struct Worker {
+pub struct WorkerProgram {
     start: Option<u32>,
 }
 
-impl Model for Worker {
+impl Model for WorkerProgram {
     ghost use Rattle.std.specs.Prelude.{ℕ, Option};
 
     ghost Value = { Option ℕ };
@@ -36,29 +36,29 @@ fn write_beat(line: &mut Line, now: u64, start: u32)
     line.put_number(u64::from(start));
 }
 
-impl Worker {
+impl WorkerProgram {
     /// A worker that was told nothing yet.
-    pub fn new() -> Worker
+    pub fn new() -> WorkerProgram
         ensures { result ≡ None }
     {
-        Worker { start: None }
+        WorkerProgram { start: None }
     }
 
     /// Answers to a moment. Without a start it can't.
-    fn beat(&self, now: u64, answer: &mut Line) -> Step
+    fn beat(&self, now: u64, answer: &mut Line) -> Reaction
         ensures response { response_of result answer.new ≡ beating now self.now }
         ensures room { HasRoom (response_of result answer.new) }
     {
         match self.start {
             Some(start) => {
                 write_beat(answer, now, start);
-                Step::Says
+                Reaction::Says
             }
-            None => Step::Fails,
+            None => Reaction::Fails,
         }
     }
 
-    fn obey(&mut self, line: WorkerLine, answer: &mut Line) -> Step
+    fn obey(&mut self, line: WorkerLine, answer: &mut Line) -> Reaction
         ensures response { response_of result answer.new ≡ obeyed self.old (Some line) }
         ensures start { self.new ≡ start_after self.old (Some line) }
         ensures room { HasRoom (response_of result answer.new) }
@@ -66,21 +66,21 @@ impl Worker {
         match line {
             WorkerLine::Named(_, _, start) => {
                 self.start = Some(start);
-                Step::Quiet
+                Reaction::Quiet
             }
-            WorkerLine::Listener(_) | WorkerLine::Usr1 | WorkerLine::Close(_) => Step::Quiet,
+            WorkerLine::Listener(_) | WorkerLine::Usr1 | WorkerLine::Close(_) => Reaction::Quiet,
             WorkerLine::Go => {
                 write_text(answer, b"ready");
-                Step::Says
+                Reaction::Says
             }
             WorkerLine::Ping => {
                 write_text(answer, b"pong");
-                Step::Says
+                Reaction::Says
             }
             WorkerLine::Tick(now) => self.beat(now, answer),
             WorkerLine::Quit => {
                 write_text(answer, b"gone");
-                Step::Leaves
+                Reaction::Leaves
             }
         }
     }
@@ -88,26 +88,26 @@ impl Worker {
     /// Hears a line, without its newline: says `ready` to `go`, `pong` to `ping`, `beat NOW START` to `tick NOW`, and
     /// `gone` to `quit`, and then ends; to `worker I.C NR START`, of which it keeps START, `listener ADDRESS`, `usr1` and
     /// `close ADDRESS` it says nothing. At any other line it fails, and at a moment where it was not told its start.
-    pub fn hear(&mut self, line: &[u8], answer: &mut Line) -> Step
+    pub fn hear(&mut self, line: &[u8], answer: &mut Line) -> Reaction
         ensures response { response_of result answer.new ≡ obeyed self.old (line_of line.now) }
         ensures start { self.new ≡ start_after self.old (line_of line.now) }
         ensures room { HasRoom (response_of result answer.new) }
     {
         match read_worker_line(line) {
             Some(line) => self.obey(line, answer),
-            None => Step::Fails,
+            None => Reaction::Fails,
         }
     }
 }
 
-impl Hears for Worker {
+impl Hears for WorkerProgram {
     ghost use Rattle.std.specs.Prelude.{◌≡◌};
     ghost use Rattle.child_programs.specs.WorkerLines.{line_of};
     ghost use Rattle.child_programs.specs.Worker.{obeyed, start_after};
 
     ghost hears = { λ old line new r. (r ≡ obeyed old (line_of line)) × (new ≡ start_after old (line_of line)) };
 
-    fn hear(&mut self, line: &[u8], answer: &mut Line) -> Step {
+    fn hear(&mut self, line: &[u8], answer: &mut Line) -> Reaction {
         self.hear(line, answer)
     }
 }

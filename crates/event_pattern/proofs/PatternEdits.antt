@@ -5,7 +5,7 @@ use Rattle.std.proofs.Math.Seq.{map-set_same}
 use Rattle.vocabulary.specs.declared.names.Name.{Name}
 use Rattle.vocabulary.specs.declared.calls.Fate.{Fate}
 use Rattle.definitions.specs.Run.{Moment, quiet}
-use Rattle.event_pattern.specs.declared.pattern.Event.{Event}
+use Rattle.event_pattern.specs.declared.pattern.PatternEvent.{PatternEvent}
 use Rattle.event_pattern.specs.Pattern.{moment_at, with_exit, with_fate, IsNameWithin, AreNamesWithin, IsEvent, IsPattern}
 use Rattle.event_pattern.specs.Events.{seen_event, IsListed, IsUnlisted}
 use Rattle.event_pattern.proofs.Patterns.{number-listed, moment-listed, names-listed, moment-replaced, pattern-replaced, moment-unlisted, moment-added, pattern-added}
@@ -22,11 +22,11 @@ within-push [] name h is = (is, tt)
 within-push (x ∷ xs) name h is = (h.0, within-push xs name h.1 is)
 
 -- A pattern, with a moment of its own at one number.
-pub record Becomes (es : List Event) (n : ℕ) (x : Moment) (after : List Event) : Type 0 where
+pub record Becomes (es : List PatternEvent) (n : ℕ) (x : Moment) (after : List PatternEvent) : Type 0 where
   pub pattern : IsPattern (map seen_event after)
   pub moments : (m : ℕ) → moment_at (map seen_event after) m ≡ cond (nat_eq m n) x (moment_at (map seen_event es) m)
 
-module _ (es : List Event) (n k : ℕ) (pattern : IsPattern (map seen_event es)) (h : IsListed es n k) (e : Event) (there : e ≡ get_or es k e) (new : Event) (same : new.number ≡ e.number) where
+module _ (es : List PatternEvent) (n k : ℕ) (pattern : IsPattern (map seen_event es)) (h : IsListed es n k) (e : PatternEvent) (there : e ≡ get_or es k e) (new : PatternEvent) (same : new.number ≡ e.number) where
   -- where nothing was added
   pub nothing-replaced : new.fate ≡ e.fate → new.exits.items ≡ e.exits.items → map seen_event (set es k new) ≡ map seen_event es
   nothing-replaced fate exits =
@@ -54,7 +54,7 @@ module _ (es : List Event) (n k : ℕ) (pattern : IsPattern (map seen_event es))
       let was = old in
       replaced (with_fate f (moment_at (map seen_event es) n)) (rw was cc) (event-with_fate (moment_at (map seen_event es) n).exits f) (rw exits (names-listed es n k pattern h e there))
 
-module _ (es : List Event) (n k : ℕ) (pattern : IsPattern (map seen_event es)) (h : IsUnlisted es n k) (new : Event) (le : 1 ≤ n) (same : new.number ≡ n) where
+module _ (es : List PatternEvent) (n k : ℕ) (pattern : IsPattern (map seen_event es)) (h : IsUnlisted es n k) (new : PatternEvent) (le : 1 ≤ n) (same : new.number ≡ n) where
   added : (x : Moment) → (seen_event new).1 ≡ x → IsEvent x → AreNamesWithin new.exits.items → Becomes es n x (insert es k new)
   added x is event names = record {
     pattern = pattern-added es n k pattern h new same le (rw is event) names;

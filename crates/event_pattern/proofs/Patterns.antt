@@ -8,7 +8,7 @@ use Rattle.std.proofs.lemmas.Bool.{cases_lt, cases_eq}
 use Rattle.std.proofs.lemmas.List.{length-map, map-set, map-append, take-map, drop-map, get_or_default}
 use Rattle.std.proofs.lemmas.Bool.Decides.{nat_tests}
 use Rattle.definitions.specs.Run.{Moment, quiet}
-use Rattle.event_pattern.specs.declared.pattern.Event.{Event}
+use Rattle.event_pattern.specs.declared.pattern.PatternEvent.{PatternEvent}
 use Rattle.event_pattern.specs.Pattern.{moment_at, AreNamesWithin, IsEvent, RiseFrom, IsPattern, is_masters, names_master}
 use Rattle.event_pattern.specs.Events.{seen_event, IsListed, IsUnlisted}
 
@@ -148,7 +148,7 @@ module _ (n : ℕ) where
 ---- The same of events, as the vector has them
 
 -- the numbers rise
-pub rising-from : (es : List Event) (b : ℕ) → RiseFrom b (map seen_event es) → IsNonDecreasingBy (λ e. e.number) es
+pub rising-from : (es : List PatternEvent) (b : ℕ) → RiseFrom b (map seen_event es) → IsNonDecreasingBy (λ e. e.number) es
 rising-from [] b h i j d le lt = absurd (omega arith)
 rising-from (e ∷ es) b h zero zero d le lt = omega arith
 rising-from (e ∷ es) b h zero (suc j) d le lt =
@@ -161,12 +161,12 @@ rising-from (e ∷ es) b h (suc i) zero d le lt = absurd (omega arith)
 rising-from (e ∷ es) b h (suc i) (suc j) d le lt = rising-from es (e.number + 1) h.3 i j d (omega arith) (omega arith)
 
 module _ (n : ℕ) where
-  place-map : (es : List Event) → place n (map seen_event es) ≡ position_or_len (λ e. nat_le n e.number) es
+  place-map : (es : List PatternEvent) → place n (map seen_event es) ≡ position_or_len (λ e. nat_le n e.number) es
   place-map [] = refl
   place-map (e ∷ es) = ap (λ k. cond (not (nat_le n e.number)) (1 + k) 0) (place-map es)
 
   -- where the numbers turn from lower ones to no lower ones
-  pub place_is : (es : List Event) (k : ℕ) → k ≤ length es → IsPartitionPoint (λ e. ltb e.number n ≡ true) (λ e. ltb e.number n ≡ false) es k → k ≡ position_or_len (λ e. nat_le n e.number) es
+  pub place_is : (es : List PatternEvent) (k : ℕ) → k ≤ length es → IsPartitionPoint (λ e. ltb e.number n ≡ true) (λ e. ltb e.number n ≡ false) es k → k ≡ position_or_len (λ e. nat_le n e.number) es
   place_is [] k le h = omega arith
   place_is (e ∷ es) k le h =
       sym (position_or_len_is (λ d. nat_le n d.number) (e ∷ es) k e le
@@ -174,9 +174,9 @@ module _ (n : ℕ) where
       (λ lt. let high = h.1 k e (omega arith) lt in grind (arith, nat_tests)))
 
 -- An event of a pattern, at its place.
-module _ (es : List Event) (n k : ℕ) (pattern : IsPattern (map seen_event es)) (h : IsListed es n k) (e : Event) (there : e ≡ get_or es k e) where
+module _ (es : List PatternEvent) (n k : ℕ) (pattern : IsPattern (map seen_event es)) (h : IsListed es n k) (e : PatternEvent) (there : e ≡ get_or es k e) where
   pub number-listed : e.number ≡ n
-  number-listed = ap (λ (d : Event). d.number) there ∙ h.number e
+  number-listed = ap (λ (d : PatternEvent). d.number) there ∙ h.number e
 
   inside : k < length (map seen_event es)
   inside = rw length-map h.within
@@ -193,7 +193,7 @@ module _ (es : List Event) (n k : ℕ) (pattern : IsPattern (map seen_event es))
   pub names-listed : AreNamesWithin e.exits.items
   names-listed = rw entry at (names-at_place (map seen_event es) 1 k (seen_event e) pattern inside)
 
-  module _ (new : Event) (same : new.number ≡ n) where
+  module _ (new : PatternEvent) (same : new.number ≡ n) where
     pub moment-replaced : (m : ℕ) → moment_at (map seen_event (set es k new)) m ≡ cond (nat_eq m n) (seen_event new).1 (moment_at (map seen_event es) m)
     moment-replaced m = rw (map-set, same) (moment-set n (seen_event new).1 (map seen_event es) 1 k (seen_event e) pattern inside numbered m)
 
@@ -201,14 +201,14 @@ module _ (es : List Event) (n k : ℕ) (pattern : IsPattern (map seen_event es))
     pattern-replaced event names = rw (map-set, same) (RiseFrom-set n (seen_event new).1 (map seen_event es) 1 k (seen_event e) event names pattern inside numbered)
 
 -- A number that no event of a pattern has, and its place.
-module _ (es : List Event) (n k : ℕ) (pattern : IsPattern (map seen_event es)) (h : IsUnlisted es n k) where
+module _ (es : List PatternEvent) (n k : ℕ) (pattern : IsPattern (map seen_event es)) (h : IsUnlisted es n k) where
   at_place : place n (map seen_event es) ≡ k
   at_place = place-map n es ∙ sym h.first
 
   absent : IsAbsent n (map seen_event es)
   absent = at es h
     where
-      at : (es : List Event) → IsUnlisted es n k → IsAbsent n (map seen_event es)
+      at : (es : List PatternEvent) → IsUnlisted es n k → IsAbsent n (map seen_event es)
       at [] u d lt = absurd (omega arith)
       at (e ∷ es) u d lt =
           let all = map seen_event (e ∷ es) in
@@ -221,10 +221,10 @@ module _ (es : List Event) (n k : ℕ) (pattern : IsPattern (map seen_event es))
   pub moment-unlisted : moment_at (map seen_event es) n ≡ quiet
   moment-unlisted = moment-absent n (map seen_event es) 1 pattern absent
 
-  map-insert : (new : Event) → map seen_event (insert es k new) ≡ insert (map seen_event es) (place n (map seen_event es)) (seen_event new)
+  map-insert : (new : PatternEvent) → map seen_event (insert es k new) ≡ insert (map seen_event es) (place n (map seen_event es)) (seen_event new)
   map-insert new = rw at_place (simp (map-append, take-map, drop-map))
 
-  module _ (new : Event) (same : new.number ≡ n) where
+  module _ (new : PatternEvent) (same : new.number ≡ n) where
     pub moment-added : (m : ℕ) → moment_at (map seen_event (insert es k new)) m ≡ cond (nat_eq m n) (seen_event new).1 (moment_at (map seen_event es) m)
     moment-added m = rw (map-insert new, same) (moment-insert n (seen_event new).1 (map seen_event es) 1 pattern absent m)
 
@@ -234,6 +234,6 @@ module _ (es : List Event) (n k : ℕ) (pattern : IsPattern (map seen_event es))
 ---- Masters
 
 -- they are named by the events as by what is seen of them
-pub any_seen : (es : List Event) → list_any (λ e. list_any is_masters (seen_event e).1.exits) es ≡ names_master (map seen_event es)
+pub any_seen : (es : List PatternEvent) → list_any (λ e. list_any is_masters (seen_event e).1.exits) es ≡ names_master (map seen_event es)
 any_seen [] = refl
 any_seen (e ∷ es) = ap (λ b. list_any is_masters (seen_event e).1.exits || b) (any_seen es)

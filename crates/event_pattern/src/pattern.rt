@@ -14,13 +14,13 @@ use vocabulary::{Fate, Name};
 
 /// A moment that is not quiet.
 #[derive(Drop)]
-struct Event {
+struct PatternEvent {
     number: u32,
     exits: Vec<Name>,
     fate: Option<Fate>,
 }
 
-impl Event {
+impl PatternEvent {
     fn moment(&self) -> Moment<'_>
         ensures { seen_moment result ≡ (seen_event self.now).1 }
     {
@@ -37,10 +37,10 @@ impl Event {
     }
 }
 
-fn any_names_master(events: &[Event]) -> bool
+fn any_names_master(events: &[PatternEvent]) -> bool
     ensures { result ≡ list_any (λ e. list_any is_masters (seen_event e).1.exits) events.now }
 {
-    events.iter().any(Event::names_master)
+    events.iter().any(PatternEvent::names_master)
 }
 
 fn is_masters(name: &Name) -> bool
@@ -55,7 +55,7 @@ fn is_masters(name: &Name) -> bool
 /// What happens at each call of a run, counted from 1. It keeps the moments that are not quiet, in ascending numbers.
 #[derive(Drop)]
 pub struct Pattern {
-    events: Vec<Event>,
+    events: Vec<PatternEvent>,
 }
 
 impl Model for Pattern {
@@ -98,7 +98,7 @@ impl Pattern {
             Err(place) => {
                 let mut exits = Vec::new(*self.events.allocator());
                 exits.push(name)?;
-                let event = Event {
+                let event = PatternEvent {
                     number: n,
                     exits,
                     fate: None,
@@ -122,7 +122,7 @@ impl Pattern {
                 Ok(())
             }
             Err(place) => {
-                let event = Event {
+                let event = PatternEvent {
                     number: n,
                     exits: Vec::new(*self.events.allocator()),
                     fate: Some(fate),
@@ -179,7 +179,7 @@ impl Pattern {
 }
 
 /// Where the first moment with that number or a higher one stands.
-fn first_from(events: &[Event], n: u32) -> usize
+fn first_from(events: &[PatternEvent], n: u32) -> usize
     requires { IsNonDecreasingBy (λ e. e.number) events.now }
     ensures place { result ≡ position_or_len (λ e. nat_le n e.number) events.now }
     ensures within { result ≤ length events.now }
@@ -188,7 +188,7 @@ fn first_from(events: &[Event], n: u32) -> usize
 }
 
 /// The place of the event with that number, or else the place where it would stand.
-fn place_of(events: &[Event], n: u32) -> Result<usize, usize>
+fn place_of(events: &[PatternEvent], n: u32) -> Result<usize, usize>
     requires { IsPattern (map seen_event events.now) }
     ensures listed { IfOk result (IsListed events.now n) }
     ensures unlisted { IfErr result (IsUnlisted events.now n) }

@@ -17,7 +17,7 @@ use crate::counting::{Audience, ExploreRefusal, count_report, count_run, look_be
 use crate::effects;
 use crate::events::{Event, Mishap, Tried};
 use crate::findings::{Findings, common_addresses};
-use crate::known::{self, Known, Rest};
+use crate::known::{self, Known, RestOfRun};
 use crate::position::Position;
 use kernel_model::Kernel;
 use plan_executor::{EnactRefusal, agrees, plan_of};
@@ -201,7 +201,7 @@ fn ended(
     known: &[Known],
     low: u32,
     found: &mut Findings,
-) -> Result<Rest, ExploreRefusal>
+) -> Result<RestOfRun, ExploreRefusal>
     requires fit { IsFit run.now }
     requires due { AsksFor (trail_of run.now.walk) due.now.by due.now.call }
     requires tried { run.now.tried ≡ Tried.Nothing }
@@ -214,13 +214,13 @@ fn ended(
     if let Some(rest) = known::find(known, event.mishap) {
         let tables = rest.tables.saturating_sub(1);
         found.pass(tables);
-        return Ok(Rest { tables, ..rest });
+        return Ok(RestOfRun { tables, ..rest });
     }
     let whole = branch_with(run, due, tried, None, event.mishap)?;
     let before = found.tables;
     let report = whole.finish(after, found)?;
     let tables = found.tables.saturating_sub(before);
-    Ok(Rest { report, tables })
+    Ok(RestOfRun { report, tables })
 }
 
 /// Counts the run in which this goes wrong at the call that is due and, where pairs are asked for, each in which one thing
@@ -235,7 +235,7 @@ fn count_with_pairs<A: Audience>(
     low: u32,
     found: &mut Findings,
     audience: &mut A,
-) -> Result<Rest, ExploreRefusal>
+) -> Result<RestOfRun, ExploreRefusal>
     requires fit { IsFit run.now }
     requires due { AsksFor (trail_of run.now.walk) due.now.by due.now.call }
     requires tried { run.now.tried ≡ Tried.Nothing }

@@ -8,7 +8,7 @@ use vocabulary::{Call, Name, Report};
 
 /// What a run comes to, and how many tables it passes behind what goes wrong.
 #[derive(Clone, Copy)]
-pub(crate) struct Rest {
+pub(crate) struct RestOfRun {
     pub(crate) report: Report,
     pub(crate) tables: u64,
 }
@@ -18,7 +18,7 @@ pub(crate) struct Rest {
 pub(crate) struct Known {
     pub(crate) name: Name,
     pub(crate) process: u32,
-    pub(crate) rest: Rest,
+    pub(crate) rest: RestOfRun,
 }
 
 /// Whether a call is of a worker by its name, and of another than this: then it makes no difference whether this one exits
@@ -41,7 +41,7 @@ fn passes_by(call: &Call, name: Name) -> bool
 }
 
 /// What is known of the run in which this goes wrong.
-pub(crate) fn find(known: &[Known], mishap: Mishap) -> Option<Rest>
+pub(crate) fn find(known: &[Known], mishap: Mishap) -> Option<RestOfRun>
     ensures { IfSome result (λ rest. (k : Known) × Contains known.now k × (mishap ≡ Exit k.name k.process) × (rest ≡ k.rest)) }
 {
     let Mishap::Exit(name, process) = mishap else {
@@ -56,7 +56,7 @@ pub(crate) fn find(known: &[Known], mishap: Mishap) -> Option<Rest>
 }
 
 /// What is known of the run in which this goes wrong at the next call, where it is the same run.
-pub(crate) fn of_next(call: &Call, mishap: Mishap, rest: Rest) -> Option<Known>
+pub(crate) fn of_next(call: &Call, mishap: Mishap, rest: RestOfRun) -> Option<Known>
     ensures { IfSome result (λ k. (passes_by call.now k.name ≡ true) × (mishap ≡ Exit k.name k.process) × (rest ≡ k.rest)) }
 {
     match mishap {

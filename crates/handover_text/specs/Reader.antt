@@ -3,10 +3,10 @@ use Rattle.std.specs.Prelude.{Result, Ok, Err, Option, Some, None, List, []}
 use Rattle.listener_set.specs.declared.groups.Group.{Group}
 use Rattle.definitions.specs.Handover.{Reached, Handover, Read, AtVersion, AtOldPid, AtGeneration, AtFirstListener, AtListeners, AtWants, AtGroup, AtPidFile, AtEnd, Over}
 use Rattle.vocabulary.specs.declared.handover.HandoverRefusal.{HandoverRefusal}
-use Rattle.handover_text.specs.declared.reader.Next.{Next}
-use Rattle.handover_text.specs.declared.reader.Next.TheVariants as next
+use Rattle.handover_text.specs.declared.reader.NextLine.{NextLine}
+use Rattle.handover_text.specs.declared.reader.NextLine.TheVariants as next
 
-abbrev pub place_of : Next → Reached
+abbrev pub place_of : NextLine → Reached
 place_of next.Version = AtVersion
 place_of (next.OldPid version) = AtOldPid version
 place_of (next.Generation version) = AtGeneration version

@@ -15,7 +15,7 @@ use vocabulary::{HandoverRefusal, HandoverVersion};
 
 /// Which lines can come next.
 #[derive(Clone, Copy, Debug)]
-enum Next {
+enum NextLine {
     Version,
     OldPid(HandoverVersion),
     Generation(HandoverVersion),
@@ -35,8 +35,8 @@ enum Next {
 
 /// What was read so far.
 #[derive(Drop)]
-pub(crate) struct Reader {
-    next: Next,
+pub(crate) struct HandoverReader {
+    next: NextLine,
     old_pid: u32,
     generation: Generation,
     listeners: Listeners,
@@ -45,7 +45,7 @@ pub(crate) struct Reader {
     pid_file: Option<FilePath>,
 }
 
-impl Model for Reader {
+impl Model for HandoverReader {
     ghost use Rattle.definitions.specs.Handover.{Reached, Handover as Told};
     ghost use Rattle.handover_text.specs.Reader.{place_of, groups_in};
 
@@ -54,13 +54,13 @@ impl Model for Reader {
     ghost view = { λ r. (place_of r.next, record { old_pid = r.old_pid; generation = r.generation; listeners = r.listeners; want = r.want; groups = groups_in r.groups; pid_file = r.pid_file }) };
 }
 
-impl Reader {
+impl HandoverReader {
     /// Nothing is read yet.
     pub(crate) fn new() -> Self
         ensures { result ≡ (AtVersion, nothing_read) }
     {
-        Reader {
-            next: Next::Version,
+        HandoverReader {
+            next: NextLine::Version,
             old_pid: 0,
             generation: Generation {
                 image: 0,
@@ -83,7 +83,7 @@ impl Reader {
         } else {
             return Err(HandoverRefusal::Version);
         };
-        self.next = Next::OldPid(version);
+        self.next = NextLine::OldPid(version);
         Ok(())
     }
 
@@ -102,7 +102,7 @@ impl Reader {
             return Err(HandoverRefusal::Line(number));
         };
         self.old_pid = old_pid;
-        self.next = Next::Generation(version);
+        self.next = NextLine::Generation(version);
         Ok(())
     }
 
@@ -122,7 +122,7 @@ impl Reader {
             return Err(HandoverRefusal::Line(number));
         };
         self.generation = Generation { image, config };
-        self.next = Next::FirstListener(version);
+        self.next = NextLine::FirstListener(version);
         Ok(())
     }
 
@@ -144,12 +144,12 @@ impl Reader {
             return Err(HandoverRefusal::Line(number));
         }
         self.listeners.push(&listener);
-        self.next = Next::Listeners(version);
+        self.next = NextLine::Listeners(version);
         Ok(())
     }
 
     /// Takes up an address that is wanted, behind which such lines can come.
-    fn take_want(&mut self, number: u32, next: Next, rest: &[u8]) -> Result<(), HandoverRefusal>
+    fn take_want(&mut self, number: u32, next: NextLine, rest: &[u8]) -> Result<(), HandoverRefusal>
         ensures { read_to result self.new ≡ with_want number (place_of next) self.old.1 rest.now }
     {
         let Ok(address) = Address::read(rest) else {
@@ -174,7 +174,7 @@ impl Reader {
             return Err(HandoverRefusal::Line(number));
         };
         self.groups = Some(groups);
-        self.next = Next::PidFile;
+        self.next = NextLine::PidFile;
         Ok(())
     }
 
@@ -188,7 +188,7 @@ impl Reader {
         if !can_begin(self.groups, workers) {
             return Err(HandoverRefusal::Line(number));
         }
-        self.next = Next::Group(Group {
+        self.next = NextLine::Group(Group {
             addresses: 0,
             workers,
         });
@@ -207,7 +207,7 @@ impl Reader {
             return Err(HandoverRefusal::Line(number));
         };
         self.pid_file = Some(path);
-        self.next = Next::End(version);
+        self.next = NextLine::End(version);
         Ok(())
     }
 
@@ -222,7 +222,7 @@ impl Reader {
         if line != b"end".as_slice() {
             return Err(HandoverRefusal::Line(number));
         }
-        self.next = Next::Nothing(version);
+        self.next = NextLine::Nothing(version);
         Ok(())
     }
 
@@ -251,7 +251,7 @@ impl Reader {
     {
         match version {
             HandoverVersion::One => match after_prefix(line, b"want ") {
-                Some(rest) => self.take_want(number, Next::Wants, rest),
+                Some(rest) => self.take_want(number, NextLine::Wants, rest),
                 None => Err(HandoverRefusal::Line(number)),
             },
             HandoverVersion::Two => match after_prefix(line, b"group ") {
@@ -279,7 +279,7 @@ impl Reader {
         ensures { read_to result self.new ≡ read_line number AtWants self.old.1 line.now }
     {
         if let Some(rest) = after_prefix(line, b"want ") {
-            return self.take_want(number, Next::Wants, rest);
+            return self.take_want(number, NextLine::Wants, rest);
         }
         match after_prefix(line, b"workers ") {
             Some(rest) => self.take_workers(number, rest),
@@ -326,7 +326,7 @@ impl Reader {
             addresses: group.addresses + 1,
             workers: group.workers,
         };
-        self.take_want(number, Next::Group(with_it), rest)
+        self.take_want(number, NextLine::Group(with_it), rest)
     }
 
     /// Reads the line of a number, counted from 1, without its newline.
@@ -335,16 +335,16 @@ impl Reader {
         ensures { read_to result self.new ≡ read_line number self.old.0 self.old.1 line.now }
     {
         match self.next {
-            Next::Version => self.read_version(line),
-            Next::OldPid(version) => self.read_old_pid(number, version, line),
-            Next::Generation(version) => self.read_generation(number, version, line),
-            Next::FirstListener(version) => self.read_first_listener(number, version, line),
-            Next::Listeners(version) => self.read_listeners(number, version, line),
-            Next::Wants => self.read_wants(number, line),
-            Next::Group(group) => self.read_group(number, group, line),
-            Next::PidFile => self.read_pid_file(number, HandoverVersion::One, line),
-            Next::End(version) => self.read_end(number, version, line),
-            Next::Nothing(_) => Err(HandoverRefusal::Trailing),
+            NextLine::Version => self.read_version(line),
+            NextLine::OldPid(version) => self.read_old_pid(number, version, line),
+            NextLine::Generation(version) => self.read_generation(number, version, line),
+            NextLine::FirstListener(version) => self.read_first_listener(number, version, line),
+            NextLine::Listeners(version) => self.read_listeners(number, version, line),
+            NextLine::Wants => self.read_wants(number, line),
+            NextLine::Group(group) => self.read_group(number, group, line),
+            NextLine::PidFile => self.read_pid_file(number, HandoverVersion::One, line),
+            NextLine::End(version) => self.read_end(number, version, line),
+            NextLine::Nothing(_) => Err(HandoverRefusal::Trailing),
         }
     }
 
@@ -353,7 +353,7 @@ impl Reader {
         requires { (number : ℕ) × IsReadTo number self.0 self.1 }
         ensures { result ≡ read_rest self.0 self.1 rest.now }
     {
-        let Next::Nothing(_) = self.next else {
+        let NextLine::Nothing(_) = self.next else {
             return Err(HandoverRefusal::Cut);
         };
         if !rest.is_empty() {

@@ -4,7 +4,7 @@ ghost use Rattle.definitions.specs.Handover.{reading};
 ghost use Rattle.handover_text.specs.Ranges.{IsHandover, IsSpelling};
 
 use crate::Handover;
-use crate::reader::Reader;
+use crate::reader::HandoverReader;
 use plain_text::cut;
 use vocabulary::HandoverRefusal;
 
@@ -24,7 +24,7 @@ pub fn read(text: &[u8]) -> Result<Handover, HandoverRefusal>
     ensures in_range { IfOk result IsHandover }
     ensures spelled { IfOk result (λ told. IsSpelling text.now told) }
 {
-    let mut reader = Reader::new();
+    let mut reader = HandoverReader::new();
     let mut rest = text;
     let mut number = 1;
     while let Some((line, behind)) = cut(rest, b'\n') {

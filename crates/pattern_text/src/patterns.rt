@@ -17,7 +17,7 @@ use vocabulary::{Fate, Name};
 
 /// What was read of a text: the patterns before this section, and this section's.
 #[derive(Drop)]
-struct Reader {
+struct PatternsReader {
     done: Vec<Pattern>,
     section: Pattern,
     /// The last number in this section.
@@ -26,13 +26,13 @@ struct Reader {
     has_failed: bool,
 }
 
-impl Reader {
+impl PatternsReader {
     ghost use Rattle.pattern_text.specs.Reader.{seen};
 
     fn new(alloc: Global) -> Self
         ensures { seen result ≡ begun [] }
     {
-        Reader {
+        PatternsReader {
             done: Vec::new(alloc),
             section: Pattern::new(alloc),
             last: 0,
@@ -121,7 +121,7 @@ impl Reader {
     fn finish(self) -> Result<Vec<Pattern>, AllocError>
         ensures { IfOk result (λ patterns. map moment_at patterns.items ≡ (seen self).done ++ (seen self).section ∷ []) }
     {
-        let Reader {
+        let PatternsReader {
             done: mut patterns,
             section,
             last: _,
@@ -147,7 +147,7 @@ pub fn read_patterns(alloc: Global, text: &[u8]) -> Result<Vec<Pattern>, TextRef
     // What is written of one pattern or more is read as these.
     ensures again { (written : List (List (ℕ × Events))) → written ≢ [] → AreSections written → text.now ≡ patterns_text written → patterns_of text.now ≡ Ok (map moment_at written) }
 {
-    let mut reader = Reader::new(alloc);
+    let mut reader = PatternsReader::new(alloc);
     let mut rest = text;
     let mut number = 0;
     while !rest.is_empty() {

@@ -19,7 +19,7 @@ use crate::agreement::agrees;
 use crate::carrying::carry_out;
 use crate::trial::spare;
 use kernel_model::{Kernel, Pattern, ReserveRefusal};
-use plan_runner::CallLog;
+use plan_runner::Transcript;
 use rollback_plan::Plan;
 use service_state::Record;
 use std::alloc::{AllocError, Global};
@@ -100,7 +100,7 @@ pub fn enact(
 #[derive(Drop)]
 pub(crate) struct Prepared {
     pub(crate) plan: Plan,
-    pub(crate) log: CallLog,
+    pub(crate) log: Transcript,
 }
 
 /// Makes ready all that carrying a target out needs. Memory is taken here and nowhere after; the kernel's room, which is
@@ -126,7 +126,7 @@ fn prepare(
     }
     let plan = plan_of(alloc, state, target)?;
     spare(alloc, kernel, state, target, pattern, &plan)?;
-    let log = CallLog::with_room(alloc, plan.longest())?;
+    let log = Transcript::with_room(alloc, plan.longest())?;
     reserve(kernel, plan.longest())?;
     Ok(Prepared { plan, log })
 }

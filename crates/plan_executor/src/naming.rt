@@ -7,7 +7,7 @@ ghost use Rattle.definitions.specs.Claims.{names_any, executing_at, executing_af
 ghost use Rattle.plan_executor.specs.Naming.{is_exit_of, listed};
 
 use kernel_model::Pattern;
-use plan_runner::CallLog;
+use plan_runner::Transcript;
 use vocabulary::{Call, Name};
 
 /// The first moment of these calls in which an executing master exits: the one of the image up to its Leave, and from
@@ -16,13 +16,13 @@ pub(crate) fn refused_among(
     pattern: &Pattern,
     image: u32,
     heir: Option<u32>,
-    log: &CallLog,
+    log: &Transcript,
 ) -> Option<u32>
     ensures { result ≡ refused_among (image ∷ []) (listed heir) (moment_at pattern.now) 0 log.now.entries }
 {
     let mut executing = Some(image);
     for place in 0..log.len() {
-        let entry = log.entry(place);
+        let entry = log.get(place);
         let number = place as u32 + 1;
         if names_executing(pattern.moment(number).exits, &entry.call, executing, heir) {
             return Some(number);

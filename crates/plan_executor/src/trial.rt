@@ -14,7 +14,7 @@ use crate::enactment::{EnactRefusal, reserved_copy};
 use crate::naming::refused_among;
 use crate::succession::heir_of;
 use kernel_model::{Kernel, Pattern};
-use plan_runner::CallLog;
+use plan_runner::Transcript;
 use rollback_plan::Plan;
 use service_state::Record;
 use std::alloc::Global;
@@ -39,7 +39,7 @@ pub(crate) fn spare(
         return Ok(());
     }
     let mut copy = reserved_copy(kernel, plan.longest())?;
-    let mut log = CallLog::with_room(alloc, plan.longest())?;
+    let mut log = Transcript::with_room(alloc, plan.longest())?;
     spare_on(&mut copy, state, target, pattern, plan, &mut log)
 }
 
@@ -51,7 +51,7 @@ fn spare_on(
     target: &Target,
     pattern: &Pattern,
     plan: &Plan,
-    log: &mut CallLog,
+    log: &mut Transcript,
 ) -> Result<(), EnactRefusal>
     requires agrees { Agrees copy.old.table state.now }
     requires plan { IsPlanFor state.now target.now plan.now }

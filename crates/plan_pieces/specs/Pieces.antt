@@ -4,8 +4,8 @@ use Rattle.listener_set.specs.declared.generation.Generation.{Generation}
 use Rattle.definitions.specs.Calls.{Call, OpenAt, AwaitReady, Kill, AwaitGone}
 use Rattle.definitions.specs.Tree.{Tree, Nothing, plain_reply, replies_to}
 use Rattle.definitions.specs.Plans.{on, does, then_edge, await_any_edges, gone_edges, others, quits, forks_any, awaits_any, kills, usr1s, awaits_gone, closes}
-use Rattle.rollback_plan.specs.declared.batch.Asked.{Asked}
-use Rattle.rollback_plan.specs.declared.batch.Asked.TheVariants as asked
+use Rattle.rollback_plan.specs.declared.batch.Errand.{Errand}
+use Rattle.rollback_plan.specs.declared.batch.Errand.TheVariants as asked
 use Rattle.rollback_plan.specs.declared.batch.Batch.{Batch}
 use Rattle.rollback_plan.specs.declared.batch.Batch.TheVariants.{Workers, Forks, Opens, Closes}
 use Rattle.rollback_plan.specs.Batches.{calls_of}
@@ -24,7 +24,7 @@ anyway_steps (AwaitGone g k) = 2
 anyway_steps call = 1
 
 -- the same call for each of some workers: quits, and waits until they are gone, from the last to the first
-abbrev pub asked_tree : ℕ → Asked → Generation → List ℕ → Tree → Tree
+abbrev pub asked_tree : ℕ → Errand → Generation → List ℕ → Tree → Tree
 asked_tree by asked.AwaitReady g ks = awaits_any by g ks
 asked_tree by asked.Quit g ks = quits by g (reverse ks)
 asked_tree by asked.Kill g ks = kills by g ks

@@ -8,7 +8,7 @@ ghost use Rattle.plan_pieces.specs.Pieces.{attempt, IsAttempted};
 
 use call_replies::{failed_replies, plain_replies};
 use listener_set::Numbers;
-use rollback_plan::{Batch, Draft, DraftRefusal, Edge, Place};
+use rollback_plan::{Batch, Draft, DraftRefusal, PlanEdge, Place};
 use vocabulary::{Actor, Call, Order};
 
 /// Adds these calls, in their order, before the rest. The i-th of the ways back is taken where the first i calls went well
@@ -48,8 +48,8 @@ fn add_attempt(
     ensures grows { Grows draft.old draft.new result 1 }
 {
     let edges = [
-        Edge::to(plain_replies(&call), rest),
-        Edge::to(failed_replies(&call), back),
+        PlanEdge::to(plain_replies(&call), rest),
+        PlanEdge::to(failed_replies(&call), back),
     ];
     draft.add(by, Order::Make(call), &Numbers::none(), &edges)
 }

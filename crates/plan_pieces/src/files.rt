@@ -6,7 +6,7 @@ ghost use Rattle.definitions.specs.Plans as plans;
 ghost use Rattle.rollback_plan.specs.Drafts.{trees_of, tree_at, IsMade, Keeps};
 
 use listener_set::Numbers;
-use rollback_plan::{Draft, DraftRefusal, Edge, Next, Place};
+use rollback_plan::{Draft, DraftRefusal, PlanEdge, Next, Place};
 use vocabulary::{Actor, Call, Order, PidNote, Reply};
 
 /// Adds a call that moves or removes a file before the rest, which follows whether or not it goes well: the pid file
@@ -28,12 +28,12 @@ pub fn add_file_call(
 {
     let next = Next::To(rest);
     let edges = [
-        Edge {
+        PlanEdge {
             replies: &[Reply::Fine],
             note: fine,
             next,
         },
-        Edge {
+        PlanEdge {
             replies: &[Reply::IoFault],
             note: fault,
             next,

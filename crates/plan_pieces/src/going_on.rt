@@ -10,7 +10,7 @@ ghost use Rattle.plan_pieces.specs.Pieces.{anyway, anyway_steps, in_turn, goes_b
 use call_replies::all_replies;
 use crews::Crew;
 use listener_set::Numbers;
-use rollback_plan::{Asked, Batch, Draft, DraftRefusal, Edge, Place};
+use rollback_plan::{Errand, Batch, Draft, DraftRefusal, PlanEdge, Place};
 use vocabulary::{Actor, Call, Order, Reply};
 
 /// Adds these calls before the rest, each of which is followed by the next whatever is answered: in their order, but
@@ -51,7 +51,7 @@ pub fn add_starts_any(
     ensures keeps { Keeps draft.old draft.new }
     ensures too_large { IsErrOf result TooLarge → MOST_STEPS < length (trees_of draft.old) + 3 * length numbers.now }
 {
-    let waits = Batch::Workers(Asked::AwaitReady, crew.generation, numbers);
+    let waits = Batch::Workers(Errand::AwaitReady, crew.generation, numbers);
     let waiting = add_each(draft, by, &waits, rest)?;
     add_each(draft, by, &Batch::Forks(crew, numbers), waiting)
 }
@@ -60,7 +60,7 @@ pub fn add_starts_any(
 fn goes_back(calls: &Batch<'_>) -> bool
     ensures { result ≡ goes_back calls.now }
 {
-    matches!(calls, Batch::Workers(Asked::Quit | Asked::AwaitGone, _, _))
+    matches!(calls, Batch::Workers(Errand::Quit | Errand::AwaitGone, _, _))
 }
 
 /// The call that is made at this place, counted from 0.
@@ -86,21 +86,21 @@ fn add_anyway(draft: &mut Draft, by: Actor, call: Call, rest: Place) -> Result<P
         Call::AwaitReady(generation, number) => {
             let killed = draft.call(by, Call::Kill(generation, number), rest)?;
             let edges = [
-                Edge::to(&[Reply::IsReady, Reply::Gone], rest),
-                Edge::to(&[Reply::Late], killed),
+                PlanEdge::to(&[Reply::IsReady, Reply::Gone], rest),
+                PlanEdge::to(&[Reply::Late], killed),
             ];
             draft.add(by, Order::Make(call), &none, &edges)
         }
         Call::AwaitGone(generation, number) => {
             let killed = draft.call(by, Call::Kill(generation, number), rest)?;
             let edges = [
-                Edge::to(&[Reply::Gone], rest),
-                Edge::to(&[Reply::Late], killed),
+                PlanEdge::to(&[Reply::Gone], rest),
+                PlanEdge::to(&[Reply::Late], killed),
             ];
             draft.add(by, Order::Make(call), &none, &edges)
         }
         _ => {
-            let edges = [Edge::to(all_replies(&call), rest)];
+            let edges = [PlanEdge::to(all_replies(&call), rest)];
             draft.add(by, Order::Make(call), &none, &edges)
         }
     }

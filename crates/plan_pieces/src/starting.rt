@@ -11,7 +11,7 @@ ghost use Rattle.rollback_plan.specs.Back.{AreMade};
 use crate::attempting::add_attempts;
 use crews::Crew;
 use listener_set::{Generation, Numbers};
-use rollback_plan::{Batch, Draft, DraftRefusal, Edge, Place};
+use rollback_plan::{Batch, Draft, DraftRefusal, PlanEdge, Place};
 use vocabulary::{Actor, Call, Order, Reply};
 
 /// Adds the forks of these numbers of a crew and then a wait for each, upwards, before the rest. The
@@ -82,9 +82,9 @@ fn add_await(
         Order::Make(Call::AwaitReady(generation, number)),
         &Numbers::none(),
         &[
-            Edge::to(&[Reply::IsReady], rest),
-            Edge::to(&[Reply::Gone], failed),
-            Edge::to(&[Reply::Late], killed),
+            PlanEdge::to(&[Reply::IsReady], rest),
+            PlanEdge::to(&[Reply::Gone], failed),
+            PlanEdge::to(&[Reply::Late], killed),
         ],
     )
 }

@@ -9,7 +9,7 @@ ghost use Rattle.rollback_plan.specs.Drafts.{trees_of, tree_at, IsMade, Keeps};
 
 use call_replies::{other_replies, plain_replies};
 use listener_set::Numbers;
-use rollback_plan::{Batch, Draft, DraftRefusal, Edge, Place};
+use rollback_plan::{Batch, Draft, DraftRefusal, PlanEdge, Place};
 use vocabulary::{Actor, Call, Order};
 
 /// Adds a call that a new master tries, before the rest and with a way back; a census must contain the set. `TooLarge`
@@ -30,8 +30,8 @@ pub fn add_tried(
     ensures too_large { IsErrOf result TooLarge → MOST_STEPS < length (trees_of draft.old) + 1 }
 {
     let edges = [
-        Edge::to(plain_replies(&call), rest),
-        Edge::to(other_replies(&call), back),
+        PlanEdge::to(plain_replies(&call), rest),
+        PlanEdge::to(other_replies(&call), back),
     ];
     draft.add(by, Order::Make(call), set, &edges)
 }

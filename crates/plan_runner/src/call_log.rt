@@ -12,7 +12,7 @@ use vocabulary::{Answer, Call, Entry};
 /// Contracts see the list of its entries, and beside it the room. The entry of a call that names a worker, as most
 /// are, stands in its slot. Any other is kept whole, in room of its own: what of that is never used costs no memory.
 #[derive(Drop)]
-pub struct CallLog {
+pub struct Transcript {
     slots: Vec<Slot>,
     whole: Vec<Entry>,
     room: u32,
@@ -20,7 +20,7 @@ pub struct CallLog {
     held: PhantomData<DescriptorSet>,
 }
 
-impl Model for CallLog {
+impl Model for Transcript {
     ghost use Rattle.std.specs.Prelude.{◌≡◌, ◌≤◌, ◌<◌, ◌^◌, ◌+◌, true, vec_len, vec_capacity};
     ghost use Rattle.plan_runner.specs.Log.{Told};
     ghost use Rattle.plan_runner.specs.Slots.{entries_in, are_kept};
@@ -38,12 +38,12 @@ impl Model for CallLog {
     } };
 }
 
-impl CallLog {
+impl Transcript {
     /// No entries, and room for so many. The only refusal is want of memory.
-    pub fn with_room(alloc: Global, room: u32) -> Result<CallLog, AllocError>
+    pub fn with_room(alloc: Global, room: u32) -> Result<Transcript, AllocError>
         ensures { IfOk result (λ t. t ≡ record { entries = []; room = room }) }
     {
-        Ok(CallLog {
+        Ok(Transcript {
             slots: Vec::with_capacity(alloc, room as usize)?,
             whole: Vec::with_capacity(alloc, room as usize)?,
             room,
@@ -74,7 +74,7 @@ impl CallLog {
     }
 
     /// The entry at a place, counted from 0.
-    pub fn entry(&self, place: usize) -> Entry
+    pub fn get(&self, place: usize) -> Entry
         requires { place < length self.now.entries }
         ensures { slice_get self.now.entries place ≡ Some result }
     {

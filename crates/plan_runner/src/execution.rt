@@ -5,7 +5,7 @@ ghost use Rattle.definitions.specs.Path.{KeepsPathLaw};
 ghost use Rattle.rollback_plan.specs.Plans.{tree_of, note_of, sides_told};
 
 use crate::walk::Walk;
-use crate::{CallLog, Calls};
+use crate::{Transcript, Calls};
 use rollback_plan::Plan;
 use vocabulary::{Entry, Report};
 
@@ -14,7 +14,7 @@ use vocabulary::{Entry, Report};
 /// It takes no memory of its own, and makes at most as many calls as the plan's longest path
 /// has steps. The entries are a whole path of the plan and the report is theirs; or the plan has
 /// no way on where a master is gone, and the report says Lost.
-pub fn execute<C: Calls>(plan: &Plan, calls: &mut C, log: &mut CallLog) -> Report
+pub fn execute<C: Calls>(plan: &Plan, calls: &mut C, log: &mut Transcript) -> Report
     requires calls { height (tree_of plan.now) ≤ C.room calls.old }
     requires room { height (tree_of plan.now) ≤ log.old.room }
     requires empty { log.old.entries ≡ [] }

@@ -7,7 +7,7 @@ mod execution;
 mod slot;
 mod walk;
 
-pub use call_log::CallLog;
+pub use call_log::Transcript;
 pub use calls::Calls;
 pub use execution::execute;
 pub use walk::{Due, Walk};

@@ -3,13 +3,13 @@ use Rattle.std.specs.Prelude.{ℕ, ◌+◌, ◌==◌, Bool, true, false, ◌||�
 use Rattle.std.specs.Fmt.{decimal}
 use Rattle.vocabulary.specs.declared.plans.PidNote.{PidNote}
 use Rattle.vocabulary.specs.declared.calls.Reply.{Reply}
-use Rattle.rollback_plan.specs.declared.step.Edge.{Edge}
+use Rattle.rollback_plan.specs.declared.step.PlanEdge.{PlanEdge}
 use Rattle.rollback_plan.specs.declared.step.Step.{Step}
 use Rattle.call_text.specs.CallText.{order_line}
 use Rattle.call_text.specs.Words.{note_text}
 use Rattle.plan_text.specs.PlanText.{replies_of, goes, reply_words, place_text, edge_text, texts_of, set_part}
-use Rattle.plan_text.specs.declared.edges.Form.{Form}
-use Rattle.plan_text.specs.declared.edges.Form.TheVariants.{Line, Arrow}
+use Rattle.plan_text.specs.declared.edges.EdgeForm.{EdgeForm}
+use Rattle.plan_text.specs.declared.edges.EdgeForm.TheVariants.{Line, Arrow}
 
 -- a byte within quotes: a quote and a backslash have a backslash before them
 abbrev pub escaped : ℕ → List ℕ
@@ -22,7 +22,7 @@ quoted (byte ∷ text) = escaped byte ++ quoted text
 ---- Arrows
 
 -- whether an edge is the way of the first of the replies, the plain one
-abbrev pub is_plain : Step → Edge → List Reply → Bool
+abbrev pub is_plain : Step → PlanEdge → List Reply → Bool
 is_plain s e [] = false
 is_plain s e (r ∷ rs) = goes s e r
 
@@ -36,15 +36,15 @@ style_part true = codes ", weight=9, style=bold"
 style_part false = []
 
 -- from the n-th step to the place that an edge leads to
-abbrev pub way_text : ℕ → Edge → List ℕ
+abbrev pub way_text : ℕ → PlanEdge → List ℕ
 way_text n e = codes "  " ++ decimal n ++ codes " -> \"" ++ place_text e.next ++ codes "\""
 
 -- the replies that go the way of an edge, and its note, each in a line
-abbrev pub label_text : Step → Edge → List Reply → List ℕ
+abbrev pub label_text : Step → PlanEdge → List Reply → List ℕ
 label_text s e replies = codes " [label=\"" ++ reply_words s e (codes "\\l") replies ++ note_line e.note ++ codes "\""
 
 -- the arrow of an edge from the n-th step
-abbrev pub arrow_text : ℕ → Step → List Reply → Edge → List ℕ
+abbrev pub arrow_text : ℕ → Step → List Reply → PlanEdge → List ℕ
 arrow_text n s replies e = way_text n e ++ label_text s e replies ++ style_part (is_plain s e replies) ++ codes "];\n"
 
 -- the arrows from the n-th step, which has these replies
@@ -52,7 +52,7 @@ abbrev pub arrows_text : ℕ → Step → List Reply → List ℕ
 arrows_text n s replies = texts_of (λ e. arrow_text n s replies e) s [] replies
 
 -- an edge, written in its step's line or as an arrow from the n-th step
-abbrev pub written : Form → Step → List Reply → Edge → List ℕ
+abbrev pub written : EdgeForm → Step → List Reply → PlanEdge → List ℕ
 written Line s replies = λ e. edge_text s e replies
 written (Arrow n) s replies = λ e. arrow_text n s replies e
 

@@ -12,7 +12,7 @@ use Rattle.vocabulary.specs.declared.plans.Order.TheVariants.{Make}
 use Rattle.definitions.specs.Tree.{order_replies}
 use Rattle.rollback_plan.specs.declared.step.Next.{Next}
 use Rattle.rollback_plan.specs.declared.step.Next.TheVariants.{To, Over}
-use Rattle.rollback_plan.specs.declared.step.Edge.{Edge}
+use Rattle.rollback_plan.specs.declared.step.PlanEdge.{PlanEdge}
 use Rattle.rollback_plan.specs.declared.step.Step.{Step}
 use Rattle.rollback_plan.specs.Steps.{edge_for}
 use Rattle.call_text.specs.SetText.{set_text}
@@ -41,21 +41,21 @@ same_note (Some one) None = false
 same_note None (Some other) = false
 
 -- two edges that set the same note and have the same rest of the plan
-abbrev pub same_way : Edge → Edge → Bool
+abbrev pub same_way : PlanEdge → PlanEdge → Bool
 same_way one other = same_next one.next other.next && same_note one.note other.note
 
-abbrev pub goes_by : Edge → Option Edge → Bool
+abbrev pub goes_by : PlanEdge → Option PlanEdge → Bool
 goes_by e None = false
 goes_by e (Some other) = same_way e other
 
 -- whether a reply to a step goes the way of an edge
-abbrev pub goes : Step → Edge → Reply → Bool
+abbrev pub goes : Step → PlanEdge → Reply → Bool
 goes s e r = goes_by e (edge_for s.edges.items r)
 
 ---- Edges
 
 -- the replies that go the way of an edge, with the same text behind each
-abbrev pub reply_words : Step → Edge → List ℕ → List Reply → List ℕ
+abbrev pub reply_words : Step → PlanEdge → List ℕ → List Reply → List ℕ
 reply_words s e behind [] = []
 reply_words s e behind (r ∷ rs) = (if goes s e r then reply_text r ++ behind else []) ++ reply_words s e behind rs
 
@@ -67,23 +67,23 @@ abbrev pub note_part : Option PidNote → List ℕ
 note_part None = []
 note_part (Some note) = codes " pid " ++ note_text note
 
-abbrev pub edge_text : Step → Edge → List Reply → List ℕ
+abbrev pub edge_text : Step → PlanEdge → List Reply → List ℕ
 edge_text s e replies = codes " | " ++ reply_words s e (codes " ") replies ++ place_text e.next ++ note_part e.note
 
-abbrev pub unless_gone : Step → List Reply → Option Edge → Option Edge
+abbrev pub unless_gone : Step → List Reply → Option PlanEdge → Option PlanEdge
 unless_gone s earlier None = None
 unless_gone s earlier (Some e) = if list_any (goes s e) earlier then None else Some e
 
 -- the edge of a reply, unless an earlier reply goes the same way
-abbrev pub new_edge : Step → List Reply → Reply → Option Edge
+abbrev pub new_edge : Step → List Reply → Reply → Option PlanEdge
 new_edge s earlier r = unless_gone s earlier (edge_for s.edges.items r)
 
-abbrev pub text_of : (Edge → List ℕ) → Option Edge → List ℕ
+abbrev pub text_of : (PlanEdge → List ℕ) → Option PlanEdge → List ℕ
 text_of text None = []
 text_of text (Some e) = text e
 
 -- the texts of the edges of the replies behind the earlier ones
-abbrev pub texts_of : (Edge → List ℕ) → Step → List Reply → List Reply → List ℕ
+abbrev pub texts_of : (PlanEdge → List ℕ) → Step → List Reply → List Reply → List ℕ
 texts_of text s earlier [] = []
 texts_of text s earlier (r ∷ rs) = text_of text (new_edge s earlier r) ++ texts_of text s (earlier ++ r ∷ []) rs
 

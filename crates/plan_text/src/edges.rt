@@ -7,7 +7,7 @@ ghost use Rattle.plan_text.specs.Graph.{written};
 use crate::graph::write_arrow;
 use call_text::{end_text, note_text, reply_text};
 use plain_text::write_number;
-use rollback_plan::{Edge, Next, Step};
+use rollback_plan::{PlanEdge, Next, Step};
 use std::alloc::AllocError;
 use vocabulary::{PidNote, Reply};
 
@@ -32,14 +32,14 @@ fn same_note(one: Option<PidNote>, other: Option<PidNote>) -> bool
 }
 
 /// Whether two edges set the same note and lead to the same place.
-fn same_way(one: &Edge, other: &Edge) -> bool
+fn same_way(one: &PlanEdge, other: &PlanEdge) -> bool
     ensures { result ≡ same_way one.now other.now }
 {
     same_next(one.next, other.next) && same_note(one.note, other.note)
 }
 
 /// Whether a reply to a step has the same note and the same rest as an edge.
-pub(crate) fn goes(step: &Step, edge: &Edge, reply: Reply) -> bool
+pub(crate) fn goes(step: &Step, edge: &PlanEdge, reply: Reply) -> bool
     ensures { result ≡ goes step.now edge.now reply }
 {
     match step.edge(reply) {
@@ -48,14 +48,14 @@ pub(crate) fn goes(step: &Step, edge: &Edge, reply: Reply) -> bool
     }
 }
 
-fn any_goes(step: &Step, edge: &Edge, replies: &[Reply]) -> bool
+fn any_goes(step: &Step, edge: &PlanEdge, replies: &[Reply]) -> bool
     ensures { result ≡ list_any (goes step.now edge.now) replies.now }
 {
     replies.iter().any(|reply| goes(step, edge, *reply))
 }
 
 /// The edge of a reply, unless an earlier reply goes the same way.
-fn new_edge(step: &Step, earlier: &[Reply], reply: Reply) -> Option<Edge>
+fn new_edge(step: &Step, earlier: &[Reply], reply: Reply) -> Option<PlanEdge>
     ensures { result ≡ new_edge step.now earlier.now reply }
 {
     let edge = step.edge(reply)?;
@@ -69,7 +69,7 @@ fn new_edge(step: &Step, earlier: &[Reply], reply: Reply) -> Option<Edge>
 pub(crate) fn write_replies(
     out: &mut Vec<u8>,
     step: &Step,
-    edge: &Edge,
+    edge: &PlanEdge,
     replies: &[Reply],
     behind: &[u8],
 ) -> Result<(), AllocError>
@@ -107,7 +107,7 @@ fn write_note(out: &mut Vec<u8>, note: Option<PidNote>) -> Result<(), AllocError
 fn write_edge(
     out: &mut Vec<u8>,
     step: &Step,
-    edge: &Edge,
+    edge: &PlanEdge,
     replies: &[Reply],
 ) -> Result<(), AllocError>
     ensures { IfOk result (λ _. out.new.items ≡ out.old.items ++ edge_text step.now edge.now replies.now) }
@@ -120,7 +120,7 @@ fn write_edge(
 
 /// How an edge is written.
 #[derive(Clone, Copy)]
-pub(crate) enum Form {
+pub(crate) enum EdgeForm {
     /// In its step's line.
     Line,
     /// As an arrow from the step with this number.
@@ -129,23 +129,23 @@ pub(crate) enum Form {
 
 fn write_as(
     out: &mut Vec<u8>,
-    form: Form,
+    form: EdgeForm,
     step: &Step,
     replies: &[Reply],
-    edge: &Edge,
+    edge: &PlanEdge,
 ) -> Result<(), AllocError>
     ensures { IfOk result (λ _. out.new.items ≡ out.old.items ++ written form step.now replies.now edge.now) }
 {
     match form {
-        Form::Line => write_edge(out, step, edge, replies),
-        Form::Arrow(number) => write_arrow(out, number, step, replies, edge),
+        EdgeForm::Line => write_edge(out, step, edge, replies),
+        EdgeForm::Arrow(number) => write_arrow(out, number, step, replies, edge),
     }
 }
 
 /// The edges of a step, ordered by the first reply of each.
 pub(crate) fn write_edges(
     out: &mut Vec<u8>,
-    form: Form,
+    form: EdgeForm,
     step: &Step,
     replies: &[Reply],
 ) -> Result<(), AllocError>

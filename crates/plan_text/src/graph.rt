@@ -4,12 +4,12 @@ ghost use Rattle.std.specs.Fmt.{decimal};
 ghost use Rattle.rollback_plan.specs.Plans.{steps_of};
 ghost use Rattle.plan_text.specs.Graph.{quoted, is_plain, note_line, style_part, way_text, arrow_text, opening, box_text, step_line, drawn_step, drawn_steps, graph_text};
 
-use crate::edges::{Form, goes, write_edges, write_place, write_replies};
+use crate::edges::{EdgeForm, goes, write_edges, write_place, write_replies};
 use crate::plans::write_wanted;
 use call_replies::replies_of;
 use call_text::{note_text, write_order};
 use plain_text::write_number;
-use rollback_plan::{Edge, Plan, Step};
+use rollback_plan::{PlanEdge, Plan, Step};
 use std::alloc::{AllocError, Global};
 use vocabulary::{PidNote, Reply};
 
@@ -27,7 +27,7 @@ fn write_quoted(out: &mut Vec<u8>, text: &[u8]) -> Result<(), AllocError>
 }
 
 /// Whether an edge is the way of the plain reply.
-fn is_plain(step: &Step, edge: &Edge, replies: &[Reply]) -> bool
+fn is_plain(step: &Step, edge: &PlanEdge, replies: &[Reply]) -> bool
     ensures { result ≡ is_plain step.now edge.now replies.now }
 {
     match replies.first() {
@@ -57,7 +57,7 @@ fn write_style(out: &mut Vec<u8>, is_plain: bool) -> Result<(), AllocError>
 }
 
 /// From the n-th step to the place that an edge leads to.
-fn write_way(out: &mut Vec<u8>, number: u64, edge: &Edge) -> Result<(), AllocError>
+fn write_way(out: &mut Vec<u8>, number: u64, edge: &PlanEdge) -> Result<(), AllocError>
     ensures { IfOk result (λ _. out.new.items ≡ out.old.items ++ way_text number edge.now) }
 {
     out.extend_from_slice(b"  ")?;
@@ -73,7 +73,7 @@ pub(crate) fn write_arrow(
     number: u64,
     step: &Step,
     replies: &[Reply],
-    edge: &Edge,
+    edge: &PlanEdge,
 ) -> Result<(), AllocError>
     ensures { IfOk result (λ _. out.new.items ≡ out.old.items ++ arrow_text number step.now replies.now edge.now) }
 {
@@ -133,7 +133,7 @@ fn draw_step(alloc: Global, out: &mut Vec<u8>, number: u64, step: &Step) -> Resu
 {
     let line = step_line(alloc, step)?;
     write_box(out, number, &line)?;
-    write_edges(out, Form::Arrow(number), step, replies_of(&step.order()))
+    write_edges(out, EdgeForm::Arrow(number), step, replies_of(&step.order()))
 }
 
 /// The steps, numbered from 1.

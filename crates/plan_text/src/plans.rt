@@ -4,7 +4,7 @@ ghost use Rattle.definitions.specs.Tree.{height};
 ghost use Rattle.rollback_plan.specs.Plans.{tree_of, steps_of};
 ghost use Rattle.plan_text.specs.PlanText.{set_part, step_text, steps_text, plan_text};
 
-use crate::edges::{Form, write_edges};
+use crate::edges::{EdgeForm, write_edges};
 use call_replies::replies_of;
 use call_text::{write_order, write_set};
 use listener_set::Numbers;
@@ -39,7 +39,7 @@ fn write_step(out: &mut Vec<u8>, number: u64, step: &Step) -> Result<(), AllocEr
     let order = step.order();
     write_order(out, step.by, &order)?;
     write_wanted(out, &order, &step.set())?;
-    write_edges(out, Form::Line, step, replies_of(&order))?;
+    write_edges(out, EdgeForm::Line, step, replies_of(&order))?;
     out.extend_from_slice(b"\n")
 }
 

@@ -3,7 +3,7 @@ use crate::setup::begin;
 use certifier::Mismatch;
 use command_line::{CertifyOptions, Request};
 use faults::Fault;
-use plan_runner::CallLog;
+use plan_runner::Transcript;
 use std::alloc::{AllocError, Global};
 use std::rt::Files;
 use transcript::{read_transcripts, write_transcript};
@@ -55,8 +55,8 @@ fn line_in<R: AllocGlobal + Files>(
 }
 
 /// The calls of a block before the first that is not the master's.
-fn beginning(alloc: Global, body: &Body, mismatch: &Mismatch) -> Result<CallLog, AllocError> {
-    let mut begun = CallLog::with_room(alloc, 0)?;
+fn beginning(alloc: Global, body: &Body, mismatch: &Mismatch) -> Result<Transcript, AllocError> {
+    let mut begun = Transcript::with_room(alloc, 0)?;
     let Body::Ran(log, _) = body else {
         return Ok(begun);
     };
@@ -65,7 +65,7 @@ fn beginning(alloc: Global, body: &Body, mismatch: &Mismatch) -> Result<CallLog,
         _ => log.len(),
     };
     for place in 0..count {
-        begun.add(&log.entry(place))?;
+        begun.add(&log.get(place))?;
     }
     Ok(begun)
 }

@@ -4,7 +4,7 @@ ghost use Rattle.prefork.specs.Faults.{supervisor_fault};
 ghost use Rattle.prefork.specs.Refusals.{IsDeclined, IsNext};
 
 use child_processes::OsFamily;
-use child_programs::{Served, serve_master, serve_worker};
+use child_programs::{ServedMaster, serve_master, serve_worker};
 use command_line::{AdoptOptions, SuperviseOptions};
 use faults::Fault;
 use log::sink::Writer;
@@ -15,7 +15,7 @@ use std::env;
 use std::io::{Read, Write};
 use std::process::Processes;
 use std::rt::Files;
-use supervisor::{NextRefusal, NextSettings, Start, SupervisorFault, supervise_on};
+use supervisor::{NextRefusal, NextSettings, SupervisorStart, SupervisorFault, supervise_on};
 use vocabulary::Settings;
 use word_runner::CodeText;
 
@@ -77,7 +77,7 @@ pub fn supervise<R: AllocGlobal + Files + Processes, I: Read, O: Write, E: Write
         rt,
         path: options.to.or(options.from),
     };
-    let start = Start {
+    let start = SupervisorStart {
         settings: config.settings,
         pid: number.max(1),
     };
@@ -116,8 +116,8 @@ pub fn adopt<R: AllocGlobal + Files + Processes, I: Read, O: Write>(
 }
 
 /// Ends what is left of a new master's children, and gives its status.
-fn finished<F: Processes + Files + Drop>(served: Served<OsFamily<F>>) -> u8 {
-    let Served { status, family } = served;
+fn finished<F: Processes + Files + Drop>(served: ServedMaster<OsFamily<F>>) -> u8 {
+    let ServedMaster { status, family } = served;
     if let Some(mut family) = family {
         family.finish();
     }

@@ -22,7 +22,7 @@ use faults::Fault;
 use kernel_model::{Kernel, Pattern, WIDEST_LIMITS};
 use listener_set::{Address, WORKER_LIMIT};
 use plan_executor::run_words;
-use plan_runner::CallLog;
+use plan_runner::Transcript;
 use service_state::Record;
 use std::alloc::{AllocError, Global};
 use table_text::table_text;
@@ -129,7 +129,7 @@ impl Rehearsal {
         &mut self,
         alloc: Global,
         word: Word,
-        begun: &CallLog,
+        begun: &Transcript,
     ) -> Result<Option<Block>, AllocError>
         ensures { IfOk result (λ found. (block : Done) × (pattern : List (ℕ × Moment))
             × (found ≡ Some block)
@@ -143,7 +143,7 @@ impl Rehearsal {
     }
 
     /// The pattern that the first calls of a word show; a quiet one where they begin no run of the master.
-    fn pattern_of(&self, alloc: Global, word: Word, begun: &CallLog) -> Result<Pattern, AllocError>
+    fn pattern_of(&self, alloc: Global, word: Word, begun: &Transcript) -> Result<Pattern, AllocError>
         ensures { IfOk result (IsShownBy self.now word begun.now.entries) }
     {
         let Some(record) = self.standing.record else {
@@ -201,7 +201,7 @@ fn shown_of(
     kernel: &Kernel,
     state: &Record,
     target: &Target,
-    begun: &CallLog,
+    begun: &Transcript,
 ) -> Result<Pattern, AllocError>
     requires { IsTarget target.now }
     ensures { IfOk result (IsShownOf kernel.now.table state.now target.now begun.now.entries) }

@@ -11,7 +11,7 @@ ghost use Rattle.reload_planner.specs.Changes.{repair_tree};
 use crate::{PlanRefusal, Scene};
 use listener_set::{Numbers, WORKER_LIMIT};
 use plan_pieces::{add_each, add_starts_any, listed};
-use rollback_plan::{Asked, Batch, Draft, DraftRefusal, Place, Plan};
+use rollback_plan::{Errand, Batch, Draft, DraftRefusal, Place, Plan};
 use std::alloc::Global;
 use vocabulary::{PidNote, Side};
 
@@ -31,7 +31,7 @@ fn add_mending(
     let (by, crew) = (scene.by, &scene.crew);
     let settled = draft.settle(by, crew, wanted, Side::Target, scene.rounds)?;
     let starting = add_starts_any(draft, by, crew, starts, settled)?;
-    let overdue = Batch::Workers(Asked::Kill, crew.generation, kills);
+    let overdue = Batch::Workers(Errand::Kill, crew.generation, kills);
     add_each(draft, by, &overdue, starting)
 }
 

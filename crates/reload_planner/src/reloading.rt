@@ -14,7 +14,7 @@ use crate::{PlanRefusal, Scene};
 use crews::{Crew, Posts};
 use listener_set::{Address, ListenerSet, Numbers};
 use plan_pieces::{add_each, add_opens, add_starts, listed};
-use rollback_plan::{Asked, Batch, Draft, DraftRefusal, Edge, Place, Plan, Undone};
+use rollback_plan::{Errand, Batch, Draft, DraftRefusal, PlanEdge, Place, Plan, Undone};
 use service_state::next_config;
 use std::alloc::Global;
 use vocabulary::{Actor, Call, Order, PidNote, Reply, Settings, Side};
@@ -53,7 +53,7 @@ fn add_on(
         scene.rounds,
     )?;
     let closing = add_each(draft, by, &Batch::Closes(renewal.dropped), settled)?;
-    let quits = Batch::Workers(Asked::Quit, scene.crew.generation, ready);
+    let quits = Batch::Workers(Errand::Quit, scene.crew.generation, ready);
     add_each(draft, by, &quits, closing)
 }
 
@@ -75,8 +75,8 @@ fn add_count(
         Order::Make(Call::Census(renewal.crew.generation)),
         &renewal.wanted,
         &[
-            Edge::to(&[Reply::Full], full),
-            Edge::to(&[Reply::Short], short),
+            PlanEdge::to(&[Reply::Full], full),
+            PlanEdge::to(&[Reply::Short], short),
         ],
     )
 }

@@ -9,7 +9,7 @@ ghost use Rattle.rollback_plan.specs.Plans.{tree_of, note_of, sides_told, text_o
 
 use crate::{PlanRefusal, Scene};
 use plan_pieces::{add_each, listed};
-use rollback_plan::{Asked, Batch, Draft, DraftRefusal, Place, Plan};
+use rollback_plan::{Errand, Batch, Draft, DraftRefusal, Place, Plan};
 use std::alloc::Global;
 use vocabulary::{PidNote, Side};
 
@@ -21,7 +21,7 @@ fn add_reopening(draft: &mut Draft, scene: &Scene, ready: &[u32]) -> Result<Plac
 {
     let (by, crew) = (scene.by, &scene.crew);
     let settled = draft.settle(by, crew, &scene.ready, Side::Target, scene.rounds)?;
-    let usr1s = Batch::Workers(Asked::Usr1, crew.generation, ready);
+    let usr1s = Batch::Workers(Errand::Usr1, crew.generation, ready);
     add_each(draft, by, &usr1s, settled)
 }
 

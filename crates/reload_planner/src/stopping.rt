@@ -12,7 +12,7 @@ ghost use Rattle.reload_planner.specs.Changes.{ends_tree};
 use crate::{PlanRefusal, Scene};
 use listener_set::{FilePath, Numbers};
 use plan_pieces::{add_each, add_file_call, listed};
-use rollback_plan::{Asked, Batch, Draft, DraftRefusal, Edge, Place, Plan};
+use rollback_plan::{Errand, Batch, Draft, DraftRefusal, PlanEdge, Place, Plan};
 use std::alloc::Global;
 use vocabulary::{Actor, Call, End, Order, PidNote, Reply};
 
@@ -35,7 +35,7 @@ fn add_leave(draft: &mut Draft, by: Actor) -> Result<Place, DraftRefusal>
         by,
         Order::Make(Call::Leave),
         &Numbers::none(),
-        &[Edge::over(&[Reply::Fine], End::Done)],
+        &[PlanEdge::over(&[Reply::Fine], End::Done)],
     )
 }
 
@@ -82,11 +82,11 @@ fn add_ends(
 {
     let (by, generation) = (scene.by, scene.crew.generation);
     if quick {
-        let kills = Batch::Workers(Asked::Kill, generation, ready);
+        let kills = Batch::Workers(Errand::Kill, generation, ready);
         return add_each(draft, by, &kills, rest);
     }
-    let waits = Batch::Workers(Asked::AwaitGone, generation, ready);
-    let quits = Batch::Workers(Asked::Quit, generation, ready);
+    let waits = Batch::Workers(Errand::AwaitGone, generation, ready);
+    let quits = Batch::Workers(Errand::Quit, generation, ready);
     let waiting = add_each(draft, by, &waits, rest)?;
     add_each(draft, by, &quits, waiting)
 }

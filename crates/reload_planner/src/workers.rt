@@ -10,7 +10,7 @@ ghost use Rattle.reload_planner.specs.Changes.{change_tree};
 use crate::{PlanRefusal, Scene};
 use listener_set::{Numbers, WORKER_LIMIT};
 use plan_pieces::{add_each, add_starts, listed};
-use rollback_plan::{Asked, Batch, Draft, DraftRefusal, Place, Plan, Undone};
+use rollback_plan::{Errand, Batch, Draft, DraftRefusal, Place, Plan, Undone};
 use std::alloc::Global;
 use vocabulary::{PidNote, Side};
 
@@ -28,7 +28,7 @@ fn add_workers(
 {
     let (by, crew) = (scene.by, &scene.crew);
     let settled = draft.settle(by, crew, wanted, Side::Target, scene.rounds)?;
-    let surplus = Batch::Workers(Asked::Quit, crew.generation, quits);
+    let surplus = Batch::Workers(Errand::Quit, crew.generation, quits);
     let quitting = add_each(draft, by, &surplus, settled)?;
     let undone = Undone {
         generation: crew.generation,

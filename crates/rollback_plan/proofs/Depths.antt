@@ -4,7 +4,7 @@ use Rattle.std.proofs.lemmas.Bool.{ltb-true, lt-ltb, cases_eq, cases_lt, and_fro
 use Rattle.std.proofs.lemmas.List.{get_or-set_same, get_or-set_other, set_past}
 use Rattle.rollback_plan.specs.declared.step.Next.{Next}
 use Rattle.rollback_plan.specs.declared.step.Next.TheVariants.{To, Over}
-use Rattle.rollback_plan.specs.declared.step.Edge.{Edge}
+use Rattle.rollback_plan.specs.declared.step.PlanEdge.{PlanEdge}
 use Rattle.rollback_plan.specs.declared.step.Step.{Step}
 use Rattle.rollback_plan.specs.Steps.{is_below, all_below}
 use Rattle.listener_set.specs.Numbers.{is_in}
@@ -57,12 +57,12 @@ at_length : (depth : ℕ) (next : Next) (depths : List ℕ) → length (deepened
 at_length depth (Over end) depths = refl
 at_length depth (To place) depths = length-set depths place.0 (max (get_or depths place.0 0) depth)
 
-pub length-deepened : (depth : ℕ) (edges : List Edge) (depths : List ℕ) → length (deepened depth edges depths) ≡ length depths
+pub length-deepened : (depth : ℕ) (edges : List PlanEdge) (depths : List ℕ) → length (deepened depth edges depths) ≡ length depths
 length-deepened depth [] depths = refl
 length-deepened depth (e ∷ edges) depths = length-deepened depth edges (deepened_at depth e.next depths) ∙ at_length depth e.next depths
 
 -- Each depth stays, or its place is behind an edge, below n, and gets the new one.
-pub deepened_cases : (n depth : ℕ) (edges : List Edge) (depths : List ℕ) → all_below n edges ≡ true → (k : ℕ) → (get_or (deepened depth edges depths) k 0 ≡ get_or depths k 0) ⊎ ((k < n) × (get_or (deepened depth edges depths) k 0 ≡ depth) × (is_in (places_behind edges) k ≡ true))
+pub deepened_cases : (n depth : ℕ) (edges : List PlanEdge) (depths : List ℕ) → all_below n edges ≡ true → (k : ℕ) → (get_or (deepened depth edges depths) k 0 ≡ get_or depths k 0) ⊎ ((k < n) × (get_or (deepened depth edges depths) k 0 ≡ depth) × (is_in (places_behind edges) k ≡ true))
 deepened_cases n depth [] depths below k = inl refl
 deepened_cases n depth (e ∷ edges) depths below k =
     let tests = and_parts (is_below n e.next) (all_below n edges) below in
@@ -74,7 +74,7 @@ deepened_cases n depth (e ∷ edges) depths below k =
       ]
     ]
 
-pub deepened_ge : (depth : ℕ) (edges : List Edge) (depths : List ℕ) (k : ℕ) → get_or depths k 0 ≤ get_or (deepened depth edges depths) k 0
+pub deepened_ge : (depth : ℕ) (edges : List PlanEdge) (depths : List ℕ) (k : ℕ) → get_or depths k 0 ≤ get_or (deepened depth edges depths) k 0
 deepened_ge depth [] depths k = omega arith
 deepened_ge depth (e ∷ edges) depths k = omega (arith, at_ge depth e.next depths k, deepened_ge depth edges (deepened_at depth e.next depths) k)
 
@@ -83,7 +83,7 @@ deeper_le old new d (Over end) ge h = refl
 deeper_le old new d (To place) ge h = lt-ltb d (get_or new place.0 0) (omega (arith, ge place.0, ltb-true d (get_or old place.0 0) h))
 
 -- what lies deeper stays so where depths grow
-pub all_deeper-le : (old new : List ℕ) (d : ℕ) (edges : List Edge) → ((k : ℕ) → get_or old k 0 ≤ get_or new k 0) → all_deeper old d edges ≡ true → all_deeper new d edges ≡ true
+pub all_deeper-le : (old new : List ℕ) (d : ℕ) (edges : List PlanEdge) → ((k : ℕ) → get_or old k 0 ≤ get_or new k 0) → all_deeper old d edges ≡ true → all_deeper new d edges ≡ true
 all_deeper-le old new d edges ge = all_weaker (λ e. is_deeper old d e.next) (λ e. is_deeper new d e.next) (λ e h. deeper_le old new d e.next ge h) edges
 
 one_behind : (d depth : ℕ) (next : Next) (depths : List ℕ) → d < depth → is_below (length depths) next ≡ true → is_deeper (deepened_at depth next depths) d next ≡ true
@@ -92,7 +92,7 @@ one_behind d depth (To place) depths h below =
     lt-ltb d _ (omega (arith, get_or-set_same depths place.0 (max (get_or depths place.0 0) depth) 0 (ltb-true place.0 (length depths) below)))
 
 -- what is behind the edges lies deeper
-pub deepened_behind : (d depth : ℕ) (edges : List Edge) (depths : List ℕ) → d < depth → all_below (length depths) edges ≡ true → all_deeper (deepened depth edges depths) d edges ≡ true
+pub deepened_behind : (d depth : ℕ) (edges : List PlanEdge) (depths : List ℕ) → d < depth → all_below (length depths) edges ≡ true → all_deeper (deepened depth edges depths) d edges ≡ true
 deepened_behind d depth [] depths h below = refl
 deepened_behind d depth (e ∷ edges) depths h below =
     let tests = and_parts (is_below (length depths) e.next) (all_below (length depths) edges) below in
@@ -112,7 +112,7 @@ pub record AreDeepened (steps : List Step) (first from : ℕ) (depths : List ℕ
   pub path : (k : ℕ) → 1 ≤ get_or depths k 0 → HasPath steps first k (get_or depths k 0)
 
 -- what lies no lower keeps its depth
-deepened_above : (place depth : ℕ) (edges : List Edge) (depths : List ℕ) → all_below place edges ≡ true → (k : ℕ) → place ≤ k → get_or (deepened depth edges depths) k 0 ≡ get_or depths k 0
+deepened_above : (place depth : ℕ) (edges : List PlanEdge) (depths : List ℕ) → all_below place edges ≡ true → (k : ℕ) → place ≤ k → get_or (deepened depth edges depths) k 0 ≡ get_or depths k 0
 deepened_above place depth edges depths back k le = elim (deepened_cases place depth edges depths back k) [ inl same ↦ same | inr moved ↦ absurd (omega (arith, moved.0)) ]
 
 some_one : {x y : Step} → Some x ≡ Some y → x ≡ y
@@ -179,7 +179,7 @@ behind_deeper depths d (To place) ps k deep rest h = elim (or_cases (nat_eq plac
 ]
 
 -- what is behind edges lies deeper, where that is so of each edge
-places_deeper : (depths : List ℕ) (d : ℕ) (edges : List Edge) (k : ℕ) → all_deeper depths d edges ≡ true → is_in (places_behind edges) k ≡ true → d < get_or depths k 0
+places_deeper : (depths : List ℕ) (d : ℕ) (edges : List PlanEdge) (k : ℕ) → all_deeper depths d edges ≡ true → is_in (places_behind edges) k ≡ true → d < get_or depths k 0
 places_deeper depths d [] k deep h = absurd (false≢true h)
 places_deeper depths d (e ∷ edges) k deep h =
     let parts = and_parts (is_deeper depths d e.next) (all_deeper depths d edges) deep in

@@ -7,7 +7,7 @@ use Rattle.vocabulary.specs.declared.plans.End.TheVariants.{Done}
 use Rattle.definitions.specs.Tree.{Tree, Ends, height}
 use Rattle.rollback_plan.specs.declared.step.Next.{Next}
 use Rattle.rollback_plan.specs.declared.step.Next.TheVariants.{To, Over}
-use Rattle.rollback_plan.specs.declared.step.Edge.{Edge}
+use Rattle.rollback_plan.specs.declared.step.PlanEdge.{PlanEdge}
 use Rattle.rollback_plan.specs.declared.step.Step.{Step}
 use Rattle.rollback_plan.specs.Steps.{trees_after, all_below, all_lead_back, leads_back, all_lead_on, first_tree}
 use Rattle.rollback_plan.specs.Numbering.{IsNumbering, IsOrder, IsInOrder, AreDepths, IsWalk, IsByDepth, AreNumbers, AllNumbered, holds_of_edges, holds_behind, is_deeper, all_deeper, are_laid, all_within}
@@ -92,7 +92,7 @@ order_leads_on steps first depths met order numbers h ns i p s at step =
               omega (arith, le, ltb-true (get_or depths p 0) (get_or depths place.0 0) deep))
         ]
 
-    all : (edges : List Edge) → holds_of_edges (is_in met) edges ≡ true → all_deeper depths (get_or depths p 0) edges ≡ true → AllLeadOn order numbers i edges
+    all : (edges : List PlanEdge) → holds_of_edges (is_in met) edges ≡ true → all_deeper depths (get_or depths p 0) edges ≡ true → AllLeadOn order numbers i edges
     all [] known deep = tt
     all (e ∷ edges) known deep =
         let knowns = and_parts (holds_behind (is_in met) e.next) (holds_of_edges (is_in met) edges) known in

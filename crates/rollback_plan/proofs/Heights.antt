@@ -5,7 +5,7 @@ use Rattle.vocabulary.specs.declared.plans.End.TheVariants.{Done}
 use Rattle.definitions.specs.Tree.{Tree, Ends, height, highest}
 use Rattle.rollback_plan.specs.declared.step.Next.{Next}
 use Rattle.rollback_plan.specs.declared.step.Next.TheVariants.{To, Over}
-use Rattle.rollback_plan.specs.declared.step.Edge.{Edge}
+use Rattle.rollback_plan.specs.declared.step.PlanEdge.{PlanEdge}
 use Rattle.rollback_plan.specs.declared.step.Step.{Step}
 use Rattle.rollback_plan.specs.Steps.{tree_among, branches_among, step_tree}
 use Rattle.rollback_plan.specs.Numbering.{height_behind, highest_behind}
@@ -19,7 +19,7 @@ height_there : (trees : List Tree) (next : Next) → height_behind (map height t
 height_there trees (Over end) = refl
 height_there trees (To place) = height_at trees place.0 ∙ ap (λ k. height (unwrap_or (slice_get trees k) (Ends Done))) (let e : place.0 ≡ place.0 - 0 = omega arith in e)
 
-pub highest_there : (trees : List Tree) (edges : List Edge) → highest_behind (map height trees) edges ≡ highest (branches_among 0 trees edges)
+pub highest_there : (trees : List Tree) (edges : List PlanEdge) → highest_behind (map height trees) edges ≡ highest (branches_among 0 trees edges)
 highest_there trees [] = refl
 highest_there trees (e ∷ edges) = rw (height_there trees e.next, highest_there trees edges) refl
 
@@ -30,7 +30,7 @@ height_more trees s h e =
     ap (λ n. map height trees ++ n ∷ []) is ∙ sym (map_push height trees (step_tree 0 trees s))
 
 -- heights within a bound
-pub highest_within : (n : ℕ) (heights : List ℕ) (edges : List Edge) → ((k : ℕ) → get_or heights k 0 ≤ n) → highest_behind heights edges ≤ n
+pub highest_within : (n : ℕ) (heights : List ℕ) (edges : List PlanEdge) → ((k : ℕ) → get_or heights k 0 ≤ n) → highest_behind heights edges ≤ n
 highest_within n heights [] h = omega arith
 highest_within n heights (e ∷ edges) h = omega (arith, one e.next, highest_within n heights edges h)
   where

@@ -9,7 +9,7 @@ use Rattle.vocabulary.specs.declared.plans.End.TheVariants.{Done}
 use Rattle.definitions.specs.Tree.{Tree, Ends, Does, Branch, branch, among, reply_of}
 use Rattle.definitions.specs.Path.{follow}
 use Rattle.rollback_plan.specs.declared.step.Step.{Step}
-use Rattle.rollback_plan.specs.declared.step.Edge.{Edge}
+use Rattle.rollback_plan.specs.declared.step.PlanEdge.{PlanEdge}
 use Rattle.rollback_plan.specs.declared.step.Next.{Next}
 use Rattle.rollback_plan.specs.declared.step.Next.TheVariants.{To, Over}
 use Rattle.rollback_plan.specs.declared.step.Place.{Place}
@@ -24,7 +24,7 @@ past_tree n more t trees (To place) h =
     let past : n < place.0 = ltb-true n place.0 (and_parts (nat_lt n place.0) _ h).0 in
     ap (λ k. unwrap_or (slice_get (t ∷ trees) k) (Ends Done)) (let e : suc (place.0 - suc n) ≡ place.0 - n = omega arith in e)
 
-past_branches : (n more : ℕ) (t : Tree) (trees : List Tree) (edges : List Edge) → list_all (λ e. is_past n more e.next) edges ≡ true → branches_among (suc n) trees edges ≡ branches_among n (t ∷ trees) edges
+past_branches : (n more : ℕ) (t : Tree) (trees : List Tree) (edges : List PlanEdge) → list_all (λ e. is_past n more e.next) edges ≡ true → branches_among (suc n) trees edges ≡ branches_among n (t ∷ trees) edges
 past_branches n more t trees [] h = refl
 past_branches n more t trees (e ∷ edges) h =
     let parts = and_parts (is_past n more e.next) _ h in
@@ -91,7 +91,7 @@ found_has p q (x ∷ xs) h =
     elim (p x) as (λ b. IfSome (cond b (Some x) (find p xs)) (λ y. q y ≡ true)) [ true ↦ (and_parts (q x) (list_all q xs) h).0 | false ↦ found_has p q xs (and_parts (q x) (list_all q xs) h).1 ]
 
 -- what is behind an edge for a reply
-branch-edge_for : (n : ℕ) (trees : List Tree) (edges : List Edge) (r : Reply) → branch (branches_among n trees edges) r ≡ option_map (λ e. (e.note, tree_among n trees e.next)) (edge_for edges r)
+branch-edge_for : (n : ℕ) (trees : List Tree) (edges : List PlanEdge) (r : Reply) → branch (branches_among n trees edges) r ≡ option_map (λ e. (e.note, tree_among n trees e.next)) (edge_for edges r)
 branch-edge_for n trees [] r = refl
 branch-edge_for n trees (e ∷ edges) r =
     elim (among e.replies.now r) as (λ b. elim b as (λ c. Option (Option PidNote × Tree)) [ true ↦ Some (e.note, tree_among n trees e.next) | false ↦ branch (branches_among n trees edges) r ] ≡ option_map (λ x. (x.note, tree_among n trees x.next)) (cond b (Some e) (edge_for edges r))) [

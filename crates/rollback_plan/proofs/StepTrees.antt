@@ -7,7 +7,7 @@ use Rattle.definitions.specs.Tree.{Tree}
 use Rattle.rollback_plan.specs.declared.step.Step.{Step}
 use Rattle.rollback_plan.specs.declared.step.Next.{Next}
 use Rattle.rollback_plan.specs.declared.step.Next.TheVariants.{To, Over}
-use Rattle.rollback_plan.specs.declared.step.Edge.{Edge}
+use Rattle.rollback_plan.specs.declared.step.PlanEdge.{PlanEdge}
 use Rattle.rollback_plan.specs.Steps.{step_tree, trees_after, trees_from, is_below, all_below, leads_back, all_lead_back}
 
 -- what each passes each passes by a weaker test
@@ -95,7 +95,7 @@ below_of n m (Over end) h b = refl
 below_of n m (To place) h b = lt-ltb place.0 m (omega (arith, ltb-true place.0 n b))
 
 -- edges that lead below n lead below more
-pub all_below-le : (n m : ℕ) (edges : List Edge) → n ≤ m → all_below n edges ≡ true → all_below m edges ≡ true
+pub all_below-le : (n m : ℕ) (edges : List PlanEdge) → n ≤ m → all_below n edges ≡ true → all_below m edges ≡ true
 all_below-le n m edges h = all_weaker (λ e. is_below n e.next) (λ e. is_below m e.next) (λ e b. below_of n m e.next h b) edges
 
 -- ---- the trees of a plan

@@ -7,7 +7,7 @@ use Rattle.vocabulary.specs.declared.plans.End.TheVariants.{Done}
 use Rattle.definitions.specs.Tree.{Tree, Ends, Does}
 use Rattle.rollback_plan.specs.declared.step.Next.{Next}
 use Rattle.rollback_plan.specs.declared.step.Next.TheVariants.{To, Over}
-use Rattle.rollback_plan.specs.declared.step.Edge.{Edge}
+use Rattle.rollback_plan.specs.declared.step.PlanEdge.{PlanEdge}
 use Rattle.rollback_plan.specs.declared.step.Step.{Step}
 use Rattle.rollback_plan.specs.Steps.{tree_among, branches_among, step_tree, trees_after, trees_from, is_below, all_below, all_lead_back, is_past, all_lead_on}
 use Rattle.rollback_plan.specs.Numbering.{AllNumbered, IsNumbered, next_numbered, edge_numbered}
@@ -24,7 +24,7 @@ low_at (y ∷ ys) (suc i) x e = let h : i < length ys = low_at ys i x e in omega
 
 -- ---- the tree at a place of a draft is that of its step
 
-branches_more : (trees more : List Tree) (edges : List Edge) → all_below (length trees) edges ≡ true → branches_among 0 (trees ++ more) edges ≡ branches_among 0 trees edges
+branches_more : (trees more : List Tree) (edges : List PlanEdge) → all_below (length trees) edges ≡ true → branches_among 0 (trees ++ more) edges ≡ branches_among 0 trees edges
 branches_more trees more [] h = refl
 branches_more trees more (e ∷ edges) h =
     let parts = and_parts (is_below (length trees) e.next) (all_below (length trees) edges) h in
@@ -59,7 +59,7 @@ abbrev pub LeadsOn : List ℕ → List ℕ → ℕ → Next → Type 0
 LeadsOn order numbers i (Over end) = Unit {0}
 LeadsOn order numbers i (To place) = (i + 2 ≤ get_or numbers place.0 0) × (slice_get order (get_or numbers place.0 0 - 1) ≡ Some place.0)
 
-abbrev pub AllLeadOn : List ℕ → List ℕ → ℕ → List Edge → Type 0
+abbrev pub AllLeadOn : List ℕ → List ℕ → ℕ → List PlanEdge → Type 0
 AllLeadOn order numbers i [] = Unit {0}
 AllLeadOn order numbers i (e ∷ edges) = LeadsOn order numbers i e.next × AllLeadOn order numbers i edges
 
@@ -91,7 +91,7 @@ next_tree steps order numbers i rest (To place) h on =
     ap (λ o. unwrap_or o (Ends Done)) (get_mapped steps rest (m - suc (suc i)) place.0 there)
     ∙ ap (λ k. unwrap_or (slice_get (trees_after [] steps) k) (Ends Done)) (let e : place.0 ≡ place.0 - 0 = omega arith in e)
 
-branches_numbered : (steps : List Step) (order numbers : List ℕ) (i : ℕ) (rest : List ℕ) (edges : List Edge) → IsRest order (suc i) rest → AllLeadOn order numbers i edges → branches_among (suc (suc i)) (map (at_place steps) rest) (map (edge_numbered numbers) edges) ≡ branches_among 0 (trees_after [] steps) edges
+branches_numbered : (steps : List Step) (order numbers : List ℕ) (i : ℕ) (rest : List ℕ) (edges : List PlanEdge) → IsRest order (suc i) rest → AllLeadOn order numbers i edges → branches_among (suc (suc i)) (map (at_place steps) rest) (map (edge_numbered numbers) edges) ≡ branches_among 0 (trees_after [] steps) edges
 branches_numbered steps order numbers i rest [] h on = refl
 branches_numbered steps order numbers i rest (e ∷ edges) h on = rw (next_tree steps order numbers i rest e.next h on.0, branches_numbered steps order numbers i rest edges h on.1) refl
 
@@ -126,7 +126,7 @@ next_past order numbers i more (To place) many on =
     (lt-ltb (suc i) (get_or numbers place.0 0) (omega (arith, on.0)))
     (lt-ltb (get_or numbers place.0 0) (suc (suc i + more)) (omega (arith, low, on.0, many)))
 
-edges_past : (order numbers : List ℕ) (i more : ℕ) (edges : List Edge) → length order ≡ i + suc more → AllLeadOn order numbers i edges → list_all (λ e. is_past (suc i) more e.next) (map (edge_numbered numbers) edges) ≡ true
+edges_past : (order numbers : List ℕ) (i more : ℕ) (edges : List PlanEdge) → length order ≡ i + suc more → AllLeadOn order numbers i edges → list_all (λ e. is_past (suc i) more e.next) (map (edge_numbered numbers) edges) ≡ true
 edges_past order numbers i more [] many on = refl
 edges_past order numbers i more (e ∷ edges) many on =
     and_from (is_past (suc i) more (next_numbered numbers e.next)) _ (next_past order numbers i more e.next many on.0) (edges_past order numbers i more edges many on.1)
@@ -140,5 +140,5 @@ plan_leads_on steps order numbers i (p ∷ rest) (n ∷ plan) on h many all =
     let count = length-numbered numbers steps rest plan all.3 in
     let past = edges_past order numbers i (length plan) s.edges.items (omega (arith, count)) (on i p s here all.1) in
     and_from (list_all (λ e. is_past (suc i) (length plan) e.next) n.edges.items) _
-    (subst (λ (es : List Edge). list_all (λ e. is_past (suc i) (length plan) e.next) es ≡ true) (sym all.2.edges) past)
+    (subst (λ (es : List PlanEdge). list_all (λ e. is_past (suc i) (length plan) e.next) es ≡ true) (sym all.2.edges) past)
     (plan_leads_on steps order numbers (suc i) rest plan on (rest_after order i p rest h) (omega arith) all.3)

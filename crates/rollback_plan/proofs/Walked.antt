@@ -6,7 +6,7 @@ use Rattle.std.specs.List.{list_all}
 use Rattle.listener_set.specs.Numbers.{is_in}
 use Rattle.rollback_plan.specs.declared.step.Next.{Next}
 use Rattle.rollback_plan.specs.declared.step.Next.TheVariants.{To, Over}
-use Rattle.rollback_plan.specs.declared.step.Edge.{Edge}
+use Rattle.rollback_plan.specs.declared.step.PlanEdge.{PlanEdge}
 use Rattle.rollback_plan.specs.declared.step.Step.{Step}
 use Rattle.rollback_plan.specs.Steps.{is_below, all_below, all_lead_back}
 use Rattle.rollback_plan.specs.Numbering.{place_behind, places_behind, holds_behind, holds_of_edges, Walks, IsWalk}
@@ -84,7 +84,7 @@ behind_weaker : (t u : ℕ → Bool) (next : Next) → ((k : ℕ) → t k ≡ tr
 behind_weaker t u (Over end) f h = refl
 behind_weaker t u (To place) f h = f place.0 h
 
-pub edges_weaker : (t u : ℕ → Bool) (edges : List Edge) → ((k : ℕ) → t k ≡ true → u k ≡ true) → holds_of_edges t edges ≡ true → holds_of_edges u edges ≡ true
+pub edges_weaker : (t u : ℕ → Bool) (edges : List PlanEdge) → ((k : ℕ) → t k ≡ true → u k ≡ true) → holds_of_edges t edges ≡ true → holds_of_edges u edges ≡ true
 edges_weaker t u edges f = all_weaker (λ e. holds_behind t e.next) (λ e. holds_behind u e.next) (λ e. behind_weaker t u e.next f) edges
 
 one_behind : (next : Next) (ps : List ℕ) → holds_behind (is_in (place_behind next ps)) next ≡ true
@@ -92,7 +92,7 @@ one_behind (Over end) ps = refl
 one_behind (To place) ps = or_left (nat_eq place.0 place.0) (is_in ps place.0) (eq-eqb place.0 place.0 refl)
 
 -- what is behind edges is among the places behind them
-edges_in : (edges : List Edge) → holds_of_edges (is_in (places_behind edges)) edges ≡ true
+edges_in : (edges : List PlanEdge) → holds_of_edges (is_in (places_behind edges)) edges ≡ true
 edges_in [] = refl
 edges_in (e ∷ edges) =
     and_from (holds_behind (is_in (places_behind (e ∷ edges))) e.next) _ (one_behind e.next (places_behind edges))
@@ -102,7 +102,7 @@ all_behind : (test : ℕ → Bool) (next : Next) (ps : List ℕ) → holds_behin
 all_behind test (Over end) ps h k = k
 all_behind test (To place) ps h k = and_from (test place.0) (list_all test ps) h k
 
-all_of_edges : (test : ℕ → Bool) (edges : List Edge) → holds_of_edges test edges ≡ true → list_all test (places_behind edges) ≡ true
+all_of_edges : (test : ℕ → Bool) (edges : List PlanEdge) → holds_of_edges test edges ≡ true → list_all test (places_behind edges) ≡ true
 all_of_edges test [] h = refl
 all_of_edges test (e ∷ edges) h =
     let parts = and_parts (holds_behind test e.next) (holds_of_edges test edges) h in
@@ -112,7 +112,7 @@ length-behind : (next : Next) (ps : List ℕ) → length (place_behind next ps) 
 length-behind (Over end) ps = omega arith
 length-behind (To place) ps = omega arith
 
-length-places_behind : (edges : List Edge) → length (places_behind edges) ≤ length edges
+length-places_behind : (edges : List PlanEdge) → length (places_behind edges) ≤ length edges
 length-places_behind [] = omega arith
 length-places_behind (e ∷ edges) = omega (arith, length-behind e.next (places_behind edges), length-places_behind edges)
 

@@ -3,7 +3,7 @@ use Rattle.std.proofs.Common.{◌≡◌, ℕ, List, [], ◌∷◌, ◌++◌, rev
 use Rattle.std.proofs.lemmas.List.{reverse-append, append-nil}
 use Rattle.rollback_plan.specs.declared.step.Next.{Next}
 use Rattle.rollback_plan.specs.declared.step.Next.TheVariants.{To, Over}
-use Rattle.rollback_plan.specs.declared.step.Edge.{Edge}
+use Rattle.rollback_plan.specs.declared.step.PlanEdge.{PlanEdge}
 use Rattle.rollback_plan.specs.Numbering.{place_behind, places_behind}
 
 -- ---- the places behind edges
@@ -12,7 +12,7 @@ place_behind-append : (next : Next) (ps qs : List ℕ) → place_behind next (ps
 place_behind-append (Over end) ps qs = refl
 place_behind-append (To place) ps qs = refl
 
-pub places_behind-append : (es fs : List Edge) → places_behind (es ++ fs) ≡ places_behind es ++ places_behind fs
+pub places_behind-append : (es fs : List PlanEdge) → places_behind (es ++ fs) ≡ places_behind es ++ places_behind fs
 places_behind-append [] fs = refl
 places_behind-append (e ∷ es) fs = ap (place_behind e.next) (places_behind-append es fs) ∙ place_behind-append e.next (places_behind es) (places_behind fs)
 
@@ -20,7 +20,7 @@ reverse-place_behind : (next : Next) (ps : List ℕ) → reverse (place_behind n
 reverse-place_behind (Over end) ps = sym (append-nil (reverse ps))
 reverse-place_behind (To place) ps = reverse-append (place.0 ∷ []) ps
 
-pub places_behind-reverse : (edges : List Edge) → places_behind (reverse edges) ≡ reverse (places_behind edges)
+pub places_behind-reverse : (edges : List PlanEdge) → places_behind (reverse edges) ≡ reverse (places_behind edges)
 places_behind-reverse [] = refl
 places_behind-reverse (e ∷ edges) =
     ap places_behind (reverse-append (e ∷ []) edges)
@@ -28,7 +28,7 @@ places_behind-reverse (e ∷ edges) =
     ∙ (ap (λ ps. ps ++ place_behind e.next []) (places_behind-reverse edges) ∙ sym (reverse-place_behind e.next (places_behind edges))))
 
 -- one edge more
-pub behind_more : (old waiting : List ℕ) (es : List Edge) (e : Edge) (next : Next) → e.next ≡ next → waiting ≡ old ++ places_behind es → waiting ++ place_behind next [] ≡ old ++ places_behind (es ++ e ∷ [])
+pub behind_more : (old waiting : List ℕ) (es : List PlanEdge) (e : PlanEdge) (next : Next) → e.next ≡ next → waiting ≡ old ++ places_behind es → waiting ++ place_behind next [] ≡ old ++ places_behind (es ++ e ∷ [])
 behind_more old waiting es e next is before =
     ap (λ ws. ws ++ place_behind next []) before
     ∙ (append_assoc old (places_behind es) (place_behind next [])

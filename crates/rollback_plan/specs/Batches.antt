@@ -4,13 +4,13 @@ use Rattle.listener_set.specs.declared.generation.Generation.{Generation}
 use Rattle.definitions.specs.Calls.{Call}
 use Rattle.definitions.specs.Crew.{fork_of}
 use Rattle.vocabulary.specs.declared.calls.Call.TheVariants as call
-use Rattle.rollback_plan.specs.declared.batch.Asked.{Asked}
-use Rattle.rollback_plan.specs.declared.batch.Asked.TheVariants as asked
+use Rattle.rollback_plan.specs.declared.batch.Errand.{Errand}
+use Rattle.rollback_plan.specs.declared.batch.Errand.TheVariants as asked
 use Rattle.rollback_plan.specs.declared.batch.Batch.{Batch}
 use Rattle.rollback_plan.specs.declared.batch.Batch.TheVariants as batch
 
 -- the call that asks it of a worker
-abbrev pub asked_call : Asked → Generation → ℕ → Call
+abbrev pub asked_call : Errand → Generation → ℕ → Call
 asked_call asked.AwaitReady = call.AwaitReady
 asked_call asked.Quit = call.Quit
 asked_call asked.Kill = call.Kill

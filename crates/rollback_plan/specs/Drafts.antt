@@ -2,7 +2,7 @@
 use Rattle.std.specs.Prelude.{◌≡◌, ℕ, ◌+◌, ◌<◌, ◌≤◌, Bool, List, [], ◌++◌, length, nat_lt, Result, OnOk, IsErrOf}
 use Rattle.std.specs.List.{list_all}
 use Rattle.definitions.specs.Tree.{Tree, Branches}
-use Rattle.rollback_plan.specs.declared.step.Edge.{Edge}
+use Rattle.rollback_plan.specs.declared.step.PlanEdge.{PlanEdge}
 use Rattle.rollback_plan.specs.declared.step.Step.{Step}
 use Rattle.rollback_plan.specs.declared.step.Place.{Place}
 use Rattle.rollback_plan.specs.declared.step.Next.TheVariants.{To}
@@ -47,7 +47,7 @@ pub record GrowsWithin {T : Type 0} (old new : Draft) (result : Result T DraftRe
   pub too_large : IsErrOf result TooLarge → MOST_STEPS < length (trees_of old) + most
 
 -- the branches of edges in a draft
-abbrev pub branches_in : Draft → List Edge → Branches
+abbrev pub branches_in : Draft → List PlanEdge → Branches
 branches_in d edges = branches_among 0 (trees_of d) edges
 
 -- each of these is a place of the draft

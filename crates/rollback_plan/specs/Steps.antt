@@ -6,19 +6,19 @@ use Rattle.vocabulary.specs.declared.plans.End.TheVariants.{Done}
 use Rattle.definitions.specs.Tree.{Tree, Branches, Ends, Does, Nothing, Branch, among}
 use Rattle.rollback_plan.specs.declared.step.Next.{Next}
 use Rattle.rollback_plan.specs.declared.step.Next.TheVariants.{To, Over}
-use Rattle.rollback_plan.specs.declared.step.Edge.{Edge}
+use Rattle.rollback_plan.specs.declared.step.PlanEdge.{PlanEdge}
 use Rattle.rollback_plan.specs.declared.step.Step.{Step}
 
 ---- Edges
 
 -- an edge for some replies that sets no note
-pub record IsEdge (e : Edge) (replies : List Reply) (next : Next) : Type 0 where
+pub record IsEdge (e : PlanEdge) (replies : List Reply) (next : Next) : Type 0 where
   pub takes : e.replies.now ≡ replies
   pub silent : e.note ≡ None
   pub leads : e.next ≡ next
 
 -- the first edge for a reply
-abbrev pub edge_for : List Edge → Reply → Option Edge
+abbrev pub edge_for : List PlanEdge → Reply → Option PlanEdge
 edge_for edges r = find (λ e. among e.replies.now r) edges
 
 -- the tree behind an edge, where trees stand at places of which the first has a number
@@ -26,7 +26,7 @@ abbrev pub tree_among : ℕ → List Tree → Next → Tree
 tree_among first trees (Over end) = Ends end
 tree_among first trees (To place) = unwrap_or (slice_get trees (place.0 - first)) (Ends Done)
 
-abbrev pub branches_among : ℕ → List Tree → List Edge → Branches
+abbrev pub branches_among : ℕ → List Tree → List PlanEdge → Branches
 branches_among first trees [] = Nothing
 branches_among first trees (e ∷ edges) = Branch e.replies.now e.note (tree_among first trees e.next) (branches_among first trees edges)
 
@@ -41,7 +41,7 @@ abbrev pub is_below : ℕ → Next → Bool
 is_below n (Over end) = true
 is_below n (To place) = nat_lt place.0 n
 
-abbrev pub all_below : ℕ → List Edge → Bool
+abbrev pub all_below : ℕ → List PlanEdge → Bool
 all_below n edges = list_all (λ e. is_below n e.next) edges
 
 abbrev pub leads_back : ℕ → Step → Bool

@@ -9,7 +9,7 @@ use vocabulary::Call;
 
 /// What is asked of a worker that was forked.
 #[derive(Clone, Copy, Debug)]
-pub enum Asked {
+pub enum Errand {
     AwaitReady,
     Quit,
     Kill,
@@ -17,17 +17,17 @@ pub enum Asked {
     Usr1,
 }
 
-impl Asked {
+impl Errand {
     /// The call that asks it.
     pub fn call(self, generation: Generation, number: u32) -> Call
         ensures { result ≡ asked_call self generation number }
     {
         match self {
-            Asked::AwaitReady => Call::AwaitReady(generation, number),
-            Asked::Quit => Call::Quit(generation, number),
-            Asked::Kill => Call::Kill(generation, number),
-            Asked::AwaitGone => Call::AwaitGone(generation, number),
-            Asked::Usr1 => Call::Usr1(generation, number),
+            Errand::AwaitReady => Call::AwaitReady(generation, number),
+            Errand::Quit => Call::Quit(generation, number),
+            Errand::Kill => Call::Kill(generation, number),
+            Errand::AwaitGone => Call::AwaitGone(generation, number),
+            Errand::Usr1 => Call::Usr1(generation, number),
         }
     }
 }
@@ -43,7 +43,7 @@ pub(crate) fn fork_of(crew: &Crew, number: u32) -> Call
 #[derive(Clone, Copy)]
 pub enum Batch<'a> {
     Forks(&'a Crew, &'a [u32]),
-    Workers(Asked, Generation, &'a [u32]),
+    Workers(Errand, Generation, &'a [u32]),
     Opens(&'a [Address]),
     Closes(&'a [Address]),
 }

@@ -5,7 +5,7 @@ ghost use Rattle.definitions.specs.Tree.{is_fit, height};
 ghost use Rattle.definitions.specs.Path.{follow};
 ghost use Rattle.rollback_plan.specs.Steps.{is_within};
 
-use crate::{Bound, Edge, Next, Place, Plan, Step};
+use crate::{Bound, PlanEdge, Next, Place, Plan, Step};
 use call_replies::reply_to;
 use vocabulary::{Answer, End};
 
@@ -60,7 +60,7 @@ impl<'a> Cursor<'a> {
     }
 
     /// The edge that an answer takes; none where the step has none for it, or at an end.
-    pub fn edge(&self, answer: &Answer) -> Option<Edge>
+    pub fn edge(&self, answer: &Answer) -> Option<PlanEdge>
         ensures edge { option_map (λ e. (e.note, tree_to self.now e.next)) result ≡ follow (Some (rest_of self.now)) answer.now }
         ensures within { IfSome result (λ e. IsTrue (is_within_plan self.now e.next)) }
     {

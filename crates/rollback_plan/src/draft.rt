@@ -4,7 +4,7 @@ ghost use Rattle.definitions.specs.Tree.{Does};
 ghost use Rattle.rollback_plan.specs.Steps.{step_tree, leads_back, all_lead_back, all_below};
 
 use crate::compact::{CompactOrder, CompactSet};
-use crate::{Edge, Place, Step};
+use crate::{PlanEdge, Place, Step};
 use listener_set::Numbers;
 use std::alloc::{AllocError, AllocFailed, Global};
 use thiserror::Error;
@@ -105,7 +105,7 @@ impl Draft {
         by: Actor,
         order: Order,
         set: &Numbers,
-        edges: &[Edge],
+        edges: &[PlanEdge],
     ) -> Result<Place, DraftRefusal>
         requires { IsTrue (all_below (length (trees_of self.old)) edges.now) }
         ensures made { IfOk result (λ place. IsMade self.new place (Does by order set.now (branches_in self.old edges.now))) }

@@ -4,7 +4,7 @@ ghost use Rattle.definitions.specs.Tree.{height};
 ghost use Rattle.rollback_plan.specs.Steps.{all_below, all_lead_back, trees_after};
 ghost use Rattle.rollback_plan.specs.Numbering.{highest_behind, deepened, AreDepths};
 
-use crate::{Edge, Next, Place, Step};
+use crate::{PlanEdge, Next, Place, Step};
 use std::alloc::{AllocError, Global};
 
 /// How many steps there are on the longest path from each step.
@@ -22,7 +22,7 @@ pub(crate) fn heights_of(alloc: Global, steps: &[Step]) -> Result<Vec<u32>, Allo
 }
 
 /// The greatest height of a step behind these edges; 0 where all lead to ends.
-fn tallest_behind(edges: &[Edge], heights: &[u32]) -> u32
+fn tallest_behind(edges: &[PlanEdge], heights: &[u32]) -> u32
     requires { IsTrue (all_below (length heights.now) edges.now) }
     ensures { result ≡ highest_behind heights.now edges.now }
 {
@@ -58,7 +58,7 @@ pub(crate) fn depths_from(
 }
 
 /// Lays the steps behind these edges at least so deep.
-fn deepen(depths: &mut [u32], edges: &[Edge], depth: u32)
+fn deepen(depths: &mut [u32], edges: &[PlanEdge], depth: u32)
     requires { IsTrue (all_below (length depths.old) edges.now) }
     ensures { depths.new ≡ deepened depth edges.now depths.old }
 {

@@ -8,7 +8,7 @@ ghost use Rattle.rollback_plan.specs.Steps.{is_below, tree_among};
 ghost use Rattle.rollback_plan.specs.Batches.{calls_of, size_of};
 ghost use Rattle.rollback_plan.specs.Back.{told_back, quits_back, closes_back, AreMade};
 
-use crate::{Asked, Batch, Draft, DraftRefusal, Edge, Next, Place};
+use crate::{Errand, Batch, Draft, DraftRefusal, PlanEdge, Next, Place};
 use crews::Crew;
 use listener_set::{Address, Generation, Numbers};
 use vocabulary::{Actor, Call, End, Order, Reply, Side};
@@ -135,8 +135,8 @@ impl Draft {
             Order::Make(Call::Census(generation)),
             set,
             &[
-                Edge::over(&[Reply::Full], full_end(side)),
-                Edge::new(&[Reply::Short], short),
+                PlanEdge::over(&[Reply::Full], full_end(side)),
+                PlanEdge::new(&[Reply::Short], short),
             ],
         )
     }
@@ -153,15 +153,15 @@ impl Draft {
             by,
             Order::KillLacking(crew.generation),
             &none,
-            &[Edge::to(&[Reply::Fine], rest)],
+            &[PlanEdge::to(&[Reply::Fine], rest)],
         )?;
         let wait = self.add(
             by,
             Order::AwaitLacking(crew.generation),
             &none,
             &[
-                Edge::to(&[Reply::IsReady, Reply::Gone], rest),
-                Edge::to(&[Reply::Late], kill),
+                PlanEdge::to(&[Reply::IsReady, Reply::Gone], rest),
+                PlanEdge::to(&[Reply::Late], kill),
             ],
         )?;
         self.add(
@@ -169,8 +169,8 @@ impl Draft {
             Order::ForkLacking(*crew),
             &none,
             &[
-                Edge::to(&[Reply::Forked], wait),
-                Edge::to(&[Reply::Again, Reply::NoMemory], rest),
+                PlanEdge::to(&[Reply::Forked], wait),
+                PlanEdge::to(&[Reply::Again, Reply::NoMemory], rest),
             ],
         )
     }
@@ -213,7 +213,7 @@ impl Draft {
         let settled = self.add_settle(by, crew, ready, Side::Old, rounds)?;
         let opened = self.add_ways(by, &Batch::Closes(undone.opened), settled)?;
         let closed = opened[undone.opened.len()];
-        let quits = Batch::Workers(Asked::Quit, undone.generation, undone.forked);
+        let quits = Batch::Workers(Errand::Quit, undone.generation, undone.forked);
         let forked = self.add_ways(by, &quits, closed)?;
         Ok(WaysBack { opened, forked })
     }
@@ -254,7 +254,7 @@ impl Draft {
             by,
             Order::Make(call),
             &Numbers::none(),
-            &[Edge::to(&[Reply::Fine], rest)],
+            &[PlanEdge::to(&[Reply::Fine], rest)],
         )
     }
 }

@@ -20,19 +20,19 @@ pub enum Next {
 
 /// What follows some replies to a step.
 #[derive(Clone, Copy, Debug)]
-pub struct Edge {
+pub struct PlanEdge {
     pub replies: &'static [Reply],
     /// Where the pid file stands from then on, if that changes.
     pub note: Option<PidNote>,
     pub next: Next,
 }
 
-impl Edge {
+impl PlanEdge {
     /// An edge that leaves the pid file where it is.
-    pub fn new(replies: &'static [Reply], next: Next) -> Edge
+    pub fn new(replies: &'static [Reply], next: Next) -> PlanEdge
         ensures { IsEdge result replies.now next }
     {
-        Edge {
+        PlanEdge {
             replies,
             note: None,
             next,
@@ -40,17 +40,17 @@ impl Edge {
     }
 
     /// An edge to a step, which leaves the pid file where it is.
-    pub fn to(replies: &'static [Reply], place: Place) -> Edge
+    pub fn to(replies: &'static [Reply], place: Place) -> PlanEdge
         ensures { IsEdge result replies.now (To place) }
     {
-        Edge::new(replies, Next::To(place))
+        PlanEdge::new(replies, Next::To(place))
     }
 
     /// An edge to an end, which leaves the pid file where it is.
-    pub fn over(replies: &'static [Reply], end: End) -> Edge
+    pub fn over(replies: &'static [Reply], end: End) -> PlanEdge
         ensures { IsEdge result replies.now (Over end) }
     {
-        Edge::new(replies, Next::Over(end))
+        PlanEdge::new(replies, Next::Over(end))
     }
 }
 
@@ -63,7 +63,7 @@ pub struct Step {
     /// The numbers that a census must contain to be full.
     pub(crate) set: CompactSet,
     /// The first edge that lists a reply is taken.
-    pub edges: Vec<Edge>,
+    pub edges: Vec<PlanEdge>,
 }
 
 impl Step {
@@ -82,7 +82,7 @@ impl Step {
     }
 
     /// The edge that a reply takes.
-    pub fn edge(&self, reply: Reply) -> Option<Edge>
+    pub fn edge(&self, reply: Reply) -> Option<PlanEdge>
         ensures { result ≡ edge_for self.now.edges.items reply }
     {
         self.edges

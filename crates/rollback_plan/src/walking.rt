@@ -3,7 +3,7 @@ ghost use Rattle.std.specs.Prelude.{◌≡◌, ◌++◌, ◌<◌, ◌≤◌, IsT
 ghost use Rattle.rollback_plan.specs.Steps.{all_lead_back};
 ghost use Rattle.rollback_plan.specs.Numbering.{places_behind, IsWalk};
 
-use crate::{Edge, Next, Place, Step};
+use crate::{PlanEdge, Next, Place, Step};
 use std::alloc::{AllocError, Global};
 
 /// The places that a walk meets, in the order in which it first meets them: a step, then what is
@@ -31,7 +31,7 @@ pub(crate) fn walk(alloc: Global, steps: &[Step], first: Place) -> Result<Vec<u3
 }
 
 /// Pushes the places behind these edges, the last first.
-fn push_behind(waiting: &mut Vec<u32>, edges: &[Edge]) -> Result<(), AllocError>
+fn push_behind(waiting: &mut Vec<u32>, edges: &[PlanEdge]) -> Result<(), AllocError>
     ensures { IfOk result (λ _. waiting.new.items ≡ waiting.old.items ++ reverse (places_behind edges.now)) }
 {
     for edge in edges.iter().rev() {

@@ -2,7 +2,7 @@
 ghost use Rattle.std.specs.Prelude.{◌≡◌};
 ghost use Rattle.rollback_plan.specs.WorkerCalls.{kept_call, call_of_worker};
 
-use crate::Asked;
+use crate::Errand;
 use listener_set::Generation;
 use std::marker::Model;
 use vocabulary::Call;
@@ -11,7 +11,7 @@ use vocabulary::Call;
 #[derive(Clone, Copy, Debug)]
 enum Asking {
     Fork,
-    Other(Asked),
+    Other(Errand),
 }
 
 impl Asking {
@@ -51,18 +51,18 @@ impl WorkerCall {
         let (asking, generation, number) = match call {
             Call::Fork(generation, number, None) => (Asking::Fork, *generation, *number),
             Call::AwaitReady(generation, number) => (
-                Asking::Other(Asked::AwaitReady),
+                Asking::Other(Errand::AwaitReady),
                 *generation,
                 *number,
             ),
-            Call::Quit(generation, number) => (Asking::Other(Asked::Quit), *generation, *number),
-            Call::Kill(generation, number) => (Asking::Other(Asked::Kill), *generation, *number),
+            Call::Quit(generation, number) => (Asking::Other(Errand::Quit), *generation, *number),
+            Call::Kill(generation, number) => (Asking::Other(Errand::Kill), *generation, *number),
             Call::AwaitGone(generation, number) => (
-                Asking::Other(Asked::AwaitGone),
+                Asking::Other(Errand::AwaitGone),
                 *generation,
                 *number,
             ),
-            Call::Usr1(generation, number) => (Asking::Other(Asked::Usr1), *generation, *number),
+            Call::Usr1(generation, number) => (Asking::Other(Errand::Usr1), *generation, *number),
             _ => return None,
         };
         Some(WorkerCall {

@@ -9,7 +9,7 @@ ghost use Rattle.supervisor.specs.Carried.{HasPlan, IsUnplanned, IsCarriedOut};
 
 use child_edge::Edge;
 use child_family::Family;
-use plan_runner::{CallLog, execute};
+use plan_runner::{Transcript, execute};
 use rollback_plan::Plan;
 use service_state::Record;
 use std::alloc::Global;
@@ -70,7 +70,7 @@ fn carry_out<F: Family + Drop>(
 {
     let plan = plan_of(alloc, state, target)?;
     let longest = plan.longest();
-    let Ok(mut log) = CallLog::with_room(alloc, longest) else {
+    let Ok(mut log) = Transcript::with_room(alloc, longest) else {
         return Err(TargetRefusal::Memory);
     };
     if edge.reserve(longest, plan.text()).is_err() {

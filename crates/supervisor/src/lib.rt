@@ -13,4 +13,4 @@ pub use carrying::OnChildren;
 pub use fault::SupervisorFault;
 pub use next::{NextRefusal, NextSettings};
 pub use summary::Summary;
-pub use supervising::{Start, Supervised, supervise_on};
+pub use supervising::{SupervisorStart, Supervised, supervise_on};

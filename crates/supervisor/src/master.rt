@@ -7,7 +7,7 @@ ghost use Rattle.child_edge.specs.Edge.{begun_by};
 ghost use Rattle.supervisor.specs.Lines.{tick_words, AreActed, IsAsked, IsTicked, IsRenewed, WordComesTo, LineComesTo, EndComesTo};
 
 use crate::said::Said;
-use crate::{NextRefusal, NextSettings, OnChildren, Start};
+use crate::{NextRefusal, NextSettings, OnChildren, SupervisorStart};
 use child_edge::Edge;
 use child_family::Family;
 use control_words::{Word, WordRefusal};
@@ -28,7 +28,7 @@ pub(crate) struct Master<F: Family + Drop> {
 
 impl<F: Family + Drop> Master<F> {
     /// A master that starts: as many workers are wanted as its settings say, and none is ready.
-    pub(crate) fn begin(alloc: Global, family: F, start: &Start, workers: WorkerTable) -> Master<F>
+    pub(crate) fn begin(alloc: Global, family: F, start: &SupervisorStart, workers: WorkerTable) -> Master<F>
         requires { 1 ≤ start.now.pid }
         ensures family { result.standing.world.family ≡ family }
         ensures state { state_of result.standing.world.state ≡ begun_by (started start.now.settings start.now.settings.workers [] start.now.pid) }

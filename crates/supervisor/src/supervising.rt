@@ -26,7 +26,7 @@ use worker_table::WorkerTable;
 
 /// What a supervisor begins with.
 #[derive(Clone, Copy)]
-pub struct Start {
+pub struct SupervisorStart {
     pub settings: Settings,
     /// The own process number, at least 1. It is that of the record throughout.
     pub pid: u32,
@@ -53,7 +53,7 @@ pub struct Supervised<F: Family + Drop> {
 pub fn supervise_on<F: Family + Drop, N: NextSettings, I: Read + Drop, O: Write, L: Log>(
     alloc: Global,
     mut family: F,
-    start: &Start,
+    start: &SupervisorStart,
     next: &mut N,
     input: I,
     output: &mut O,
@@ -86,7 +86,7 @@ pub fn supervise_on<F: Family + Drop, N: NextSettings, I: Read + Drop, O: Write,
 }
 
 /// Writes the pid file, where there is a path for it; false where it could not be written.
-fn write_pid<F: Family>(family: &mut F, start: &Start) -> bool
+fn write_pid<F: Family>(family: &mut F, start: &SupervisorStart) -> bool
     ensures { IsTrue result → IsWritten start.now.settings.pid start.now.pid (F.told family.old) (F.told family.new) }
 {
     match &start.settings.pid {

@@ -5,7 +5,7 @@ use crate::recorded::{Asked, Recorded};
 use crate::setup::ask;
 use child_edge::Edge;
 use listener_set::Numbers;
-use plan_runner::{CallLog, Calls, execute};
+use plan_runner::{Transcript, Calls, execute};
 use service_state::Record;
 use std::alloc::Global;
 use std::test::Fail;
@@ -25,7 +25,7 @@ fn carry_out(
     };
     let longest = plan.longest();
     edge.reserve(longest, plan.text())?;
-    let mut log = CallLog::with_room(alloc, longest)?;
+    let mut log = Transcript::with_room(alloc, longest)?;
     if edge.room() < longest {
         return Ok((Outcome::Lost, None));
     }

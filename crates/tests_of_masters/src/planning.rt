@@ -5,7 +5,7 @@ use crate::records::{in_two_groups, settings_of, with_workers};
 use crews::{Crew, Posts};
 use listener_set::{FilePath, Generation, Groups, Numbers};
 use reload_planner::{PlanRefusal, Scene, plan, plan_reopen, plan_stop, plan_workers};
-use rollback_plan::{Edge, MOST_STEPS, Next, Place, Plan, Step};
+use rollback_plan::{PlanEdge, MOST_STEPS, Next, Place, Plan, Step};
 use service_state::Record;
 use std::alloc::Global;
 use std::test::Fail;
@@ -207,7 +207,7 @@ fn an_upgrade_hands_a_text_over(rt: HostRuntime) -> Result<(), Fail> {
 }
 
 /// Whether two edges are the same.
-fn same_edge(a: &Edge, b: &Edge) -> bool {
+fn same_edge(a: &PlanEdge, b: &PlanEdge) -> bool {
     a.replies == b.replies && a.note == b.note && a.next == b.next
 }
 

@@ -6,7 +6,7 @@ use log::sink::Discard;
 use service_state::Record;
 use std::alloc::{AllocError, Global};
 use std::test::Fail;
-use supervisor::{NextRefusal, NextSettings, Start, supervise_on};
+use supervisor::{NextRefusal, NextSettings, SupervisorStart, supervise_on};
 use tests_of_children::Recorded;
 use transcript::{read_transcripts, write_transcript};
 use vocabulary::{Outcome, Settings, Side};
@@ -45,7 +45,7 @@ impl NextSettings for Always {
 
 /// What is written over children that obey.
 fn written(alloc: Global, settings: &Settings, input: &[u8]) -> Vec<u8> {
-    let start = Start {
+    let start = SupervisorStart {
         settings: *settings,
         pid: 7,
     };

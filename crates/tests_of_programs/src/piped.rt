@@ -1,5 +1,5 @@
 //! Programs on pipes, over bytes.
-use child_programs::{Served, serve_master, serve_worker};
+use child_programs::{ServedMaster, serve_master, serve_worker};
 use std::alloc::{AllocError, Global};
 use std::io;
 use std::io::{ErrorKind, Read, Write};
@@ -113,7 +113,7 @@ pub(crate) fn serve_new_master(
     told: &[u8],
     fails: Option<usize>,
     output: &mut Output,
-) -> Served<Recorded> {
+) -> ServedMaster<Recorded> {
     serve_master(alloc, Recorded::new(alloc, fails), 200, told, output)
 }
 

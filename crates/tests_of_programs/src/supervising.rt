@@ -8,7 +8,7 @@ use service_state::Record;
 use std::alloc::{AllocError, Global};
 use std::io::{Error as IoError, ErrorKind, Read, Result as IoResult, Write};
 use std::test::Fail;
-use supervisor::{NextRefusal, NextSettings, Start, Supervised, SupervisorFault, supervise_on};
+use supervisor::{NextRefusal, NextSettings, SupervisorStart, Supervised, SupervisorFault, supervise_on};
 use tests_of_children::{Asked, Recorded};
 use transcript::read_transcripts;
 use vocabulary::{Outcome, Settings};
@@ -51,7 +51,7 @@ fn run<I: Read + Drop, O: Write>(
     input: I,
     output: &mut O,
 ) -> Supervised<Recorded> {
-    let start = Start {
+    let start = SupervisorStart {
         settings: Settings::plain(),
         pid: 7,
     };
@@ -393,7 +393,7 @@ fn writes_the_pid_file_first(rt: HostRuntime) -> Result<(), Fail> {
     let Ok(path) = FilePath::read(b"/run/a.pid") else {
         panic!(rt; "no path");
     };
-    let start = Start {
+    let start = SupervisorStart {
         settings: Settings {
             workers: 0,
             groups: Groups::one(1, 0),
@@ -436,7 +436,7 @@ fn writes_the_pid_file_first(rt: HostRuntime) -> Result<(), Fail> {
 #[test]
 fn logs_a_line_for_each_block(rt: HostRuntime) -> Result<(), Fail> {
     let alloc = rt.alloc();
-    let start = Start {
+    let start = SupervisorStart {
         settings: Settings::plain(),
         pid: 7,
     };

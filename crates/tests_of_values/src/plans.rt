@@ -2,7 +2,7 @@
 use crews::{Crew, Posts};
 use listener_set::{Generation, Group, Groups, Numbers};
 use plan_text::{write_graph, write_plan};
-use rollback_plan::{Draft, DraftRefusal, Edge, MOST_STEPS, Next, Plan};
+use rollback_plan::{Draft, DraftRefusal, PlanEdge, MOST_STEPS, Next, Plan};
 use std::alloc::Global;
 use std::test::Fail;
 use vocabulary::{Actor, Call, End, Order, PidNote, Reply, Side, Sides};
@@ -37,8 +37,8 @@ fn one_worker_more(alloc: Global) -> Result<Plan, Fail> {
         Order::Make(Call::Census(FIRST)),
         &Numbers::below(3),
         &[
-            Edge::over(&[Reply::Full], End::Done),
-            Edge::over(&[Reply::Short], End::ShortTarget),
+            PlanEdge::over(&[Reply::Full], End::Done),
+            PlanEdge::over(&[Reply::Short], End::ShortTarget),
         ],
     )?;
     let waited = draft.add(
@@ -46,8 +46,8 @@ fn one_worker_more(alloc: Global) -> Result<Plan, Fail> {
         Order::Make(Call::AwaitReady(FIRST, 2)),
         &Numbers::none(),
         &[
-            Edge::over(&[Reply::Late, Reply::Gone], End::ShortOld),
-            Edge::to(&[Reply::IsReady], counted),
+            PlanEdge::over(&[Reply::Late, Reply::Gone], End::ShortOld),
+            PlanEdge::to(&[Reply::IsReady], counted),
         ],
     )?;
     let forked = draft.add(
@@ -55,9 +55,9 @@ fn one_worker_more(alloc: Global) -> Result<Plan, Fail> {
         Order::Make(Call::Fork(FIRST, 2, None)),
         &Numbers::none(),
         &[
-            Edge::over(&[Reply::NoMemory], End::RolledBack),
-            Edge::to(&[Reply::Forked], waited),
-            Edge::over(&[Reply::Again], End::RolledBack),
+            PlanEdge::over(&[Reply::NoMemory], End::RolledBack),
+            PlanEdge::to(&[Reply::Forked], waited),
+            PlanEdge::over(&[Reply::Again], End::RolledBack),
         ],
     )?;
     Ok(draft.finish(forked, PidNote::NoFile, &sole_sides(), Vec::new(alloc))?)
@@ -67,12 +67,12 @@ fn one_worker_more(alloc: Global) -> Result<Plan, Fail> {
 fn a_settle(alloc: Global) -> Result<Plan, Fail> {
     let mut draft = Draft::new(alloc);
     let edges = [
-        Edge {
+        PlanEdge {
             replies: &[Reply::Fine, Reply::MasterGone],
             note: Some(PidNote::Left),
             next: Next::Over(End::Done),
         },
-        Edge::over(&[Reply::IoFault], End::Done),
+        PlanEdge::over(&[Reply::IoFault], End::Done),
     ];
     let order = Order::KillLacking(FIRST);
     let killed = draft.add(Actor(2), order, &Numbers::none(), &edges)?;
@@ -81,8 +81,8 @@ fn a_settle(alloc: Global) -> Result<Plan, Fail> {
         Order::Make(Call::Census(FIRST)),
         &Numbers::none(),
         &[
-            Edge::over(&[Reply::Full], End::Done),
-            Edge::to(&[Reply::Short], killed),
+            PlanEdge::over(&[Reply::Full], End::Done),
+            PlanEdge::to(&[Reply::Short], killed),
         ],
     )?;
     Ok(draft.finish(counted, PidNote::InPlace, &sole_sides(), Vec::new(alloc))?)
@@ -101,8 +101,8 @@ fn two_ways(alloc: Global) -> Result<Plan, Fail> {
         Order::Make(Call::Fork(FIRST, 7, None)),
         &none,
         &[
-            Edge::to(&[Reply::Again, Reply::NoMemory], end),
-            Edge::to(&[Reply::Forked], quit),
+            PlanEdge::to(&[Reply::Again, Reply::NoMemory], end),
+            PlanEdge::to(&[Reply::Forked], quit),
         ],
     )?;
     Ok(draft.finish(first, PidNote::InPlace, &sole_sides(), Vec::new(alloc))?)
@@ -137,8 +137,8 @@ fn one_more_of_two_groups(alloc: Global) -> Result<Plan, Fail> {
         Order::Make(Call::Fork(FIRST, 2, crew.posts.given(2))),
         &Numbers::none(),
         &[
-            Edge::to(&[Reply::Forked], settled),
-            Edge::over(&[Reply::Again, Reply::NoMemory], End::RolledBack),
+            PlanEdge::to(&[Reply::Forked], settled),
+            PlanEdge::over(&[Reply::Again, Reply::NoMemory], End::RolledBack),
         ],
     )?;
     Ok(draft.finish(forked, PidNote::NoFile, &sides, Vec::new(alloc))?)

@@ -4,16 +4,16 @@ ghost use Rattle.call_text.specs.ReportText.{entries_text};
 ghost use Rattle.transcript.specs.Block.{body_text, block_text};
 
 use call_text::{write_entry, write_report};
-use plan_runner::CallLog;
+use plan_runner::Transcript;
 use std::alloc::{AllocError, Global};
 use word_runner::{Block, Body};
 
 /// A line for each call, numbered from 1.
-fn write_entries(out: &mut Vec<u8>, log: &CallLog) -> Result<(), AllocError>
+fn write_entries(out: &mut Vec<u8>, log: &Transcript) -> Result<(), AllocError>
     ensures { IfOk result (λ _. out.new.items ≡ out.old.items ++ entries_text 1 log.now.entries) }
 {
     for place in 0..log.len() {
-        write_entry(out, place as u64 + 1, &log.entry(place))?;
+        write_entry(out, place as u64 + 1, &log.get(place))?;
     }
     Ok(())
 }

@@ -12,7 +12,7 @@ use call_text::TextRefusal;
 use control_words::Word;
 use listener_set::Numbers;
 use plain_text::first_line;
-use plan_runner::CallLog;
+use plan_runner::Transcript;
 use std::alloc::{AllocError, Global};
 use vocabulary::{Answer, Entry, Report};
 use word_runner::{Block, Body};
@@ -21,7 +21,7 @@ use word_runner::{Block, Body};
 #[derive(Drop)]
 struct Current {
     word: Word,
-    log: CallLog,
+    log: Transcript,
     ghost full: { log.room ≡ 0 },
 }
 
@@ -53,30 +53,30 @@ fn ready_after(entry: &Entry, before: Numbers) -> Numbers
 }
 
 /// The numbers of the last count among calls; none where there is no count.
-fn last_count(log: &CallLog) -> Numbers
+fn last_count(log: &Transcript) -> Numbers
     ensures { result ≡ last_count log.now.entries }
 {
     let mut ready = Numbers::none();
     for place in 0..log.len() {
-        ready = ready_after(&log.entry(place), ready);
+        ready = ready_after(&log.get(place), ready);
     }
     ready
 }
 
 /// What was read of a text: the blocks, and the one that has begun.
 #[derive(Drop)]
-struct Reader {
+struct BlocksReader {
     done: Vec<Block>,
     current: Option<Current>,
 }
 
-impl Reader {
+impl BlocksReader {
     ghost use Rattle.transcript.specs.Reader.{seen};
 
     fn new(alloc: Global) -> Self
         ensures { seen result ≡ begun }
     {
-        Reader {
+        BlocksReader {
             done: Vec::new(alloc),
             current: None,
         }
@@ -157,7 +157,7 @@ impl Reader {
             BlockLine::Heard(word) => {
                 self.current = Some(Current {
                     word: *word,
-                    log: CallLog::with_room(alloc, 0)?,
+                    log: Transcript::with_room(alloc, 0)?,
                 });
                 Ok(())
             }
@@ -191,7 +191,7 @@ fn read_lines(alloc: Global, text: &[u8]) -> Result<Vec<Block>, TextRefusal>
     ensures ok { IfOk result (λ blocks. blocks_of text.now ≡ Ok blocks.items) }
     ensures err { IfErr result (λ e. e ≢ TextRefusal.Memory → blocks_of text.now ≡ Err e) }
 {
-    let mut reader = Reader::new(alloc);
+    let mut reader = BlocksReader::new(alloc);
     let mut rest = text;
     let mut number = 0;
     while !rest.is_empty() {

@@ -15,7 +15,7 @@ use vocabulary::{Call, Side};
 
 /// The ways back to the old master, which all end in the settle of its side.
 #[derive(Clone, Copy)]
-pub struct WaysBack {
+pub struct UpgradeWaysBack {
     /// Nothing was done.
     pub undone: Place,
     /// There is no new master: the pid file goes back to its path.
@@ -49,7 +49,7 @@ fn add_restart(
 }
 
 /// Adds the ways back to the old master.
-pub fn add_ways_back(draft: &mut Draft, upgrade: &Upgrade<'_>) -> Result<WaysBack, DraftRefusal>
+pub fn add_ways_back(draft: &mut Draft, upgrade: &Upgrade<'_>) -> Result<UpgradeWaysBack, DraftRefusal>
     requires room { HasSuffixRoom upgrade.now.path }
     ensures undone { IfOk result (λ ways. IsMade draft.new ways.undone (settle upgrade.now.old.crew.generation.image upgrade.now.old.crew upgrade.now.old.numbers side.Old upgrade.now.rounds)) }
     ensures alone { IfOk result (λ ways. IsMade draft.new ways.alone (back_alone upgrade.now.old.crew.generation.image upgrade.now.old.crew upgrade.now.old.numbers upgrade.now.rounds upgrade.now.path)) }
@@ -65,7 +65,7 @@ pub fn add_ways_back(draft: &mut Draft, upgrade: &Upgrade<'_>) -> Result<WaysBac
     let term = Call::TermMaster(upgrade.new.crew.generation.image);
     let stopped = draft.call(by, term, alone)?;
     let restarted = add_restart(draft, upgrade, alone, stopped)?;
-    Ok(WaysBack {
+    Ok(UpgradeWaysBack {
         undone,
         alone,
         stopped,

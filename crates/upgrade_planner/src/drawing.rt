@@ -14,7 +14,7 @@ use crate::relieving::add_relief;
 use crate::taking_over::add_takeover;
 use crate::upgrade::Upgrade;
 use listener_set::Numbers;
-use rollback_plan::{Draft, DraftRefusal, Edge, Place};
+use rollback_plan::{Draft, DraftRefusal, PlanEdge, Place};
 use vocabulary::{Actor, Call, Order, Reply};
 
 /// Adds the start of a master.
@@ -35,8 +35,8 @@ fn add_spawn(
         Order::Make(Call::SpawnMaster(image)),
         &Numbers::none(),
         &[
-            Edge::to(&[Reply::Spawned], spawned),
-            Edge::to(&[Reply::Again, Reply::NoMemory, Reply::NoImage], failed),
+            PlanEdge::to(&[Reply::Spawned], spawned),
+            PlanEdge::to(&[Reply::Again, Reply::NoMemory, Reply::NoImage], failed),
         ],
     )
 }

@@ -9,7 +9,7 @@ ghost use Rattle.upgrade_planner.specs.Trees.{clearing};
 
 use listener_set::{FilePath, Numbers};
 use plan_pieces::add_file_call;
-use rollback_plan::{Draft, DraftRefusal, Edge, Place};
+use rollback_plan::{Draft, DraftRefusal, PlanEdge, Place};
 use vocabulary::{Actor, Call, Order, PidNote, Reply};
 
 /// What becomes of the file at the path with the suffix, once it is settled which master stays.
@@ -47,8 +47,8 @@ pub fn add_move_aside(
             Order::Make(Call::MovePid(path, path.oldbin())),
             &Numbers::none(),
             &[
-                Edge::to(&[Reply::Fine], moved),
-                Edge::to(&[Reply::IoFault], failed),
+                PlanEdge::to(&[Reply::Fine], moved),
+                PlanEdge::to(&[Reply::IoFault], failed),
             ],
         ),
     }

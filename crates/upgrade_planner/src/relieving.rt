@@ -8,7 +8,7 @@ use crate::pid_file::{Aside, add_cleared};
 use crate::upgrade::Upgrade;
 use listener_set::Numbers;
 use plan_pieces::{add_each, add_starts_any};
-use rollback_plan::{Asked, Batch, Draft, DraftRefusal, Edge, Place};
+use rollback_plan::{Errand, Batch, Draft, DraftRefusal, PlanEdge, Place};
 use vocabulary::{Call, Order, Reply, Side};
 
 /// Adds that the old master leaves; the new one removes the old file and settles.
@@ -38,8 +38,8 @@ fn add_retiring(
 {
     let leaving = add_hand_over(draft, upgrade)?;
     let lives = Order::Make(Call::Alive(upgrade.new.crew.generation.image));
-    let here = Edge::to(&[Reply::IsAlive], leaving);
-    let gone = Edge::to(&[Reply::Gone], restarted);
+    let here = PlanEdge::to(&[Reply::IsAlive], leaving);
+    let gone = PlanEdge::to(&[Reply::Gone], restarted);
     draft.add(upgrade.old.master(), lives, &Numbers::none(), &[here, gone])
 }
 
@@ -60,8 +60,8 @@ fn add_question(
         return Ok(on);
     }
     let order = Order::Make(Call::Ask(question));
-    let go = Edge::to(&[Reply::Go], on);
-    let returns = Edge::to(&[Reply::Back], back);
+    let go = PlanEdge::to(&[Reply::Go], on);
+    let returns = PlanEdge::to(&[Reply::Back], back);
     draft.add(
         upgrade.old.master(),
         order,
@@ -127,8 +127,8 @@ pub fn add_relief(
     let old = &upgrade.old;
     let by = old.master();
     let last = add_last(draft, upgrade, stopped, restarted)?;
-    let waits = Batch::Workers(Asked::AwaitGone, old.crew.generation, upgrade.leaving);
-    let quits = Batch::Workers(Asked::Quit, old.crew.generation, upgrade.leaving);
+    let waits = Batch::Workers(Errand::AwaitGone, old.crew.generation, upgrade.leaving);
+    let quits = Batch::Workers(Errand::Quit, old.crew.generation, upgrade.leaving);
     let waiting = add_each(draft, by, &waits, last)?;
     let quitting = add_each(draft, by, &quits, waiting)?;
     add_question(draft, upgrade, 1, quitting, stopped)

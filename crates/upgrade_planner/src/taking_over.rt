@@ -8,7 +8,7 @@ ghost use Rattle.upgrade_planner.specs.Trees.{staffing, taking_over};
 use crate::upgrade::Upgrade;
 use listener_set::{FilePath, Numbers};
 use plan_pieces::{add_tried, add_tried_all};
-use rollback_plan::{Asked, Batch, Draft, DraftRefusal, Place};
+use rollback_plan::{Errand, Batch, Draft, DraftRefusal, Place};
 use vocabulary::{Actor, Call};
 
 /// Adds that a new master writes its pid file, where there is one, before the rest and with a way back.
@@ -62,7 +62,7 @@ fn add_staffing(
         back,
     )?;
     let writing = add_written(draft, by, upgrade.path, counting, back)?;
-    let waits = Batch::Workers(Asked::AwaitReady, crew.generation, upgrade.coming);
+    let waits = Batch::Workers(Errand::AwaitReady, crew.generation, upgrade.coming);
     let forks = Batch::Forks(crew, upgrade.coming);
     let waiting = add_tried_all(draft, by, &waits, writing, back)?;
     add_tried_all(draft, by, &forks, waiting, back)

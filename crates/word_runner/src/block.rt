@@ -5,7 +5,7 @@ ghost use Rattle.word_runner.specs.Codes.{stopped_code, unplanned_code};
 
 use arrayvec::ArrayString;
 use control_words::{Word, WordRefusal};
-use plan_runner::CallLog;
+use plan_runner::Transcript;
 use reload_planner::PlanRefusal;
 use std::marker::Model;
 use vocabulary::Report;
@@ -113,7 +113,7 @@ impl From<TableRefusal> for CodeText {
 pub enum Body {
     Nothing,
     Refused(CodeText),
-    Ran(CallLog, Report),
+    Ran(Transcript, Report),
 }
 
 /// A line that was heard, and what it came to.

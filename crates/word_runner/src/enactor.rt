@@ -7,7 +7,7 @@ ghost use Rattle.word_runner.specs.declared.enactor.Enacted.{Enacted as Done};
 ghost use Rattle.word_runner.specs.Enactors.{HasCode};
 
 use crate::CodeText;
-use plan_runner::CallLog;
+use plan_runner::Transcript;
 use service_state::Record;
 use std::alloc::Global;
 use vocabulary::{Report, Target};
@@ -16,7 +16,7 @@ use vocabulary::{Report, Target};
 #[derive(Drop)]
 pub struct Enacted {
     /// The calls that were made, with their answers.
-    pub log: CallLog,
+    pub log: Transcript,
     pub report: Report,
     /// The record of the master that runs then; none after a stop.
     pub after: Option<Record>,

@@ -6,7 +6,7 @@ ghost use Rattle.worker_table.specs.Beats.{followed};
 ghost use Rattle.word_runner.specs.Started.{start_of, started_in, started};
 
 use listener_set::{Generation, Numbers, WORKER_LIMIT};
-use plan_runner::CallLog;
+use plan_runner::Transcript;
 use service_state::Record;
 use vocabulary::{Answer, Call, Entry, Report};
 use worker_table::WorkerTable;
@@ -25,7 +25,7 @@ pub struct Standing<W> {
 impl<W> Standing<W> {
     /// Follows a run: the record is the one after it, and of the workers those stay that are ready, each with its last beat
     /// unless the run started it.
-    pub fn follow(&mut self, log: &CallLog, report: &Report, after: Option<Record>)
+    pub fn follow(&mut self, log: &Transcript, report: &Report, after: Option<Record>)
         ensures world { self.new.world ≡ self.old.world }
         ensures record { self.new.record ≡ after }
         ensures workers { self.new.workers ≡ followed self.old.workers report.now.ready (started after log.now.entries) }
@@ -39,7 +39,7 @@ impl<W> Standing<W> {
 }
 
 /// The workers that a run started and that are of the generation that runs then.
-fn started(after: Option<&Record>, log: &CallLog) -> Numbers
+fn started(after: Option<&Record>, log: &Transcript) -> Numbers
     ensures { (k : ℕ) → k < WORKER_LIMIT → is_in result k ≡ is_in (started (option_copied after.entry) log.now.entries) k }
 {
     match after {
@@ -49,12 +49,12 @@ fn started(after: Option<&Record>, log: &CallLog) -> Numbers
 }
 
 /// The workers of a generation that a run started.
-fn started_in(generation: Generation, log: &CallLog) -> Numbers
+fn started_in(generation: Generation, log: &Transcript) -> Numbers
     ensures { (k : ℕ) → k < WORKER_LIMIT → is_in result k ≡ is_in (started_in generation log.now.entries) k }
 {
     let mut started = Numbers::none();
     for place in 0..log.len() {
-        if let Some(nr) = start_of(generation, &log.entry(place)) {
+        if let Some(nr) = start_of(generation, &log.get(place)) {
             if nr < WORKER_LIMIT {
                 started.add(nr);
             }

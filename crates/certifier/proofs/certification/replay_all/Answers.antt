@@ -14,9 +14,9 @@ loop-place-preserved c =
     let old = c.args.replay.now in
     let entries = c.args.log.now.entries in
     let place = c.loop-place.place in
-    let e = c.entry.result in
+    let e = c.get.result in
     let within : place < length entries = omega (arith, c.loop-place-test.true, c.len-place-end.ensures.count) in
-    let longer : take (place + 1) entries ≡ take place entries ++ e ∷ [] = take_more entries place e within ∙ ap (λ x. take place entries ++ x ∷ []) (((get_or_from_slice_get entries place e e c.entry.ensures))) in
+    let longer : take (place + 1) entries ≡ take place entries ++ e ∷ [] = take_more entries place e within ∙ ap (λ x. take place entries ++ x ∷ []) (((get_or_from_slice_get entries place e e c.get.ensures))) in
     let left = c.in_ok-take.ensures.left c.if-not-branch.false in
     let before = c.loop-place.invariant.1 in (
       subst (λ (es : List Entry). HasTaken old.text.now (listed old.heir) (sides_in old.walk) (place_of old) es c.take.new.self) (sym longer)
@@ -30,9 +30,9 @@ returns-then-not-branch-clause-err c =
     let old = c.args.replay.now in
     let entries = c.args.log.now.entries in
     let place = c.loop-place.place in
-    let e = c.entry.result in
+    let e = c.get.result in
     let within : place < length entries = omega (arith, c.loop-place-test.true, c.len-place-end.ensures.count) in
-    let longer : take (place + 1) entries ≡ take place entries ++ e ∷ [] = take_more entries place e within ∙ ap (λ x. take place entries ++ x ∷ []) (((get_or_from_slice_get entries place e e c.entry.ensures))) in
+    let longer : take (place + 1) entries ≡ take place entries ++ e ∷ [] = take_more entries place e within ∙ ap (λ x. take place entries ++ x ∷ []) (((get_or_from_slice_get entries place e e c.get.ensures))) in
     record {
       before = place;
       number = refl;

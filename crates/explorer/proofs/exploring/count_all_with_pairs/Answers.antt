@@ -5,7 +5,7 @@ use Rattle.std.specs.List.{AllByRecursion}
 use Rattle.theorems.proofs.Rows.{every-append}
 use Rattle.explorer.specs.declared.events.Mishap.{Mishap}
 use Rattle.explorer.specs.declared.events.Tried.TheVariants.{One}
-use Rattle.explorer.specs.declared.known.Rest.{Rest}
+use Rattle.explorer.specs.declared.known.RestOfRun.{RestOfRun}
 use Rattle.explorer.specs.Known.{IsPassed}
 use Rattle.explorer.specs.Explored.{report_under, with_runs, each_with_pairs}
 use Rattle.explorer.proofs.Counted.{firsts-turn}
@@ -20,7 +20,7 @@ loop-mishap-preserved g c = λ p at all.
       known = elim c.match-of_next.branch [
         | in-Some+in_ok-push w ↦
             let is = w.in-Some.ensures in
-            let report = ap (λ (x : Rest). x.report) (sym is.2) ∙ c.in_ok-rest.ensures.report p at all ∙ ap (λ (m : Mishap). report_under run.state.now run.target.now run.first.now.table (One (event_at (run.made + 1) m))) is.1 in
+            let report = ap (λ (x : RestOfRun). x.report) (sym is.2) ∙ c.in_ok-rest.ensures.report p at all ∙ ap (λ (m : Mishap). report_under run.state.now run.target.now run.first.now.table (One (event_at (run.made + 1) m))) is.1 in
             subst (AllByRecursion (IsPassed run c.args.due.now.call)) (sym (ap (λ v. v.items) w.next-is ∙ w.in_ok-push.ensures))
             (every-append (IsPassed run c.args.due.now.call) c.loop-mishap.next.items _ kept.known (is.0, report))
         | in_default w ↦ subst (AllByRecursion (IsPassed run c.args.due.now.call)) (sym (ap (λ v. v.items) w.next-is)) kept.known

@@ -1,7 +1,7 @@
 use Rattle.std.proofs.Common.{◌≡◌, ◌+◌, ◌-◌, ◌<◌, ℕ, List, length, get_or, drop, true, refl, sym, ◌∙◌, ap, subst, arith}
 use Rattle.std.proofs.lemmas.List.{take_at, get_or_read}
 use Rattle.std.proofs.lemmas.Option.{slice_get_read}
-use Rattle.rollback_plan.specs.declared.step.Edge.{Edge}
+use Rattle.rollback_plan.specs.declared.step.PlanEdge.{PlanEdge}
 use Rattle.rollback_plan.specs.Steps.{all_below}
 use Rattle.rollback_plan.specs.Numbering.{deepened}
 use Rattle.rollback_plan.proofs.StepTrees.{back_at, all_below-le}
@@ -14,7 +14,7 @@ deepen-requires c =
     let i : ℕ = c.loop-place.place - 1 in
     let s = c.index-steps-place.result in
     let back = back_at 0 steps i s c.requires.back (slice_get_read steps (length steps) i s refl (omega arith) c.index-steps-place.is) in
-    subst (λ (es : List Edge). all_below (length c.deref_mut.result.now) es ≡ true) (sym (c.deref.ensures.value ∙ ap (λ t. t.edges.items) (sym c.index-steps-place.is)))
+    subst (λ (es : List PlanEdge). all_below (length c.deref_mut.result.now) es ≡ true) (sym (c.deref.ensures.value ∙ ap (λ t. t.edges.items) (sym c.index-steps-place.is)))
     (all_below-le (0 + i) (length c.deref_mut.result.now) s.edges.items (omega (arith, c.deref_mut.ensures.len, c.loop-place.invariant.count)) back)
 
 pub loop-place-preserved-then-depth-gt0 : goal.loop-place-preserved-then-depth-gt0

@@ -4,7 +4,7 @@ use Rattle.std.proofs.lemmas.Option.{slice_get_read}
 use Rattle.definitions.specs.Tree.{height}
 use Rattle.rollback_plan.specs.Steps.{trees_after, all_below}
 use Rattle.rollback_plan.specs.Numbering.{highest_behind}
-use Rattle.rollback_plan.specs.declared.step.Edge.{Edge}
+use Rattle.rollback_plan.specs.declared.step.PlanEdge.{PlanEdge}
 use Rattle.rollback_plan.proofs.StepTrees.{length-trees, trees_after-nil, trees-more, back_at}
 use Rattle.rollback_plan.proofs.Heights.{height_more, highest_within, within_more}
 use Rattle.rollback_plan.proofs.numbering.heights_of.Goals as goal
@@ -24,7 +24,7 @@ tallest_behind-tallest-requires c =
     let many : length c.deref-in-loop-step.result.now ≡ 0 + i =
     ap length (c.deref-in-loop-step.ensures.value ∙ c.loop-step.invariant.heights) ∙ (length-map (trees_after [] (take i steps)) height ∙ (length-trees (take i steps) ∙ omega (arith, length-take i steps))) in
     let back = back_at 0 steps i s c.requires.back (slice_get_read steps (length steps) i s refl (omega arith) c.step-item.is) in
-    subst (λ (es : List Edge). all_below (length c.deref-in-loop-step.result.now) es ≡ true) (sym c.deref.ensures.value) (subst (λ (n : ℕ). all_below n s.edges.items ≡ true) (sym many) back)
+    subst (λ (es : List PlanEdge). all_below (length c.deref-in-loop-step.result.now) es ≡ true) (sym c.deref.ensures.value) (subst (λ (n : ℕ). all_below n s.edges.items ≡ true) (sym many) back)
 
 pub overflow_add-tallest : goal.overflow_add-tallest
 overflow_add-tallest c =

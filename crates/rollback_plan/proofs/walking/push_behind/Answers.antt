@@ -3,7 +3,7 @@ use Rattle.std.proofs.lemmas.List.{map_push, append-nil}
 use Rattle.std.proofs.lemmas.Iterator.Adapters.{YieldsList-from_rev_slice}
 use Rattle.std.proofs.lemmas.Iterator.Consumers.{YieldsList-end}
 use denote.Ref.{Bor}
-use Rattle.rollback_plan.specs.declared.step.Edge.{Edge}
+use Rattle.rollback_plan.specs.declared.step.PlanEdge.{PlanEdge}
 use Rattle.rollback_plan.specs.declared.step.Next.TheVariants.{To, Over}
 use Rattle.rollback_plan.specs.Numbering.{places_behind}
 use Rattle.rollback_plan.proofs.Walks.{behind_more, places_behind-reverse}
@@ -12,14 +12,14 @@ use Rattle.rollback_plan.proofs.walking.push_behind.Goals as goal
 pub loop-edge-preserved : goal.loop-edge-preserved
 loop-edge-preserved c =
     c.in_ok-push.ensures.items
-    ∙ (behind_more c.args.waiting.now.items c.loop-edge.waiting.items (map (λ (e : Bor Edge). e.now) c.loop-edge.yielded) c.in-Some.edge.now (To c.in-To.place) c.in-To.is c.loop-edge.invariant
-    ∙ ap (λ es. c.args.waiting.now.items ++ places_behind es) (sym (map_push (λ (e : Bor Edge). e.now) c.loop-edge.yielded c.in-Some.edge)))
+    ∙ (behind_more c.args.waiting.now.items c.loop-edge.waiting.items (map (λ (e : Bor PlanEdge). e.now) c.loop-edge.yielded) c.in-Some.edge.now (To c.in-To.place) c.in-To.is c.loop-edge.invariant
+    ∙ ap (λ es. c.args.waiting.now.items ++ places_behind es) (sym (map_push (λ (e : Bor PlanEdge). e.now) c.loop-edge.yielded c.in-Some.edge)))
 
 pub loop-edge-preserved-in_default : goal.loop-edge-preserved-in_default
 loop-edge-preserved-in_default c =
     sym (append-nil c.loop-edge.waiting.items)
-    ∙ (behind_more c.args.waiting.now.items c.loop-edge.waiting.items (map (λ (e : Bor Edge). e.now) c.loop-edge.yielded) c.in-Some.edge.now (Over c.in_default.field-0) c.in_default.is c.loop-edge.invariant
-    ∙ ap (λ es. c.args.waiting.now.items ++ places_behind es) (sym (map_push (λ (e : Bor Edge). e.now) c.loop-edge.yielded c.in-Some.edge)))
+    ∙ (behind_more c.args.waiting.now.items c.loop-edge.waiting.items (map (λ (e : Bor PlanEdge). e.now) c.loop-edge.yielded) c.in-Some.edge.now (Over c.in_default.field-0) c.in_default.is c.loop-edge.invariant
+    ∙ ap (λ es. c.args.waiting.now.items ++ places_behind es) (sym (map_push (λ (e : Bor PlanEdge). e.now) c.loop-edge.yielded c.in-Some.edge)))
 
 pub returns : goal.returns
 returns c =

@@ -8,9 +8,9 @@ pub loop-place-preserved : goal.loop-place-preserved
 loop-place-preserved c =
     let entries = c.args.log.now.entries in
     let place = c.loop-place.place in
-    let e = c.entry.result in
+    let e = c.get.result in
     let within : place < length entries = omega (arith, c.loop-place-test.true, c.len-place-end.ensures.count) in
-    let more = drop_more entries place e within ∙ ap (λ x. x ∷ drop (place + 1) entries) (get_or_from_slice_get entries place e e c.entry.ensures) in
+    let more = drop_more entries place e within ∙ ap (λ x. x ∷ drop (place + 1) entries) (get_or_from_slice_get entries place e e c.get.ensures) in
     let rest = entries_text (place + 1 + 1) (drop (place + 1) entries) in
     ap (λ out. out ++ rest) c.in_ok-write_entry.ensures
     ∙ (append_assoc c.loop-place.out.items (entry_text (place + 1) e) rest

@@ -10,10 +10,10 @@ loop-place-preserved c =
     let ns = c.loop-place.started in
     let entries = c.args.log.now.entries in
     let place = c.loop-place.place in
-    let e = c.entry.result in
+    let e = c.get.result in
     let within : place < length entries = omega (arith, c.loop-place-test.true, c.len-place-end.ensures.count) in
     let more = c.match-start_of.started in
-    gathered-by c.args.generation entries ns more place e c.start_of.result within (sym (get_or_from_slice_get entries place e e c.entry.ensures)) c.start_of.ensures
+    gathered-by c.args.generation entries ns more place e c.start_of.result within (sym (get_or_from_slice_get entries place e e c.get.ensures)) c.start_of.ensures
     (elim c.match-start_of.branch [
       | in-Some+then-nr-lt-WORKER_LIMIT w ↦ subst (λ o. HasTaken o ns more) (sym w.in-Some.is) (λ k lt. ap (λ xs. is_in xs k) (w.started-is ∙ w.add.ensures))
       | in-Some+else-nr-lt-WORKER_LIMIT w ↦ subst (λ o. HasTaken o ns more) (sym w.in-Some.is) (subst (λ xs. HasTaken (Some w.in-Some.nr) ns xs) (sym w.started-is) (taken-above ns w.in-Some.nr w.if-nr-lt-WORKER_LIMIT.false))

@@ -2,7 +2,7 @@ use Rattle.std.proofs.Common.{arith, sym, ◌∙◌}
 use Rattle.definitions.specs.Handover.{listener_read}
 use Rattle.handover_text.proofs.Listed.{AreListedFrom-push, length-listed_below}
 use Rattle.handover_text.proofs.LinesRead.{listener_bounds, listener_taken}
-use Rattle.handover_text.proofs.reader.Reader.take_listener.Goals as goal
+use Rattle.handover_text.proofs.reader.HandoverReader.take_listener.Goals as goal
 
 pub push-requires-clause-room : goal.push-requires-clause-room
 push-requires-clause-room c =

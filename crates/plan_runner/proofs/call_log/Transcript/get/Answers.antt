@@ -3,7 +3,7 @@ use Rattle.std.proofs.lemmas.List.{length-map}
 use Rattle.plan_runner.specs.Log.{Told}
 use Rattle.plan_runner.specs.Slots.{entry_in}
 use Rattle.plan_runner.proofs.Kept.{whole-at}
-use Rattle.plan_runner.proofs.call_log.CallLog.entry.Goals as goal
+use Rattle.plan_runner.proofs.call_log.Transcript.get.Goals as goal
 
 pub returns-in-Whole : goal.returns-in-Whole
 returns-in-Whole c =

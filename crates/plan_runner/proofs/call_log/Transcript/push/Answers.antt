@@ -2,7 +2,7 @@ use Rattle.std.proofs.Common.{◌≡◌, ◌++◌, ◌∷◌, [], length, vec_le
 use Rattle.plan_runner.specs.Log.{Told}
 use Rattle.plan_runner.specs.Slots.{are_kept}
 use Rattle.plan_runner.proofs.Kept.{kept-pushed, pushed-whole}
-use Rattle.plan_runner.proofs.call_log.CallLog.push.Goals as goal
+use Rattle.plan_runner.proofs.call_log.Transcript.push.Goals as goal
 
 pub invariant_of-self-in-None : goal.invariant_of-self-in-None
 invariant_of-self-in-None c =
