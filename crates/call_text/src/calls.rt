@@ -6,10 +6,10 @@ ghost use Rattle.call_text.specs.CallText.{worker_text, forked_text, missing_tex
 ghost use Rattle.listener_set.specs.GenerationText.{generation_text};
 
 use crate::sets::write_set;
-use crews::{Crew, Posts};
 use listener_set::{DescriptorSet, FilePath, Generation};
 use plain_text::{LINE_BYTES, Line, Sink, write_number};
 use vocabulary::{Actor, Call, Order};
+use worker_groups::{Crew, Posts};
 
 /// A verb and a text that it is about.
 #[tactic(auto, using(plain_text::proofs::KeptTexts::kept_on))]

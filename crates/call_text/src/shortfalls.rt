@@ -5,9 +5,9 @@ ghost use Rattle.call_text.specs.SetReading.{is_comma};
 ghost use Rattle.call_text.specs.ReportText.{shortfalls_text};
 ghost use Rattle.call_text.specs.ReportReading.{with_count, with_counts, counts_of, shortfalls_of};
 
-use crews::Shortfalls;
 use plain_text::{cut, read_number, write_number};
 use std::alloc::AllocError;
+use worker_groups::Shortfalls;
 
 /// Puts a number for each group behind what was written, joined by commas.
 #[tactic(auto, using(crate::proofs::ShortfallTexts::shortfalls_written))]

@@ -3,7 +3,7 @@ use Rattle.std.proofs.Common.{◌≡◌, ◌⊎◌, inl, inr, ℕ, ◌+◌, leng
 use Rattle.std.specs.Prelude.{IfOk, IfErr}
 use Rattle.definitions.specs.Path.{Entry, Report, Sides, IsOver, Reports}
 use Rattle.definitions.specs.Run.{Moment}
-use Rattle.plan_runner.specs.Walk.{trail_of, sides_in}
+use Rattle.plan_walk.specs.Walk.{trail_of, sides_in}
 use Rattle.kernel_model.specs.Pattern.{moment_at}
 use Rattle.kernel_model.specs.State.{State}
 use Rattle.certifier.specs.declared.replay.Replay.{Replay}

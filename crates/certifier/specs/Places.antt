@@ -4,8 +4,8 @@ use Rattle.definitions.specs.Table.{Table}
 use Rattle.definitions.specs.Path.{Entry, Report, Sides, Trail, Asks, IsOver, Reports, advance, follow}
 use Rattle.definitions.specs.Run.{Moment, quiet}
 use Rattle.definitions.specs.Claims.{names_any, executing_at, executing_after}
-use Rattle.plan_runner.specs.Walk.{trail_of, sides_in}
-use Rattle.plan_runner.specs.Fit.{height_next}
+use Rattle.plan_walk.specs.Walk.{trail_of, sides_in}
+use Rattle.plan_walk.specs.Fit.{height_next}
 use Rattle.plan_executor.specs.Naming.{listed}
 use Rattle.kernel_model.specs.Pattern.{moment_at}
 use Rattle.kernel_model.specs.State.{State}

@@ -17,7 +17,7 @@ use crate::mismatch::Mismatch;
 use crate::replay::Replay;
 use kernel_model::{Kernel, Pattern};
 use plan_executor::{agrees, heir_of, plan_of, reserved_copy};
-use plan_runner::Transcript;
+use plan_walk::Transcript;
 use rollback_plan::Plan;
 use service_state::Record;
 use std::alloc::Global;

@@ -10,7 +10,7 @@ use crate::mismatch::Mismatch;
 use control_words::Word;
 use kernel_model::{Kernel, Pattern};
 use plan_executor::record_left;
-use plan_runner::Transcript;
+use plan_walk::Transcript;
 use service_state::Record;
 use std::alloc::{AllocError, Global};
 use vocabulary::{Report, Settings};

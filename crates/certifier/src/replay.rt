@@ -3,7 +3,7 @@ ghost use Rattle.std.specs.Prelude.{◌≡◌, ◌+◌, ◌↔◌, ◌⊎◌, []
 ghost use Rattle.definitions.specs.Path.{Asks, IsOver, Reports, begin};
 ghost use Rattle.definitions.specs.Tree.{height};
 ghost use Rattle.rollback_plan.specs.Plans.{tree_of, note_of, sides_told, text_of};
-ghost use Rattle.plan_runner.specs.Walk.{trail_of, sides_in};
+ghost use Rattle.plan_walk.specs.Walk.{trail_of, sides_in};
 ghost use Rattle.plan_executor.specs.Naming.{listed};
 ghost use Rattle.certifier.specs.Places.{place_of, HasRoom, HasTaken, IsNext, IsTaken};
 
@@ -12,7 +12,7 @@ use crate::sameness::{is_same_answer, is_same_call, is_same_report};
 use crate::showing::show;
 use kernel_model::{Kernel, Pattern};
 use plan_executor::{executing_after, names_executing};
-use plan_runner::Walk;
+use plan_walk::Walk;
 use rollback_plan::Plan;
 use std::alloc::{AllocError, Global};
 use vocabulary::{Entry, Report};

@@ -19,7 +19,7 @@ use crate::{own, passing};
 use child_family::{Family, tick_line};
 use handover_text::{Handover, Listeners};
 use listener_set::Numbers;
-use plan_runner::Calls;
+use plan_walk::Calls;
 use service_state::Record;
 use std::alloc::{AllocError, Global};
 use vocabulary::{Actor, Answer, Call};

@@ -5,7 +5,7 @@ ghost use Rattle.child_programs.specs.Requests.{refused};
 
 use child_edge::Edge;
 use child_family::Family;
-use plan_runner::Calls;
+use plan_walk::Calls;
 use std::alloc::AllocError;
 use vocabulary::{Actor, Answer, Call};
 

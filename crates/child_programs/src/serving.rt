@@ -53,7 +53,11 @@ fn serve<H: Hears, I: Read + Drop, O: Write>(
 /// A worker on pipes. Gives the exit status: 0 after `quit` and at the end of input, and 1 at a line that it can't be told
 /// ([`WorkerProgram::hear`]), one of more than 4,096 bytes too, and where an answer can't be written.
 pub fn serve_worker<I: Read + Drop, O: Write>(input: I, output: &mut O) -> u8 {
-    serve(&mut WorkerProgram::new(), &mut LineReader::new(input), output)
+    serve(
+        &mut WorkerProgram::new(),
+        &mut LineReader::new(input),
+        output,
+    )
 }
 
 /// How a new master ended.

@@ -8,7 +8,7 @@ use Rattle.definitions.specs.Table.{Address, Hold}
 use Rattle.definitions.specs.Calls.{Call, Fork, shared}
 pub use Rattle.listener_set.specs.declared.groups.Group.{Group}
 pub use Rattle.listener_set.specs.Groups.{group_of}
-pub use Rattle.crews.specs.Crews.{Posts, Crew, fds_in, fds_of, shortfalls_of}
+pub use Rattle.worker_groups.specs.Crews.{Posts, Crew, fds_in, fds_of, shortfalls_of}
 
 ---- What a worker is given
 

@@ -3,7 +3,7 @@ use Rattle.std.specs.Prelude.{ℕ, ◌+◌, true, List, [], ◌∷◌, length, m
 use Rattle.listener_set.specs.Numbers.{numbers_below}
 use Rattle.vocabulary.specs.Settings.{Settings}
 use Rattle.definitions.specs.Table.{Address, FilePath, Hold, Ready, Limits, Process, Master, Worker, File, Table}
-use Rattle.crews.specs.Crews.{first_posts}
+use Rattle.worker_groups.specs.Crews.{first_posts}
 use Rattle.definitions.specs.Crew.{Posts, Group, share}
 use Rattle.definitions.specs.Record.{first_generation, started, Agrees}
 

@@ -10,10 +10,10 @@ use Rattle.definitions.specs.Path.{Trail, advance, Asks}
 use Rattle.definitions.specs.Run.{Moment, Pattern, Progress}
 use Rattle.definitions.specs.Target.{text_handed}
 use Rattle.kernel_model.specs.State.{State}
-use Rattle.plan_runner.specs.Fit.{height_next}
-use Rattle.plan_runner.specs.Walk.{trail_of, sides_in, AsksFor}
-use Rattle.plan_runner.specs.declared.walk.Walk.{Walk}
-use Rattle.plan_runner.specs.declared.walk.Due.{Due}
+use Rattle.plan_walk.specs.Fit.{height_next}
+use Rattle.plan_walk.specs.Walk.{trail_of, sides_in, AsksFor}
+use Rattle.plan_walk.specs.declared.walk.Walk.{Walk}
+use Rattle.plan_walk.specs.declared.walk.Due.{Due}
 use Rattle.plan_executor.specs.Lawful.{trail_at}
 use Rattle.plan_executor.specs.Naming.{listed}
 use Rattle.explorer.specs.declared.events.Tried.{Tried}

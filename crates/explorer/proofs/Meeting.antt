@@ -9,7 +9,7 @@ use Rattle.definitions.specs.Tree.{Tree, Ends, Does}
 use Rattle.definitions.specs.Path.{IsOver}
 use Rattle.definitions.specs.Target.{text_handed}
 use Rattle.definitions.specs.Run.{Pattern, Progress}
-use Rattle.plan_runner.specs.Walk.{trail_of}
+use Rattle.plan_walk.specs.Walk.{trail_of}
 use Rattle.plan_executor.specs.Naming.{listed}
 use Rattle.explorer.specs.declared.events.Event.{Event}
 use Rattle.explorer.specs.declared.position.Position.{Position}

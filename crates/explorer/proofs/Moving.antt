@@ -17,14 +17,14 @@ use Rattle.definitions.specs.Path.{Trail, Sides, Asks, rest_after}
 use Rattle.definitions.specs.Run.{Moment, quiet, Pattern, Progress, Ran, run_with, goes_with, with_entry, answered, noted, after_moment, after_call, outcome_of, report_of}
 use Rattle.definitions.specs.Target.{sides_of, text_handed}
 use Rattle.definitions.specs.Claims.{run_of}
-use Rattle.event_pattern.specs.Pattern.{with_exit}
+use Rattle.kernel_pattern.specs.Pattern.{with_exit}
 use Rattle.explorer.specs.declared.events.Event.{Event}
 use Rattle.explorer.specs.declared.events.Mishap.TheVariants.{Exit}
 use Rattle.explorer.specs.declared.events.Tried.{Tried}
 use Rattle.explorer.specs.declared.events.Tried.TheVariants.{Nothing as NothingTried, One}
 use Rattle.explorer.specs.declared.position.Position.{Position}
-use Rattle.plan_runner.specs.Walk.{trail_of, AsksFor}
-use Rattle.plan_runner.specs.declared.walk.Due.{Due}
+use Rattle.plan_walk.specs.Walk.{trail_of, AsksFor}
+use Rattle.plan_walk.specs.declared.walk.Due.{Due}
 use Rattle.plan_executor.specs.Naming.{listed}
 use Rattle.explorer.specs.Events.{pattern_of, event_at}
 use Rattle.explorer.specs.Explored.{report_under}

@@ -11,10 +11,10 @@ use Rattle.definitions.specs.Path.{Entry}
 use Rattle.definitions.specs.Tree.{reply_of, same_reply}
 use Rattle.definitions.specs.Manner.{is_leave_call}
 use Rattle.definitions.specs.Run.{Moment, Pattern, quiet}
-use Rattle.event_pattern.specs.Pattern.{with_exit, with_fate}
+use Rattle.kernel_pattern.specs.Pattern.{with_exit, with_fate}
 use Rattle.kernel_model.specs.Readers.{row_of}
-use Rattle.process_table.specs.declared.process.Row.{Row}
-use Rattle.process_table.specs.declared.process.Row.TheVariants as row
+use Rattle.kernel_table.specs.declared.process.Row.{Row}
+use Rattle.kernel_table.specs.declared.process.Row.TheVariants as row
 use Rattle.explorer.specs.declared.events.Mishap.{Mishap}
 use Rattle.explorer.specs.declared.events.Mishap.TheVariants.{Exit, Fail}
 use Rattle.explorer.specs.declared.events.Event.{Event}

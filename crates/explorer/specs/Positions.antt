@@ -12,12 +12,12 @@ use Rattle.definitions.specs.Plans.{plan_tree}
 use Rattle.definitions.specs.Target.{sides_of, text_handed}
 use Rattle.definitions.specs.Run.{Moment, quiet, Pattern, Progress, start_at, Ran, Lost, ends_at, run_with, after_moment, after_call, answered, noted}
 use Rattle.definitions.specs.Claims.{run_of, heirs_of}
-use Rattle.event_pattern.specs.Pattern.{with_exit}
+use Rattle.kernel_pattern.specs.Pattern.{with_exit}
 use Rattle.rollback_plan.specs.declared.plan.Plan.{Plan}
 use Rattle.rollback_plan.specs.Plans.{tree_of, note_of, sides_told, text_of}
-use Rattle.plan_runner.specs.Fit.{height_next}
-use Rattle.plan_runner.specs.Walk.{trail_of, sides_in}
-use Rattle.plan_runner.specs.declared.walk.Due.{Due}
+use Rattle.plan_walk.specs.Fit.{height_next}
+use Rattle.plan_walk.specs.Walk.{trail_of, sides_in}
+use Rattle.plan_walk.specs.declared.walk.Due.{Due}
 use Rattle.plan_executor.specs.Lawful.{trail_at}
 use Rattle.plan_executor.specs.Naming.{listed}
 use Rattle.plan_executor.specs.Refusals.{HasPlan}

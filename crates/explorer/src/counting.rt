@@ -10,7 +10,7 @@ use crate::effects;
 use crate::events::{Mishap, Tried};
 use crate::findings::{Findings, low_after, low_without};
 use crate::position::Position;
-use plan_runner::Due;
+use plan_walk::Due;
 use std::alloc::AllocError;
 use vocabulary::{Name, Report};
 

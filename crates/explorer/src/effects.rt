@@ -10,11 +10,11 @@ ghost use Rattle.explorer.specs.Events.{takes_effect, exit_of, mishaps_at, waiti
 
 use crate::events::Mishap;
 use call_replies::reply_to;
-use event_pattern::Moment;
 use kernel_model::Kernel;
+use kernel_pattern::Moment;
+use kernel_table::Row;
 use listener_set::{Numbers, WORKER_LIMIT};
 use plan_executor::reserved_copy;
-use process_table::Row;
 use std::alloc::{AllocError, Global};
 use vocabulary::{Actor, Call, Fate, Name, Stance};
 

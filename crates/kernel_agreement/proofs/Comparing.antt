@@ -9,10 +9,10 @@ use Rattle.listener_set.specs.Descriptors.{descriptors_of, socket_of}
 use Rattle.listener_set.proofs.Rising.{is_in-below}
 use Rattle.definitions.specs.Table.{Address, Hold, Process, Caller, Table, live_master}
 use Rattle.definitions.specs.Record.{Agrees}
-use Rattle.process_table.specs.declared.process.Holder.{Holder}
-use Rattle.process_table.specs.Holds.{seen_hold, seen_holds}
+use Rattle.kernel_table.specs.declared.process.Holder.{Holder}
+use Rattle.kernel_table.specs.Holds.{seen_hold, seen_holds}
 use Rattle.kernel_agreement.specs.declared.agreement.Running.{Running}
-use Rattle.process_table.specs.Seen.{seen_holder, seen_rows}
+use Rattle.kernel_table.specs.Seen.{seen_holder, seen_rows}
 use Rattle.kernel_model.proofs.HeldListeners.{drop-item}
 use Rattle.kernel_agreement.specs.Agreement.{running, MasterAgrees, WorkersAgree}
 

@@ -5,19 +5,19 @@ ghost use Rattle.listener_set.specs.Numbers.{is_in};
 ghost use Rattle.vocabulary.specs.Settings.{HasSuffixRoom};
 ghost use Rattle.definitions.specs.Table.{is_master};
 ghost use Rattle.definitions.specs.Record.{Agrees, FilesAre, IsRunning};
-ghost use Rattle.process_table.specs.Holds.{seen_holds};
-ghost use Rattle.process_table.specs.Seen.{seen, seen_caller, seen_file, seen_holder, seen_rows};
+ghost use Rattle.kernel_table.specs.Holds.{seen_holds};
+ghost use Rattle.kernel_table.specs.Seen.{seen, seen_caller, seen_file, seen_holder, seen_rows};
 ghost use Rattle.kernel_agreement.specs.Agreement.{running, AreRunning, AreReady, MasterAgrees, WorkersAgree};
 
-use crews::Crew;
 use kernel_model::{Kernel, are_listeners};
+use kernel_table::files::owner_at;
+use kernel_table::{Caller, FileRow, Holder, Row, Stances, Store, holds};
 use listener_set::{
     DescriptorTable, FIRST_DESCRIPTOR, FilePath, Generation, MOST_DESCRIPTORS, Numbers,
     WORKER_LIMIT,
 };
-use process_table::files::owner_at;
-use process_table::{Caller, FileRow, Holder, Row, Stances, Store, holds};
 use vocabulary::{Listener, PidNote, Stance};
+use worker_groups::Crew;
 
 /// What a master's record says of the table.
 #[derive(Clone, Copy, Debug)]

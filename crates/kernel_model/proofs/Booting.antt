@@ -11,19 +11,19 @@ use Rattle.listener_set.specs.Numbers.{numbers_below, is_in}
 use Rattle.listener_set.specs.Descriptors as pairs
 use Rattle.vocabulary.specs.declared.table.Limits.{Limits}
 use Rattle.definitions.specs.Table.{Address, FilePath, Generation, same_generation, Hold, Process, Master, is_active, is_worker}
-use Rattle.crews.specs.Crews.{first_posts}
+use Rattle.worker_groups.specs.Crews.{first_posts}
 use Rattle.definitions.specs.Crew.{Posts, Group, fds_of}
 use Rattle.definitions.specs.Record.{first_generation}
 use Rattle.definitions.specs.Calls.{is_image}
 use Rattle.definitions.specs.Formed.{IsQuiet, HasParent, IsAscending}
-use Rattle.process_table.specs.Holds.{address_of, seen_hold, seen_holds}
-use Rattle.process_table.specs.declared.store.Store.{Store}
-use Rattle.process_table.specs.Seen.{seen_rows, seen_file, seen}
-use Rattle.process_table.specs.Room.{HasSockets, IsKept, IsSound}
-use Rattle.process_table.specs.Free.{KnowsFree}
+use Rattle.kernel_table.specs.Holds.{address_of, seen_hold, seen_holds}
+use Rattle.kernel_table.specs.declared.store.Store.{Store}
+use Rattle.kernel_table.specs.Seen.{seen_rows, seen_file, seen}
+use Rattle.kernel_table.specs.Room.{HasSockets, IsKept, IsSound}
+use Rattle.kernel_table.specs.Free.{KnowsFree}
 use Rattle.definitions.specs.Start.{holds_from, first_worker, first_rows, first_files, booted}
 use Rattle.kernel_model.specs.Boot.{first_pairs}
-use Rattle.process_table.proofs.Lists.{list_any-map, map-push}
+use Rattle.kernel_table.proofs.Lists.{list_any-map, map-push}
 use Rattle.kernel_model.proofs.CallSteps.{all-append, ascending-append, count-append, and-both, within-shared}
 
 -- ---- the first descriptors

@@ -11,8 +11,8 @@ use Rattle.definitions.specs.Table.{Generation, same_generation, Hold, Process, 
 use Rattle.definitions.specs.Exits.{change}
 use Rattle.definitions.specs.Calls.{is_image, with_holds, put_hold, is_row, shared}
 use Rattle.definitions.specs.Formed.{IsQuiet, HasParent, IsAscending}
-use Rattle.process_table.specs.Room.{HasSockets}
-use Rattle.process_table.proofs.Keeping.{AreKept, Follows, AreKept-becomes, Becomes-filter_map, says-change}
+use Rattle.kernel_table.specs.Room.{HasSockets}
+use Rattle.kernel_table.proofs.Keeping.{AreKept, Follows, AreKept-becomes, Becomes-filter_map, says-change}
 use Rattle.kernel_model.proofs.Steps.{filter-within, KeepsMasters, HasParent-up, live-change, same-holds}
 
 -- ---- the caller is a live master

@@ -4,8 +4,8 @@ use Rattle.std.proofs.lemmas.List.{drop_more}
 use Rattle.vocabulary.specs.declared.names.Name.{Name}
 use Rattle.definitions.specs.Table.{Table, with_rows}
 use Rattle.definitions.specs.Exits.{exited, after_exits}
-use Rattle.process_table.specs.declared.store.Store.{Store}
-use Rattle.process_table.specs.Room.{EditsRows, IsKept}
+use Rattle.kernel_table.specs.declared.store.Store.{Store}
+use Rattle.kernel_table.specs.Room.{EditsRows, IsKept}
 use Rattle.kernel_model.proofs.CallsKept.{IsKept-exits}
 
 module _ (names : List Name) (i : ℕ) (d : Name) (s t : Table) (e : t ≡ with_rows s (exited (get_or names i d) s.rows)) where

@@ -6,13 +6,13 @@ use Rattle.std.proofs.lemmas.List.Folds.{list_any-append}
 use Rattle.definitions.specs.Table.{Address, Process, Foreign, Table, holds_of, is_active, is_worker, is_live_master}
 use Rattle.definitions.specs.Calls.{is_image}
 use Rattle.definitions.specs.Formed.{IsQuiet, HasParent}
-use Rattle.process_table.specs.declared.store.Store.{Store}
-use Rattle.process_table.specs.Seen.{seen}
-use Rattle.process_table.specs.Room.{GrowsByOne, HasMemoryFor, LacksNumbers, HasSockets, IsKept, IsSound}
-use Rattle.process_table.specs.Foreign.{with_foreign}
-use Rattle.process_table.specs.Free.{KnowsFree}
-use Rattle.process_table.proofs.Free.{KnowsFree-same}
-use Rattle.process_table.proofs.Keeping.{AreKept}
+use Rattle.kernel_table.specs.declared.store.Store.{Store}
+use Rattle.kernel_table.specs.Seen.{seen}
+use Rattle.kernel_table.specs.Room.{GrowsByOne, HasMemoryFor, LacksNumbers, HasSockets, IsKept, IsSound}
+use Rattle.kernel_table.specs.Foreign.{with_foreign}
+use Rattle.kernel_table.specs.Free.{KnowsFree}
+use Rattle.kernel_table.proofs.Free.{KnowsFree-same}
+use Rattle.kernel_table.proofs.Keeping.{AreKept}
 use Rattle.kernel_model.proofs.Steps.{KeepsMasters, HasParent-up}
 use Rattle.kernel_model.proofs.CallSteps.{all-append, all-up, ascending-append, count-append, within-wider}
 use Rattle.kernel_model.proofs.CallsKept.{kept-table, kept-rows}

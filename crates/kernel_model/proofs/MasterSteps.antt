@@ -9,8 +9,8 @@ use Rattle.definitions.specs.Table.{Hold, Process, Master, Worker, Foreign, is_a
 use Rattle.definitions.specs.Exits.{kept_if, without_exited}
 use Rattle.definitions.specs.Calls.{drop_where, is_image, is_image_row, is_of_image, without_master}
 use Rattle.definitions.specs.Formed.{IsQuiet, HasParent}
-use Rattle.process_table.specs.Room.{HasSockets}
-use Rattle.process_table.proofs.Keeping.{AreKept, Follows, AreKept-becomes, Becomes-filter_map}
+use Rattle.kernel_table.specs.Room.{HasSockets}
+use Rattle.kernel_table.proofs.Keeping.{AreKept, Follows, AreKept-becomes, Becomes-filter_map}
 use Rattle.kernel_model.proofs.Steps.{KeepsMasters, HasParent-up, kept-without, exit_says}
 use Rattle.kernel_model.proofs.CallSteps.{AreWithin, all-append, all-up, ascending-append, count-append, count-none}
 

@@ -6,16 +6,16 @@ use Rattle.std.specs.Option.{option_map}
 use Rattle.std.proofs.lemmas.List.{length-map, drop_more}
 use Rattle.std.proofs.lemmas.Option.{slice_get-map}
 use Rattle.definitions.specs.Table.{Address, Hold, number_of}
-use Rattle.process_table.specs.declared.process.Row.{Row}
-use Rattle.process_table.specs.declared.process.Row.TheVariants as row
-use Rattle.process_table.specs.declared.process.Holder.{Holder}
+use Rattle.kernel_table.specs.declared.process.Row.{Row}
+use Rattle.kernel_table.specs.declared.process.Row.TheVariants as row
+use Rattle.kernel_table.specs.declared.process.Holder.{Holder}
 use Rattle.kernel_model.specs.declared.readers.HoldRow.{HoldRow}
-use Rattle.process_table.specs.declared.file_row.FileRow.{FileRow}
-use Rattle.process_table.specs.Holds.{address_of, seen_hold, seen_holds}
-use Rattle.process_table.specs.Seen.{process_of, seen_holder, seen_rows, seen_file}
+use Rattle.kernel_table.specs.declared.file_row.FileRow.{FileRow}
+use Rattle.kernel_table.specs.Holds.{address_of, seen_hold, seen_holds}
+use Rattle.kernel_table.specs.Seen.{process_of, seen_holder, seen_rows, seen_file}
 use Rattle.kernel_model.specs.Readers.{row_of, hold_row, holds_in, hold_rows, file_row}
-use Rattle.process_table.specs.Room.{HasSockets}
-use Rattle.process_table.proofs.Opening.{row-holds}
+use Rattle.kernel_table.specs.Room.{HasSockets}
+use Rattle.kernel_table.proofs.Opening.{row-holds}
 
 -- ---- rows and files
 row-again : (r : Row) (hs : List Hold) → row_of (process_of r hs) ≡ r

@@ -6,10 +6,10 @@ use Rattle.vocabulary.specs.declared.calls.Fate.{Fate}
 use Rattle.definitions.specs.Table.{Table}
 use Rattle.definitions.specs.Exits.{after_exits}
 use Rattle.definitions.specs.Calls.{Stepped, step_with}
-use Rattle.process_table.specs.declared.store.Store.{Store}
-use Rattle.process_table.specs.Seen.{seen}
-use Rattle.process_table.specs.Room.{EditsRows, GrowsByOne, HasMemoryFor, HasRoomFor, IsKept, IsSound}
-use Rattle.process_table.proofs.Free.{KnowsFree-same}
+use Rattle.kernel_table.specs.declared.store.Store.{Store}
+use Rattle.kernel_table.specs.Seen.{seen}
+use Rattle.kernel_table.specs.Room.{EditsRows, GrowsByOne, HasMemoryFor, HasRoomFor, IsKept, IsSound}
+use Rattle.kernel_table.proofs.Free.{KnowsFree-same}
 use Rattle.kernel_model.proofs.CallsKept.{IsKept-exits, IsKept-step}
 
 module _ (a b : Store) (e : EditsRows a b) where

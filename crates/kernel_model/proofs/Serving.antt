@@ -12,14 +12,14 @@ use Rattle.std.proofs.lemmas.List.Sums.{sum_by-cons, count_by-le-length}
 use Rattle.definitions.specs.Table.{Address, Generation, Hold, Process, Master, Worker, Foreign, same_generation, has_address, number_of, Table}
 use Rattle.definitions.specs.Service.{is_live_with, is_serving, service, IsSame}
 use Rattle.definitions.specs.Formed.{IsAscending}
-use Rattle.process_table.specs.declared.process.Holder.{Holder}
-use Rattle.process_table.specs.declared.process.Row.{Row}
-use Rattle.process_table.specs.declared.process.Row.TheVariants as row
-use Rattle.process_table.specs.Holds.{address_of, seen_holds}
-use Rattle.process_table.specs.Room.{HasSockets}
-use Rattle.process_table.specs.Seen.{process_of, seen_rows, seen_holder}
-use Rattle.service_counts.specs.Services.{Counts, Services, address_cmp, generation_cmp, count_at, at}
-use Rattle.service_counts.proofs.Services.{tied-same, same-generation, count-put, same-address, at-put}
+use Rattle.kernel_table.specs.declared.process.Holder.{Holder}
+use Rattle.kernel_table.specs.declared.process.Row.{Row}
+use Rattle.kernel_table.specs.declared.process.Row.TheVariants as row
+use Rattle.kernel_table.specs.Holds.{address_of, seen_holds}
+use Rattle.kernel_table.specs.Room.{HasSockets}
+use Rattle.kernel_table.specs.Seen.{process_of, seen_rows, seen_holder}
+use Rattle.kernel_service.specs.Services.{Counts, Services, address_cmp, generation_cmp, count_at, at}
+use Rattle.kernel_service.proofs.Services.{tied-same, same-generation, count-put, same-address, at-put}
 
 ---- Counts
 

@@ -12,7 +12,7 @@ use Rattle.definitions.specs.Table.{Address, Generation, Hold, Process, Master, 
 use Rattle.definitions.specs.Exits.{change, made_exited, worker_exits, draining_exits, kept_if, without_exited, caller_exits, exited, all_exited, first_changed}
 use Rattle.definitions.specs.Calls.{drop_where, made_ready, made_draining, with_holds, lacks_address, is_exited_of}
 use Rattle.definitions.specs.Formed.{HasParent}
-use Rattle.process_table.proofs.Keeping.{AreKept, Follows, AreKept-becomes, Becomes-filter_map, Becomes-first_changed, says-change, says-dropped}
+use Rattle.kernel_table.proofs.Keeping.{AreKept, Follows, AreKept-becomes, Becomes-filter_map, Becomes-first_changed, says-change, says-dropped}
 
 -- each live master is one afterwards
 abbrev pub KeepsMasters : List Process → List Process → Type 0

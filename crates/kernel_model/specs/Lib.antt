@@ -1,5 +1,5 @@
-pub use Rattle.event_pattern.specs.Pattern
-pub use Rattle.process_table.specs.Room
+pub use Rattle.kernel_pattern.specs.Pattern
+pub use Rattle.kernel_table.specs.Room
 pub mod State
 pub mod Boot
 pub mod Codes

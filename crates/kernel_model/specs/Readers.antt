@@ -2,10 +2,10 @@
 use Rattle.std.specs.Prelude.{ℕ, List, map}
 use Rattle.std.specs.List.{flat_map}
 use Rattle.definitions.specs.Table.{Hold, Process, Master, Worker, Foreign, File, number_of, holds_of}
-use Rattle.process_table.specs.declared.process.Row.{Row}
-use Rattle.process_table.specs.declared.process.Row.TheVariants as row
+use Rattle.kernel_table.specs.declared.process.Row.{Row}
+use Rattle.kernel_table.specs.declared.process.Row.TheVariants as row
 use Rattle.kernel_model.specs.declared.readers.HoldRow.{HoldRow}
-use Rattle.process_table.specs.declared.file_row.FileRow.{FileRow}
+use Rattle.kernel_table.specs.declared.file_row.FileRow.{FileRow}
 
 -- A process without its holds.
 abbrev pub row_of : Process → Row

@@ -1,18 +1,18 @@
 //! How a kernel starts.
 ghost use Rattle.std.specs.Prelude.{◌≡◌, ◌<◌, ◌≤◌, ◌↔◌, ℕ, List, length, map, IfOk, IsTrue, IsErrOf};
-ghost use Rattle.process_table.specs.Holds.{seen_holds};
-ghost use Rattle.process_table.specs.Seen.{seen, seen_holder, seen_rows, seen_file};
-ghost use Rattle.process_table.specs.Room.{IsSound};
+ghost use Rattle.kernel_table.specs.Holds.{seen_holds};
+ghost use Rattle.kernel_table.specs.Seen.{seen, seen_holder, seen_rows, seen_file};
+ghost use Rattle.kernel_table.specs.Room.{IsSound};
 ghost use Rattle.definitions.specs.Start.{booted, first_worker, first_rows, first_files};
 ghost use Rattle.kernel_model.specs.Boot.{first_pairs, AreBadLimits};
 
-use crews::Posts;
+use kernel_table::{FileRow, FreeNames, Holder, Row, Store, holds};
 use listener_set::{DescriptorTable, FilePath, Generation, MOST_DESCRIPTORS, WORKER_LIMIT};
-use process_table::{FileRow, FreeNames, Holder, Row, Store, holds};
 use std::alloc::{AllocError, Global};
 use std::error::Error;
 use std::fmt;
 use vocabulary::{Limits, Settings, Stance};
+use worker_groups::Posts;
 
 /// How many masters and workers a kernel may allow at most.
 pub const MOST_PROCESSES: u32 = 65_535;

@@ -3,14 +3,14 @@ ghost use Rattle.std.specs.Prelude.{◌≡◌, ℕ, List};
 ghost use Rattle.std.specs.List.{list_any};
 ghost use Rattle.definitions.specs.Table.{Table, Caller as LiveMaster, is_worker};
 ghost use Rattle.definitions.specs.Calls.{opened, closed, forked, awaited, quitted, killed, counted, awaited_gone, written, moved, unlinked, own_step, fault_if, fault_of, step_with};
-ghost use Rattle.process_table.specs.Seen.{seen, seen_caller, has_stance};
-ghost use Rattle.process_table.specs.Room.{GrowsByOne, HasRoomFor, IsKept};
-ghost use Rattle.process_table.specs.Rows.{IsOwn};
-ghost use Rattle.process_table.specs.Free.{KnowsFree};
+ghost use Rattle.kernel_table.specs.Seen.{seen, seen_caller, has_stance};
+ghost use Rattle.kernel_table.specs.Room.{GrowsByOne, HasRoomFor, IsKept};
+ghost use Rattle.kernel_table.specs.Rows.{IsOwn};
+ghost use Rattle.kernel_table.specs.Free.{KnowsFree};
 
 use crate::master_calls;
+use kernel_table::{Caller, Edit, Stances, Store, files, holds};
 use listener_set::{Address, DescriptorSet, FilePath, Generation};
-use process_table::{Caller, Edit, Stances, Store, files, holds};
 use vocabulary::{Answer, Call, Fate};
 
 /// A new socket at the caller's lowest free descriptor, unless somebody holds the address or the caller has as many

@@ -2,10 +2,10 @@
 ghost use Rattle.std.specs.Prelude.{◌≡◌};
 ghost use Rattle.definitions.specs.Table.{with_rows};
 ghost use Rattle.definitions.specs.Exits.{exited, after_exits, master_exits};
-ghost use Rattle.process_table.specs.Seen.{seen};
-ghost use Rattle.process_table.specs.Room.{EditsRows, IsKept};
+ghost use Rattle.kernel_table.specs.Seen.{seen};
+ghost use Rattle.kernel_table.specs.Room.{EditsRows, IsKept};
 
-use process_table::{Edit, Store};
+use kernel_table::{Edit, Store};
 use vocabulary::Name;
 
 /// The live master of the image exits, with its workers. Its row stays, exited, where its parent is a live master.

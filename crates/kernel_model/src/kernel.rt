@@ -7,15 +7,15 @@ ghost use Rattle.definitions.specs.Calls.{step_with};
 ghost use Rattle.definitions.specs.Formed.{IsFormed};
 ghost use Rattle.definitions.specs.Start.{booted};
 ghost use Rattle.kernel_model.specs.Boot.{AreBadLimits};
-ghost use Rattle.process_table.specs.Room.{LacksNumbers};
-ghost use Rattle.process_table.specs.Seen.{seen};
-ghost use Rattle.process_table.specs.Foreign.{with_foreign};
+ghost use Rattle.kernel_table.specs.Room.{LacksNumbers};
+ghost use Rattle.kernel_table.specs.Seen.{seen};
+ghost use Rattle.kernel_table.specs.Foreign.{with_foreign};
 
 use crate::boot::{self, BootRefusal};
 use crate::{ForeignRefusal, ReserveRefusal, calls, exits};
-use event_pattern::Moment;
+use kernel_pattern::Moment;
+use kernel_table::Store;
 use listener_set::Address;
-use process_table::Store;
 use std::alloc::{AllocError, Global};
 use std::marker::Model;
 use vocabulary::{Actor, Answer, Call, Limits, Settings};
@@ -32,8 +32,8 @@ impl Model for Kernel {
 
     ghost Value = { State };
 
-    ghost use Rattle.process_table.specs.Seen.{seen};
-    ghost use Rattle.process_table.specs.Room.{IsSound};
+    ghost use Rattle.kernel_table.specs.Seen.{seen};
+    ghost use Rattle.kernel_table.specs.Room.{IsSound};
 
     ghost view = { λ k. record { table = seen k.store; room = k.room } };
 

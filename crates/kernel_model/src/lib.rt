@@ -16,10 +16,10 @@ mod replies;
 mod service;
 
 pub use boot::{BootRefusal, WIDEST_LIMITS};
-pub use event_pattern::{Moment, Pattern};
 pub use kernel::Kernel;
+pub use kernel_pattern::{Moment, Pattern};
+pub use kernel_service::Service;
+pub use kernel_table::{FileRow, Row};
 pub use listening::are_listeners;
-pub use process_table::{FileRow, Row};
 pub use readers::HoldRow;
 pub use refusal::{ForeignRefusal, ReserveRefusal};
-pub use service_counts::Service;

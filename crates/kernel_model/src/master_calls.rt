@@ -3,12 +3,12 @@ ghost use Rattle.std.specs.Prelude.{◌≡◌};
 ghost use Rattle.definitions.specs.Table.{live_master};
 ghost use Rattle.definitions.specs.Calls.{spawned, suits, adopted, asked_alive, departed, terminated};
 ghost use Rattle.definitions.specs.Handover.{reading};
-ghost use Rattle.process_table.specs.Holds.{seen_holds};
-ghost use Rattle.process_table.specs.Seen.{seen, seen_caller};
-ghost use Rattle.process_table.specs.Room.{GrowsByOne, HasRoomFor, IsKept};
+ghost use Rattle.kernel_table.specs.Holds.{seen_holds};
+ghost use Rattle.kernel_table.specs.Seen.{seen, seen_caller};
+ghost use Rattle.kernel_table.specs.Room.{GrowsByOne, HasRoomFor, IsKept};
 
 use crate::listening::are_listeners;
-use process_table::{Caller, Edit, Store};
+use kernel_table::{Caller, Edit, Store};
 use vocabulary::Answer;
 
 /// A new master with the caller's holds, unless a master of the image is there or the process limit is reached.

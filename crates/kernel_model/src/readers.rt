@@ -2,13 +2,13 @@
 ghost use Rattle.std.specs.Prelude.{◌≡◌, ◌+◌, ◌-◌, length, map, slice_get};
 ghost use Rattle.std.specs.Option.{option_map};
 ghost use Rattle.std.specs.List.{AllByRecursion};
-ghost use Rattle.process_table.specs.Seen.{seen_holder, seen_rows};
-ghost use Rattle.process_table.specs.Room.{HasSockets};
+ghost use Rattle.kernel_table.specs.Seen.{seen_holder, seen_rows};
+ghost use Rattle.kernel_table.specs.Room.{HasSockets};
 ghost use Rattle.kernel_model.specs.Readers.{holds_in};
 
 use crate::Kernel;
+use kernel_table::{FileRow, Holder, Row};
 use listener_set::{Address, DescriptorTable};
-use process_table::{FileRow, Holder, Row};
 
 /// A socket that a process holds.
 #[derive(Clone, Copy, Debug)]

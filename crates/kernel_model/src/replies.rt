@@ -5,12 +5,12 @@ ghost use Rattle.std.specs.Option.{option_map};
 ghost use Rattle.definitions.specs.Table.{is_active, is_worker, live_master};
 ghost use Rattle.definitions.specs.Calls.{opened, forked, spawned, adopted, moved, asked_alive, census_of, own_step, step_with};
 ghost use Rattle.definitions.specs.Tree.{reply_of};
-ghost use Rattle.process_table.specs.Seen.{seen, seen_caller};
-ghost use Rattle.process_table.specs.Free.{KnowsFree};
+ghost use Rattle.kernel_table.specs.Seen.{seen, seen_caller};
+ghost use Rattle.kernel_table.specs.Free.{KnowsFree};
 
 use crate::{Kernel, master_calls};
+use kernel_table::{Caller, Stances, Store, files};
 use listener_set::{Address, FilePath, Generation, Numbers};
-use process_table::{Caller, Stances, Store, files};
 use vocabulary::{Actor, Answer, Call, Reply};
 
 fn open_reply(store: &Store, caller: &Caller, address: &Address) -> Reply

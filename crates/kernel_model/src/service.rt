@@ -3,15 +3,15 @@ ghost use Rattle.std.specs.Prelude.{◌≡◌, ◌≤◌, ◌<◌, ◌^◌, ◌&
 ghost use Rattle.std.specs.List.{list_any};
 ghost use Rattle.definitions.specs.Table.{Generation, Hold, has_address};
 ghost use Rattle.definitions.specs.Service.{is_live_with, is_serving};
-ghost use Rattle.process_table.specs.Seen.{process_of, seen_holder, seen_rows};
-ghost use Rattle.service_counts.specs.Services.{count_at, at, AreCounts};
-ghost use Rattle.service_counts.specs.Served.{seen_count};
+ghost use Rattle.kernel_table.specs.Seen.{process_of, seen_holder, seen_rows};
+ghost use Rattle.kernel_service.specs.Services.{count_at, at, AreCounts};
+ghost use Rattle.kernel_service.specs.Served.{seen_count};
 ghost use Rattle.kernel_model.specs.Serving.{is_generation};
 
 use crate::Kernel;
+use kernel_service::{Count, Service, count_of, set_count};
+use kernel_table::{Holder, Row, holds};
 use listener_set::{Address, Generation};
-use process_table::{Holder, Row, holds};
-use service_counts::{Count, Service, count_of, set_count};
 use std::alloc::{AllocError, Global};
 use vocabulary::Stance;
 

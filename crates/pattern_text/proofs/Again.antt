@@ -11,7 +11,7 @@ use Rattle.vocabulary.specs.declared.names.Name.TheVariants as name
 use Rattle.vocabulary.specs.declared.calls.Fate.{Fate}
 use Rattle.vocabulary.specs.declared.calls.Fate.TheVariants as fate
 use Rattle.definitions.specs.Run.{Moment, quiet, Pattern}
-use Rattle.event_pattern.specs.Pattern.{moment_at, with_exit, with_fate, RiseFrom}
+use Rattle.kernel_pattern.specs.Pattern.{moment_at, with_exit, with_fate, RiseFrom}
 use Rattle.plain_text.proofs.CutTexts.{lacks, lacks-append}
 use Rattle.plain_text.specs.Lines.{lines_of}
 use Rattle.call_text.specs.Words.{fate_text}

@@ -1,7 +1,7 @@
 -- What the events of a pattern keep.
 use Rattle.std.proofs.Common.{◌≡◌, ℕ, zero, suc, ◌+◌, ◌≤◌, List, [], ◌∷◌, Some, None, Option, slice_get, subst, arith}
 use Rattle.definitions.specs.Run.{Moment}
-use Rattle.event_pattern.specs.Pattern.{RiseFrom, AreNamesWithin}
+use Rattle.kernel_pattern.specs.Pattern.{RiseFrom, AreNamesWithin}
 
 pub event_there : (p : List (ℕ × Moment)) (b i : ℕ) (e : ℕ × Moment) → RiseFrom b p → slice_get p i ≡ Some e → (b ≤ e.0) × AreNamesWithin e.1.exits
 event_there [] b i e rise is = let none : Option (ℕ × Moment) = None in let no : none ≡ Some e = is in absurd cc

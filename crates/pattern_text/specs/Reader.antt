@@ -1,6 +1,6 @@
 -- How far a reader has come.
 use Rattle.std.specs.Prelude.{map}
-use Rattle.event_pattern.specs.Pattern.{moment_at}
+use Rattle.kernel_pattern.specs.Pattern.{moment_at}
 use Rattle.pattern_text.specs.declared.patterns.PatternsReader.{PatternsReader}
 use Rattle.pattern_text.specs.PatternsText.{Reading}
 

@@ -2,7 +2,7 @@
 use Rattle.std.specs.Prelude.{ℕ, List}
 use Rattle.std.specs.List.{AllByRecursion}
 use Rattle.definitions.specs.Run.{Moment}
-use Rattle.event_pattern.specs.Pattern.{IsPattern}
+use Rattle.kernel_pattern.specs.Pattern.{IsPattern}
 use Rattle.call_text.specs.Ranges.{IsCount, IsName}
 
 -- Numbers of calls have 32 bits, and so have those of images and configurations; a worker's is below 1024.

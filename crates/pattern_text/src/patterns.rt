@@ -1,7 +1,7 @@
 //! Patterns as texts.
 ghost use Rattle.std.specs.Prelude.{◌≡◌, ◌≢◌, ◌≤◌, ◌++◌, ◌∷◌, ℕ, List, [], map, Ok, Err, OnOk, IfOk, IfErr};
 ghost use Rattle.definitions.specs.Run.{Moment as Events};
-ghost use Rattle.event_pattern.specs.Pattern.{moment_at, IsNameWithin};
+ghost use Rattle.kernel_pattern.specs.Pattern.{moment_at, IsNameWithin};
 ghost use Rattle.pattern_text.specs.LineText.{IsLine};
 ghost use Rattle.pattern_text.specs.PatternsText.{may_follow, begun, with_exit_in, with_fate_in, may_stand, with_line, line_here, patterns_of};
 ghost use Rattle.pattern_text.specs.PatternsWriting.{patterns_text};
@@ -9,7 +9,7 @@ ghost use Rattle.pattern_text.specs.Written.{AreSections};
 
 use crate::PatternLine;
 use call_text::TextRefusal;
-use event_pattern::Pattern;
+use kernel_pattern::Pattern;
 use plain_text::first_line;
 use std::alloc::{AllocError, Global};
 use std::mem;

@@ -1,14 +1,14 @@
 //! Patterns, written.
 ghost use Rattle.std.specs.Prelude.{◌≡◌, ◌≢◌, ◌≤◌, ◌++◌, [], map, Ok, IfOk, IfSome, slice_get};
 ghost use Rattle.std.specs.List.{AllByRecursion};
-ghost use Rattle.event_pattern.specs.Pattern.{seen_moment, moment_at, IsPattern, IsNameWithin, AreNamesWithin};
+ghost use Rattle.kernel_pattern.specs.Pattern.{seen_moment, moment_at, IsPattern, IsNameWithin, AreNamesWithin};
 ghost use Rattle.call_text.specs.Ranges.{IsName};
 ghost use Rattle.pattern_text.specs.PatternsText.{patterns_of};
 ghost use Rattle.pattern_text.specs.PatternsWriting.{ended_line, event_text, exits_text, moment_text, section_text, patterns_text};
 ghost use Rattle.pattern_text.specs.Written.{IsNoted, IsSection, AreSections};
 
 use crate::PatternLine;
-use event_pattern::{Moment, Pattern};
+use kernel_pattern::{Moment, Pattern};
 use std::alloc::{AllocError, Global};
 use vocabulary::Name;
 

@@ -13,7 +13,7 @@ use Rattle.vocabulary.specs.declared.plans.Sides.{Sides}
 use Rattle.vocabulary.specs.declared.reports.Entry.{Entry}
 use Rattle.vocabulary.specs.declared.reports.Report.{Report}
 use Rattle.kernel_model.specs.State.{State}
-use Rattle.plan_runner.specs.Log.{Told}
+use Rattle.plan_walk.specs.Log.{Told}
 use Rattle.rollback_plan.specs.declared.plan.Plan.{Plan}
 use Rattle.definitions.specs.Plans.{plan_tree}
 use Rattle.definitions.specs.Run.{Pattern, Replays}

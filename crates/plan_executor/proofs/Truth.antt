@@ -18,7 +18,7 @@ use Rattle.word_runner.specs.Enactors.{HasCode}
 use Rattle.word_runner.specs.declared.standing.Standing.{Standing}
 use Rattle.word_runner.specs.Words.{HasRun, AreDone}
 use Rattle.word_runner.proofs.Keeping.{done-keeps}
-use Rattle.plan_runner.specs.Log.{Told}
+use Rattle.plan_walk.specs.Log.{Told}
 use Rattle.plan_executor.specs.declared.enactment.EnactRefusal.{EnactRefusal}
 use Rattle.plan_executor.specs.declared.enactment.EnactRefusal.TheVariants.{Memory, RecordDisagrees, Plan, MasterNamed, NoNumbers}
 use Rattle.plan_executor.specs.Codes.{target_refusal}

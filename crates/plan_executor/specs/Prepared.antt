@@ -8,7 +8,7 @@ use Rattle.definitions.specs.Plans.{plan_tree}
 use Rattle.definitions.specs.Claims.{IsStart, HasDescriptors}
 use Rattle.kernel_model.specs.Room.{LacksNumbers}
 use Rattle.kernel_model.specs.State.{State}
-use Rattle.plan_runner.specs.Log.{Told}
+use Rattle.plan_walk.specs.Log.{Told}
 use Rattle.rollback_plan.specs.declared.plan.Plan.{Plan}
 use Rattle.rollback_plan.specs.Plans.{tree_of, note_of, sides_told, text_of}
 use Rattle.plan_executor.specs.Refusals.{HasPlan}

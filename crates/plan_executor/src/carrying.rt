@@ -15,7 +15,7 @@ use crate::keeping::ends_as_reported;
 use crate::patterned::Patterned;
 use crate::succession::record_left;
 use kernel_model::{Kernel, Pattern};
-use plan_runner::{Transcript, execute};
+use plan_walk::{Transcript, execute};
 use rollback_plan::Plan;
 use service_state::Record;
 use vocabulary::{Report, Target};
@@ -23,7 +23,12 @@ use word_runner::Enacted;
 
 /// Makes the calls of a plan on a kernel under a pattern, from its first moment on, and writes them down. It takes no
 /// memory.
-pub(crate) fn run(plan: &Plan, kernel: &mut Kernel, pattern: &Pattern, log: &mut Transcript) -> Report
+pub(crate) fn run(
+    plan: &Plan,
+    kernel: &mut Kernel,
+    pattern: &Pattern,
+    log: &mut Transcript,
+) -> Report
     requires calls { height (tree_of plan.now) ≤ kernel.old.room }
     requires room { height (tree_of plan.now) ≤ log.old.room }
     requires empty { log.old.entries ≡ [] }

@@ -19,7 +19,7 @@ use crate::agreement::agrees;
 use crate::carrying::carry_out;
 use crate::trial::spare;
 use kernel_model::{Kernel, Pattern, ReserveRefusal};
-use plan_runner::Transcript;
+use plan_walk::Transcript;
 use rollback_plan::Plan;
 use service_state::Record;
 use std::alloc::{AllocError, Global};

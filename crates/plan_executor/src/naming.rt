@@ -7,7 +7,7 @@ ghost use Rattle.definitions.specs.Claims.{names_any, executing_at, executing_af
 ghost use Rattle.plan_executor.specs.Naming.{is_exit_of, listed};
 
 use kernel_model::Pattern;
-use plan_runner::Transcript;
+use plan_walk::Transcript;
 use vocabulary::{Call, Name};
 
 /// The first moment of these calls in which an executing master exits: the one of the image up to its Leave, and from

@@ -2,7 +2,7 @@
 ghost use Rattle.std.specs.Prelude.{◌≡◌, ◌+◌, ◌<◌, ◌^◌};
 
 use kernel_model::{Kernel, Pattern};
-use plan_runner::Calls;
+use plan_walk::Calls;
 use vocabulary::{Actor, Answer, Call};
 
 /// A kernel whose calls come with the moments of a pattern, the first with moment 1, and are each handed a text.

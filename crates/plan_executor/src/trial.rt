@@ -14,7 +14,7 @@ use crate::enactment::{EnactRefusal, reserved_copy};
 use crate::naming::refused_among;
 use crate::succession::heir_of;
 use kernel_model::{Kernel, Pattern};
-use plan_runner::Transcript;
+use plan_walk::Transcript;
 use rollback_plan::Plan;
 use service_state::Record;
 use std::alloc::Global;

@@ -8,7 +8,7 @@ ghost use Rattle.plan_pieces.specs.Pieces.{attempt, IsAttempted};
 
 use call_replies::{failed_replies, plain_replies};
 use listener_set::Numbers;
-use rollback_plan::{Batch, Draft, DraftRefusal, PlanEdge, Place};
+use rollback_plan::{Batch, Draft, DraftRefusal, Place, PlanEdge};
 use vocabulary::{Actor, Call, Order};
 
 /// Adds these calls, in their order, before the rest. The i-th of the ways back is taken where the first i calls went well

@@ -6,7 +6,7 @@ ghost use Rattle.definitions.specs.Plans as plans;
 ghost use Rattle.rollback_plan.specs.Drafts.{trees_of, tree_at, IsMade, Keeps};
 
 use listener_set::Numbers;
-use rollback_plan::{Draft, DraftRefusal, PlanEdge, Next, Place};
+use rollback_plan::{Draft, DraftRefusal, Next, Place, PlanEdge};
 use vocabulary::{Actor, Call, Order, PidNote, Reply};
 
 /// Adds a call that moves or removes a file before the rest, which follows whether or not it goes well: the pid file

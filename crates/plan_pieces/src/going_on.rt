@@ -8,10 +8,10 @@ ghost use Rattle.rollback_plan.specs.Drafts.{trees_of, tree_at, IsMade, Keeps, G
 ghost use Rattle.plan_pieces.specs.Pieces.{anyway, anyway_steps, in_turn, goes_back, made_calls, steps_in};
 
 use call_replies::all_replies;
-use crews::Crew;
 use listener_set::Numbers;
-use rollback_plan::{Errand, Batch, Draft, DraftRefusal, PlanEdge, Place};
+use rollback_plan::{Batch, Draft, DraftRefusal, Errand, Place, PlanEdge};
 use vocabulary::{Actor, Call, Order, Reply};
+use worker_groups::Crew;
 
 /// Adds these calls before the rest, each of which is followed by the next whatever is answered: in their order, but
 /// quits, and waits until workers are gone, from the last to the first. A worker that is late is killed. `TooLarge`
@@ -60,7 +60,10 @@ pub fn add_starts_any(
 fn goes_back(calls: &Batch<'_>) -> bool
     ensures { result ≡ goes_back calls.now }
 {
-    matches!(calls, Batch::Workers(Errand::Quit | Errand::AwaitGone, _, _))
+    matches!(
+        calls,
+        Batch::Workers(Errand::Quit | Errand::AwaitGone, _, _)
+    )
 }
 
 /// The call that is made at this place, counted from 0.

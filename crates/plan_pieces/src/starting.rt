@@ -9,10 +9,10 @@ ghost use Rattle.rollback_plan.specs.Drafts.{trees_of, tree_at, are_places, IsMa
 ghost use Rattle.rollback_plan.specs.Back.{AreMade};
 
 use crate::attempting::add_attempts;
-use crews::Crew;
 use listener_set::{Generation, Numbers};
-use rollback_plan::{Batch, Draft, DraftRefusal, PlanEdge, Place};
+use rollback_plan::{Batch, Draft, DraftRefusal, Place, PlanEdge};
 use vocabulary::{Actor, Call, Order, Reply};
+use worker_groups::Crew;
 
 /// Adds the forks of these numbers of a crew and then a wait for each, upwards, before the rest. The
 /// i-th of the ways back is taken where the first i numbers were forked and a start fails; a worker

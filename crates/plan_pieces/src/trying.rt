@@ -9,7 +9,7 @@ ghost use Rattle.rollback_plan.specs.Drafts.{trees_of, tree_at, IsMade, Keeps};
 
 use call_replies::{other_replies, plain_replies};
 use listener_set::Numbers;
-use rollback_plan::{Batch, Draft, DraftRefusal, PlanEdge, Place};
+use rollback_plan::{Batch, Draft, DraftRefusal, Place, PlanEdge};
 use vocabulary::{Actor, Call, Order};
 
 /// Adds a call that a new master tries, before the rest and with a way back; a census must contain the set. `TooLarge`

@@ -7,7 +7,7 @@ ghost use Rattle.plan_text.specs.Graph.{written};
 use crate::graph::write_arrow;
 use call_text::{end_text, note_text, reply_text};
 use plain_text::write_number;
-use rollback_plan::{PlanEdge, Next, Step};
+use rollback_plan::{Next, PlanEdge, Step};
 use std::alloc::AllocError;
 use vocabulary::{PidNote, Reply};
 

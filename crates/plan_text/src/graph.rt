@@ -9,7 +9,7 @@ use crate::plans::write_wanted;
 use call_replies::replies_of;
 use call_text::{note_text, write_order};
 use plain_text::write_number;
-use rollback_plan::{PlanEdge, Plan, Step};
+use rollback_plan::{Plan, PlanEdge, Step};
 use std::alloc::{AllocError, Global};
 use vocabulary::{PidNote, Reply};
 
@@ -133,7 +133,12 @@ fn draw_step(alloc: Global, out: &mut Vec<u8>, number: u64, step: &Step) -> Resu
 {
     let line = step_line(alloc, step)?;
     write_box(out, number, &line)?;
-    write_edges(out, EdgeForm::Arrow(number), step, replies_of(&step.order()))
+    write_edges(
+        out,
+        EdgeForm::Arrow(number),
+        step,
+        replies_of(&step.order()),
+    )
 }
 
 /// The steps, numbered from 1.

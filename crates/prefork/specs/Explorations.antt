@@ -3,10 +3,10 @@ use Rattle.std.specs.Prelude.{◌≡◌, ℕ, nat_lt, Bool, false, true, ◌&&�
 use Rattle.explorer.specs.declared.tally.Tally.{Tally}
 use Rattle.explorer.specs.declared.findings.Least.{Least}
 use Rattle.exploration_text.specs.SummaryText.{summary_text}
-use Rattle.rehearsal.specs.Outlooks.{Tells}
-use Rattle.rehearsal.specs.declared.planning.Outlook.{Outlook}
-use Rattle.rehearsal.specs.declared.exploring.Explored.{Explored}
-use Rattle.rehearsal.specs.declared.exploring.Explored.TheVariants.{All, Cut, Told}
+use Rattle.master_on_kernel.specs.Outlooks.{Tells}
+use Rattle.master_on_kernel.specs.declared.planning.Outlook.{Outlook}
+use Rattle.master_on_kernel.specs.declared.exploring.Explored.{Explored}
+use Rattle.master_on_kernel.specs.declared.exploring.Explored.TheVariants.{All, Cut, Told}
 
 abbrev pub is_degraded : Tally → Bool
 is_degraded tally = nat_lt 0 tally.degraded_old.count || nat_lt 0 tally.degraded_target.count

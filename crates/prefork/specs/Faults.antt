@@ -1,6 +1,6 @@
 -- The fault with which a master that ran ends.
-use Rattle.supervisor.specs.declared.fault.SupervisorFault.{SupervisorFault}
-use Rattle.supervisor.specs.declared.fault.SupervisorFault.TheVariants as supervisor
+use Rattle.master_on_children.specs.declared.fault.SupervisorFault.{SupervisorFault}
+use Rattle.master_on_children.specs.declared.fault.SupervisorFault.TheVariants as supervisor
 use Rattle.faults.specs.declared.fault.Fault.{Fault}
 use Rattle.faults.specs.declared.fault.Fault.TheVariants.{File, Memory}
 

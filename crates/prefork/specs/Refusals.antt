@@ -4,8 +4,8 @@ use Rattle.master_config.specs.Codes.{config_text}
 use Rattle.master_config.specs.Files.{AreNamed, IsRefusalOf}
 use Rattle.master_config.specs.declared.refusal.ConfigRefusal.{ConfigRefusal}
 use Rattle.master_config.specs.declared.refusal.ConfigRefusal.TheVariants as config
-use Rattle.supervisor.specs.declared.next.NextRefusal.{NextRefusal}
-use Rattle.supervisor.specs.declared.next.NextRefusal.TheVariants.{Memory, Refused, Unreadable}
+use Rattle.master_on_children.specs.declared.next.NextRefusal.{NextRefusal}
+use Rattle.master_on_children.specs.declared.next.NextRefusal.TheVariants.{Memory, Refused, Unreadable}
 use Rattle.vocabulary.specs.Settings.{Settings, plain_settings}
 
 -- want of memory, a file that can't be read, or else the code of a configuration's refusal, or want of memory for it

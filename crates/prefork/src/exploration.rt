@@ -9,7 +9,7 @@ use command_line::ExploreOptions;
 use exploration_text::{write_run, write_summary};
 use explorer::{Audience, Findings, Tally, Tried};
 use faults::Fault;
-use rehearsal::{Explored, Outlook, told};
+use master_on_kernel::{Explored, Outlook, told};
 use std::alloc::{AllocError, Global};
 use std::io::Write;
 use vocabulary::Report;

@@ -3,7 +3,7 @@ use crate::setup::begin;
 use certifier::Mismatch;
 use command_line::{CertifyOptions, Request};
 use faults::Fault;
-use plan_runner::Transcript;
+use plan_walk::Transcript;
 use std::alloc::{AllocError, Global};
 use std::rt::Files;
 use transcript::{read_transcripts, write_transcript};

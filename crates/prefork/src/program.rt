@@ -17,7 +17,7 @@ use explanations::{Evidence, explain, is_asked, tell, tell_usage};
 use explorer::Findings;
 use faults::Fault;
 use kernel_model::Pattern;
-use rehearsal::{Form, Start, certify_all, look_ahead, rehearse, show_state};
+use master_on_kernel::{Form, Start, certify_all, look_ahead, rehearse, show_state};
 use std::alloc::{AllocError, Global};
 use std::io::{Read, Write};
 use std::process::Processes;

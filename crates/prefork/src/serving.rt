@@ -10,12 +10,14 @@ use faults::Fault;
 use log::sink::Writer;
 use log::{LevelFilter, Logged};
 use master_config::{ConfigRefusal, config_in, settings_in};
+use master_on_children::{
+    NextRefusal, NextSettings, SupervisorFault, SupervisorStart, supervise_on,
+};
 use std::alloc::Global;
 use std::env;
 use std::io::{Read, Write};
 use std::process::Processes;
 use std::rt::Files;
-use supervisor::{NextRefusal, NextSettings, SupervisorStart, SupervisorFault, supervise_on};
 use vocabulary::Settings;
 use word_runner::CodeText;
 

@@ -3,7 +3,7 @@ ghost use Rattle.std.specs.Prelude.{◌≡◌};
 
 use command_line::StartOptions;
 use faults::Fault;
-use rehearsal::{Rehearsal, Setup};
+use master_on_kernel::{Rehearsal, Setup};
 use std::rt::Files;
 
 /// What options say of a start.
@@ -27,5 +27,5 @@ pub fn begin<R: AllocGlobal + Files>(
     options: &StartOptions<'_>,
     held: Option<&str>,
 ) -> Result<Rehearsal, Fault> {
-    rehearsal::begin(rt, &setup_of(options), held)
+    master_on_kernel::begin(rt, &setup_of(options), held)
 }

@@ -11,7 +11,7 @@ ghost use Rattle.reload_planner.specs.Changes.{repair_tree};
 use crate::{PlanRefusal, Scene};
 use listener_set::{Numbers, WORKER_LIMIT};
 use plan_pieces::{add_each, add_starts_any, listed};
-use rollback_plan::{Errand, Batch, Draft, DraftRefusal, Place, Plan};
+use rollback_plan::{Batch, Draft, DraftRefusal, Errand, Place, Plan};
 use std::alloc::Global;
 use vocabulary::{PidNote, Side};
 

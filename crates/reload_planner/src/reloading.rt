@@ -11,13 +11,13 @@ ghost use Rattle.rollback_plan.specs.Plans.{tree_of, note_of, sides_told, text_o
 ghost use Rattle.reload_planner.specs.Changes.{on_tree, trial_tree, renewal_tree, next_crew};
 
 use crate::{PlanRefusal, Scene};
-use crews::{Crew, Posts};
 use listener_set::{Address, ListenerSet, Numbers};
 use plan_pieces::{add_each, add_opens, add_starts, listed};
-use rollback_plan::{Errand, Batch, Draft, DraftRefusal, PlanEdge, Place, Plan, Undone};
+use rollback_plan::{Batch, Draft, DraftRefusal, Errand, Place, Plan, PlanEdge, Undone};
 use service_state::next_config;
 use std::alloc::Global;
 use vocabulary::{Actor, Call, Order, PidNote, Reply, Settings, Side};
+use worker_groups::{Crew, Posts};
 
 /// What a reload brings.
 #[derive(Clone, Copy)]

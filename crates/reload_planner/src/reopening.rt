@@ -9,7 +9,7 @@ ghost use Rattle.rollback_plan.specs.Plans.{tree_of, note_of, sides_told, text_o
 
 use crate::{PlanRefusal, Scene};
 use plan_pieces::{add_each, listed};
-use rollback_plan::{Errand, Batch, Draft, DraftRefusal, Place, Plan};
+use rollback_plan::{Batch, Draft, DraftRefusal, Errand, Place, Plan};
 use std::alloc::Global;
 use vocabulary::{PidNote, Side};
 

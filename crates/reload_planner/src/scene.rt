@@ -1,7 +1,7 @@
 //! What a plan needs to know of the master that it is for.
-use crews::Crew;
 use listener_set::Numbers;
 use vocabulary::{Actor, Sides};
+use worker_groups::Crew;
 
 /// What a plan needs to know of the master that it is for.
 #[derive(Clone, Copy, Debug)]

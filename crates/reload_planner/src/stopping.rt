@@ -12,7 +12,7 @@ ghost use Rattle.reload_planner.specs.Changes.{ends_tree};
 use crate::{PlanRefusal, Scene};
 use listener_set::{FilePath, Numbers};
 use plan_pieces::{add_each, add_file_call, listed};
-use rollback_plan::{Errand, Batch, Draft, DraftRefusal, PlanEdge, Place, Plan};
+use rollback_plan::{Batch, Draft, DraftRefusal, Errand, Place, Plan, PlanEdge};
 use std::alloc::Global;
 use vocabulary::{Actor, Call, End, Order, PidNote, Reply};
 

@@ -10,7 +10,7 @@ ghost use Rattle.reload_planner.specs.Changes.{change_tree};
 use crate::{PlanRefusal, Scene};
 use listener_set::{Numbers, WORKER_LIMIT};
 use plan_pieces::{add_each, add_starts, listed};
-use rollback_plan::{Errand, Batch, Draft, DraftRefusal, Place, Plan, Undone};
+use rollback_plan::{Batch, Draft, DraftRefusal, Errand, Place, Plan, Undone};
 use std::alloc::Global;
 use vocabulary::{PidNote, Side};
 

@@ -3,9 +3,9 @@ ghost use Rattle.std.specs.Prelude.{◌≡◌, ◌<◌, Some, length, slice_get}
 ghost use Rattle.definitions.specs.Crew.{fork_of};
 ghost use Rattle.rollback_plan.specs.Batches.{asked_call, calls_of, size_of};
 
-use crews::Crew;
 use listener_set::{Address, Generation};
 use vocabulary::Call;
+use worker_groups::Crew;
 
 /// What is asked of a worker that was forked.
 #[derive(Clone, Copy, Debug)]

@@ -5,7 +5,7 @@ ghost use Rattle.definitions.specs.Tree.{is_fit, height};
 ghost use Rattle.definitions.specs.Path.{follow};
 ghost use Rattle.rollback_plan.specs.Steps.{is_within};
 
-use crate::{Bound, PlanEdge, Next, Place, Plan, Step};
+use crate::{Bound, Next, Place, Plan, PlanEdge, Step};
 use call_replies::reply_to;
 use vocabulary::{Answer, End};
 

@@ -4,7 +4,7 @@ ghost use Rattle.definitions.specs.Tree.{Does};
 ghost use Rattle.rollback_plan.specs.Steps.{step_tree, leads_back, all_lead_back, all_below};
 
 use crate::compact::{CompactOrder, CompactSet};
-use crate::{PlanEdge, Place, Step};
+use crate::{Place, PlanEdge, Step};
 use listener_set::Numbers;
 use std::alloc::{AllocError, AllocFailed, Global};
 use thiserror::Error;

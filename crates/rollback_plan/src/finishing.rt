@@ -9,7 +9,7 @@ ghost use Rattle.rollback_plan.specs.Numbering.{IsOrder, CanBeOrder, IsInOrder, 
 use crate::layers::by_depth;
 use crate::numbering::{depths_from, heights_of};
 use crate::walking::walk;
-use crate::{Draft, PlanEdge, Next, Place, Plan, Step};
+use crate::{Draft, Next, Place, Plan, PlanEdge, Step};
 use std::alloc::{AllocError, Global};
 use std::mem;
 use vocabulary::{PidNote, Sides};
@@ -124,7 +124,11 @@ fn take_numbered(alloc: Global, step: &mut Step, numbers: &[u32]) -> Result<Step
 }
 
 /// These edges, with these numbers for their places.
-fn edges_numbered(alloc: Global, edges: &[PlanEdge], numbers: &[u32]) -> Result<Vec<PlanEdge>, AllocError>
+fn edges_numbered(
+    alloc: Global,
+    edges: &[PlanEdge],
+    numbers: &[u32],
+) -> Result<Vec<PlanEdge>, AllocError>
     requires { IsTrue (all_below (length numbers.now) edges.now) }
     ensures { IfOk result (λ numbered. numbered.items ≡ map (edge_numbered numbers.now) edges.now) }
 {

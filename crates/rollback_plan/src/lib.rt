@@ -19,11 +19,11 @@ mod step;
 mod walking;
 mod worker_call;
 
-pub use batch::{Errand, Batch};
+pub use batch::{Batch, Errand};
 pub use bound::Bound;
 pub use cursor::Cursor;
 pub use draft::{Draft, DraftRefusal, MOST_STEPS};
 pub use plan::Plan;
 pub use settling::{Undone, WaysBack};
-pub use step::{PlanEdge, Next, Place, Step};
+pub use step::{Next, Place, PlanEdge, Step};
 pub use worker_call::WorkerCall;

@@ -4,7 +4,7 @@ ghost use Rattle.definitions.specs.Tree.{height};
 ghost use Rattle.rollback_plan.specs.Steps.{all_below, all_lead_back, trees_after};
 ghost use Rattle.rollback_plan.specs.Numbering.{highest_behind, deepened, AreDepths};
 
-use crate::{PlanEdge, Next, Place, Step};
+use crate::{Next, Place, PlanEdge, Step};
 use std::alloc::{AllocError, Global};
 
 /// How many steps there are on the longest path from each step.

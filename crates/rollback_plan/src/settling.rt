@@ -8,10 +8,10 @@ ghost use Rattle.rollback_plan.specs.Steps.{is_below, tree_among};
 ghost use Rattle.rollback_plan.specs.Batches.{calls_of, size_of};
 ghost use Rattle.rollback_plan.specs.Back.{told_back, quits_back, closes_back, AreMade};
 
-use crate::{Errand, Batch, Draft, DraftRefusal, PlanEdge, Next, Place};
-use crews::Crew;
+use crate::{Batch, Draft, DraftRefusal, Errand, Next, Place, PlanEdge};
 use listener_set::{Address, Generation, Numbers};
 use vocabulary::{Actor, Call, End, Order, Reply, Side};
+use worker_groups::Crew;
 
 /// How a plan ends where nothing of the side is lacking.
 fn full_end(side: Side) -> End

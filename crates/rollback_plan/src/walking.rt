@@ -3,7 +3,7 @@ ghost use Rattle.std.specs.Prelude.{◌≡◌, ◌++◌, ◌<◌, ◌≤◌, IsT
 ghost use Rattle.rollback_plan.specs.Steps.{all_lead_back};
 ghost use Rattle.rollback_plan.specs.Numbering.{places_behind, IsWalk};
 
-use crate::{PlanEdge, Next, Place, Step};
+use crate::{Next, Place, PlanEdge, Step};
 use std::alloc::{AllocError, Global};
 
 /// The places that a walk meets, in the order in which it first meets them: a step, then what is

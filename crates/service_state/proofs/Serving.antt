@@ -14,8 +14,8 @@ use Rattle.std.proofs.lemmas.Slice.Eq.{bytes_eq-Decides}
 use Rattle.listener_set.specs.Numbers.{numbers_below}
 use Rattle.definitions.specs.Table.{Address, Generation, same_generation}
 use Rattle.definitions.specs.Service.{serving}
-use Rattle.service_counts.specs.Services.{Counts, Services, address_cmp, generation_cmp, count_at, at, with_count, with_key}
-use Rattle.service_counts.proofs.Services.{count-put, at-put}
+use Rattle.kernel_service.specs.Services.{Counts, Services, address_cmp, generation_cmp, count_at, at, with_count, with_key}
+use Rattle.kernel_service.proofs.Services.{count-put, at-put}
 use Rattle.service_state.specs.Wanted.{kept_count}
 
 -- no more numbers are counted than there are

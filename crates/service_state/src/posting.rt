@@ -7,10 +7,10 @@ ghost use Rattle.definitions.specs.After.{lacks_generation, upgraded, listeners_
 
 use crate::record::Record;
 use crate::setup::{next_config, next_image};
-use crews::{Crew, Posts};
 use handover_text::Listeners;
 use listener_set::{Address, Generation};
 use vocabulary::{Settings, Sides, Target};
+use worker_groups::{Crew, Posts};
 
 impl Record {
     /// The workers that the master has.

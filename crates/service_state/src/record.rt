@@ -6,11 +6,11 @@ ghost use Rattle.definitions.specs.Record.{started};
 ghost use Rattle.definitions.specs.After.{setup_of, renewed, upgraded, next_image, target_setup, old_setup, setup_after, recorded, keeps_rules, record_from, record_after};
 
 use crate::setup::{Setup, next_config, next_image};
-use crews::Posts;
 use handover_text::Listeners;
 use listener_set::{FilePath, Generation, Numbers, WORKER_LIMIT};
 use std::marker::Model;
 use vocabulary::{Outcome, PidNote, Report, Settings, Side, Target};
+use worker_groups::Posts;
 
 /// What a running master knows of itself. Contracts see the record of these values. It has at least one listener, and
 /// each ready number is below the wanted count.

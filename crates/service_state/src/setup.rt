@@ -2,11 +2,11 @@
 ghost use Rattle.std.specs.Prelude.{◌≡◌};
 ghost use Rattle.definitions.specs.After.{next_number, next_config, next_image, renewed};
 
-use crews::Posts;
 use handover_text::Listeners;
 use listener_set::Generation;
 use std::marker::Model;
 use vocabulary::Settings;
+use worker_groups::Posts;
 
 /// What a service stands on: who listens where, with which groups, in which generation, with how many workers.
 #[derive(Clone, Copy, Debug)]

@@ -6,13 +6,13 @@ ghost use Rattle.definitions.specs.Crew.{served};
 ghost use Rattle.definitions.specs.Record.{layout_of};
 ghost use Rattle.definitions.specs.Target.{want, addresses_wanted, wanted_at, layout_wanted};
 ghost use Rattle.definitions.specs.After.{lacks_generation};
-ghost use Rattle.service_counts.specs.Services.{at};
+ghost use Rattle.kernel_service.specs.Services.{at};
 ghost use Rattle.service_state.specs.Wanted.{kept_count, is_counted};
 
 use crate::posting::addresses_of_group;
 use crate::record::Record;
+use kernel_service::Service;
 use listener_set::{Address, Generation, ListenerSet};
-use service_counts::Service;
 use std::alloc::{AllocError, Global};
 use vocabulary::Target;
 

@@ -4,7 +4,7 @@ use crate::setup::{FIRST, ask, below, edge_of, start};
 use child_edge::Edge;
 use child_family::Heard;
 use listener_set::{Address, DescriptorSet};
-use plan_runner::Calls;
+use plan_walk::Calls;
 use std::test::Fail;
 use vocabulary::{Answer, Call};
 

@@ -5,7 +5,7 @@ use crate::recorded::{Asked, Recorded};
 use crate::setup::ask;
 use child_edge::Edge;
 use listener_set::Numbers;
-use plan_runner::{Transcript, Calls, execute};
+use plan_walk::{Calls, Transcript, execute};
 use service_state::Record;
 use std::alloc::Global;
 use std::test::Fail;

@@ -2,7 +2,7 @@
 use child_edge::Edge;
 use child_family::Family;
 use listener_set::{Generation, Numbers};
-use plan_runner::Calls;
+use plan_walk::Calls;
 use service_state::Record;
 use std::alloc::{AllocError, Global};
 use vocabulary::{Actor, Answer, Call, Settings};

@@ -1,5 +1,4 @@
 //! Claims of masters that are true of a kernel, and such as are not.
-use crews::{Crew, Posts};
 use kernel_agreement::{Running, agrees_with};
 use kernel_model::{Kernel, Moment, WIDEST_LIMITS};
 use listener_set::{Address, FilePath, Generation, Group, Groups, ListenerSet, Numbers};
@@ -7,6 +6,7 @@ use service_state::Record;
 use std::alloc::Global;
 use std::test::Fail;
 use vocabulary::{Actor, Call, Listener, PidNote, Settings};
+use worker_groups::{Crew, Posts};
 
 const FIRST: Generation = Generation {
     image: 1,

@@ -4,11 +4,13 @@ use kernel_model::{Kernel, WIDEST_LIMITS};
 use listener_set::{FilePath, Groups, Numbers};
 use log::sink::{Discard, Memory};
 use log::{LevelFilter, Logged};
+use master_on_children::{
+    NextRefusal, NextSettings, Supervised, SupervisorFault, SupervisorStart, supervise_on,
+};
 use service_state::Record;
 use std::alloc::{AllocError, Global};
 use std::io::{Error as IoError, ErrorKind, Read, Result as IoResult, Write};
 use std::test::Fail;
-use supervisor::{NextRefusal, NextSettings, SupervisorStart, Supervised, SupervisorFault, supervise_on};
 use tests_of_children::{Asked, Recorded};
 use transcript::read_transcripts;
 use vocabulary::{Outcome, Settings};

@@ -2,11 +2,11 @@
 use call_text::{
     read_answer, read_call, read_report, read_set, write_answer, write_call, write_report,
 };
-use crews::Shortfalls;
 use listener_set::{Address, DescriptorSet, FilePath, Generation, Numbers};
 use plain_text::Line;
 use std::test::Fail;
 use vocabulary::{Actor, Answer, Call, Outcome, PidNote, Report, Side};
+use worker_groups::Shortfalls;
 
 const FIRST: Generation = Generation {
     image: 1,

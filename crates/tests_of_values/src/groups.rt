@@ -1,7 +1,7 @@
 //! Groups of workers, what their workers are given, and what they lack.
-use crews::{Posts, Shortfalls};
 use listener_set::{DescriptorSet, Group, GroupRefusal, Groups, Numbers};
 use std::test::Fail;
+use worker_groups::{Posts, Shortfalls};
 
 #[test]
 fn a_number_falls_to_the_group_that_takes_it(rt: HostRuntime) -> Result<(), Fail> {

@@ -1,5 +1,5 @@
 //! Patterns that are made by hand, and the lines of their texts.
-use event_pattern::Pattern;
+use kernel_pattern::Pattern;
 use listener_set::Generation;
 use pattern_text::PatternLine;
 use std::test::Fail;

@@ -1,6 +1,6 @@
 //! Services: addresses, and how many workers of each generation serve them.
+use kernel_service::Service;
 use listener_set::{Address, Generation};
-use service_counts::Service;
 use std::test::Fail;
 
 const FIRST: Generation = Generation {

@@ -12,7 +12,7 @@ use Rattle.vocabulary.specs.Settings.{Settings}
 use Rattle.vocabulary.specs.declared.table.Listener.{Listener}
 use Rattle.vocabulary.specs.declared.plans.Side.TheVariants as side
 use Rattle.vocabulary.specs.declared.reports.Outcome.TheVariants as outcome
-use Rattle.crews.specs.Crews.{descriptors_first}
+use Rattle.worker_groups.specs.Crews.{descriptors_first}
 use Rattle.definitions.specs.Table.{Address, FilePath, Hold, is_at, has_address}
 use Rattle.definitions.specs.Calls.{lowest_free, put_hold}
 use Rattle.definitions.specs.Crew.{Group, Layout, fds_in, posts_of, layout_in, layout_at, listeners_under, addresses_of_group}

@@ -10,7 +10,7 @@ use Rattle.listener_set.specs.Numbers.{numbers_below, is_in}
 use Rattle.listener_set.specs.declared.groups.Group.{Group}
 use Rattle.listener_set.specs.Groups.{part_of, group_of}
 use Rattle.vocabulary.specs.declared.table.Listener.{Listener}
-use Rattle.crews.specs.Crews.{Posts, fds_of, shortfalls_of}
+use Rattle.worker_groups.specs.Crews.{Posts, fds_of, shortfalls_of}
 use Rattle.definitions.specs.Table.{Address, Hold, is_at, has_address}
 use Rattle.definitions.specs.Calls.{shared, lacks_address}
 use Rattle.definitions.specs.Record.{listener_of}

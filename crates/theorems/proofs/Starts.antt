@@ -5,7 +5,7 @@ use Rattle.std.proofs.lemmas.List.Sums.{sum_by-cons}
 use Rattle.listener_set.specs.Numbers.{numbers_below, is_in}
 use Rattle.vocabulary.specs.declared.table.Listener.{Listener}
 use Rattle.definitions.specs.Table.{Address, FilePath, Hold, Process, Master, is_master, is_ready, is_worker}
-use Rattle.crews.specs.Crews.{first_posts}
+use Rattle.worker_groups.specs.Crews.{first_posts}
 use Rattle.definitions.specs.Crew.{Group, Posts}
 use Rattle.definitions.specs.Record.{FilesAre, IsRunning, first_generation, first_note, listener_of, listeners_from}
 use Rattle.definitions.specs.Start.{StartsAgree, first_files, first_worker, holds_from}

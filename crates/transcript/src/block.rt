@@ -4,7 +4,7 @@ ghost use Rattle.call_text.specs.ReportText.{entries_text};
 ghost use Rattle.transcript.specs.Block.{body_text, block_text};
 
 use call_text::{write_entry, write_report};
-use plan_runner::Transcript;
+use plan_walk::Transcript;
 use std::alloc::{AllocError, Global};
 use word_runner::{Block, Body};
 

@@ -12,7 +12,7 @@ use call_text::TextRefusal;
 use control_words::Word;
 use listener_set::Numbers;
 use plain_text::first_line;
-use plan_runner::Transcript;
+use plan_walk::Transcript;
 use std::alloc::{AllocError, Global};
 use vocabulary::{Answer, Entry, Report};
 use word_runner::{Block, Body};

@@ -49,7 +49,10 @@ fn add_restart(
 }
 
 /// Adds the ways back to the old master.
-pub fn add_ways_back(draft: &mut Draft, upgrade: &Upgrade<'_>) -> Result<UpgradeWaysBack, DraftRefusal>
+pub fn add_ways_back(
+    draft: &mut Draft,
+    upgrade: &Upgrade<'_>,
+) -> Result<UpgradeWaysBack, DraftRefusal>
     requires room { HasSuffixRoom upgrade.now.path }
     ensures undone { IfOk result (λ ways. IsMade draft.new ways.undone (settle upgrade.now.old.crew.generation.image upgrade.now.old.crew upgrade.now.old.numbers side.Old upgrade.now.rounds)) }
     ensures alone { IfOk result (λ ways. IsMade draft.new ways.alone (back_alone upgrade.now.old.crew.generation.image upgrade.now.old.crew upgrade.now.old.numbers upgrade.now.rounds upgrade.now.path)) }

@@ -14,7 +14,7 @@ use crate::relieving::add_relief;
 use crate::taking_over::add_takeover;
 use crate::upgrade::Upgrade;
 use listener_set::Numbers;
-use rollback_plan::{Draft, DraftRefusal, PlanEdge, Place};
+use rollback_plan::{Draft, DraftRefusal, Place, PlanEdge};
 use vocabulary::{Actor, Call, Order, Reply};
 
 /// Adds the start of a master.

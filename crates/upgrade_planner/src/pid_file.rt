@@ -9,7 +9,7 @@ ghost use Rattle.upgrade_planner.specs.Trees.{clearing};
 
 use listener_set::{FilePath, Numbers};
 use plan_pieces::add_file_call;
-use rollback_plan::{Draft, DraftRefusal, PlanEdge, Place};
+use rollback_plan::{Draft, DraftRefusal, Place, PlanEdge};
 use vocabulary::{Actor, Call, Order, PidNote, Reply};
 
 /// What becomes of the file at the path with the suffix, once it is settled which master stays.

@@ -10,7 +10,6 @@ ghost use Rattle.upgrade_planner.specs.Trees.{asked_for};
 
 use crate::drawing::add_upgrade;
 use crate::upgrade::{Staff, Upgrade};
-use crews::Crew;
 use handover_text::{Handover, write};
 use listener_set::{Generation, Numbers};
 use plan_pieces::listed;
@@ -19,6 +18,7 @@ use rollback_plan::{Draft, Plan};
 use service_state::{Record, next_image};
 use std::alloc::{AllocError, Global};
 use vocabulary::{Settings, Target};
+use worker_groups::Crew;
 
 /// The most steps of an upgrade that are of no one worker: four settles of 8 rounds, an open or a close of each of two
 /// times 64 addresses, and those of the masters and of the pid file.

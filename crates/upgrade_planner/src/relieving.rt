@@ -8,7 +8,7 @@ use crate::pid_file::{Aside, add_cleared};
 use crate::upgrade::Upgrade;
 use listener_set::Numbers;
 use plan_pieces::{add_each, add_starts_any};
-use rollback_plan::{Errand, Batch, Draft, DraftRefusal, PlanEdge, Place};
+use rollback_plan::{Batch, Draft, DraftRefusal, Errand, Place, PlanEdge};
 use vocabulary::{Call, Order, Reply, Side};
 
 /// Adds that the old master leaves; the new one removes the old file and settles.

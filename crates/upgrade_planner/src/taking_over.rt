@@ -8,7 +8,7 @@ ghost use Rattle.upgrade_planner.specs.Trees.{staffing, taking_over};
 use crate::upgrade::Upgrade;
 use listener_set::{FilePath, Numbers};
 use plan_pieces::{add_tried, add_tried_all};
-use rollback_plan::{Errand, Batch, Draft, DraftRefusal, Place};
+use rollback_plan::{Batch, Draft, DraftRefusal, Errand, Place};
 use vocabulary::{Actor, Call};
 
 /// Adds that a new master writes its pid file, where there is one, before the rest and with a way back.

@@ -2,9 +2,9 @@
 ghost use Rattle.std.specs.Prelude.{◌≡◌};
 ghost use Rattle.listener_set.specs.Numbers.{numbers_below};
 
-use crews::Crew;
 use listener_set::{Address, FilePath, Numbers};
 use vocabulary::{Actor, PidNote};
+use worker_groups::Crew;
 
 /// A master with its workers.
 #[derive(Clone, Copy)]

@@ -1,7 +1,7 @@
 //! What was done, and how it ended.
 use crate::{Actor, Answer, Call, PidNote, Side};
-use crews::Shortfalls;
 use listener_set::Numbers;
+use worker_groups::Shortfalls;
 
 /// A call that was made, with its answer.
 #[derive(Clone, Copy, Debug, PartialEq, Eq)]

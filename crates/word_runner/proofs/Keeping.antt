@@ -5,7 +5,7 @@ use Rattle.definitions.specs.Record.{Record}
 use Rattle.vocabulary.specs.declared.targets.Target.{Target}
 use Rattle.vocabulary.specs.declared.reports.Report.{Report}
 use Rattle.control_words.specs.declared.words.Word.{Word}
-use Rattle.plan_runner.specs.Log.{Told}
+use Rattle.plan_walk.specs.Log.{Told}
 use Rattle.word_runner.specs.declared.block.Block.{Block}
 use Rattle.word_runner.specs.declared.block.Block.TheVariants.{Heard, Unread}
 use Rattle.word_runner.specs.declared.block.Body.{Body}

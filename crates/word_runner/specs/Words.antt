@@ -7,7 +7,7 @@ use Rattle.vocabulary.specs.declared.reports.Report.{Report}
 use Rattle.worker_table.specs.Beats.{Workers, followed}
 use Rattle.worker_table.specs.Calls.{beating}
 use Rattle.control_words.specs.declared.words.Word.{Word}
-use Rattle.plan_runner.specs.Log.{Told}
+use Rattle.plan_walk.specs.Log.{Told}
 use Rattle.word_runner.specs.declared.block.Block.{Block}
 use Rattle.word_runner.specs.declared.block.Block.TheVariants.{Heard, Unread}
 use Rattle.word_runner.specs.declared.block.Body.{Body}

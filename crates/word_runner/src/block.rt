@@ -5,7 +5,7 @@ ghost use Rattle.word_runner.specs.Codes.{stopped_code, unplanned_code};
 
 use arrayvec::ArrayString;
 use control_words::{Word, WordRefusal};
-use plan_runner::Transcript;
+use plan_walk::Transcript;
 use reload_planner::PlanRefusal;
 use std::marker::Model;
 use vocabulary::Report;

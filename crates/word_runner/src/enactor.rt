@@ -7,7 +7,7 @@ ghost use Rattle.word_runner.specs.declared.enactor.Enacted.{Enacted as Done};
 ghost use Rattle.word_runner.specs.Enactors.{HasCode};
 
 use crate::CodeText;
-use plan_runner::Transcript;
+use plan_walk::Transcript;
 use service_state::Record;
 use std::alloc::Global;
 use vocabulary::{Report, Target};

@@ -6,7 +6,7 @@ ghost use Rattle.worker_table.specs.Beats.{followed};
 ghost use Rattle.word_runner.specs.Started.{start_of, started_in, started};
 
 use listener_set::{Generation, Numbers, WORKER_LIMIT};
-use plan_runner::Transcript;
+use plan_walk::Transcript;
 use service_state::Record;
 use vocabulary::{Answer, Call, Entry, Report};
 use worker_table::WorkerTable;

@@ -3,7 +3,7 @@ use Rattle.std.proofs.lemmas.Bool.{false≢true}
 use Rattle.std.proofs.lemmas.List.{take_more}
 use Rattle.std.proofs.lemmas.Option.{get_or_from_slice_get}
 use Rattle.vocabulary.specs.declared.reports.Entry.{Entry}
-use Rattle.plan_runner.specs.Walk.{sides_in}
+use Rattle.plan_walk.specs.Walk.{sides_in}
 use Rattle.plan_executor.specs.Naming.{listed}
 use Rattle.certifier.specs.Places.{place_of, HasTaken, AreNext}
 use Rattle.certifier.proofs.Taking.{taken-on, taken-stops}

@@ -1,5 +1,5 @@
 use Rattle.std.proofs.Common.{◌≡◌, ◌+◌, take}
-use Rattle.plan_runner.specs.Walk.{sides_in}
+use Rattle.plan_walk.specs.Walk.{sides_in}
 use Rattle.plan_executor.specs.Naming.{listed}
 use Rattle.certifier.specs.Places.{place_of, HasTaken}
 use Rattle.certifier.proofs.certification.replay_all.Given as goal

@@ -1,7 +1,7 @@
 use Rattle.std.proofs.Common.{◌≡◌, ◌≤◌, map, Some}
 use Rattle.definitions.specs.Run.{Progress}
-use Rattle.plan_runner.specs.Fit.{height_next}
-use Rattle.plan_runner.specs.Walk.{trail_of}
+use Rattle.plan_walk.specs.Fit.{height_next}
+use Rattle.plan_walk.specs.Walk.{trail_of}
 use Rattle.explorer.specs.declared.events.Tried.TheVariants.{One, Two}
 use Rattle.explorer.specs.Explored.{with_runs}
 use Rattle.explorer.specs.Positions.{IsFit, IsAt, left}

@@ -1,8 +1,8 @@
 use Rattle.std.proofs.Common.{◌≡◌, ◌+◌, ◌∷◌, [], OnOk, refl, subst, ap, ◌∙◌, arith}
 use Rattle.vocabulary.specs.declared.calls.Answer.TheVariants.{MasterGone}
 use Rattle.definitions.specs.Run.{quiet}
-use Rattle.plan_runner.specs.Walk.{trail_of}
-use Rattle.plan_runner.proofs.Paths.{asks_height}
+use Rattle.plan_walk.specs.Walk.{trail_of}
+use Rattle.plan_walk.proofs.Paths.{asks_height}
 use Rattle.explorer.specs.declared.events.Tried.{Tried}
 use Rattle.explorer.specs.declared.events.Tried.TheVariants.{One, Two}
 use Rattle.explorer.specs.declared.tally.Tally.{Tally}

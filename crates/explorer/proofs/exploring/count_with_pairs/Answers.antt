@@ -6,8 +6,8 @@ use Rattle.definitions.specs.Table.{Table}
 use Rattle.definitions.specs.Exits.{after_exits}
 use Rattle.definitions.specs.Run.{Moment, quiet}
 use Rattle.definitions.specs.Target.{text_handed}
-use Rattle.plan_runner.specs.Walk.{trail_of}
-use Rattle.plan_runner.proofs.Paths.{asks_height}
+use Rattle.plan_walk.specs.Walk.{trail_of}
+use Rattle.plan_walk.proofs.Paths.{asks_height}
 use Rattle.plan_executor.specs.Naming.{listed}
 use Rattle.explorer.specs.declared.events.Event.{Event}
 use Rattle.explorer.specs.declared.events.Mishap.{Mishap}

@@ -2,8 +2,8 @@ use Rattle.std.proofs.Common.{◌≡◌, ◌+◌, ℕ, None}
 use Rattle.std.specs.List.{AllByRecursion}
 use Rattle.vocabulary.specs.declared.calls.Call.{Call}
 use Rattle.definitions.specs.Run.{Progress}
-use Rattle.plan_runner.specs.Fit.{height_next}
-use Rattle.plan_runner.specs.Walk.{trail_of, AsksFor}
+use Rattle.plan_walk.specs.Fit.{height_next}
+use Rattle.plan_walk.specs.Walk.{trail_of, AsksFor}
 use Rattle.explorer.specs.declared.events.Tried.TheVariants.{Nothing}
 use Rattle.explorer.specs.Explored.{with_runs, each_with_pairs}
 use Rattle.explorer.specs.Known.{IsKnownAt}

@@ -6,8 +6,8 @@ use Rattle.std.proofs.lemmas.Bool.{false≢true, eqb-true, and_parts}
 use Rattle.std.proofs.lemmas.Bool.Decides.{nat_tests}
 use Rattle.listener_set.specs.Numbers.{is_in}
 use Rattle.definitions.specs.Table.{is_ready, is_worker}
-use Rattle.process_table.specs.Holds.{seen_holds}
-use Rattle.process_table.specs.Seen.{seen_holder, seen_rows}
+use Rattle.kernel_table.specs.Holds.{seen_holds}
+use Rattle.kernel_table.specs.Seen.{seen_holder, seen_rows}
 use Rattle.kernel_agreement.proofs.Comparing.{any_next, found_next, none_missing, none_in, is_in-without}
 use Rattle.kernel_agreement.proofs.agreement.are_ready.Goals as goal
 use Rattle.kernel_agreement.proofs.agreement.are_ready.Goals.{in-Some+else-not-has_number, in_default}

@@ -2,7 +2,7 @@ use Rattle.std.proofs.Common.{◌≡◌, ℕ, List, true, not, ◌&&◌, ◌||�
 use Rattle.std.specs.List.{list_any}
 use Rattle.listener_set.specs.Numbers.{is_in}
 use Rattle.definitions.specs.Table.{is_ready, is_worker}
-use Rattle.process_table.specs.Seen.{seen_rows}
+use Rattle.kernel_table.specs.Seen.{seen_rows}
 use Rattle.kernel_agreement.proofs.agreement.are_ready.Given as goal
 
 -- A Ready worker is still to come, or its number is no longer missing.

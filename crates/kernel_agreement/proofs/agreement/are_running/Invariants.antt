@@ -1,6 +1,6 @@
 use Rattle.std.proofs.Common.{ℕ, List, ◌↔◌, drop}
-use Rattle.process_table.specs.Holds.{seen_holds}
-use Rattle.process_table.specs.Seen.{seen_rows}
+use Rattle.kernel_table.specs.Holds.{seen_holds}
+use Rattle.kernel_table.specs.Seen.{seen_rows}
 use Rattle.kernel_agreement.specs.Agreement.{AreRunning}
 use Rattle.kernel_agreement.proofs.agreement.are_running.Given as goal
 

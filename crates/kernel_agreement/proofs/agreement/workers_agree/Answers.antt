@@ -1,6 +1,6 @@
 use Rattle.std.proofs.Common.{◌↔◌, refl, subst}
 use Rattle.std.specs.Prelude.{IsTrue}
-use Rattle.process_table.specs.Seen.{seen_rows}
+use Rattle.kernel_table.specs.Seen.{seen_rows}
 use Rattle.kernel_agreement.specs.Agreement.{AreReady}
 use Rattle.kernel_agreement.specs.declared.agreement.Running.{Running}
 use Rattle.kernel_agreement.proofs.agreement.workers_agree.Goals as goal

@@ -1,8 +1,8 @@
 use Rattle.std.proofs.Common.{◌+◌, List, ap, subst, ◌∙◌, refl}
-use Rattle.process_table.specs.declared.store.Store.{Store}
-use Rattle.process_table.specs.declared.process.Holder.{Holder}
-use Rattle.process_table.specs.Seen.{seen_rows}
-use Rattle.process_table.specs.Free.{AreFree}
+use Rattle.kernel_table.specs.declared.store.Store.{Store}
+use Rattle.kernel_table.specs.declared.process.Holder.{Holder}
+use Rattle.kernel_table.specs.Seen.{seen_rows}
+use Rattle.kernel_table.specs.Free.{AreFree}
 use Rattle.vocabulary.specs.Settings.{Settings}
 use Rattle.definitions.specs.Start.{booted}
 use Rattle.kernel_model.specs.Boot.{first_pairs}

@@ -1,5 +1,5 @@
 use Rattle.std.proofs.Common.{◌∙◌}
-use Rattle.process_table.specs.Seen.{seen}
+use Rattle.kernel_table.specs.Seen.{seen}
 use Rattle.kernel_model.proofs.ExitLoop.{table-turn, kept-turn, EditsRows-then}
 use Rattle.kernel_model.proofs.exits.exit_all.Goals as goal
 

@@ -1,7 +1,7 @@
 use Rattle.std.proofs.Common.{◌≡◌, drop}
 use Rattle.definitions.specs.Exits.{after_exits}
-use Rattle.process_table.specs.Seen.{seen}
-use Rattle.process_table.specs.Room.{EditsRows, IsKept}
+use Rattle.kernel_table.specs.Seen.{seen}
+use Rattle.kernel_table.specs.Room.{EditsRows, IsKept}
 use Rattle.kernel_model.proofs.exits.exit_all.Given as goal
 
 abbrev pub invariant-loop-name : goal.invariant-loop-name

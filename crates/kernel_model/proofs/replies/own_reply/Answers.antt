@@ -3,7 +3,7 @@ use Rattle.definitions.specs.Calls.{Stepped}
 use Rattle.definitions.specs.Tree.{reply_of}
 use Rattle.std.specs.List.{list_any}
 use Rattle.definitions.specs.Table.{is_active, is_worker}
-use Rattle.process_table.specs.Seen.{seen}
+use Rattle.kernel_table.specs.Seen.{seen}
 use Rattle.kernel_model.proofs.replies.own_reply.Goals as goal
 
 -- the reply to one of two answers

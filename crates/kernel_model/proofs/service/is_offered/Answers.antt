@@ -3,8 +3,8 @@ use Rattle.std.proofs.lemmas.Iterator.{YieldsList-from_slice}
 use Rattle.std.proofs.lemmas.Iterator.Search.{any_from_yields_List}
 use Rattle.definitions.specs.Table.{has_address}
 use Rattle.definitions.specs.Service.{is_live_with}
-use Rattle.process_table.specs.Seen.{seen_holder}
-use Rattle.process_table.proofs.Lists.{list_any-map}
+use Rattle.kernel_table.specs.Seen.{seen_holder}
+use Rattle.kernel_table.proofs.Lists.{list_any-map}
 use Rattle.kernel_model.proofs.service.is_offered.Goals as goal
 
 pub returns : goal.returns

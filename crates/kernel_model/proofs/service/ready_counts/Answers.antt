@@ -2,12 +2,12 @@ use Rattle.std.proofs.Common.{◌≡◌, ◌+◌, map, cond, sym, ap, ◌∙◌,
 use Rattle.std.specs.FinMap.{put}
 use Rattle.definitions.specs.Table.{Generation}
 use Rattle.definitions.specs.Service.{is_serving}
-use Rattle.service_counts.specs.declared.counts.Count.{Count}
-use Rattle.process_table.specs.Seen.{seen_holder}
-use Rattle.service_counts.specs.Services.{generation_cmp, count_at}
-use Rattle.service_counts.specs.Served.{seen_count}
+use Rattle.kernel_service.specs.declared.counts.Count.{Count}
+use Rattle.kernel_table.specs.Seen.{seen_holder}
+use Rattle.kernel_service.specs.Services.{generation_cmp, count_at}
+use Rattle.kernel_service.specs.Served.{seen_count}
 use Rattle.kernel_model.proofs.Serving.{counted-below, counted-more, count-one, same-itself}
-use Rattle.service_counts.proofs.Services.{counts-put}
+use Rattle.kernel_service.proofs.Services.{counts-put}
 use Rattle.kernel_model.proofs.service.ready_counts.Goals as goal
 use Rattle.kernel_model.proofs.service.ready_counts.Goals.{in-Some+in_ok-set_count, in_default}
 

@@ -1,9 +1,9 @@
 use Rattle.std.proofs.Common.{◌≡◌, ◌+◌, map, drop, count_by}
 use Rattle.definitions.specs.Table.{Generation}
 use Rattle.definitions.specs.Service.{is_serving}
-use Rattle.process_table.specs.Seen.{seen_rows}
-use Rattle.service_counts.specs.Services.{count_at, AreCounts}
-use Rattle.service_counts.specs.Served.{seen_count}
+use Rattle.kernel_table.specs.Seen.{seen_rows}
+use Rattle.kernel_service.specs.Services.{count_at, AreCounts}
+use Rattle.kernel_service.specs.Served.{seen_count}
 use Rattle.kernel_model.proofs.service.ready_counts.Given as goal
 
 abbrev pub invariant-loop-holder : goal.invariant-loop-holder

@@ -1,8 +1,8 @@
 use Rattle.std.proofs.Common.{inl, inr, map, sym, arith}
 use Rattle.std.proofs.lemmas.List.{length-map}
 use Rattle.definitions.specs.Table.{has_address}
-use Rattle.process_table.specs.Seen.{seen_rows, seen_holder}
-use Rattle.service_counts.specs.Served.{seen_count}
+use Rattle.kernel_table.specs.Seen.{seen_rows, seen_holder}
+use Rattle.kernel_service.specs.Served.{seen_count}
 use Rattle.kernel_model.proofs.Serving.{serving-below, service-kept, service-added}
 use Rattle.kernel_model.proofs.service.service_of.Goals as goal
 use Rattle.kernel_model.proofs.service.service_of.Goals.{then-not-has+then-is_offered+in_ok-counts+in_ok-insert, else-not-has, else-not-has-via-then-not-has+else-is_offered, else-not-has-via-else-not-has}

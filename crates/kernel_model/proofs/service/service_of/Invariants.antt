@@ -2,8 +2,8 @@ use Rattle.std.proofs.Common.{◌≡◌, cond, ◌&&◌, Some, None, take, bytes
 use Rattle.std.specs.List.{list_any}
 use Rattle.definitions.specs.Table.{Address, has_address}
 use Rattle.definitions.specs.Service.{is_live_with, is_serving}
-use Rattle.process_table.specs.Seen.{seen_rows}
-use Rattle.service_counts.specs.Services.{at}
+use Rattle.kernel_table.specs.Seen.{seen_rows}
+use Rattle.kernel_service.specs.Services.{at}
 use Rattle.kernel_model.proofs.service.service_of.Given as goal
 
 abbrev pub invariant-loop-address : goal.invariant-loop-address

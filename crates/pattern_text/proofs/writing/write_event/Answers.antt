@@ -1,6 +1,6 @@
 use Rattle.std.proofs.Common.{sym, subst, IfOk}
 use Rattle.std.specs.Prelude.{IfSome}
-use Rattle.event_pattern.specs.Pattern.{seen_moment}
+use Rattle.kernel_pattern.specs.Pattern.{seen_moment}
 use Rattle.pattern_text.specs.Written.{IsNoted}
 use Rattle.pattern_text.proofs.Noted.{event_there}
 use Rattle.pattern_text.proofs.writing.write_event.Goals as goal

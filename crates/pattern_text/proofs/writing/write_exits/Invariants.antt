@@ -1,7 +1,7 @@
 use Rattle.std.proofs.Common.{◌≡◌, ◌++◌, drop}
 use Rattle.std.specs.List.{AllByRecursion}
 use Rattle.call_text.specs.Ranges.{IsName}
-use Rattle.event_pattern.specs.Pattern.{AreNamesWithin}
+use Rattle.kernel_pattern.specs.Pattern.{AreNamesWithin}
 use Rattle.pattern_text.specs.PatternsWriting.{exits_text}
 use Rattle.pattern_text.proofs.writing.write_exits.Given as goal
 

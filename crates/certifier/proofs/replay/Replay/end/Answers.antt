@@ -3,7 +3,7 @@ use Rattle.std.specs.Option.{option_map}
 use Rattle.rollback_plan.specs.Cursors.{rest_of}
 use Rattle.vocabulary.specs.declared.calls.Answer.TheVariants.{MasterGone}
 use Rattle.definitions.specs.Path.{Report, Reports}
-use Rattle.plan_runner.specs.Walk.{trail_of, sides_in}
+use Rattle.plan_walk.specs.Walk.{trail_of, sides_in}
 use Rattle.certifier.proofs.Asking.{asked-left}
 use Rattle.certifier.proofs.replay.Replay.end.Goals as goal
 

@@ -6,8 +6,8 @@ use Rattle.definitions.specs.Exits.{after_exits}
 use Rattle.definitions.specs.Path.{Asks, advance}
 use Rattle.definitions.specs.Run.{Moment}
 use Rattle.kernel_model.specs.State.{State}
-use Rattle.plan_runner.specs.Walk.{trail_of}
-use Rattle.plan_runner.proofs.Paths.{asks_height}
+use Rattle.plan_walk.specs.Walk.{trail_of}
+use Rattle.plan_walk.proofs.Paths.{asks_height}
 use Rattle.explorer.proofs.Later.{later}
 use Rattle.explorer.proofs.position.Position.branch.Goals as goal
 

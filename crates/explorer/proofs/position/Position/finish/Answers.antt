@@ -3,7 +3,7 @@ use Rattle.definitions.specs.Path.{Reports}
 use Rattle.definitions.specs.Run.{quiet}
 use Rattle.definitions.specs.Target.{sides_of, text_handed}
 use Rattle.definitions.specs.Claims.{run_of}
-use Rattle.plan_runner.specs.Walk.{trail_of}
+use Rattle.plan_walk.specs.Walk.{trail_of}
 use Rattle.explorer.specs.declared.events.Tried.{Tried}
 use Rattle.explorer.specs.Events.{pattern_of}
 use Rattle.explorer.specs.Explored.{report_under}

@@ -3,8 +3,8 @@ use Rattle.vocabulary.specs.declared.calls.Answer.TheVariants.{MasterGone}
 use Rattle.vocabulary.specs.declared.reports.Entry.{Entry}
 use Rattle.definitions.specs.Path.{Asks, advance}
 use Rattle.definitions.specs.Run.{Moment}
-use Rattle.plan_runner.specs.Walk.{trail_of}
-use Rattle.plan_runner.proofs.Paths.{asks_height}
+use Rattle.plan_walk.specs.Walk.{trail_of}
+use Rattle.plan_walk.proofs.Paths.{asks_height}
 use Rattle.explorer.proofs.Later.{later}
 use Rattle.explorer.proofs.position.Position.make.Goals as goal
 

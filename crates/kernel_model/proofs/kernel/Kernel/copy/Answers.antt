@@ -1,6 +1,6 @@
 use Rattle.std.proofs.Common.{rules, sym, subst}
-use Rattle.process_table.specs.Room.{IsKept}
-use Rattle.process_table.proofs.Free.{KnowsFree-same}
+use Rattle.kernel_table.specs.Room.{IsKept}
+use Rattle.kernel_table.proofs.Free.{KnowsFree-same}
 use Rattle.kernel_model.proofs.kernel.Kernel.copy.Goals as goal
 
 pub invariant_of-result : goal.invariant_of-result

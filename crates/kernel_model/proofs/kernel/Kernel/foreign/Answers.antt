@@ -1,8 +1,8 @@
 use Rattle.std.proofs.Common.{◌≡◌, ◌+◌, sym, subst, ◌∙◌, rules}
 use Rattle.std.proofs.lemmas.Bool.{false≢true}
-use Rattle.process_table.specs.Room.{HasMemoryFor, IsKept}
+use Rattle.kernel_table.specs.Room.{HasMemoryFor, IsKept}
 use Rattle.kernel_model.proofs.Foreigners.{IsKept-foreign, sound-foreign}
-use Rattle.process_table.specs.Seen.{seen}
+use Rattle.kernel_table.specs.Seen.{seen}
 use Rattle.kernel_model.proofs.Room.{sound-grown}
 use Rattle.kernel_model.proofs.kernel.Kernel.foreign.Goals as goal
 

@@ -1,7 +1,7 @@
 use Rattle.std.proofs.Common.{ap, ◌∙◌, map}
 use Rattle.std.specs.Prelude.{slice_get}
 use Rattle.std.specs.Option.{option_map}
-use Rattle.process_table.specs.declared.process.Holder.{Holder}
+use Rattle.kernel_table.specs.declared.process.Holder.{Holder}
 use Rattle.kernel_model.specs.State.{State}
 use Rattle.kernel_model.specs.Readers.{row_of}
 use Rattle.kernel_model.proofs.Reading.{rows-again}

@@ -2,8 +2,8 @@ use Rattle.std.proofs.Common.{length, refl, ap, arith}
 use Rattle.std.proofs.lemmas.List.{length-map}
 use Rattle.std.proofs.lemmas.Result.{IfOk-weaker}
 use Rattle.definitions.specs.Service.{service, IsSame}
-use Rattle.service_counts.specs.Services.{at}
-use Rattle.process_table.specs.Seen.{seen, seen_rows, seen_holder}
+use Rattle.kernel_service.specs.Services.{at}
+use Rattle.kernel_table.specs.Seen.{seen, seen_rows, seen_holder}
 use Rattle.kernel_model.proofs.Serving.{IsWhole, length-ascending, service-whole}
 use Rattle.kernel_model.proofs.kernel.Kernel.service.Goals as goal
 

@@ -1,6 +1,6 @@
 use Rattle.std.proofs.Common.{sym, subst, rules}
-use Rattle.process_table.specs.Room.{IsKept}
-use Rattle.process_table.proofs.Free.{KnowsFree-same}
+use Rattle.kernel_table.specs.Room.{IsKept}
+use Rattle.kernel_table.proofs.Free.{KnowsFree-same}
 use Rattle.kernel_model.proofs.Room.{sound-grown}
 use Rattle.kernel_model.proofs.kernel.Kernel.set_room.Goals as goal
 

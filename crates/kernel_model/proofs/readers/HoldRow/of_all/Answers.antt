@@ -1,7 +1,7 @@
 use Rattle.std.proofs.Common.{◌+◌, length, sym, subst, ◌∙◌, arith}
-use Rattle.process_table.specs.declared.process.Holder.{Holder}
-use Rattle.process_table.specs.Seen.{seen_holder}
-use Rattle.process_table.specs.Room.{HasSockets}
+use Rattle.kernel_table.specs.declared.process.Holder.{Holder}
+use Rattle.kernel_table.specs.Seen.{seen_holder}
+use Rattle.kernel_table.specs.Room.{HasSockets}
 use Rattle.kernel_model.proofs.Reading.{sockets-at, hold-here, hold-later}
 use Rattle.kernel_model.proofs.readers.HoldRow.of_all.Goals as goal
 

@@ -1,6 +1,6 @@
 use Rattle.std.proofs.Common.{◌≡◌, drop}
 use Rattle.std.specs.Prelude.{slice_get}
-use Rattle.process_table.specs.Seen.{seen_rows}
+use Rattle.kernel_table.specs.Seen.{seen_rows}
 use Rattle.kernel_model.specs.Readers.{hold_rows}
 use Rattle.kernel_model.proofs.readers.HoldRow.of_all.Given as goal
 

@@ -1,9 +1,0 @@
-use Rattle.std.proofs.Common.{refl, ap, ◌∙◌, ◌+◌}
-use Rattle.listener_set.specs.Numbers.{with_number}
-use Rattle.crews.proofs.PostLists.{range-next}
-use Rattle.crews.proofs.posts.descriptors_from.Goals as goal
-
-pub loop-offset-preserved : goal.loop-offset-preserved
-loop-offset-preserved c =
-    c.add.ensures ∙ ap (λ fds. with_number fds (c.args.first + c.loop-offset.offset)) c.loop-offset.invariant
-    ∙ range-next c.args.first c.loop-offset.offset (c.args.first + c.loop-offset.offset) refl

@@ -1,0 +1,14 @@
+use Rattle.std.proofs.Common.{sym, ◌∙◌, rules, tests}
+use Rattle.std.proofs.lemmas.Iterator.Consumers.{YieldsList-from_first}
+use Rattle.std.proofs.lemmas.Iterator.Search.{any_from_yields_List}
+use Rattle.definitions.specs.Table.{is_at}
+use Rattle.kernel_table.specs.Holds.{seen_hold}
+use Rattle.kernel_table.proofs.Lists.{list_any-map}
+use Rattle.kernel_table.proofs.holds.has_address.Goals as goal
+
+pub returns : goal.returns
+returns c =
+    let addresses = c.args.addresses.now in
+    let test = is_at c.args.address.now in
+    any_from_yields_List (λ p. test (seen_hold addresses p)) _ _ _ c.any.ensures.ran (YieldsList-from_first (λ x. x) (λ s. s) c.args.holds.now c.iter.ensures.pairs) (λ x b q k. search (rules, tests))
+    ∙ sym (list_any-map test (seen_hold addresses) c.args.holds.now)

@@ -1,0 +1,16 @@
+use Rattle.std.proofs.Common.{refl, sym, subst}
+use Rattle.kernel_table.specs.Seen.{seen}
+use Rattle.kernel_table.specs.Free.{AreFree}
+use Rattle.kernel_table.proofs.Free.{AreFree-edited}
+use Rattle.kernel_table.proofs.store.Store.edit.Goals as goal
+
+pub returns-clause-room : goal.returns-clause-room
+returns-clause-room c =
+    let s = c.args.self.now in
+    let rows = rw c.deref.ensures.value at c.edit_all.ensures.rows in
+    record {
+      others = refl;
+      len = c.edit_all.ensures.len;
+      capacity = c.edit_all.ensures.capacity;
+      free = λ known. subst (AreFree s.free) (sym rows) (AreFree-edited s.free (seen s).rows known s.addresses.items c.args.edit.now);
+    }

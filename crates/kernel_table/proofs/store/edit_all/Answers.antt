@@ -1,0 +1,16 @@
+use Rattle.std.proofs.Common.{sym, ap, ◌∙◌, rules}
+use Rattle.definitions.specs.Exits.{kept_if}
+use Rattle.kernel_table.specs.Seen.{seen_holder}
+use Rattle.kernel_table.specs.Edits.{edited}
+use Rattle.kernel_table.proofs.Lists.{retained}
+use Rattle.kernel_table.proofs.store.edit_all.Goals as goal
+
+pub returns-clause-rows : goal.returns-clause-rows
+returns-clause-rows c =
+    let seen = seen_holder c.args.addresses.now in
+    let become = edited c.args.addresses.now c.args.edit.now in
+    retained _ seen become _
+    (λ x b t y k.
+    let met = k.called.met.0 in
+    (ap (λ h. kept_if b (seen h)) (sym k.leaves) ∙ met ∙ ap (λ h. become (seen h)) k.shows, search rules))
+    _ _ c.retain_mut.ensures.filtered

@@ -1,0 +1,11 @@
+-- Where a row is.
+use Rattle.std.specs.Prelude.{ℕ, ◌≡◌, ◌<◌, true, List, length, get_or}
+use Rattle.definitions.specs.Table.{Address, is_active, is_worker}
+use Rattle.kernel_table.specs.declared.process.Holder.{Holder}
+use Rattle.kernel_table.specs.declared.process.WorkerName.{WorkerName}
+use Rattle.kernel_table.specs.Seen.{seen_holder}
+
+-- At the place is the worker of the name, Starting or Ready.
+pub record IsActiveAt (holders : List Holder) (name : WorkerName) (place : ℕ) : Type 0 where
+  pub there : place < length holders
+  pub active : (addresses : List Address) (d : Holder) → is_worker is_active name.parent name.generation name.nr (seen_holder addresses (get_or holders place d)) ≡ true

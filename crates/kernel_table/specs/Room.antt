@@ -1,0 +1,67 @@
+-- Room for calls: memory and numbers.
+use Rattle.std.specs.Prelude.{ℕ, ◌≡◌, ◌+◌, ◌≤◌, ◌<◌, ◌^◌, ◌⊎◌, count_by, length, vec_len, vec_capacity}
+use Rattle.std.specs.List.{AllByRecursion}
+use Rattle.definitions.specs.Table.{Hold, Process, Table, holds_of}
+use Rattle.definitions.specs.Calls.{is_image}
+use Rattle.definitions.specs.Formed.{IsFormed}
+use Rattle.kernel_table.specs.declared.store.Store.{Store}
+use Rattle.kernel_table.specs.Seen.{seen}
+use Rattle.kernel_table.specs.Free.{KnowsFree}
+
+-- only rows change, and where one was found last; their number does not grow, and names that were free stay so
+pub record EditsRows (old new : Store) : Type 0 where
+  pub others : new ≡ record old { holders = new.holders; last = new.last }
+  pub len : vec_len new.holders ≤ vec_len old.holders
+  pub capacity : vec_capacity new.holders ≡ vec_capacity old.holders
+  pub free : KnowsFree old → KnowsFree new
+
+-- at most one row, one socket, one file and one number more, and no less memory
+pub record GrowsInSize (old new : Store) : Type 0 where
+  pub holders : vec_len new.holders ≤ vec_len old.holders + 1
+  pub holder_room : vec_capacity old.holders ≤ vec_capacity new.holders
+  pub addresses : vec_len new.addresses ≤ vec_len old.addresses + 1
+  pub address_room : vec_capacity old.addresses ≤ vec_capacity new.addresses
+  pub process_numbers : new.next_process ≤ old.next_process + 1
+  pub socket_numbers : length new.addresses.items ≤ length old.addresses.items + 1
+  pub files : vec_len new.files ≤ vec_len old.files + 1
+  pub file_room : vec_capacity old.files ≤ vec_capacity new.files
+
+-- that, and what names are free is known as before
+pub record GrowsByOne (old new : Store) : Type 0 where
+  pub sizes : GrowsInSize old new
+  pub free : KnowsFree old → KnowsFree new
+
+-- Memory for that many rows, sockets and files more.
+pub record HasMemoryFor (calls : ℕ) (s : Store) : Type 0 where
+  pub holders : vec_len s.holders + calls ≤ vec_capacity s.holders
+  pub addresses : vec_len s.addresses + calls ≤ vec_capacity s.addresses
+  pub files : vec_len s.files + calls ≤ vec_capacity s.files
+
+-- Fewer process or socket numbers are left than that many.
+abbrev pub LacksNumbers : Table → ℕ → Type 0
+LacksNumbers t calls = (2 ^ 32 < t.next_process + calls) ⊎ (2 ^ 32 < t.next_socket + calls)
+
+-- Memory and numbers for that many calls.
+pub record HasRoomFor (calls : ℕ) (s : Store) : Type 0 where
+  pub memory : HasMemoryFor calls s
+  pub process_numbers : s.next_process + calls ≤ 2 ^ 32
+  pub socket_numbers : length s.addresses.items + 1 + calls ≤ 2 ^ 32
+
+-- the sockets of a process are below the next one
+abbrev pub HasSockets : ℕ → Process → Type 0
+HasSockets next p = AllByRecursion (λ (h : Hold). (1 ≤ h.socket) × (h.socket < next)) (holds_of p)
+
+-- What every table of a kernel keeps: it is formed, an image has one master at most, its sockets have addresses, and no process may
+-- have more than 64 descriptors.
+pub record IsKept (t : Table) : Type 0 where
+  pub formed : IsFormed t
+  pub masters : (image : ℕ) → count_by (is_image image) t.rows ≤ 1
+  pub sockets : AllByRecursion (HasSockets t.next_socket) t.rows
+  pub first : 1 ≤ t.next_socket
+  pub descriptors : t.limits.descriptors ≤ 64
+
+-- A store with room for that many calls, whose table keeps what every table does.
+pub record IsSound (calls : ℕ) (s : Store) : Type 0 where
+  pub room : HasRoomFor calls s
+  pub kept : IsKept (seen s)
+  pub free : KnowsFree s

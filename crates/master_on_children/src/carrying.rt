@@ -1,0 +1,100 @@
+//! Targets carried out on real children.
+ghost use Rattle.std.specs.Prelude.{◌≡◌, IfOk, IfErr, IsErrOf, OnErr};
+ghost use Rattle.definitions.specs.Plans.{plan_tree};
+ghost use Rattle.definitions.specs.Target.{IsTarget, sides_of, text_handed};
+ghost use Rattle.rollback_plan.specs.Plans.{tree_of, note_of, sides_told, text_of};
+ghost use Rattle.child_edge.specs.State.{state_of};
+ghost use Rattle.word_runner.specs.Enactors.{HasCode};
+ghost use Rattle.master_on_children.specs.Carried.{HasPlan, IsUnplanned, IsCarriedOut};
+
+use child_edge::Edge;
+use child_family::Family;
+use plan_walk::{Transcript, execute};
+use rollback_plan::Plan;
+use service_state::Record;
+use std::alloc::Global;
+use std::marker::PhantomData;
+use target_planner::PlanRefusal;
+use vocabulary::Target;
+use word_runner::{CodeText, Enacted, Enactor, TargetRefusal};
+
+/// What carries targets out on the children of a family.
+#[derive(Clone, Copy)]
+pub struct OnChildren<F: Family + Drop> {
+    family: PhantomData<F>,
+}
+
+impl<F: Family + Drop> OnChildren<F> {
+    /// On the children of any edge over such a family.
+    pub fn new() -> OnChildren<F> {
+        OnChildren {
+            family: PhantomData,
+        }
+    }
+}
+
+impl<F: Family + Drop> Enactor for OnChildren<F> {
+    type World = Edge<F>;
+
+    ghost enacts = { λ _ first place r target done last. IsCarriedOut (F.told first.family) (F.told last.family) (state_of first.state) (state_of last.state) r target done };
+
+    ghost declines = { λ _ first place r target code. IsUnplanned r target code };
+
+    ghost wants_memory = { λ _ first place r target. HasPlan r target };
+
+    fn enact(
+        &self,
+        alloc: Global,
+        world: &mut Edge<F>,
+        _place: usize,
+        state: &Record,
+        target: &Target,
+    ) -> Result<Enacted, TargetRefusal> {
+        carry_out(alloc, world, state, target)
+    }
+}
+
+/// Carries a target out on the children of an edge: its plan is made, memory for all of its calls is taken, that of the
+/// edge last, and then the calls are made.
+fn carry_out<F: Family + Drop>(
+    alloc: Global,
+    edge: &mut Edge<F>,
+    state: &Record,
+    target: &Target,
+) -> Result<Enacted, TargetRefusal>
+    requires { IsTarget target.now }
+    ensures ok { IfOk result (IsCarriedOut (F.told edge.old.family) (F.told edge.new.family) (state_of edge.old.state) (state_of edge.new.state) state.now target.now) }
+    ensures declined { IfErr result (HasCode (IsUnplanned state.now target.now)) }
+    ensures memory { IsErrOf result TargetRefusal.Memory → HasPlan state.now target.now }
+    ensures err { OnErr result (edge.new ≡ edge.old) }
+{
+    let plan = plan_of(alloc, state, target)?;
+    let longest = plan.longest();
+    let Ok(mut log) = Transcript::with_room(alloc, longest) else {
+        return Err(TargetRefusal::Memory);
+    };
+    if edge.reserve(longest, plan.text()).is_err() {
+        return Err(TargetRefusal::Memory);
+    }
+    let report = execute(&plan, edge, &mut log);
+    let after = state.after(target, &report, state.pid);
+    Ok(Enacted { log, report, after })
+}
+
+/// The plan of a target. Where there is none, the code is the planner's.
+fn plan_of(alloc: Global, state: &Record, target: &Target) -> Result<Plan, TargetRefusal>
+    requires { IsTarget target.now }
+    ensures has_plan { IfOk result (λ _. HasPlan state.now target.now) }
+    ensures tree { IfOk result (λ plan. tree_of plan ≡ plan_tree state.now target.now) }
+    ensures note { IfOk result (λ plan. note_of plan ≡ state.now.note) }
+    ensures sides { IfOk result (λ plan. sides_told plan ≡ sides_of state.now target.now) }
+    ensures text { IfOk result (λ plan. text_of plan ≡ text_handed state.now target.now) }
+    ensures declined { IfErr result (HasCode (IsUnplanned state.now target.now)) }
+    ensures memory { IsErrOf result TargetRefusal.Memory → HasPlan state.now target.now }
+{
+    match target_planner::plan(alloc, state, target) {
+        Ok(plan) => Ok(plan),
+        Err(PlanRefusal::Memory) => Err(TargetRefusal::Memory),
+        Err(refusal) => Err(TargetRefusal::Coded(CodeText::unplanned(refusal))),
+    }
+}

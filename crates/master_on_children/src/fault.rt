@@ -1,0 +1,51 @@
+//! Why a supervisor ends before its input does.
+ghost use Rattle.std.specs.Prelude.{◌≡◌};
+ghost use Rattle.master_on_children.specs.Faults.{fault_code};
+
+use std::alloc::AllocError;
+use std::io::{Error as IoError, ErrorKind};
+use thiserror::Error;
+
+/// Why a supervisor ends before its input does.
+#[derive(Clone, Copy, Debug, PartialEq, Eq, Error)]
+pub enum SupervisorFault {
+    /// Memory was refused.
+    #[error("memory")]
+    Memory,
+    /// A line could not be read, a block could not be written, or the pid file could not be written.
+    #[error("file")]
+    File,
+}
+
+impl SupervisorFault {
+    /// The word that is printed of the fault.
+    pub fn code(&self) -> &'static str
+        ensures { result.now ≡ fault_code self.now }
+    {
+        match self {
+            SupervisorFault::Memory => "memory",
+            SupervisorFault::File => "file",
+        }
+    }
+}
+
+impl From<AllocError> for SupervisorFault {
+    ghost use Rattle.std.specs.Prelude.{◌≡◌};
+    ghost use Rattle.master_on_children.specs.declared.fault.SupervisorFault.TheVariants.{Memory};
+
+    ghost from_gives = { λ _ fault. fault ≡ Memory };
+
+    fn from(_error: AllocError) -> SupervisorFault {
+        SupervisorFault::Memory
+    }
+}
+
+/// Want of memory, which may fail a read or a write too, or else a fault of a file.
+impl From<IoError> for SupervisorFault {
+    fn from(error: IoError) -> SupervisorFault {
+        match error.kind() {
+            ErrorKind::OutOfMemory => SupervisorFault::Memory,
+            _ => SupervisorFault::File,
+        }
+    }
+}

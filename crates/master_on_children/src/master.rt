@@ -1,0 +1,167 @@
+//! A master over real children, and what lines come to.
+ghost use Rattle.std.specs.Prelude.{◌≤◌, ◌≡◌, ◌∷◌, [], Some, None, IfOk};
+ghost use Rattle.std.specs.Option.{option_copied};
+ghost use Rattle.definitions.specs.Record.{started};
+ghost use Rattle.child_edge.specs.State.{state_of};
+ghost use Rattle.child_edge.specs.Edge.{begun_by};
+ghost use Rattle.master_on_children.specs.Lines.{tick_words, AreActed, IsAsked, IsTicked, IsRenewed, WordComesTo, LineComesTo, EndComesTo};
+
+use crate::said::Said;
+use crate::{NextRefusal, NextSettings, OnChildren, SupervisorStart};
+use child_edge::Edge;
+use child_family::Family;
+use control_words::{Word, WordRefusal};
+use listener_set::{Numbers, WORKER_LIMIT};
+use service_state::Record;
+use std::alloc::{AllocError, Global};
+use vocabulary::Settings;
+use word_runner::{Block, Body, Standing, run_words};
+use worker_table::WorkerTable;
+
+/// A master over real children.
+#[derive(Drop)]
+pub(crate) struct Master<F: Family + Drop> {
+    alloc: Global,
+    /// Where it stands: the edge to its children, what it knows of itself, and its workers.
+    standing: Standing<Edge<F>>,
+}
+
+impl<F: Family + Drop> Master<F> {
+    /// A master that starts: as many workers are wanted as its settings say, and none is ready.
+    pub(crate) fn begin(
+        alloc: Global,
+        family: F,
+        start: &SupervisorStart,
+        workers: WorkerTable,
+    ) -> Master<F>
+        requires { 1 ≤ start.now.pid }
+        ensures family { result.standing.world.family ≡ family }
+        ensures state { state_of result.standing.world.state ≡ begun_by (started start.now.settings start.now.settings.workers [] start.now.pid) }
+        ensures record { result.standing.record ≡ Some (started start.now.settings start.now.settings.workers [] start.now.pid) }
+        ensures workers { result.standing.workers ≡ workers }
+    {
+        let settings = &start.settings;
+        let record = Record::start(settings, settings.workers, &Numbers::none(), start.pid);
+        let standing = Standing {
+            world: Edge::begin(alloc, family, &record),
+            record: Some(record),
+            workers,
+        };
+        Master { alloc, standing }
+    }
+
+    /// The family of its children.
+    pub(crate) fn into_family(self) -> F
+        ensures { result ≡ self.standing.world.family }
+    {
+        let Master { alloc: _, standing } = self;
+        let Standing {
+            world,
+            record: _,
+            workers: _,
+        } = standing;
+        world.into_family()
+    }
+
+    /// Carries words out one after another.
+    fn act(&mut self, words: &[Word], settings: Option<&Settings>) -> Said
+        ensures { AreActed (option_copied settings.entry) words.now self.old.standing result self.new.standing }
+    {
+        let mut blocks = Vec::new(self.alloc);
+        let done = run_words(
+            self.alloc,
+            &OnChildren::new(),
+            &mut self.standing,
+            words,
+            settings,
+            &mut blocks,
+        );
+        Said { blocks, done }
+    }
+
+    /// What a line comes to that was read as a word or refused.
+    pub(crate) fn hear<N: NextSettings>(
+        &mut self,
+        line: Result<Word, WordRefusal>,
+        next: &mut N,
+    ) -> Said
+        ensures { LineComesTo N.reads line next.old self.old.standing result next.new self.new.standing }
+    {
+        match line {
+            Ok(word) => self.obey(word, next),
+            Err(refusal) => Said::unread(self.alloc, refusal),
+        }
+    }
+
+    /// What a word comes to.
+    fn obey<N: NextSettings>(&mut self, word: Word, next: &mut N) -> Said
+        ensures { WordComesTo N.reads word next.old self.old.standing result next.new self.new.standing }
+    {
+        match word {
+            Word::Tick { now } => self.tick(now),
+            Word::Hup | Word::Usr2 | Word::Usr2Attended => self.renew(word, next),
+            _ => self.act(&[word], None),
+        }
+    }
+
+    /// What a tick comes to. Where a master runs, its workers are asked first, and each beat that is heard is a word of
+    /// its own before the tick.
+    pub(crate) fn tick(&mut self, now: u64) -> Said
+        ensures { IsTicked self.old.standing.record now self.old.standing result self.new.standing }
+    {
+        if self.standing.record.is_none() {
+            return self.act(&[Word::Tick { now }], None);
+        }
+        self.ask_all(now)
+    }
+
+    /// Asks the workers at a tick, and acts on what is heard and on the tick.
+    fn ask_all(&mut self, now: u64) -> Said
+        ensures { IsAsked now self.old.standing result self.new.standing }
+    {
+        let heard = self.standing.world.tick(now);
+        match tick_words(self.alloc, &heard, now) {
+            Ok(words) => self.act(&words, None),
+            Err(AllocError) => Said::short(self.alloc),
+        }
+    }
+
+    /// What a word comes to that takes the next settings up. Where a master runs they are read anew.
+    fn renew<N: NextSettings>(&mut self, word: Word, next: &mut N) -> Said
+        ensures { IsRenewed N.reads self.old.standing.record word next.old self.old.standing result next.new self.new.standing }
+    {
+        if self.standing.record.is_none() {
+            return self.act(&[word], None);
+        }
+        match next.read() {
+            Ok(settings) => self.act(&[word], Some(&settings)),
+            Err(NextRefusal::Unreadable) => self.act(&[word], None),
+            Err(NextRefusal::Refused(code)) => {
+                Said::block(self.alloc, Block::Heard(word, Body::Refused(code)))
+            }
+            Err(NextRefusal::Memory) => Said::short(self.alloc),
+        }
+    }
+
+    /// What the end of the input comes to: a master that runs quits.
+    pub(crate) fn end(&mut self) -> Said
+        ensures { EndComesTo self.old.standing.record self.old.standing result self.new.standing }
+    {
+        match self.standing.record {
+            Some(_) => self.act(&[Word::Quit], None),
+            None => Said::nothing(self.alloc),
+        }
+    }
+}
+
+/// The words of a tick: a beat for each worker that was heard, upwards in number, and then the tick.
+fn tick_words(alloc: Global, heard: &Numbers, now: u64) -> Result<Vec<Word>, AllocError>
+    ensures { IfOk result (λ words. words.items ≡ tick_words heard.now now) }
+{
+    let mut words = Vec::new(alloc);
+    for nr in heard.iter() {
+        words.push(Word::Beat { nr, now })?;
+    }
+    words.push(Word::Tick { now })?;
+    Ok(words)
+}

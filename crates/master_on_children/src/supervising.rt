@@ -1,0 +1,210 @@
+//! Control words from an input, with their blocks on an output.
+ghost use Rattle.std.specs.Prelude.{◌≡◌, ◌≤◌, List, Result, IfOk, IsOk, IsTrue, OnOk};
+ghost use Rattle.std.specs.Io.KnownBytes.{Appends};
+ghost use Rattle.control_words.specs.declared.refusal.WordRefusal.{WordRefusal as Refusal};
+ghost use Rattle.control_words.specs.declared.words.Word.{Word as TheWord};
+ghost use Rattle.transcript.specs.Block.{block_text, transcript_text};
+ghost use Rattle.word_runner.specs.Status.{status_after, gravest};
+ghost use Rattle.word_runner.specs.declared.block.Block.{Block as Done};
+ghost use Rattle.master_on_children.specs.Lines.{line_read, AreHeard, IsRun};
+ghost use Rattle.master_on_children.specs.Starts.{IsWritten, IsSupervised};
+
+use crate::master::Master;
+use crate::said::Said;
+use crate::{NextSettings, Summary, SupervisorFault};
+use child_family::{Family, Heard, pid_text};
+use child_processes::LineReader;
+use control_words::{Word, WordRefusal};
+use log::{Log, info};
+use plain_text::Line;
+use std::alloc::Global;
+use std::io::{Read, Write};
+use transcript::write_transcript;
+use vocabulary::Settings;
+use word_runner::{Block, graver, status_of};
+use worker_table::WorkerTable;
+
+/// What a supervisor begins with.
+#[derive(Clone, Copy)]
+pub struct SupervisorStart {
+    pub settings: Settings,
+    /// The own process number, at least 1. It is that of the record throughout.
+    pub pid: u32,
+}
+
+/// What comes of a supervisor.
+#[derive(Drop)]
+pub struct Supervised<F: Family + Drop> {
+    /// The family, with the children that it still has: those of a new master, and after a fault all that there were.
+    pub family: F,
+    /// The exit status: 1 where a word was refused, unread or lost, else 4 for a Degraded, else 3 for a RolledBack, else
+    /// 0.
+    pub status: Result<u8, SupervisorFault>,
+}
+
+/// Carries the control words of the input's lines out on the children of a family.
+///
+/// It writes the pid file, where there is a path for it, and acts on the word `tick 0` without any worker. Then it acts
+/// on each line, whose blocks are written and flushed before the next line is read, and logged in a line each. A line
+/// that is no word is a block of its own. At the end of the input a master that runs is told to quit.
+///
+/// Faults: want of memory, a line that cannot be read, a block or a pid file that cannot be written. It ends with the
+/// first; what was written before stays written.
+pub fn supervise_on<F: Family + Drop, N: NextSettings, I: Read + Drop, O: Write, L: Log>(
+    alloc: Global,
+    mut family: F,
+    start: &SupervisorStart,
+    next: &mut N,
+    input: I,
+    output: &mut O,
+    log: &L,
+) -> Supervised<F>
+    requires { 1 ≤ start.now.pid }
+    ensures { IfOk result.status (λ status. (blocks : List Done)
+        × IsSupervised ⟦<F as Family>⟧ N.reads start.now.settings start.now.pid family next.old blocks next.new result.family
+        × Appends (O.contents output.old) (O.contents output.new) (transcript_text blocks)
+        × (status ≡ gravest blocks)) }
+{
+    let Ok(workers) = WorkerTable::new(alloc) else {
+        return Supervised {
+            family,
+            status: Err(SupervisorFault::Memory),
+        };
+    };
+    if !write_pid(&mut family, start) {
+        return Supervised {
+            family,
+            status: Err(SupervisorFault::File),
+        };
+    }
+    let mut master = Master::begin(alloc, family, start, workers);
+    let status = follow(alloc, &mut master, next, input, output, log);
+    Supervised {
+        family: master.into_family(),
+        status,
+    }
+}
+
+/// Writes the pid file, where there is a path for it; false where it could not be written.
+fn write_pid<F: Family>(family: &mut F, start: &SupervisorStart) -> bool
+    ensures { IsTrue result → IsWritten start.now.settings.pid start.now.pid (F.told family.old) (F.told family.new) }
+{
+    match &start.settings.pid {
+        None => true,
+        Some(path) => family.write_file(path, pid_text(start.pid).bytes()),
+    }
+}
+
+/// Acts on the first tick, on each line and on their end, and gives the status of all blocks.
+fn follow<F: Family + Drop, N: NextSettings, I: Read + Drop, O: Write, L: Log>(
+    alloc: Global,
+    master: &mut Master<F>,
+    next: &mut N,
+    input: I,
+    output: &mut O,
+    log: &L,
+) -> Result<u8, SupervisorFault>
+    ensures { IfOk result (λ status. (blocks : List Done)
+        × IsRun N.reads next.old master.old.standing blocks next.new master.new.standing
+        × Appends (O.contents output.old) (O.contents output.new) (transcript_text blocks)
+        × (status ≡ gravest blocks)) }
+{
+    let ticked = master.tick(0);
+    let first = tell(alloc, 0, &ticked, output, log)?;
+    let status = hear_all(alloc, first, master, next, input, output, log)?;
+    let ended = master.end();
+    let gravest = tell(alloc, status, &ended, output, log)?;
+    Ok(gravest)
+}
+
+/// Acts on each line of the input, and gives the status of the blocks so far and of its own.
+fn hear_all<F: Family + Drop, N: NextSettings, I: Read + Drop, O: Write, L: Log>(
+    alloc: Global,
+    before: u8,
+    master: &mut Master<F>,
+    next: &mut N,
+    input: I,
+    output: &mut O,
+    log: &L,
+) -> Result<u8, SupervisorFault>
+    ensures { IfOk result (λ status. (lines : List (Result TheWord Refusal)) × (blocks : List Done)
+        × AreHeard N.reads lines next.old master.old.standing blocks next.new master.new.standing
+        × Appends (O.contents output.old) (O.contents output.new) (transcript_text blocks)
+        × (status ≡ status_after before blocks)) }
+{
+    let mut status = before;
+    let mut lines = LineReader::new(input);
+    let mut line = Line::new();
+    for _ in 0..u64::MAX {
+        let heard = lines.next_line(&mut line)?;
+        let Some(read) = line_read(heard, line.bytes()) else {
+            return Ok(status);
+        };
+        let said = master.hear(read, next);
+        status = tell(alloc, status, &said, output, log)?;
+    }
+    Ok(status)
+}
+
+/// What the input gave, as a line that is read: one of more than 4,096 bytes is no word. At the end there is none.
+fn line_read(heard: Heard, line: &[u8]) -> Option<Result<Word, WordRefusal>>
+    ensures { result ≡ line_read heard line.now }
+{
+    match heard {
+        Heard::Line => Some(control_words::read(line)),
+        Heard::TooLong => Some(Err(WordRefusal::Unknown)),
+        Heard::Ended => None,
+    }
+}
+
+/// Tells what was said, and gives the status then. Want of memory comes behind the blocks that there are.
+fn tell<O: Write, L: Log>(
+    alloc: Global,
+    before: u8,
+    said: &Said,
+    output: &mut O,
+    log: &L,
+) -> Result<u8, SupervisorFault>
+    ensures told { OnOk result (Appends (O.contents output.old) (O.contents output.new) (transcript_text said.now.blocks.items)) }
+    ensures status { IfOk result (λ status. status ≡ status_after before said.now.blocks.items) }
+    ensures whole { OnOk result (IsOk said.now.done) }
+{
+    let status = tell_all(alloc, before, &said.blocks, output, log)?;
+    said.done?;
+    Ok(status)
+}
+
+/// Tells blocks one after another, and gives the status then.
+fn tell_all<O: Write, L: Log>(
+    alloc: Global,
+    before: u8,
+    blocks: &[Block],
+    output: &mut O,
+    log: &L,
+) -> Result<u8, SupervisorFault>
+    ensures told { OnOk result (Appends (O.contents output.old) (O.contents output.new) (transcript_text blocks.now)) }
+    ensures status { IfOk result (λ status. status ≡ status_after before blocks.now) }
+{
+    let mut status = before;
+    for block in blocks {
+        tell_block(alloc, block, output, log)?;
+        status = graver(status, status_of(block));
+    }
+    Ok(status)
+}
+
+/// Writes a block in one write, flushes it, and logs it in a line.
+fn tell_block<O: Write, L: Log>(
+    alloc: Global,
+    block: &Block,
+    output: &mut O,
+    log: &L,
+) -> Result<(), SupervisorFault>
+    ensures { OnOk result (Appends (O.contents output.old) (O.contents output.new) (block_text block.now)) }
+{
+    let text = write_transcript(alloc, block)?;
+    output.write_all(&text)?;
+    output.flush()?;
+    info!(log; target: "prefork", "{}", Summary(block));
+    Ok(())
+}

@@ -1,0 +1,27 @@
+//! `certify`: blocks, compared with plans and kernel.
+ghost use Rattle.std.specs.Prelude.{IfOk, IfErr};
+ghost use Rattle.master_on_kernel.specs.Certificates.{AreExplained, IsOfBlock};
+
+use crate::rehearsal::Rehearsal;
+use faults::Fault;
+use pattern_text::write_patterns;
+use std::alloc::Global;
+use word_runner::Block;
+
+/// Compares blocks one after another, each from where the ones before it left things, and gives the text of the
+/// patterns that explain them, one for each. The first that is none of the master's is the fault, by its number from 1.
+pub fn certify_all(
+    alloc: Global,
+    rehearsal: &mut Rehearsal,
+    blocks: &[Block],
+) -> Result<Vec<u8>, Fault>
+    ensures ok { IfOk result (λ text. AreExplained blocks.now rehearsal.old text.items rehearsal.new) }
+    ensures err { IfErr result (IsOfBlock blocks.now rehearsal.old) }
+{
+    let patterns = match rehearsal.certify(alloc, blocks) {
+        Ok(patterns) => patterns,
+        Err(mismatch) => return Err(Fault::of_block(mismatch.number, mismatch.why)),
+    };
+    let text = write_patterns(alloc, patterns.as_slice())?;
+    Ok(text)
+}

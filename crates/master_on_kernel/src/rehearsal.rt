@@ -1,0 +1,221 @@
+//! A master on the modelled kernel, word by word.
+ghost use Rattle.std.specs.Prelude.{◌≡◌, ◌≤◌, ◌+◌, ◌++◌, ◌∷◌, [], ℕ, List, length, Some, OnOk, OnErr, IfOk, IfErr};
+ghost use Rattle.listener_set.specs.AddressText.{reading};
+ghost use Rattle.definitions.specs.Run.{Moment};
+ghost use Rattle.table_text.specs.TableText.{IsTextOf};
+ghost use Rattle.word_runner.specs.declared.block.Block.{Block as Done};
+ghost use Rattle.certifier.specs.Blocks.{AreTaken, StopsAtBlock};
+ghost use Rattle.faults.specs.Faults.{IsDue};
+ghost use Rattle.master_on_kernel.specs.Starts.{IsStarted, limits, record_at};
+ghost use Rattle.definitions.specs.Start.{booted};
+ghost use Rattle.faults.specs.declared.fault.Fault.TheVariants.{Memory};
+ghost use Rattle.definitions.specs.Target.{IsTarget};
+ghost use Rattle.master_on_kernel.specs.Explorations.{IsExplored};
+ghost use Rattle.master_on_kernel.specs.Rehearsals.{Held, IsOfHeld, IsRehearsed, IsShownOf, IsShownBy};
+
+use crate::exploring::{Explored, counted};
+use crate::start::{Start, silent_workers};
+use certifier::{BlockMismatch, Mismatch, certify_beginning, certify_blocks};
+use control_words::Word;
+use explorer::{Audience, Findings};
+use faults::Fault;
+use kernel_model::{Kernel, Pattern, WIDEST_LIMITS};
+use listener_set::{Address, WORKER_LIMIT};
+use plan_executor::run_words;
+use plan_walk::Transcript;
+use service_state::Record;
+use std::alloc::{AllocError, Global};
+use table_text::table_text;
+use vocabulary::{Settings, Target};
+use word_runner::{Asked, Block, Body, Standing, asked_by, note};
+
+/// A running master on the modelled kernel.
+#[derive(Drop)]
+pub struct Rehearsal {
+    /// Where it stands: the kernel that it runs on, what it knows of itself, and its workers.
+    pub standing: Standing<Kernel>,
+    /// The settings that HUP and USR2 go over to.
+    pub next: Settings,
+}
+
+/// The kernel of a start with some settings, where so many workers run.
+fn booted(alloc: Global, settings: &Settings, running: u32) -> Result<Kernel, Fault>
+    requires { running ≤ WORKER_LIMIT }
+    ensures ok { IfOk result (λ kernel. kernel ≡ record { table = booted settings.now.listeners settings.now.groups running settings.now.pid limits; room = 0 }) }
+    ensures err { IfErr result (λ fault. fault ≡ Memory) }
+{
+    // So the limits allow it.
+    let addresses = settings.listeners.len();
+    prove!(addresses <= 64);
+    let kernel = Kernel::boot(alloc, settings, running, WIDEST_LIMITS)?;
+    Ok(kernel)
+}
+
+impl Rehearsal {
+    /// Boots a master with its ready workers.
+    #[inline(never)]
+    pub fn start(alloc: Global, start: &Start) -> Result<Rehearsal, Fault>
+        ensures ok { IfOk result (IsStarted start.now) }
+        ensures err { IfErr result (IsDue (record_at start.now)) }
+    {
+        let record = start.record()?;
+        let kernel = booted(alloc, &start.settings, start.running)?;
+        let workers = silent_workers(alloc, &record)?;
+        let standing = Standing {
+            world: kernel,
+            record: Some(record),
+            workers,
+        };
+        Ok(Rehearsal {
+            standing,
+            next: start.next,
+        })
+    }
+
+    /// Lets a foreign process hold an address.
+    pub fn hold(&mut self, address: &str) -> Result<(), Fault>
+        ensures ok { OnOk result (Held address.now self.old self.new) }
+        ensures err { IfErr result (IsOfHeld (reading address.now) self.old.standing.world) }
+        ensures kept { OnErr result (self.new ≡ self.old) }
+    {
+        let address = Address::read(address.as_bytes()).map_err(Fault::Address)?;
+        self.standing.world.foreign(&address)?;
+        Ok(())
+    }
+
+    /// Carries words out one after another, the i-th under the i-th pattern, and puts the block of
+    /// each behind `blocks`. Where memory is wanted, the words before are done.
+    pub fn act(
+        &mut self,
+        alloc: Global,
+        words: &[Word],
+        patterns: &[Pattern],
+        blocks: &mut Vec<Block>,
+    ) -> Result<(), AllocError>
+        ensures done { (done : List Done)
+            × (blocks.new.items ≡ blocks.old.items ++ done)
+            × IsRehearsed patterns.now words.now self.old done self.new }
+        ensures all { OnOk result (length blocks.new.items ≡ length blocks.old.items + length words.now) }
+    {
+        let next = self.next;
+        run_words(
+            alloc,
+            &mut self.standing,
+            words,
+            patterns,
+            Some(&next),
+            blocks,
+        )
+    }
+
+    /// Compares blocks one after another, each from where the ones before it left things, and gives the patterns that
+    /// explain them, one for each. The first that is none of the master's is the mismatch.
+    pub fn certify(
+        &mut self,
+        alloc: Global,
+        blocks: &[Block],
+    ) -> Result<Vec<Pattern>, BlockMismatch>
+        ensures ok { IfOk result (λ patterns. AreTaken (Some self.old.next) blocks.now self.old.standing patterns.items self.new.standing) }
+        ensures err { IfErr result (λ e. StopsAtBlock (Some self.old.next) blocks.now self.old.standing e.number e.why) }
+        ensures next { self.new.next ≡ self.old.next }
+    {
+        let settings = self.next;
+        certify_blocks(alloc, &mut self.standing, Some(&settings), blocks)
+    }
+
+    /// What a word comes to where its first calls are those of a log, as far as they begin a run of the master: the
+    /// block of that run. It is carried out.
+    pub fn go_on(
+        &mut self,
+        alloc: Global,
+        word: Word,
+        begun: &Transcript,
+    ) -> Result<Option<Block>, AllocError>
+        ensures { IfOk result (λ found. (block : Done) × (pattern : List (ℕ × Moment))
+            × (found ≡ Some block)
+            × IsShownBy self.old word begun.now.entries pattern
+            × IsRehearsed (pattern ∷ []) (word ∷ []) self.old (block ∷ []) self.new) }
+    {
+        let pattern = self.pattern_of(alloc, word, begun)?;
+        let mut blocks = Vec::new(alloc);
+        self.act(alloc, &[word], &[pattern], &mut blocks)?;
+        Ok(blocks.pop())
+    }
+
+    /// The pattern that the first calls of a word show; a quiet one where they begin no run of the master.
+    fn pattern_of(
+        &self,
+        alloc: Global,
+        word: Word,
+        begun: &Transcript,
+    ) -> Result<Pattern, AllocError>
+        ensures { IfOk result (IsShownBy self.now word begun.now.entries) }
+    {
+        let Some(record) = self.standing.record else {
+            return Ok(Pattern::new(alloc));
+        };
+        let Asked::Act(target) = asked_by(word, &record, &self.standing.workers, Some(&self.next))
+        else {
+            return Ok(Pattern::new(alloc));
+        };
+        shown_of(alloc, &self.standing.world, &record, &target, begun)
+    }
+
+    /// Counts how a word ends under no event and under each event that this run meets and, where pairs are asked for, under
+    /// each pair of these. The audience hears of each run.
+    pub fn explore<A: Audience>(
+        &mut self,
+        alloc: Global,
+        word: Word,
+        pairs: bool,
+        found: &mut Findings,
+        audience: &mut A,
+    ) -> Result<Explored, AllocError>
+        ensures { IfOk result (IsExplored self.old word pairs found.old.tally found.new.tally) }
+    {
+        let Some(record) = self.standing.record else {
+            return Ok(Explored::Told(Body::Nothing));
+        };
+        match asked_by(word, &record, &self.standing.workers, Some(&self.next)) {
+            Asked::Act(target) => counted(
+                alloc,
+                &self.standing.world,
+                &record,
+                &target,
+                pairs,
+                found,
+                audience,
+            ),
+            Asked::Beat(heard) => Ok(Explored::Told(note(&mut self.standing.workers, heard))),
+            Asked::Nothing => Ok(Explored::Told(Body::Nothing)),
+            Asked::Refused(code) => Ok(Explored::Told(Body::Refused(code))),
+        }
+    }
+
+    /// The table of processes, files and the service.
+    pub fn state(&self) -> Result<Vec<u8>, AllocError>
+        ensures { IfOk result (λ text. IsTextOf self.now.standing.world.table text.items) }
+    {
+        table_text(&self.standing.world)
+    }
+}
+
+/// The pattern that calls show which begin a run of a target; a quiet one where they begin none.
+fn shown_of(
+    alloc: Global,
+    kernel: &Kernel,
+    state: &Record,
+    target: &Target,
+    begun: &Transcript,
+) -> Result<Pattern, AllocError>
+    requires { IsTarget target.now }
+    ensures { IfOk result (IsShownOf kernel.now.table state.now target.now begun.now.entries) }
+{
+    match certify_beginning(alloc, kernel, state, target, begun) {
+        Ok(pattern) => Ok(pattern),
+        Err(Mismatch::Memory) => Err(AllocError),
+        Err(Mismatch::Refused | Mismatch::Step(_) | Mismatch::Short | Mismatch::Report) => {
+            Ok(Pattern::new(alloc))
+        }
+    }
+}

@@ -1,8 +1,0 @@
-use Rattle.std.proofs.Common.{take}
-use Rattle.std.specs.Fmt.{HasWritten, IsPlainFormatter}
-use Rattle.supervisor.specs.Summaries.{later_counts}
-use Rattle.supervisor.proofs.summary.LaterTextDisplay.fmt.Given as goal
-
-abbrev pub invariant-loop-count : goal.invariant-loop-count
-invariant-loop-count g l =
-    IsPlainFormatter l.initial.f → HasWritten g.W.Write.write_str_gives l.initial.f (later_counts (take l.count-index l.self.0.now)) l.f

@@ -1,8 +1,0 @@
--- Faults of a supervisor, as they are printed.
-use Rattle.std.specs.Prelude.{ℕ, List, codes}
-use Rattle.supervisor.specs.declared.fault.SupervisorFault.{SupervisorFault}
-use Rattle.supervisor.specs.declared.fault.SupervisorFault.TheVariants.{Memory, File}
-
-abbrev pub fault_code : SupervisorFault → List ℕ
-fault_code Memory = codes "memory"
-fault_code File = codes "file"
