@@ -5,7 +5,9 @@
 ghost use Rattle.std.specs.Prelude.{◌≤◌};
 ghost use Rattle.definitions.specs.Target.{IsTarget};
 
-use listener_set::{Groups, Numbers};
+use listener_set::{Numbers};
+
+use worker_groups::{Groups};
 use service_state::Record;
 use std::time::{Duration, Instant};
 use vocabulary::{Settings, Target};

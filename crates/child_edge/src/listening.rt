@@ -10,8 +10,8 @@ use crate::each::say_each;
 use crate::state::EdgeState;
 use crate::who::Who;
 use child_family::{Family, close_line};
-use handover_text::Listeners;
 use listener_set::{Address, ListenerSet, MOST_DESCRIPTORS};
+use master_listeners::Listeners;
 use vocabulary::{Answer, Listener};
 
 /// The descriptor of an address; 0 where it is not listened on.

@@ -13,8 +13,8 @@ use crate::state::EdgeState;
 use crate::who::Who;
 use crate::worker::{Stage, Worker};
 use child_family::{Family, Heard, Role, StartFault, worker_line};
-use handover_text::Listeners;
 use listener_set::{DescriptorSet, Generation};
+use master_listeners::Listeners;
 use plain_text::Line;
 use vocabulary::Answer;
 

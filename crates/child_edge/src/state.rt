@@ -1,6 +1,6 @@
 //! What an edge knows.
 use crate::worker::Worker;
-use handover_text::Listeners;
+use master_listeners::Listeners;
 
 /// A child that is a master.
 #[derive(Clone, Copy, Debug)]

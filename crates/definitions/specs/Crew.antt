@@ -6,8 +6,8 @@ use Rattle.listener_set.specs.AddressList.{has}
 use Rattle.vocabulary.specs.declared.table.Listener.{Listener}
 use Rattle.definitions.specs.Table.{Address, Hold}
 use Rattle.definitions.specs.Calls.{Call, Fork, shared}
-pub use Rattle.listener_set.specs.declared.groups.Group.{Group}
-pub use Rattle.listener_set.specs.Groups.{group_of}
+pub use Rattle.worker_groups.specs.declared.groups.Group.{Group}
+pub use Rattle.worker_groups.specs.Groups.{group_of}
 pub use Rattle.worker_groups.specs.Crews.{Posts, Crew, fds_in, fds_of, shortfalls_of}
 
 ---- What a worker is given

@@ -7,8 +7,8 @@ use Rattle.plain_text.specs.Cuts.{after_prefix}
 use Rattle.listener_set.specs.AddressText.{check}
 use Rattle.listener_set.specs.declared.address.AddressRefusal.{AddressRefusal}
 use Rattle.listener_set.specs.PathText.{is_path}
-use Rattle.listener_set.specs.declared.groups.Group.{Group}
-use Rattle.listener_set.specs.Groups.{workers_in, group_refused}
+use Rattle.worker_groups.specs.declared.groups.Group.{Group}
+use Rattle.worker_groups.specs.Groups.{workers_in, group_refused}
 use Rattle.definitions.specs.Table.{Address, FilePath, Generation}
 use Rattle.vocabulary.specs.declared.table.Listener.{Listener}
 pub use Rattle.vocabulary.specs.declared.handover.HandoverVersion.{HandoverVersion}

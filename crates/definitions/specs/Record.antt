@@ -4,7 +4,7 @@ use Rattle.std.specs.List.{list_any, AllByRecursion}
 use Rattle.listener_set.specs.Numbers.{is_in}
 pub use Rattle.vocabulary.specs.declared.table.Listener.{Listener}
 use Rattle.vocabulary.specs.Settings.{Settings, HasSuffixRoom}
-use Rattle.listener_set.specs.Groups.{AreGroups}
+use Rattle.worker_groups.specs.Groups.{AreGroups}
 use Rattle.worker_groups.specs.Crews.{first_posts}
 use Rattle.definitions.specs.Crew.{Posts, Crew, share, Layout, layout_at}
 use Rattle.definitions.specs.Table.{Address, FilePath, Generation, Hold, Starting, Ready, Draining, Exited, Process, Master, Worker, Foreign, File, Table, is_master, is_ready, is_worker, live_master, owner_at}

@@ -12,9 +12,9 @@ use Rattle.std.proofs.lemmas.Map.Steps.{le-length_from_below}
 use Rattle.plain_text.specs.NumberText.{number_of, number_within}
 use Rattle.listener_set.specs.PathText.{is_path}
 use Rattle.listener_set.specs.AddressList.{has}
-use Rattle.listener_set.specs.declared.groups.Group.{Group}
-use Rattle.listener_set.specs.Groups.{AreGroups, addresses_in, workers_in, group_refused}
-use Rattle.listener_set.proofs.GroupShares.{Fits, fits-where, none-where, groups-more}
+use Rattle.worker_groups.specs.declared.groups.Group.{Group}
+use Rattle.worker_groups.specs.Groups.{AreGroups, addresses_in, workers_in, group_refused}
+use Rattle.worker_groups.proofs.GroupShares.{Fits, fits-where, none-where, groups-more}
 use Rattle.vocabulary.specs.Settings.{HasSuffixRoom}
 use Rattle.vocabulary.specs.declared.handover.HandoverRefusal.{HandoverRefusal}
 use Rattle.vocabulary.specs.declared.handover.HandoverRefusal.TheVariants as refusal

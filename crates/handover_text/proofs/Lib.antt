@@ -1,7 +1,4 @@
-pub mod Additions
 pub mod Cuts
-pub mod Insertion
-pub mod Listed
 pub mod LinesRead
 pub mod SoFar
 pub mod Spelled

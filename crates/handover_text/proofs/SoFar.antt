@@ -22,13 +22,13 @@ use Rattle.plain_text.specs.Cuts.{after_prefix}
 use Rattle.vocabulary.specs.Settings.{HasSuffixRoom}
 use Rattle.handover_text.specs.Reader.{read_to}
 use Rattle.handover_text.specs.Ranges.{IsHandover, IsTold, IsUnasked, IsBegun, IsAsked, AreParts, IsReadTo, lines_to, is_path_if}
-use Rattle.listener_set.specs.declared.groups.Group.{Group}
-use Rattle.listener_set.specs.declared.groups.GroupRefusal.{GroupRefusal}
-use Rattle.listener_set.specs.Groups.{AreGroups, addresses_in, workers_in, group_refused}
-use Rattle.listener_set.proofs.GroupShares.{fits-where, groups-more}
+use Rattle.worker_groups.specs.declared.groups.Group.{Group}
+use Rattle.worker_groups.specs.declared.groups.GroupRefusal.{GroupRefusal}
+use Rattle.worker_groups.specs.Groups.{AreGroups, addresses_in, workers_in, group_refused}
+use Rattle.worker_groups.proofs.GroupShares.{fits-where, groups-more}
 use Rattle.std.proofs.lemmas.Option.{none-some, same_Some}
 use Rattle.std.proofs.lemmas.List.Sums.{sum_by_push}
-use Rattle.handover_text.proofs.Listed.{AreListedFrom-push, length-listed}
+use Rattle.master_listeners.proofs.Listed.{AreListedFrom-push, length-listed}
 use Rattle.handover_text.proofs.LinesRead.{number_most, listener_bounds}
 
 -- a fact of what is read, where it is not refused

@@ -21,8 +21,8 @@ use Rattle.definitions.specs.After.{listens_on}
 use Rattle.definitions.specs.Handover.{Handover, HandoverVersion, One, Two, Reached, AtVersion, AtOldPid, AtGeneration, AtFirstListener, AtListeners, AtWants, AtGroup, AtPidFile, AtEnd, Over, Read, nothing_read, line_of, version_line, listener_line, want_line, workers_line, group_line, pid_file_line, group_lines, wanted_lines, spelled, is_space, is_address, is_above, listener_if, listener_read, one_more, joined, with_old_pid, with_generation, with_listener, with_want, with_groups, with_workers, can_begin, with_group, with_pid_file, read_wanted, read_behind, read_pid_file, read_end, read_if, read_line, then_read, read_rest, read_pieces, reading}
 use Rattle.plain_text.specs.Cuts.{after_prefix}
 use Rattle.definitions.specs.Table.{Address}
-use Rattle.listener_set.specs.declared.groups.Group.{Group}
-use Rattle.listener_set.specs.Groups.{addresses_in, workers_in}
+use Rattle.worker_groups.specs.declared.groups.Group.{Group}
+use Rattle.worker_groups.specs.Groups.{addresses_in, workers_in}
 use Rattle.handover_text.specs.Ranges.{IsTold, IsReadTo, IsSpelling}
 use Rattle.handover_text.proofs.SoFar.{IfRead, line_read, nothing_in_range, joined-some}
 

@@ -24,10 +24,10 @@ use Rattle.vocabulary.specs.declared.table.Listener.{Listener}
 use Rattle.definitions.specs.After.{listens_on}
 use Rattle.definitions.specs.Handover.{Handover, HandoverVersion, One, Two, Reached, AtVersion, AtOldPid, AtGeneration, AtFirstListener, AtListeners, AtWants, AtGroup, AtPidFile, AtEnd, Over, nothing_read, line_of, version_line, listener_line, want_line, workers_line, group_line, pid_file_line, group_lines, wanted_lines, spelled, passes, is_space, is_address, is_above, listener_if, listener_read, one_more, joined, with_old_pid, with_generation, with_listener, with_want, with_groups, with_workers, can_begin, with_group, read_behind, read_pid_file, read_if, read_line, then_read, read_pieces, reading}
 use Rattle.plain_text.specs.Cuts.{after_prefix}
-use Rattle.handover_text.specs.Listeners.{AreListedFrom}
-use Rattle.listener_set.specs.declared.groups.Group.{Group}
-use Rattle.listener_set.specs.Groups.{AreGroups, addresses_in, workers_in}
-use Rattle.listener_set.proofs.GroupShares.{Fits, none-where}
+use Rattle.master_listeners.specs.Listeners.{AreListedFrom}
+use Rattle.worker_groups.specs.declared.groups.Group.{Group}
+use Rattle.worker_groups.specs.Groups.{AreGroups, addresses_in, workers_in}
+use Rattle.worker_groups.proofs.GroupShares.{Fits, none-where}
 use Rattle.handover_text.specs.Ranges.{IsHandover, IsTold, is_path_if}
 use Rattle.handover_text.proofs.SoFar.{is_newline, pieces_more}
 use Rattle.handover_text.proofs.Spelled.{old_pid_line, generation_line}

@@ -1,4 +1,3 @@
-pub mod Listeners
 pub mod Ranges
 pub mod Reader
 pub mod Faults

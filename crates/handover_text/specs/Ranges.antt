@@ -3,12 +3,12 @@ use Rattle.std.specs.Prelude.{ℕ, ◌≡◌, ◌+◌, ◌≤◌, ◌<◌, true,
 use Rattle.std.specs.List.{list_all}
 use Rattle.listener_set.specs.AddressList.{AreDistinct}
 use Rattle.listener_set.specs.PathText.{is_path}
-use Rattle.listener_set.specs.declared.groups.Group.{Group}
-use Rattle.listener_set.specs.Groups.{AreGroups, addresses_in, workers_in}
+use Rattle.worker_groups.specs.declared.groups.Group.{Group}
+use Rattle.worker_groups.specs.Groups.{AreGroups, addresses_in, workers_in}
 use Rattle.vocabulary.specs.Settings.{HasSuffixRoom}
 use Rattle.definitions.specs.Table.{FilePath}
 use Rattle.definitions.specs.Handover.{Handover, HandoverVersion, One, Two, spelled, Reached, AtVersion, AtOldPid, AtGeneration, AtFirstListener, AtListeners, AtWants, AtGroup, AtPidFile, AtEnd, Over, is_address}
-use Rattle.handover_text.specs.Listeners.{AreListed}
+use Rattle.master_listeners.specs.Listeners.{AreListed}
 
 -- a process number of at least 1, at least one listener, groups that take all addresses that are wanted, and a pid file's path of
 -- at most 100 bytes

@@ -3,7 +3,8 @@ ghost use Rattle.std.specs.Prelude.{◌≡◌, []};
 ghost use Rattle.definitions.specs.Handover.{joined, can_begin};
 ghost use Rattle.handover_text.specs.Reader.{groups_in};
 
-use listener_set::{Group, Groups, MOST_GROUPS, MOST_LISTENERS, WORKER_LIMIT};
+use listener_set::{MOST_LISTENERS, WORKER_LIMIT};
+use worker_groups::{Group, Groups, MOST_GROUPS};
 
 /// The first group, where it keeps the rules of groups.
 fn first(group: Group) -> Option<Groups>

@@ -1,7 +1,8 @@
 //! What an old master hands over to a new one.
-use crate::Listeners;
-use listener_set::{FilePath, Generation, Groups, ListenerSet};
+use listener_set::{FilePath, Generation, ListenerSet};
+use master_listeners::Listeners;
 use std::marker::Model;
+use worker_groups::Groups;
 
 /// What an old master tells a new one: what it has, and what is wanted of the new one. Contracts see the record of these
 /// values. It has at least one listener, and its groups take all the addresses that are wanted.

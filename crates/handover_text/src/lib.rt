@@ -5,13 +5,11 @@ mod fields;
 mod groups;
 mod handover;
 mod laws;
-mod listeners;
 mod reader;
 mod reading;
 mod writing;
 
 pub use handover::Handover;
 pub use laws::handovers_have_one_text;
-pub use listeners::Listeners;
 pub use reading::read;
 pub use writing::write;

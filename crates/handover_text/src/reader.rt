@@ -5,13 +5,15 @@ ghost use Rattle.definitions.specs.Handover.{AtVersion, AtOldPid, AtGeneration, 
 ghost use Rattle.handover_text.specs.Ranges.{IsReadTo};
 ghost use Rattle.handover_text.specs.Reader.{read_to, place_of};
 
+use crate::Handover;
 use crate::fields::{read_listener, read_workers};
 use crate::groups::{can_begin, joined};
-use crate::{Handover, Listeners};
-use listener_set::{Address, FilePath, Generation, Group, Groups, ListenerSet, MOST_LISTENERS};
+use listener_set::{Address, FilePath, Generation, ListenerSet, MOST_LISTENERS};
+use master_listeners::Listeners;
 use plain_text::{after_prefix, around, read_count, read_number};
 use std::marker::Model;
 use vocabulary::{HandoverRefusal, HandoverVersion};
+use worker_groups::{Group, Groups};
 
 /// Which lines can come next.
 #[derive(Clone, Copy, Debug)]

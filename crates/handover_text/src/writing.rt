@@ -1,19 +1,21 @@
 //! Writing a handover.
 ghost use Rattle.std.specs.Prelude.{◌≡◌, ◌≤◌, ◌++◌, ◌∷◌, true, Ok, length, codes, IfOk};
-ghost use Rattle.listener_set.specs.Groups.{AreGroups, addresses_in};
+ghost use Rattle.worker_groups.specs.Groups.{AreGroups, addresses_in};
 ghost use Rattle.std.specs.Fmt.{decimal};
 ghost use Rattle.std.specs.List.{flat_map, list_all};
 ghost use Rattle.listener_set.specs.AddressList.{AreDistinct};
 ghost use Rattle.vocabulary.specs.Settings.{HasSuffixRoom};
 ghost use Rattle.definitions.specs.Handover.{line_of, listener_line, want_line, group_line, group_lines, pid_file_line, spelling, reading, is_address};
-ghost use Rattle.handover_text.specs.Listeners.{AreListed};
+ghost use Rattle.master_listeners.specs.Listeners.{AreListed};
 ghost use Rattle.handover_text.specs.Ranges.{is_path_if};
 
-use crate::{Handover, Listeners};
-use listener_set::{Address, FilePath, Generation, Group, Groups, ListenerSet};
+use crate::Handover;
+use listener_set::{Address, FilePath, Generation, ListenerSet};
+use master_listeners::Listeners;
 use plain_text::write_number;
 use std::alloc::{AllocError, Global};
 use vocabulary::Listener;
+use worker_groups::{Group, Groups};
 
 /// A name, with a space behind it, and a number.
 fn put_named(text: &mut Vec<u8>, name: &[u8], number: u32) -> Result<(), AllocError>

@@ -5,7 +5,6 @@ pub mod NumberSearch
 pub mod DescriptorSlots
 pub mod DescriptorPairs
 pub mod DescriptorWords
-pub mod GroupShares
 pub mod AddressLaws
 pub mod AddressGrammar
 pub mod PaddedLists

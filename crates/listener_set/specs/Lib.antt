@@ -12,6 +12,5 @@ pub mod DescriptorSets
 pub mod DescriptorSetLemmas
 pub mod Codes
 pub mod GenerationText
-pub mod Groups
 pub mod Slots
 pub mod SlotLemmas

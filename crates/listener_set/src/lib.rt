@@ -1,4 +1,4 @@
-//! Addresses, listeners, descriptors, worker numbers, groups of workers and generations: values of fixed size, whose
+//! Addresses, listeners, descriptors, worker numbers and generations: values of fixed size, whose
 //! calls take no memory.
 #![tactic(auto)]
 
@@ -7,7 +7,6 @@ mod descriptor_set;
 mod descriptors;
 mod file_path;
 mod generation;
-mod groups;
 mod listeners;
 mod numbers;
 mod short_text;
@@ -18,6 +17,5 @@ pub use descriptor_set::DescriptorSet;
 pub use descriptors::{DescriptorTable, FIRST_DESCRIPTOR, Full, MOST_DESCRIPTORS, Pairs};
 pub use file_path::{BadFile, FILE_PATH_BYTES, FilePath};
 pub use generation::Generation;
-pub use groups::{Group, GroupRefusal, Groups, MOST_GROUPS};
 pub use listeners::{ListenerRefusal, ListenerSet, MOST_LISTENERS};
 pub use numbers::{Members, Numbers, WORKER_LIMIT};

@@ -2,7 +2,7 @@
 -- that it breaks.
 use Rattle.std.specs.Prelude.{◌≡◌, ◌≢◌, ◌⊎◌, ℕ, nat_eq, nat_lt, nat_le, Bool, ◌&&◌, not, List, [], length, IsUtf8, Option, Some, None, Result, Ok, Err, if◌then◌else◌}
 use Rattle.std.specs.List.{list_all, list_any}
-use Rattle.listener_set.specs.Groups.{workers_in}
+use Rattle.worker_groups.specs.Groups.{workers_in}
 use Rattle.listener_set.specs.PathText.{path_reading}
 use Rattle.listener_set.specs.declared.file_path.BadFile.{BadFile}
 use Rattle.vocabulary.specs.Settings.{Settings}

@@ -1,8 +1,8 @@
 -- The groups of a configuration.
 use Rattle.std.specs.Prelude.{ℕ, ◌+◌, ◌-◌, nat_lt, Bool, ◌||◌, List, [], ◌∷◌, ◌++◌, length, is_some, Result, Ok, Err, if◌then◌else◌}
 use Rattle.std.specs.List.{list_all}
-use Rattle.listener_set.specs.declared.groups.Group.{Group}
-use Rattle.listener_set.specs.Groups.{workers_in}
+use Rattle.worker_groups.specs.declared.groups.Group.{Group}
+use Rattle.worker_groups.specs.Groups.{workers_in}
 use Rattle.toml.specs.Data.{Data, array, table, Items, Members, as_table}
 use Rattle.master_config.specs.Names.{is_of_group}
 use Rattle.master_config.specs.Values.{◌>>=◌, value_at, has_only, number_at, data_of}

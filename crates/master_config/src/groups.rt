@@ -9,8 +9,8 @@ use crate::listening::listeners_behind;
 use crate::pools::Pools;
 use crate::values::{has_only_of_group, number_at, value_at};
 use crate::{ConfigRefusal, GroupFault, Key};
-use listener_set::MOST_GROUPS;
 use toml::value::{Array, Table, Value};
+use worker_groups::MOST_GROUPS;
 
 fn add_values(pools: &mut Pools, table: &Table) -> Result<(), ConfigRefusal>
     requires { length pools.old.groups < MOST_GROUPS }

@@ -1,14 +1,15 @@
 //! What the groups of a configuration come to.
 ghost use Rattle.std.specs.Prelude.{◌≡◌, ◌+◌, ◌<◌, ◌≤◌, ◌++◌, ◌∷◌, [], None, Ok, Err, OnOk, IfErr, length, unwrap_or};
-ghost use Rattle.listener_set.specs.Groups.{workers_in, group_refused};
+ghost use Rattle.worker_groups.specs.Groups.{workers_in, group_refused};
 ghost use Rattle.master_config.specs.Groups.{no_pools, one_pool, with_group};
 ghost use Rattle.master_config.specs.Configuration.{settings_with};
 
 use crate::rest::Rest;
 use crate::{ConfigRefusal, Key};
-use listener_set::{Group, Groups, ListenerSet, WORKER_LIMIT};
+use listener_set::{ListenerSet, WORKER_LIMIT};
 use std::marker::Model;
 use vocabulary::Settings;
+use worker_groups::{Group, Groups};
 
 /// What groups come to: the listeners of all, in order, and how many each has, with its workers.
 #[derive(Drop)]
@@ -19,7 +20,7 @@ pub struct Pools {
 
 impl Model for Pools {
     ghost use Rattle.std.specs.Prelude.{◌≡◌, [], length, unwrap_or};
-    ghost use Rattle.listener_set.specs.Groups.{addresses_in};
+    ghost use Rattle.worker_groups.specs.Groups.{addresses_in};
     ghost use Rattle.master_config.specs.Groups.{Pools as Read};
 
     ghost Value = { Read };

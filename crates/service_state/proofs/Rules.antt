@@ -5,7 +5,7 @@ use Rattle.std.specs.List.{AllByRecursion}
 use Rattle.std.proofs.lemmas.Bool.{false≢true, and_parts, leb-true}
 use Rattle.std.proofs.lemmas.Bool.Decides.{leb_tells}
 use Rattle.listener_set.specs.Numbers.{first_from}
-use Rattle.listener_set.specs.Groups.{AreGroups}
+use Rattle.worker_groups.specs.Groups.{AreGroups}
 use Rattle.vocabulary.specs.Settings.{HasSuffixRoom}
 use Rattle.definitions.specs.Record.{IsRecord}
 use Rattle.vocabulary.specs.declared.reports.Report.{Report}

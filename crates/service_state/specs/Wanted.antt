@@ -1,6 +1,6 @@
 -- The counts of the service that a target wants.
 use Rattle.std.specs.Prelude.{ℕ, zero, suc, Bool, Option, Some, None}
-use Rattle.listener_set.specs.Groups.{group_of}
+use Rattle.worker_groups.specs.Groups.{group_of}
 use Rattle.definitions.specs.Table.{Address, Generation}
 use Rattle.definitions.specs.Crew.{Layout}
 

@@ -6,7 +6,7 @@ mod record;
 mod setup;
 mod wanting;
 
-pub use handover_text::Listeners;
+pub use master_listeners::Listeners;
 pub use record::Record;
 pub use setup::{next_config, next_image};
 pub use vocabulary::{Outcome, PidNote, Report, Settings, Side, Target};

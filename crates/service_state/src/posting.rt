@@ -7,8 +7,8 @@ ghost use Rattle.definitions.specs.After.{lacks_generation, upgraded, listeners_
 
 use crate::record::Record;
 use crate::setup::{next_config, next_image};
-use handover_text::Listeners;
 use listener_set::{Address, Generation};
+use master_listeners::Listeners;
 use vocabulary::{Settings, Sides, Target};
 use worker_groups::{Crew, Posts};
 

@@ -6,8 +6,8 @@ ghost use Rattle.definitions.specs.Record.{started};
 ghost use Rattle.definitions.specs.After.{setup_of, renewed, upgraded, next_image, target_setup, old_setup, setup_after, recorded, keeps_rules, record_from, record_after};
 
 use crate::setup::{Setup, next_config, next_image};
-use handover_text::Listeners;
 use listener_set::{FilePath, Generation, Numbers, WORKER_LIMIT};
+use master_listeners::Listeners;
 use std::marker::Model;
 use vocabulary::{Outcome, PidNote, Report, Settings, Side, Target};
 use worker_groups::Posts;

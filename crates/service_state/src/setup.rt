@@ -2,8 +2,8 @@
 ghost use Rattle.std.specs.Prelude.{◌≡◌};
 ghost use Rattle.definitions.specs.After.{next_number, next_config, next_image, renewed};
 
-use handover_text::Listeners;
 use listener_set::Generation;
+use master_listeners::Listeners;
 use std::marker::Model;
 use vocabulary::Settings;
 use worker_groups::Posts;

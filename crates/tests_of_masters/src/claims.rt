@@ -1,12 +1,12 @@
 //! Claims of masters that are true of a kernel, and such as are not.
 use kernel_agreement::{Running, agrees_with};
 use kernel_model::{Kernel, Moment, WIDEST_LIMITS};
-use listener_set::{Address, FilePath, Generation, Group, Groups, ListenerSet, Numbers};
+use listener_set::{Address, FilePath, Generation, ListenerSet, Numbers};
 use service_state::Record;
 use std::alloc::Global;
 use std::test::Fail;
 use vocabulary::{Actor, Call, Listener, PidNote, Settings};
-use worker_groups::{Crew, Posts};
+use worker_groups::{Crew, Group, Groups, Posts};
 
 const FIRST: Generation = Generation {
     image: 1,

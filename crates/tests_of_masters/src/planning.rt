@@ -2,14 +2,14 @@
 ghost use Rattle.definitions.specs.Target.{IsTarget};
 
 use crate::records::{in_two_groups, settings_of, with_workers};
-use listener_set::{FilePath, Generation, Groups, Numbers};
+use listener_set::{FilePath, Generation, Numbers};
 use reload_planner::{PlanRefusal, Scene, plan, plan_reopen, plan_stop, plan_workers};
 use rollback_plan::{MOST_STEPS, Next, Place, Plan, PlanEdge, Step};
 use service_state::Record;
 use std::alloc::Global;
 use std::test::Fail;
 use vocabulary::{Actor, Call, Order, Outcome, PidNote, Reply, Report, Settings, Sides, Target};
-use worker_groups::{Crew, Posts};
+use worker_groups::{Crew, Groups, Posts};
 
 const GENERATION: Generation = Generation {
     image: 1,

@@ -1,10 +1,11 @@
 //! What a master knows of itself after plans.
 ghost use Rattle.std.specs.Prelude.{◌≤◌};
 
-use listener_set::{Address, FilePath, Group, Groups, ListenerSet, Numbers};
+use listener_set::{Address, FilePath, ListenerSet, Numbers};
 use service_state::{Listeners, Record, want};
 use std::test::Fail;
 use vocabulary::{Outcome, PidNote, Report, Settings, Target};
+use worker_groups::{Group, Groups};
 
 /// The settings with one group of so many workers.
 pub(crate) fn with_workers(settings: &Settings, workers: u32) -> Settings

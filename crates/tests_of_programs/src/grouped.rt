@@ -1,7 +1,7 @@
 //! A master whose workers are in two groups: what it writes, read back and held against a modelled kernel.
 use certifier::certify_blocks;
 use kernel_model::{Kernel, WIDEST_LIMITS};
-use listener_set::{Address, Group, Groups, ListenerSet, Numbers};
+use listener_set::{Address, ListenerSet, Numbers};
 use log::sink::Discard;
 use master_on_children::{NextRefusal, NextSettings, SupervisorStart, supervise_on};
 use service_state::Record;
@@ -11,6 +11,7 @@ use tests_of_children::Recorded;
 use transcript::{read_transcripts, write_transcript};
 use vocabulary::{Outcome, Settings, Side};
 use word_runner::{Block, Body, Standing};
+use worker_groups::{Group, Groups};
 use worker_table::WorkerTable;
 
 /// Settings with an address for each of two groups, which have one worker each.

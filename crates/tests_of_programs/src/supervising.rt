@@ -1,7 +1,7 @@
 //! Control words of an input, carried out on children in memory.
 use certifier::certify_blocks;
 use kernel_model::{Kernel, WIDEST_LIMITS};
-use listener_set::{FilePath, Groups, Numbers};
+use listener_set::{FilePath, Numbers};
 use log::sink::{Discard, Memory};
 use log::{LevelFilter, Logged};
 use master_on_children::{
@@ -15,6 +15,7 @@ use tests_of_children::{Asked, Recorded};
 use transcript::read_transcripts;
 use vocabulary::{Outcome, Settings};
 use word_runner::{Block, Body, CodeText, Standing};
+use worker_groups::Groups;
 use worker_table::WorkerTable;
 
 /// What a reading of the next settings comes to.

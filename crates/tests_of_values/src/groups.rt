@@ -1,7 +1,7 @@
 //! Groups of workers, what their workers are given, and what they lack.
-use listener_set::{DescriptorSet, Group, GroupRefusal, Groups, Numbers};
+use listener_set::{DescriptorSet, Numbers};
 use std::test::Fail;
-use worker_groups::{Posts, Shortfalls};
+use worker_groups::{Group, GroupRefusal, Groups, Posts, Shortfalls};
 
 #[test]
 fn a_number_falls_to_the_group_that_takes_it(rt: HostRuntime) -> Result<(), Fail> {

@@ -1,10 +1,12 @@
 //! The texts of handovers.
-use handover_text::{Handover, Listeners, handovers_have_one_text, read, write};
-use listener_set::{Address, DescriptorSet, FilePath, Generation, Group, Groups, ListenerSet};
+use handover_text::{Handover, handovers_have_one_text, read, write};
+use listener_set::{Address, DescriptorSet, FilePath, Generation, ListenerSet};
+use master_listeners::Listeners;
 use std::alloc::{AllocError, Global};
 use std::process::Abort;
 use std::test::Fail;
 use vocabulary::HandoverRefusal;
+use worker_groups::{Group, Groups};
 
 /// What the old master of an upgrade hands over, line by line.
 const TOLD: [&str; 8] = [

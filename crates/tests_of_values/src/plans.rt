@@ -1,11 +1,11 @@
 //! Plans that are drawn up by hand, as they are numbered, written and drawn.
-use listener_set::{Generation, Group, Groups, Numbers};
+use listener_set::{Generation, Numbers};
 use plan_text::{write_graph, write_plan};
 use rollback_plan::{Draft, DraftRefusal, MOST_STEPS, Next, Plan, PlanEdge};
 use std::alloc::Global;
 use std::test::Fail;
 use vocabulary::{Actor, Call, End, Order, PidNote, Reply, Side, Sides};
-use worker_groups::{Crew, Posts};
+use worker_groups::{Crew, Group, Groups, Posts};
 
 const FIRST: Generation = Generation {
     image: 1,

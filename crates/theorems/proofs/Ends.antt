@@ -4,7 +4,7 @@ use Rattle.std.specs.Prelude.{nat_le, is_some, option_map, option_and_then, map,
 use Rattle.std.specs.List.{AllByRecursion, list_any}
 use Rattle.std.proofs.lemmas.Bool.Decides.{nat_tests}
 use Rattle.std.proofs.lemmas.List.Sums.{length-filter}
-use Rattle.listener_set.specs.Groups.{AreGroups, group_of}
+use Rattle.worker_groups.specs.Groups.{AreGroups, group_of}
 use Rattle.listener_set.specs.Numbers.{is_in, lacks, first_from}
 use Rattle.listener_set.specs.declared.generation.Generation.{Generation}
 use Rattle.vocabulary.specs.declared.table.Limits.{Limits}

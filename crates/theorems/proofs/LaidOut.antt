@@ -6,7 +6,7 @@ use Rattle.std.proofs.lemmas.Bool.Decides.{nat_tests}
 use Rattle.std.proofs.lemmas.Option.{same_Some, none-some}
 use Rattle.listener_set.specs.declared.generation.Generation.{Generation}
 use Rattle.listener_set.specs.AddressList.{has}
-use Rattle.listener_set.specs.Groups.{addresses_in}
+use Rattle.worker_groups.specs.Groups.{addresses_in}
 use Rattle.listener_set.specs.Numbers.{RisesFrom, is_in}
 use Rattle.vocabulary.specs.Settings.{Settings}
 use Rattle.vocabulary.specs.declared.table.Listener.{Listener}

@@ -5,7 +5,7 @@ use Rattle.std.specs.List.{AllByRecursion}
 use Rattle.std.proofs.Math.Seq.{take-length}
 use Rattle.std.proofs.lemmas.Bool.Decides.{nat_tests}
 use Rattle.listener_set.specs.AddressList.{has}
-use Rattle.listener_set.specs.Groups.{addresses_in}
+use Rattle.worker_groups.specs.Groups.{addresses_in}
 use Rattle.listener_set.specs.Numbers.{RisesFrom, is_in}
 use Rattle.vocabulary.specs.declared.table.Listener.{Listener}
 use Rattle.definitions.specs.Table.{Address, Hold, has_address}

@@ -7,8 +7,8 @@ use Rattle.std.proofs.lemmas.List.Sums.{length-filter, sum_by_push, sum-map}
 use Rattle.std.proofs.lemmas.Bool.Decides.{nat_tests}
 use Rattle.listener_set.specs.AddressList.{has}
 use Rattle.listener_set.specs.Numbers.{numbers_below, is_in}
-use Rattle.listener_set.specs.declared.groups.Group.{Group}
-use Rattle.listener_set.specs.Groups.{part_of, group_of}
+use Rattle.worker_groups.specs.declared.groups.Group.{Group}
+use Rattle.worker_groups.specs.Groups.{part_of, group_of}
 use Rattle.vocabulary.specs.declared.table.Listener.{Listener}
 use Rattle.worker_groups.specs.Crews.{Posts, fds_of, shortfalls_of}
 use Rattle.definitions.specs.Table.{Address, Hold, is_at, has_address}

@@ -1,6 +1,6 @@
 -- What a master knows of its groups is what its configuration says of them.
 use Rattle.std.specs.Prelude.{ℕ, ◌≡◌, ◌<◌, List, Some, map, length, ⊤}
-use Rattle.listener_set.specs.Groups.{addresses_in}
+use Rattle.worker_groups.specs.Groups.{addresses_in}
 use Rattle.listener_set.specs.Numbers.{RisesFrom}
 use Rattle.vocabulary.specs.Settings.{Settings}
 use Rattle.vocabulary.specs.declared.plans.Side.TheVariants as side

@@ -1,7 +1,7 @@
 -- What a configuration says.
 use Rattle.std.specs.Prelude.{◌≡◌, ℕ, ◌≤◌, List, [], ◌∷◌, Option, Some, None, length, codes}
-use Rattle.listener_set.specs.declared.groups.Group.{Group}
-use Rattle.listener_set.specs.Groups.{addresses_in, workers_in, AreGroups}
+use Rattle.worker_groups.specs.declared.groups.Group.{Group}
+use Rattle.worker_groups.specs.Groups.{addresses_in, workers_in, AreGroups}
 
 pub record Settings : Type 0 where
   pub listeners : List (List ℕ)

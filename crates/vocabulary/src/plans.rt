@@ -1,7 +1,7 @@
 //! The words of a plan.
 use crate::Call;
-use listener_set::{Generation, Groups};
-use worker_groups::Crew;
+use listener_set::Generation;
+use worker_groups::{Crew, Groups};
 
 /// The service that ran before, or the one that the plan is to reach.
 #[derive(Clone, Copy, Debug, PartialEq, Eq)]

@@ -2,8 +2,9 @@
 ghost use Rattle.std.specs.Prelude.{◌≡◌};
 ghost use Rattle.vocabulary.specs.Settings.{plain_settings};
 
-use listener_set::{Address, FilePath, Groups, ListenerSet};
+use listener_set::{Address, FilePath, ListenerSet};
 use std::marker::Model;
+use worker_groups::Groups;
 
 /// What a configuration says. Contracts see the record of these values, each within its range.
 #[derive(Clone, Copy, Debug)]

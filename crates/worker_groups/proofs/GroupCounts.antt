@@ -8,8 +8,8 @@ use Rattle.std.proofs.lemmas.List.{length-map, length-append, length-set, map-ap
 use Rattle.std.proofs.lemmas.List.Sums.{sum_by_push, count_by-le-length}
 use Rattle.std.proofs.Math.Seq.{take-set-lt, get_or-append_right}
 use Rattle.std.proofs.Math.ListN.{get_or-append}
-use Rattle.listener_set.specs.declared.groups.Group.{Group}
-use Rattle.listener_set.specs.Groups.{part_of, group_of}
+use Rattle.worker_groups.specs.declared.groups.Group.{Group}
+use Rattle.worker_groups.specs.Groups.{part_of, group_of}
 use Rattle.listener_set.specs.Numbers.{numbers_below}
 use Rattle.listener_set.specs.Padded.{IsPadded}
 use Rattle.worker_groups.specs.Crews.{shortfalls_of}

@@ -1,2 +1,3 @@
+pub mod GroupShares
 pub mod PostLists
 pub mod GroupCounts

@@ -1,7 +1,7 @@
 -- How posts and shortfalls are kept.
 use Rattle.std.specs.Prelude.{ℕ, ◌≤◌, List, [], length}
-use Rattle.listener_set.specs.declared.groups.Group.{Group}
-use Rattle.listener_set.specs.Groups.{AreGroups}
+use Rattle.worker_groups.specs.declared.groups.Group.{Group}
+use Rattle.worker_groups.specs.Groups.{AreGroups}
 use Rattle.listener_set.specs.Padded.{IsPadded}
 
 -- the descriptors of each group stand in front, and none behind them

@@ -1,9 +1,10 @@
 //! Where the workers of each group listen.
 ghost use Rattle.std.specs.Prelude.{◌≡◌, ◌+◌, ◌<◌, ◌≤◌, ◌==◌, [], length, replicate, get_or, set};
-ghost use Rattle.listener_set.specs.Groups.{AreGroups};
+ghost use Rattle.worker_groups.specs.Groups.{AreGroups};
 ghost use Rattle.worker_groups.specs.Crews.{is_sole, fds_in, fds_of, descriptors_from, first_posts};
 
-use listener_set::{DescriptorSet, FIRST_DESCRIPTOR, Groups, MOST_GROUPS};
+use crate::{Groups, MOST_GROUPS};
+use listener_set::{DescriptorSet, FIRST_DESCRIPTOR};
 use std::marker::Model;
 
 /// Where the workers of each group of a service listen: the groups, and the descriptors of each group's listeners.

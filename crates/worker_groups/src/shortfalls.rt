@@ -3,7 +3,8 @@ ghost use Rattle.std.specs.Prelude.{◌≡◌, ◌≤◌, ◌++◌, ◌∷◌, [
 ghost use Rattle.std.specs.List.{sum};
 ghost use Rattle.worker_groups.specs.Crews.{shortfalls_of};
 
-use listener_set::{Groups, MOST_GROUPS, Numbers};
+use crate::{Groups, MOST_GROUPS};
+use listener_set::Numbers;
 use std::marker::Model;
 
 /// How many workers each group lacks: from 1 to 16 counts.

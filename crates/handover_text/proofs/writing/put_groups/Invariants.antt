@@ -1,6 +1,6 @@
 use Rattle.std.proofs.Common.{◌≡◌, ◌++◌, length, drop}
 use Rattle.std.specs.List.{list_all}
-use Rattle.listener_set.specs.Groups.{addresses_in}
+use Rattle.worker_groups.specs.Groups.{addresses_in}
 use Rattle.definitions.specs.Handover.{group_lines, is_address}
 use Rattle.handover_text.proofs.writing.put_groups.Given as goal
 

@@ -1,5 +1,5 @@
 use Rattle.std.proofs.Common.{◌≡◌, ◌≤◌, ◌+◌, ℕ, length, drop}
-use Rattle.listener_set.specs.Groups.{addresses_in}
+use Rattle.worker_groups.specs.Groups.{addresses_in}
 use Rattle.definitions.specs.Crew.{addresses_of_group}
 use Rattle.service_state.proofs.posting.addresses_of_group.Given as goal
 

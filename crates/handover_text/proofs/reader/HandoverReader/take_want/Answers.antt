@@ -1,6 +1,6 @@
 use Rattle.std.proofs.Common.{◌<◌, length, arith, sym, ◌∙◌}
 use Rattle.std.proofs.lemmas.Bool.{both_ways}
-use Rattle.handover_text.proofs.Additions.{added}
+use Rattle.master_listeners.proofs.Additions.{added}
 use Rattle.handover_text.proofs.LinesRead.{want_taken}
 use Rattle.handover_text.proofs.reader.HandoverReader.take_want.Goals as goal
 

@@ -1,5 +1,5 @@
 use Rattle.std.proofs.Common.{◌≡◌, ◌∙◌, sym, ap, [], length, unwrap_or, arith}
-use Rattle.listener_set.specs.Groups.{addresses_in}
+use Rattle.worker_groups.specs.Groups.{addresses_in}
 use Rattle.master_config.proofs.Rules.{some_addresses}
 use Rattle.master_config.proofs.pools.Pools.settings.Goals as goal
 

@@ -1,7 +1,7 @@
 use Rattle.std.proofs.Common.{length, ap, sym, subst, ◌∙◌, arith}
-use Rattle.listener_set.specs.Groups.{AreGroups}
+use Rattle.worker_groups.specs.Groups.{AreGroups}
 use Rattle.worker_groups.specs.Crews.{Posts}
-use Rattle.handover_text.proofs.Listed.{length-listeners_from}
+use Rattle.master_listeners.proofs.Listed.{length-listeners_from}
 use Rattle.service_state.proofs.record.Record.start.Goals as goal
 
 pub invariant_of-result : goal.invariant_of-result

@@ -1,5 +1,5 @@
 use Rattle.std.proofs.Common.{◌≡◌, ◌≤◌, ◌+◌, ◌++◌, length, take, drop}
-use Rattle.listener_set.specs.Groups.{addresses_in}
+use Rattle.worker_groups.specs.Groups.{addresses_in}
 use Rattle.worker_groups.specs.Crews.{descriptors_first}
 use Rattle.worker_groups.proofs.posts.Posts.first.Given as goal
 

@@ -1,6 +1,6 @@
 use Rattle.std.proofs.Common.{◌≡◌, ◌<◌, ◌≤◌, ◌∷◌, ◌++◌, [], length, refl, sym, ap, ◌∙◌, arith, append_assoc, get_or}
 use Rattle.std.proofs.lemmas.List.{length-append, drop-replicate}
-use Rattle.listener_set.specs.Groups.{group_of}
+use Rattle.worker_groups.specs.Groups.{group_of}
 use Rattle.listener_set.proofs.NumberSets.{length-numbers}
 use Rattle.worker_groups.proofs.GroupCounts.{group-within, zeros-counted, count-there, count-few, counted-more, set-padded}
 use Rattle.worker_groups.proofs.shortfalls.Shortfalls.of.Goals as goal

@@ -1,6 +1,0 @@
-use Rattle.std.proofs.Common.{◌≡◌, take}
-use Rattle.definitions.specs.Crew.{descriptors_at}
-use Rattle.handover_text.proofs.listeners.Listeners.descriptors_at.Given as goal
-
-abbrev pub invariant-loop-listener : goal.invariant-loop-listener
-invariant-loop-listener l = l.set ≡ descriptors_at (take l.listener-index l.all) l.addresses

@@ -1,5 +1,0 @@
-use Rattle.handover_text.proofs.Listed.{blanks_kept}
-use Rattle.handover_text.proofs.listeners.Listeners.new.Goals as goal
-
-pub invariant_of-result : goal.invariant_of-result
-invariant_of-result c = blanks_kept c.plain.result c.plain.ensures
