@@ -1,5 +1,5 @@
 -- The values that have a text which is read.
-use Rattle.std.specs.Prelude.{⊤, ℕ, ◌≡◌, ◌≤◌, ◌<◌, ◌^◌, true, ◌⊎◌, List, [], ◌++◌, length, Option, Some, None, codes}
+use Rattle.std.specs.Prelude.{⊤, ℕ, ◌≡◌, ◌≤◌, ◌<◌, ◌^◌, true, ◌⊎◌, List, ◌++◌, length, Option, Some, None, codes}
 use Rattle.std.specs.List.{sum}
 use Rattle.listener_set.specs.declared.generation.Generation.{Generation}
 use Rattle.listener_set.specs.AddressText.{IsAddress}
