@@ -22,7 +22,7 @@ fn measured(rt: &HostRuntime, state: &Record, target: &Target) -> anyhow::Result
     let mut steps = 0;
     for _run in 0..RUNS {
         let start = Instant::now(rt)?;
-        let plan = target_planner::plan(rt.alloc(), state, target)?;
+        let plan = upgrade_planner::plan_target(rt.alloc(), state, target)?;
         least = least.min(start.elapsed(rt)?);
         steps = plan.len();
     }

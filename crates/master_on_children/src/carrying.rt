@@ -10,11 +10,11 @@ ghost use Rattle.master_on_children.specs.Carried.{HasPlan, IsUnplanned, IsCarri
 use child_edge::Edge;
 use child_family::Family;
 use plan_walk::{Transcript, execute};
+use reload_planner::PlanRefusal;
 use rollback_plan::Plan;
 use service_state::Record;
 use std::alloc::Global;
 use std::marker::PhantomData;
-use target_planner::PlanRefusal;
 use vocabulary::Target;
 use word_runner::{CodeText, Enacted, Enactor, TargetRefusal};
 
@@ -92,7 +92,7 @@ fn plan_of(alloc: Global, state: &Record, target: &Target) -> Result<Plan, Targe
     ensures declined { IfErr result (HasCode (IsUnplanned state.now target.now)) }
     ensures memory { IsErrOf result TargetRefusal.Memory → HasPlan state.now target.now }
 {
-    match target_planner::plan(alloc, state, target) {
+    match upgrade_planner::plan_target(alloc, state, target) {
         Ok(plan) => Ok(plan),
         Err(PlanRefusal::Memory) => Err(TargetRefusal::Memory),
         Err(refusal) => Err(TargetRefusal::Coded(CodeText::unplanned(refusal))),

@@ -9,10 +9,10 @@ use crate::start::{Start, silent_workers};
 use control_words::Word;
 use faults::Fault;
 use plan_text::{write_graph, write_plan};
+use reload_planner::PlanRefusal;
 use rollback_plan::Plan;
 use service_state::Record;
 use std::alloc::{AllocError, Global};
-use target_planner::PlanRefusal;
 use transcript::write_body;
 use vocabulary::Target;
 use word_runner::{Asked, Body, CodeText, asked_by, body_status, note};
@@ -71,7 +71,7 @@ fn planned(
     requires { IsTarget target.now }
     ensures { IfOk result (IsPlanned state.now target.now form) }
 {
-    match target_planner::plan(alloc, state, target) {
+    match upgrade_planner::plan_target(alloc, state, target) {
         Ok(plan) => Ok(Outlook {
             text: shown(alloc, &plan, form)?,
             status: 0,

@@ -20,10 +20,10 @@ use crate::carrying::carry_out;
 use crate::trial::spare;
 use kernel_model::{Kernel, Pattern, ReserveRefusal};
 use plan_walk::Transcript;
+use reload_planner::PlanRefusal;
 use rollback_plan::Plan;
 use service_state::Record;
 use std::alloc::{AllocError, Global};
-use target_planner::PlanRefusal;
 use vocabulary::Target;
 use word_runner::Enacted;
 
@@ -143,7 +143,7 @@ pub fn plan_of(alloc: Global, state: &Record, target: &Target) -> Result<Plan, E
         (why ≡ EnactRefusal.Memory) ⊎ ((refusal : Unplannable) × (why ≡ EnactRefusal.Plan refusal) × HasNoPlan state.now target.now refusal)) }
     ensures numbered { IsErrOf result (EnactRefusal.Plan Unplannable.NoGeneration) ↔ IsTrue (lacks_generation state.now target.now) }
 {
-    match target_planner::plan(alloc, state, target) {
+    match upgrade_planner::plan_target(alloc, state, target) {
         Ok(plan) => Ok(plan),
         Err(PlanRefusal::Memory) => Err(EnactRefusal::Memory),
         Err(refusal) => Err(EnactRefusal::Plan(refusal)),

@@ -3,6 +3,7 @@ ghost use Rattle.std.specs.Prelude.{◌≡◌, ◌-◌, ◌<◌, ◌≤◌, IsTr
 ghost use Rattle.std.specs.Option.{option_copied};
 ghost use Rattle.definitions.specs.Tree.{is_fit, height};
 ghost use Rattle.rollback_plan.specs.Steps.{all_lead_on, first_tree};
+ghost use Rattle.rollback_plan.specs.Numbering.{IsNumberedPlan};
 
 use crate::Step;
 use vocabulary::{PidNote, Sides};
@@ -22,6 +23,7 @@ pub struct Plan {
     ghost leads_on: { IsTrue (all_lead_on 1 steps.items) },
     ghost fit: { IsTrue (is_fit false (first_tree steps.items)) },
     ghost tall: { longest ≡ height (first_tree steps.items) },
+    ghost numbered: { ∥ IsNumberedPlan steps.items ∥₁ },
 }
 
 impl Plan {
@@ -37,7 +39,8 @@ impl Plan {
 
     /// The steps in order, of which the first has number 1.
     pub fn steps(&self) -> &[Step]
-        ensures { result.now ≡ steps_of self.now }
+        ensures steps { result.now ≡ steps_of self.now }
+        ensures numbered { ∥ IsNumberedPlan (steps_of self.now) ∥₁ }
     {
         &self.steps
     }

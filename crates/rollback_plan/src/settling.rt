@@ -111,7 +111,7 @@ impl Draft {
         let short = Next::Over(short_end(side));
         let mut place = self.census(by, crew.generation, set, side, short)?;
         for _round in 0..rounds {
-            let start = self.round(by, crew, place)?;
+            let start = self.add_round(by, crew, place)?;
             place = self.census(by, crew.generation, set, side, Next::To(start))?;
         }
         Ok(place)
@@ -143,7 +143,7 @@ impl Draft {
 
     /// Adds the start of the lowest number that the last census lacked, before the rest. A refused
     /// call may leave some steps of it.
-    fn round(&mut self, by: Actor, crew: &Crew, rest: Place) -> Result<Place, DraftRefusal>
+    fn add_round(&mut self, by: Actor, crew: &Crew, rest: Place) -> Result<Place, DraftRefusal>
         requires { rest.0 < length (trees_of self.old) }
         ensures made { IfOk result (λ place. IsMade self.new place (plans.round by crew.now (tree_at self.old rest))) }
         ensures grows { Grows self.old self.new result 3 }

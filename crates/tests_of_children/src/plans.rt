@@ -20,7 +20,7 @@ fn carry_out(
 ) -> Result<(Outcome, Option<Record>), Fail>
     requires { IsTarget target.now }
 {
-    let Ok(plan) = target_planner::plan(alloc, known, target) else {
+    let Ok(plan) = upgrade_planner::plan_target(alloc, known, target) else {
         return Ok((Outcome::Lost, None));
     };
     let longest = plan.longest();

@@ -32,6 +32,7 @@ invariant_of-result c =
       tall =
           height_of steps c.in_ok-heights.heights.items first c.index.result.now (c.in_ok-heights.ensures ∙ ap (λ xs. map height (trees_after [] xs)) c.deref.ensures.value) c.index.ensures low
           ∙ ap height (sym plan.tree);
+      numbered = ∣ record { steps = steps; first = first; is = plan.numbering } ∣₁;
     }
 
 pub returns-clause-tree : goal.returns-clause-tree

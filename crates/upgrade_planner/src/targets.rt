@@ -1,6 +1,4 @@
 //! The plan of a target, by the planner that plans such a target.
-#![tactic(auto)]
-
 ghost use Rattle.std.specs.Prelude.{◌≡◌, ◌≤◌, ◌↔◌, Some, length, IfOk, IsErrOf, IsTrue};
 ghost use Rattle.definitions.specs.Target.{IsTarget, sides_of, text_handed};
 ghost use Rattle.definitions.specs.After.{lacks_generation};
@@ -8,7 +6,8 @@ ghost use Rattle.definitions.specs.Plans.{planned};
 ghost use Rattle.rollback_plan.specs.Plans.{tree_of, note_of, sides_told, text_of, trees_in};
 ghost use Rattle.reload_planner.specs.Planning.{most_steps};
 
-pub use reload_planner::PlanRefusal;
+use crate::{plan, plan_attended};
+use reload_planner::PlanRefusal;
 use rollback_plan::Plan;
 use service_state::Record;
 use std::alloc::Global;
@@ -19,7 +18,7 @@ use vocabulary::Target;
 ///
 /// `NoGeneration` (P3) exactly where a number of the target's generation would pass 4,294,967,295.
 /// Each target has a planner, so `Unplanned` (P2) never comes, and no plan is too large.
-pub fn plan(alloc: Global, state: &Record, target: &Target) -> Result<Plan, PlanRefusal>
+pub fn plan_target(alloc: Global, state: &Record, target: &Target) -> Result<Plan, PlanRefusal>
     requires { IsTarget target.now }
     ensures tree { IfOk result (λ plan. planned state.now target.now ≡ Some (tree_of plan)) }
     ensures note { IfOk result (λ plan. note_of plan ≡ state.now.note) }
@@ -31,8 +30,8 @@ pub fn plan(alloc: Global, state: &Record, target: &Target) -> Result<Plan, Plan
     ensures planned_here { IsErrOf result PlanRefusal.Unplanned → ⊥ }
 {
     match target {
-        Target::Upgrade(settings) => upgrade_planner::plan(alloc, state, settings),
-        Target::Attended(settings) => upgrade_planner::plan_attended(alloc, state, settings),
+        Target::Upgrade(settings) => plan(alloc, state, settings),
+        Target::Attended(settings) => plan_attended(alloc, state, settings),
         _ => reload_planner::plan(alloc, state, target),
     }
 }
