@@ -5,12 +5,11 @@
 ghost use Rattle.std.specs.Prelude.{◌≤◌};
 ghost use Rattle.definitions.specs.Target.{IsTarget};
 
-use listener_set::{Numbers};
-
-use worker_groups::{Groups};
+use listener_set::Numbers;
 use service_state::Record;
 use std::time::{Duration, Instant};
 use vocabulary::{Settings, Target};
+use worker_groups::Groups;
 
 const RUNS: u32 = 50;
 

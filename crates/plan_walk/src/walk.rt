@@ -10,10 +10,9 @@ ghost use Rattle.rollback_plan.specs.Plans.{tree_of, note_of, sides_told};
 ghost use Rattle.plan_walk.specs.Fit.{is_fit_next, height_next};
 
 use call_replies::{plain_reply, reply_to};
-use worker_groups::Groups;
 use rollback_plan::{Bound, Cursor, Plan};
 use vocabulary::{Actor, Call, End, Entry, Outcome, PidNote, Report, Side, Sides};
-use worker_groups::Shortfalls;
+use worker_groups::{Groups, Shortfalls};
 
 /// A call that is due, and the master that makes it.
 #[derive(Clone, Copy)]
