@@ -1,4 +1,7 @@
 //! What a request says about where its faults can be.
+ghost use Rattle.std.specs.Prelude.{◌≡◌};
+ghost use Rattle.explanations.specs.Requests.{asks_why};
+
 use command_line::{Request, StartOptions};
 
 /// The files that are read before the work of a request begins.
@@ -9,13 +12,16 @@ pub struct Named<'a> {
 }
 
 /// Whether the request asks for more than the line of a fault. To explain a code there is nothing that can be asked.
-pub fn is_asked(request: &Request<'_>) -> bool {
-    if let Request::Supervise(options) = request {
-        return options.why;
-    }
-    match start_of(request) {
-        Some(start) => start.why,
-        None => false,
+pub fn is_asked(request: &Request<'_>) -> bool
+    ensures { result ≡ asks_why request.now }
+{
+    match request {
+        Request::Enact(options) => options.start.why,
+        Request::Plan(options) => options.start.why,
+        Request::Explore(options) => options.start.why,
+        Request::Certify(options) => options.start.why,
+        Request::Supervise(options) => options.why,
+        _ => false,
     }
 }
 

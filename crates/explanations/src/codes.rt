@@ -1,4 +1,8 @@
 //! `explain`: what the codes mean.
+ghost use Rattle.std.specs.Prelude.{◌≡◌, ◌++◌, ◌⊎◌, IfOk, IfErr, OnOk, IsTrue, is_some};
+ghost use Rattle.explanations.specs.Pages.{meaning_line, page_text};
+ghost use Rattle.faults.specs.declared.fault.Fault.TheVariants.{Code, Memory};
+
 use crate::{Explanation, FAULTS, WORDS, explanation_of};
 use faults::Fault;
 use std::alloc::{AllocError, Global};
@@ -7,7 +11,9 @@ use std::alloc::{AllocError, Global};
 const COLUMN: usize = 12;
 
 /// What a code means, and what to do about it; without a code, a line for each that there is.
-pub fn explain(alloc: Global, code: Option<&str>) -> Result<Vec<u8>, Fault> {
+pub fn explain(alloc: Global, code: Option<&str>) -> Result<Vec<u8>, Fault>
+    ensures { IfErr result (λ fault. (fault ≡ Memory) ⊎ ((fault ≡ Code) × IsTrue (is_some code.entry))) }
+{
     let Some(code) = code else {
         return Ok(list(alloc)?);
     };
@@ -62,7 +68,10 @@ fn put_lines(text: &mut Vec<u8>, explanations: &[Explanation]) -> Result<(), All
     Ok(())
 }
 
-fn page(alloc: Global, explanation: &Explanation) -> Result<Vec<u8>, AllocError> {
+/// The text of one.
+fn page(alloc: Global, explanation: &Explanation) -> Result<Vec<u8>, AllocError>
+    ensures { IfOk result (λ text. text.items ≡ page_text explanation.now) }
+{
     let mut text = Vec::new(alloc);
     put_meaning(&mut text, explanation)?;
     if !explanation.remedy.is_empty() {
@@ -73,7 +82,9 @@ fn page(alloc: Global, explanation: &Explanation) -> Result<Vec<u8>, AllocError>
     Ok(text)
 }
 
-fn put_meaning(text: &mut Vec<u8>, explanation: &Explanation) -> Result<(), AllocError> {
+fn put_meaning(text: &mut Vec<u8>, explanation: &Explanation) -> Result<(), AllocError>
+    ensures { OnOk result (text.new.items ≡ text.old.items ++ meaning_line explanation.now) }
+{
     text.extend_from_slice(explanation.code.as_bytes())?;
     text.extend_from_slice(b": ")?;
     text.extend_from_slice(explanation.meaning.as_bytes())?;

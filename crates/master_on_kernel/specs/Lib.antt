@@ -5,3 +5,4 @@ pub mod Outlooks
 pub mod Output
 pub mod Rehearsals
 pub mod Starts
+pub mod Summaries

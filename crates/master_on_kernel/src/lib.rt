@@ -9,6 +9,7 @@ mod exploring;
 mod planning;
 mod rehearsal;
 mod start;
+mod summing;
 
 pub use beginning::begin;
 pub use certifying::certify_all;
@@ -17,3 +18,4 @@ pub use exploring::Explored;
 pub use planning::{Form, Outlook, look_ahead, told};
 pub use rehearsal::Rehearsal;
 pub use start::{Setup, Start};
+pub use summing::summary;

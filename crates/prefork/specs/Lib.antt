@@ -1,4 +1,3 @@
-pub mod Explorations
 pub mod Faults
 pub mod Input
 pub mod Refusals

@@ -1,16 +1,14 @@
-//! `explore`: how a word ends, whatever goes wrong.
-ghost use Rattle.std.specs.Prelude.{◌≡◌, ◌↔◌, Some, false, IfOk, IfErr, OnOk};
+//! `explore`: its runs, as they are listed and told.
+ghost use Rattle.std.specs.Prelude.{◌≡◌, ◌↔◌, Some, false, IfErr, OnOk};
 ghost use Rattle.std.specs.Io.KnownBytes.{Appends};
 ghost use Rattle.exploration_text.specs.RunText.{run_text};
 ghost use Rattle.faults.specs.Faults.{IsOfFile};
-ghost use Rattle.prefork.specs.Explorations.{is_degraded, status_of, Counts, IsSummary};
 
 use command_line::ExploreOptions;
-use exploration_text::{write_run, write_summary};
-use explorer::{Audience, Findings, Tally, Tried};
+use exploration_text::write_run;
+use explorer::{Audience, Tried};
 use faults::Fault;
-use master_on_kernel::{Explored, Outlook, told};
-use std::alloc::{AllocError, Global};
+use std::alloc::Global;
 use std::io::Write;
 use vocabulary::Report;
 
@@ -110,54 +108,4 @@ fn list<O: Write>(
     write_run(&mut text, tried, report)?;
     output.write_all(text.as_slice())?;
     Ok(())
-}
-
-/// What the runs of a word came to, and the exit status that goes with it.
-pub fn summary(
-    alloc: Global,
-    explored: &Explored,
-    found: &Findings,
-    is_forbidden: bool,
-) -> Result<Outlook, AllocError>
-    ensures { IfOk result (IsSummary explored.now found.now.tally found.now.least found.now.tables is_forbidden) }
-{
-    match explored {
-        Explored::All => counted(alloc, found, false, is_forbidden),
-        Explored::Cut => counted(alloc, found, true, is_forbidden),
-        Explored::Told(body) => told(alloc, body),
-    }
-}
-
-fn counted(
-    alloc: Global,
-    found: &Findings,
-    is_cut: bool,
-    is_forbidden: bool,
-) -> Result<Outlook, AllocError>
-    ensures { IfOk result (Counts found.now.tally found.now.least found.now.tables is_cut is_forbidden) }
-{
-    let mut text = Vec::new(alloc);
-    write_summary(&mut text, found, is_cut)?;
-    Ok(Outlook {
-        text,
-        status: status_of(&found.tally, is_forbidden),
-    })
-}
-
-/// 4 where a run ended degraded and that is forbidden.
-fn status_of(tally: &Tally, is_forbidden: bool) -> u8
-    ensures { result ≡ status_of tally.now is_forbidden }
-{
-    if is_forbidden && is_degraded(tally) {
-        4
-    } else {
-        0
-    }
-}
-
-/// Whether a run ended degraded.
-fn is_degraded(tally: &Tally) -> bool
-    ensures { result ≡ is_degraded tally.now }
-{
-    tally.degraded_old.count > 0 || tally.degraded_target.count > 0
 }

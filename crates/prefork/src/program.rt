@@ -7,7 +7,7 @@ ghost use Rattle.std.specs.Io.KnownBytes.{Appends};
 ghost use Rattle.faults.specs.Faults.{IsOfFile};
 ghost use Rattle.prefork.specs.Input.{IsOfPatterns, IsOfBlocks};
 
-use crate::exploration::{Listing, summary};
+use crate::exploration::Listing;
 use crate::instead::line_instead;
 use crate::serving::{adopt, child, supervise};
 use crate::setup::{begin, setup_of};
@@ -17,7 +17,7 @@ use explanations::{Evidence, explain, is_asked, tell, tell_usage};
 use explorer::Findings;
 use faults::Fault;
 use kernel_model::Pattern;
-use master_on_kernel::{Form, Start, certify_all, look_ahead, rehearse, show_state};
+use master_on_kernel::{Form, Start, certify_all, look_ahead, rehearse, show_state, summary};
 use std::alloc::{AllocError, Global};
 use std::io::{Read, Write};
 use std::process::Processes;

@@ -1,4 +1,4 @@
--- What is written of explored runs.
+-- What is said of runs that were counted, and the status that goes with it.
 use Rattle.std.specs.Prelude.{◌≡◌, ℕ, nat_lt, Bool, false, true, ◌&&◌, ◌||◌, Option, if◌then◌else◌}
 use Rattle.explorer.specs.declared.tally.Tally.{Tally}
 use Rattle.explorer.specs.declared.findings.Least.{Least}
