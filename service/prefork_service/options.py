@@ -43,6 +43,8 @@ def parser() -> argparse.ArgumentParser:
     made.add_argument("--prefork", default="prefork", help="the program of the master (prefork on the path)")
     guard = "end a worker that does not answer its master within SECONDS"
     made.add_argument("--guard", type=float, metavar="SECONDS", help=guard)
+    defer = "accept a TCP connection once its first bytes are there"
+    made.add_argument("--defer-accept", action="store_true", help=defer)
     made.add_argument("--wsgi", metavar="MODULE:APP", help="a WSGI application; it is served by waitress")
     python = "the Python that runs it (that of prefork-serve)"
     made.add_argument("--python", default=sys.executable, metavar="PROGRAM", help=python)
