@@ -25,7 +25,7 @@ _prefork_service() {
                 compopt -o default
                 return
             fi
-            options='--folder --prefork --guard --wsgi --python --threads --timeout --keep --chdir --ready --ready-within --probe --probe-within --probe-limit --stop --finish --usr1 --env --no-listen-fds --blocking --help'
+            options='--folder --prefork --guard --defer-accept --wsgi --python --threads --timeout --keep --chdir --ready --ready-within --probe --probe-within --probe-limit --stop --finish --usr1 --env --no-listen-fds --blocking --help'
             ;;
         prefork-ctl) options='--folder --help' ;;
         prefork-guard) options='--finish --help' ;;
@@ -36,7 +36,7 @@ _prefork_service() {
     if [[ $cur == -* ]]; then
         mapfile -t COMPREPLY < <(compgen -W "$options" -- "$cur")
     elif [[ ${COMP_WORDS[0]##*/} == prefork-ctl ]]; then
-        mapfile -t COMPREPLY < <(compgen -W 'HUP QUIT INT TERM USR1 USR2 WINCH TTIN TTOU' -- "$cur")
+        mapfile -t COMPREPLY < <(compgen -W 'HUP QUIT INT TERM USR1 USR2 attended WINCH TTIN TTOU go back' -- "$cur")
     elif [[ ${COMP_WORDS[0]##*/} == prefork-serve ]]; then
         compopt -o default
     fi

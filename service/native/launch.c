@@ -6,8 +6,13 @@
  * the words of the command, each ended by a byte 0. The first worker of a generation takes commands/next for it. The
  * generation is read from the master's first line, which stays in the pipe for the worker.
  *
- * `adopt` becomes `PREFORK_PROGRAM adopt`, with this program for its workers. */
+ * `adopt` becomes `PREFORK_PROGRAM adopt`, with this program for its workers.
+ *
+ * The standard error of a master is a pipe to prefork-serve, which reads there what the master asks. The messages of
+ * workers do not belong into it: they go where those of the service go. The keeper gives that descriptor. */
 #define _GNU_SOURCE
+#include "ask.h"
+
 #include <errno.h>
 #include <fcntl.h>
 #include <poll.h>
@@ -86,11 +91,27 @@ static char **command_of(const char *generation) {
     return words;
 }
 
+/* Takes the standard error of the service. Without a keeper it stays as it is: the worker cannot start then, and says
+ * so. */
+static void take_errors(void) {
+    const char *path = getenv("PREFORK_KEEPER");
+    char answer[64];
+    int connection = path ? connect_keeper(path) : -1, errors = -1;
+    if (connection < 0)
+        return;
+    if (ask_keeper(connection, "errors", answer, sizeof answer, &errors) > 0 && errors >= 0)
+        dup2(errors, 2);
+    if (errors >= 0)
+        close(errors);
+    close(connection);
+}
+
 int main(int count, char **words) {
     char generation[32], own[4096];
     if (count == 2 && !strcmp(words[1], "child")) {
         read_generation(generation, sizeof generation);
         char **command = command_of(generation);
+        take_errors();
         execvp(command[0], command);
         fail("%s: %s", command[0], strerror(errno));
     }
@@ -98,6 +119,7 @@ int main(int count, char **words) {
         ssize_t length = readlink("/proc/self/exe", own, sizeof own - 1);
         own[length > 0 ? length : 0] = 0;
         const char *program = setting("PREFORK_PROGRAM");
+        take_errors();
         execlp(program, program, "adopt", "--program", own, (char *)0);
         fail("%s: %s", program, strerror(errno));
     }

@@ -4,6 +4,7 @@ import pathlib
 import select
 import subprocess
 import time
+from typing import Any
 
 MARK = "CHECKED_WORKER"
 NOTHING, END, RUNS = "(nothing)", "(the end of its output)", "(it runs on)"
@@ -25,8 +26,9 @@ class Conversation:
     """A worker that was started, and the pipes to it."""
 
     def __init__(self, command: list[str], environment: dict[str, str]):
-        pipes = {"stdin": subprocess.PIPE, "stdout": subprocess.PIPE, "bufsize": 0}
-        self.process, self.unread = subprocess.Popen(command, **pipes, env=environment), b""
+        pipes: dict[str, Any] = {"stdin": subprocess.PIPE, "stdout": subprocess.PIPE, "bufsize": 0}
+        self.process: Any = subprocess.Popen(command, **pipes, env=environment)
+        self.unread = b""
 
     def say(self, *lines: str) -> None:
         try:

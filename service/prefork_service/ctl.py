@@ -1,29 +1,41 @@
-"""prefork-ctl [--folder F] WORD
+"""prefork-ctl [--folder F] [WORD]
 
-Sends a word to the service in the folder F (`run`): HUP, USR1, USR2, WINCH, TTIN, TTOU, QUIT, INT or TERM. It waits for
-what comes of it, prints that block, and ends with the status of its report:
+Sends a word to the service in the folder F (`run`): HUP, USR1, USR2, "USR2 attended", WINCH, TTIN, TTOU, QUIT, INT or
+TERM. It waits for what comes of it, prints that block, and ends with the status of its report:
 
     0   done, or nothing was asked for
     1   refused or lost, or there is no service
     2   that is no word
     3   rolled back: the old service runs
     4   degraded: a service runs with fewer workers than it should
+
+"USR2 attended" is an upgrade that asks twice: while the old and the new workers serve, and once the new ones serve
+alone. `go` goes on and `back` goes back; if nothing is asked, they are refused as not-asked. Without a word prefork-ctl
+prints whether the service asks, which question, and what to look at.
 """
 import argparse
 import pathlib
 import socket
 import sys
 
-STATUS = {"done": 0, "nothing": 0, "rolled-back": 3, "degraded": 4, "unread": 2}
+from .questions import STATE
+
+STATUS = {"done": 0, "nothing": 0, "answered": 0, "rolled-back": 3, "degraded": 4, "unread": 2}
 
 
 def asked(folder: str, word: str) -> str:
-    """The block that comes of a word."""
+    """What comes of a word. A question that is asked before that is said on standard error."""
+    block = ""
     with socket.socket(socket.AF_UNIX) as service:
         service.connect(str(pathlib.Path(folder) / "ctl.sock"))
         service.sendall(f"{word}\n".encode())
         with service.makefile() as answer:
-            return answer.read()
+            for line in answer:
+                if line.startswith("asks ") and word != STATE:
+                    print(f"prefork-ctl: it {line}", end="", file=sys.stderr, flush=True)
+                else:
+                    block += line
+    return block
 
 
 def main() -> int:
@@ -31,10 +43,13 @@ def main() -> int:
         prog="prefork-ctl", description="Sends a word to a service, and prints what came of it."
     )
     parser.add_argument("--folder", default="run", help="the folder of the service (run)")
-    parser.add_argument("word", metavar="WORD", help="HUP, USR1, USR2, WINCH, TTIN, TTOU, QUIT, INT or TERM")
+    words = "HUP, USR1, USR2, 'USR2 attended', WINCH, TTIN, TTOU, QUIT, INT or TERM; go or back while it asks; " \
+        "without a word it prints whether it asks"
+    parser.add_argument("word", nargs="*", metavar="WORD", help=words)
     given = parser.parse_args()
+    word = " ".join(given.word) or STATE
     try:
-        block = asked(given.folder, given.word)
+        block = asked(given.folder, word)
     except OSError as fault:
         print(f"prefork-ctl: no service in {given.folder}: {fault.strerror or fault}", file=sys.stderr)
         return 1
@@ -42,5 +57,4 @@ def main() -> int:
         print("prefork-ctl: the service has ended before it answered", file=sys.stderr)
         return 1
     sys.stdout.write(block)
-    return STATUS.get(block.splitlines()[-1].split()[0], 1)
-
+    return 0 if word == STATE else STATUS.get(block.splitlines()[-1].split()[0], 1)

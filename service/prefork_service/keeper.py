@@ -1,4 +1,4 @@
-"""prefork-keeper PATH [LINGER]
+"""prefork-keeper [--defer-accept] PATH [LINGER]
 
 Keeps the listening sockets of a service, so that no connection that waits in a queue is lost while workers and
 masters change. It is asked on the Unix socket PATH: a worker connects, sends an address (`127.0.0.1:8080`, or the
@@ -8,6 +8,11 @@ long as that connection is open.
 A socket is opened for the first who asks, and everybody after gets the same one. One that nobody has held for LINGER
 seconds (2) is closed, but only while another one is held: so a dropped address ends, and while no worker runs at all
 the connections wait in the queues for the next one.
+
+With --defer-accept the system holds a TCP connection back until its first bytes are there, for a second or so: workers
+accept no connection that has not begun to ask.
+
+`errors` in place of an address is answered with the keeper's own standard error, where a worker's messages belong.
 
 It ends with its standard input: with the process that started it.
 """
@@ -20,16 +25,21 @@ import sys
 import time
 
 LINGER = 2.0
+DEFER = "--defer-accept"
 QUEUE = 1024
 LONGEST_ADDRESS = 200
+# How long a connection without a byte is held back; the system counts in its own steps.
+DEFER_SECONDS = 1
+# Asked for in place of an address: the standard error of the service.
+ERRORS = "errors"
 
 
 class Kept:
-    """A listening socket, how many hold it, and since when nobody does."""
+    """A listening socket, how many hold it, and since when it is held no more."""
 
-    def __init__(self, address: str):
-        self.address, self.holders, self.free_since = address, 0, None
-        self.socket = listening(address)
+    def __init__(self, address: str, defers: bool):
+        self.address, self.holders, self.free_since = address, 0, 0.0
+        self.socket = listening(address, defers)
 
     def close(self) -> None:
         self.socket.close()
@@ -37,18 +47,20 @@ class Kept:
             os.unlink(self.address)
 
 
-def listening(address: str) -> socket.socket:
+def listening(address: str, defers: bool) -> socket.socket:
     """A socket that listens at an address."""
+    place: str | tuple[str, int] = address
     if address.startswith("/"):
         remove_stale(address)
-        family, place = socket.AF_UNIX, address
     else:
         host, _, port = address.rpartition(":")
-        family, place = socket.AF_INET, (host, int(port))
-    opened = socket.socket(family, socket.SOCK_STREAM)
+        place = host, int(port)
+    opened = socket.socket(socket.AF_UNIX if place == address else socket.AF_INET, socket.SOCK_STREAM)
     try:
         opened.setsockopt(socket.SOL_SOCKET, socket.SO_REUSEADDR, 1)
         opened.bind(place)
+        if defers and place != address:
+            opened.setsockopt(socket.IPPROTO_TCP, socket.TCP_DEFER_ACCEPT, DEFER_SECONDS)
         opened.listen(QUEUE)
     except OSError:
         opened.close()
@@ -74,8 +86,10 @@ def remove_stale(path: str) -> None:
 class Keeper:
     """The sockets that are kept, by address, and who holds which."""
 
-    def __init__(self, path: str, linger: float):
-        self.linger, self.kept, self.held = linger, {}, {}
+    def __init__(self, path: str, linger: float, defers: bool):
+        self.linger, self.defers = linger, defers
+        self.kept: dict[str, Kept] = {}
+        self.held: dict[socket.socket, Kept] = {}
         self.events = selectors.DefaultSelector()
         self.door = socket.socket(socket.AF_UNIX, socket.SOCK_SEQPACKET)
         self.door.bind(path)
@@ -103,14 +117,24 @@ class Keeper:
         if not address or holder in self.held:
             self.let_go(holder)
             return
+        if address == ERRORS:
+            self.give_errors(holder)
+            return
         try:
-            kept = self.kept.get(address) or Kept(address)
+            kept = self.kept.get(address) or Kept(address, self.defers)
             socket.send_fds(holder, [b"ok"], [kept.socket.fileno()])
         except (OSError, OverflowError, ValueError) as refusal:
             self.refuse(holder, getattr(refusal, "strerror", None) or str(refusal))
             return
         self.kept[address] = self.held[holder] = kept
-        kept.holders, kept.free_since = kept.holders + 1, None
+        kept.holders += 1
+
+    def give_errors(self, holder: socket.socket) -> None:
+        try:
+            socket.send_fds(holder, [b"ok"], [sys.stderr.fileno()])
+        except OSError:
+            pass
+        self.let_go(holder)
 
     def refuse(self, holder: socket.socket, reason: str) -> None:
         try:
@@ -144,7 +168,8 @@ class Keeper:
 
 
 def main() -> int:
-    if len(sys.argv) not in (2, 3):
+    words = [word for word in sys.argv[1:] if word != DEFER]
+    if len(words) not in (1, 2):
         sys.exit(__doc__)
-    Keeper(sys.argv[1], float(sys.argv[2]) if len(sys.argv) > 2 else LINGER).run()
+    Keeper(words[0], float(words[1]) if len(words) > 1 else LINGER, DEFER in sys.argv).run()
     return 0

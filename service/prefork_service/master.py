@@ -1,26 +1,33 @@
-"""The master of a service, `prefork supervise`, and the blocks that it prints."""
+"""The master of a service, `prefork supervise`: the blocks that it prints, and the questions that it asks."""
 import os
 import subprocess
+import sys
+from typing import Any
 
 from .folder import Folder
+from .questions import ASKS, LOG
 
 # How the last line of a block begins.
 ENDS = ("done", "rolled-back", "degraded", "lost", "refused", "unread", "nothing")
 
 
 class Master:
-    """A master that runs. What it prints goes to the file `blocks` of the folder."""
+    """A master that runs. What it prints goes to the file `blocks` of the folder. Its standard error is read too, for
+    what it asks: `--verbose` says that there."""
 
     def __init__(self, command: list[str], folder: Folder):
-        self.folder, self.unread, self.block = folder, "", []
+        self.folder, self.unread = folder, ""
+        self.block: list[str] = []
+        # What was read of a line of its standard error, and whether that has ended.
+        self.unread_errors, self.is_silent = b"", False
         if folder.blocks.exists():
             folder.blocks.replace(f"{folder.blocks}.1")
         self.reopen()
         # In a session of its own: ^C in a terminal is a word to the service, and does not end its master.
-        self.process = subprocess.Popen(
-            command, stdin=subprocess.PIPE, stdout=subprocess.PIPE, start_new_session=True, pass_fds=[folder.lock]
-        )
-        self.output = self.process.stdout.fileno()
+        pipes: dict[str, Any] = {"stdin": subprocess.PIPE, "stdout": subprocess.PIPE, "stderr": subprocess.PIPE}
+        self.process: Any = subprocess.Popen(command, **pipes, start_new_session=True, pass_fds=[folder.lock])
+        self.output, self.errors = self.process.stdout.fileno(), self.process.stderr.fileno()
+        os.set_blocking(self.errors, False)
 
     def reopen(self) -> None:
         """Appends to the file `blocks`, or to a new one if it was moved away."""
@@ -54,9 +61,46 @@ class Master:
         block, self.block = self.block, []
         return None if block[0].startswith("word beat ") else "".join(f"{line}\n" for line in block)
 
+    def hear_errors(self) -> list[int]:
+        """The questions that it has asked. What is no line of its log is for people, and passed on."""
+        found = []
+        while got := self.read_errors():
+            *lines, self.unread_errors = (self.unread_errors + got).split(b"\n")
+            for line in lines:
+                logged = LOG.fullmatch(line.decode("latin-1"))
+                asked = ASKS.fullmatch(logged[1]) if logged else None
+                if asked:
+                    found.append(int(asked[1]))
+                elif not logged:
+                    pass_on(line + b"\n")
+        return found
+
+    def read_errors(self) -> bytes:
+        """What it has said; nothing if that is all for now, or its end."""
+        try:
+            got = os.read(self.errors, 65536)
+        except BlockingIOError:
+            return b""
+        self.is_silent = not got
+        return got
+
     def finish(self) -> None:
         """Waits for the end of a master that has been told to stop."""
         self.process.stdin.close()
         while self.hear() is not None:
             pass
-        self.process.wait()
+        self.close()
+
+    def close(self) -> int:
+        """Its status, once it has ended; what it said last is passed on."""
+        status = self.process.wait()
+        self.hear_errors()
+        pass_on(self.unread_errors)
+        self.process.stdout.close()
+        self.process.stderr.close()
+        return status
+
+
+def pass_on(text: bytes) -> None:
+    sys.stderr.buffer.write(text)
+    sys.stderr.flush()

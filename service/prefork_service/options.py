@@ -2,18 +2,20 @@
 import argparse
 import subprocess
 import sys
+from typing import Any
 
 from . import places
 
 USAGE = """prefork-serve [OPTIONS] CONFIG -- PROGRAM ARGUMENT..
        prefork-serve [OPTIONS] --wsgi MODULE:APP CONFIG
        prefork-serve [OPTIONS] CONFIG"""
+Options = dict[str, tuple[str | None, str]]
 # Options that are handed on to the worker: what they take, and what they mean.
-SHARED = {
+SHARED: Options = {
     "--ready-within": ("SECONDS", "how long it may take to be ready (30)"),
     "--finish": ("SECONDS", "how long it may take to finish (30)"),
 }
-PROGRAM = {
+PROGRAM: Options = {
     "--ready": ("HOW", "when it is ready: accept (default), notify, or probe PATH"),
     "--probe": ("PATH", "ask it for PATH before each beat"),
     "--probe-within": ("SECONDS", "how long such an answer may take (5)"),
@@ -24,7 +26,7 @@ PROGRAM = {
     "--no-listen-fds": (None, "do not set LISTEN_FDS"),
     "--blocking": (None, "make the sockets block, for programs that wait in accept"),
 }
-WSGI = {
+WSGI: Options = {
     "--threads": ("N", "how many requests a worker answers at a time (4)"),
     "--timeout": ("SECONDS", "end a worker whose threads have all been at one request for this long (30)"),
     "--keep": ("SECONDS", "how long a kept connection may be idle (75)"),
@@ -41,13 +43,18 @@ def parser() -> argparse.ArgumentParser:
     made.add_argument("--prefork", default="prefork", help="the program of the master (prefork on the path)")
     guard = "end a worker that does not answer its master within SECONDS"
     made.add_argument("--guard", type=float, metavar="SECONDS", help=guard)
+    defer = "accept a TCP connection once its first bytes are there"
+    made.add_argument("--defer-accept", action="store_true", help=defer)
     made.add_argument("--wsgi", metavar="MODULE:APP", help="a WSGI application; it is served by waitress")
     python = "the Python that runs it (that of prefork-serve)"
     made.add_argument("--python", default=sys.executable, metavar="PROGRAM", help=python)
-    for title, options in (("", SHARED), (" PROGRAM", PROGRAM), (" MODULE:APP", WSGI)):
+    groups: dict[str, Options] = {"": SHARED, " PROGRAM": PROGRAM, " MODULE:APP": WSGI}
+    for title, options in groups.items():
         group = made.add_argument_group(f"options of a worker{title}")
         for option, (name, text) in options.items():
-            kind = {"action": "append", "metavar": name} if name else {"action": "append_const", "const": None}
+            kind: dict[str, Any] = {"action": "append", "metavar": name}
+            if name is None:
+                kind = {"action": "append_const", "const": None}
             group.add_argument(option, **kind, default=[], help=text)
     made.add_argument("config", metavar="CONFIG", help="the configuration, as prefork(1) has it")
     return made
@@ -71,14 +78,14 @@ def arguments(words: list[str]) -> argparse.Namespace:
         made.error("no PROGRAM after --")
     if given.wsgi and given.program:
         made.error("give --wsgi or a PROGRAM, not both")
-    for options, is_for, kind in ((PROGRAM, given.program, "a PROGRAM"), (WSGI, given.wsgi, "--wsgi")):
+    for options, is_for, kind in [(PROGRAM, given.program, "a PROGRAM"), (WSGI, given.wsgi, "--wsgi")]:
         strange = handed_on(given, options)
         if strange and not is_for:
             made.error(f"{strange[0]} is an option of {kind}, and there is none")
     return given
 
 
-def handed_on(given: argparse.Namespace, options: dict) -> list[str]:
+def handed_on(given: argparse.Namespace, options: Options) -> list[str]:
     """Those of the options that were given, with their values."""
     found = []
     for option in options:
@@ -100,7 +107,7 @@ def worker_command(given: argparse.Namespace) -> list[str] | None:
 
 def checked(adapter: list[str], program: list[str]) -> list[str]:
     """The adapter's command, whose options the adapter itself has looked at."""
-    streams = {"stdin": subprocess.DEVNULL, "capture_output": True, "text": True}
+    streams: dict[str, Any] = {"stdin": subprocess.DEVNULL, "capture_output": True, "text": True}
     try:
         found = subprocess.run([*adapter, "--check", *program], **streams)
     except OSError as fault:

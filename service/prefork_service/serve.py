@@ -11,6 +11,8 @@ itself.
   the order in which they come. `prefork-ctl WORD` sends one too, and waits for its block. HUP and USR2 read CONFIG
   again, its command too.
 - Each second the master is told a tick: it starts a worker again that has ended or no longer beats.
+- `USR2 attended`, which prefork-ctl alone can send, asks its operator twice before it goes on: see prefork-ctl. While it
+  asks, no tick is told and other words wait, those that stop the service too.
 - A master that ends without having been told to, or says that the new master of an upgrade is lost, is started again,
   with the configuration that ran. Meanwhile connections wait in the keeper's queues.
 
@@ -27,16 +29,17 @@ import time
 from . import places
 from .commands import Commands
 from .folder import Folder
+from .keeper import DEFER
 from .options import arguments, worker_command
 from .service import Service
 
 KEEPER_SECONDS = 10
 
 
-def started_keeper(folder: Folder) -> subprocess.Popen:
+def started_keeper(folder: Folder, options: list[str]) -> subprocess.Popen:
     """A keeper that runs, and ends with its input."""
     keeper = subprocess.Popen(
-        [places.KEEPER, folder.keeper], stdin=subprocess.PIPE, start_new_session=True, pass_fds=[folder.lock]
+        [places.KEEPER, *options, folder.keeper], stdin=subprocess.PIPE, start_new_session=True, pass_fds=[folder.lock]
     )
     deadline = time.monotonic() + KEEPER_SECONDS
     while not folder.keeper.exists():
@@ -62,8 +65,8 @@ def main() -> int:
         folder.clear()
         return 1
     configurations = ["--from", commands.now, "--to", commands.next]
-    supervise = [given.prefork, "supervise", "--program", places.LAUNCH, *configurations]
-    keeper = started_keeper(folder)
+    supervise = [given.prefork, "supervise", "--verbose", "--program", places.LAUNCH, *configurations]
+    keeper = started_keeper(folder, [DEFER] if given.defer_accept else [])
     try:
         Service(folder, supervise, commands).run()
     except OSError as fault:

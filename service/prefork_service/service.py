@@ -6,24 +6,29 @@ import signal
 import socket
 import sys
 import time
+from typing import Any
 
 from .commands import Commands
 from .folder import Folder, say
 from .master import Master
+from .questions import ANSWERS, NOT_ASKED, STATE, line_of, state
 from .systemd import notify
-from .words import STOPS, WORDS, Word
+from .words import CHANGES, SIGNALS, STOPS, WORDS, Word
 
 TICK_SECONDS = 1.0
-# Words at which the configuration is read again.
-CHANGES = ("HUP", "USR2")
 
 
 class Service:
     """A master that is kept running, and the words that wait for it."""
 
     def __init__(self, folder: Folder, command: list[str], commands: Commands):
-        self.folder, self.command, self.commands, self.master = folder, command, commands, None
-        self.waiting, self.current = collections.deque(), None
+        self.folder, self.command, self.commands = folder, command, commands
+        # The master, once it is started, the words that wait for it, and the one that it carries out.
+        self.master: Any = None
+        self.waiting: collections.deque[Word] = collections.deque()
+        self.current: Word | None = None
+        # The question that the current word asks, or 0.
+        self.question = 0
         self.begun, self.next_tick, self.is_stopped = 0.0, 0.0, False
         self.has_heard, self.is_ready = False, False
         self.events = selectors.DefaultSelector()
@@ -35,7 +40,7 @@ class Service:
         self.signals, tell = os.pipe()
         os.set_blocking(tell, False)
         signal.set_wakeup_fd(tell)
-        for name in WORDS:
+        for name in SIGNALS:
             signal.signal(signal.Signals[f"SIG{name}"], lambda number, frame: None)
         self.events.register(self.signals, selectors.EVENT_READ, self.hear_signals)
 
@@ -62,6 +67,7 @@ class Service:
             self.commands.begin()
             self.master, self.current = Master(self.command, self.folder), Word("tick 0")
             self.events.register(self.master.output, selectors.EVENT_READ, self.hear_master)
+            self.events.register(self.master.errors, selectors.EVENT_READ, self.hear_errors)
 
     def until_tick(self) -> float | None:
         return max(0.0, self.next_tick - time.monotonic()) if self.current is None else None
@@ -89,8 +95,34 @@ class Service:
         for block in blocks:
             self.end_word(block)
 
+    def hear_errors(self, _: int) -> None:
+        if self.master is None or self.is_stopped:
+            # It ended in this very turn.
+            return
+        for question in self.master.hear_errors():
+            self.ask(question)
+        if self.master.is_silent:
+            self.events.unregister(self.master.errors)
+
+    def ask(self, question: int) -> None:
+        """The current word asks: no tick and no other word is told until it is answered."""
+        self.question = question
+        if self.current:
+            say(f"{self.current.text} {line_of(question)}".rstrip())
+            self.current.tell(line_of(question))
+
+    def answer(self, word: Word) -> None:
+        """Answers the question, if there is one."""
+        if not self.question:
+            word.answer(f"word {word.text}\n{NOT_ASKED}\n")
+            return
+        self.master.tell(ANSWERS[word.text])
+        say(f"question {self.question} is answered: {word.text}")
+        word.answer(f"word {word.text}\nanswered {self.question} {word.text}\n")
+        self.question = 0
+
     def end_word(self, block: str) -> None:
-        word, self.current = self.current, None
+        word, self.current, self.question = self.current, None, 0
         if word is None:
             return
         report, self.has_heard = block.splitlines()[-1], True
@@ -114,12 +146,13 @@ class Service:
 
     def end_master(self) -> None:
         """The master has ended without having been told to."""
-        status = self.master.process.wait()
+        self.events.unregister(self.master.output)
+        if self.master.errors in self.events.get_map():
+            self.events.unregister(self.master.errors)
+        status = self.master.close()
         if not self.has_heard:
             sys.exit("prefork-serve: the master does not start; its message is above")
-        self.events.unregister(self.master.output)
-        self.master.process.stdout.close()
-        self.master = None
+        self.master, self.question = None, 0
         self.commands.settle("lost")
         say(f"the master has ended with status {status}, and is started again")
         if self.current:
@@ -129,7 +162,7 @@ class Service:
     def hear_signals(self, signals: int) -> None:
         for number in os.read(signals, 4096):
             name = signal.Signals(number).name.removeprefix("SIG")
-            if name in WORDS:
+            if name in SIGNALS:
                 self.waiting.append(Word(name))
 
     def admit(self, door: socket.socket) -> None:
@@ -147,5 +180,10 @@ class Service:
         word = Word(text, asker)
         if text in WORDS:
             self.waiting.append(word)
+        elif text in ANSWERS:
+            self.answer(word)
+        elif text == STATE:
+            current = self.current.text if self.current else None
+            word.answer(state(self.question, current, len(self.waiting)))
         else:
             word.answer("unread W1\n")

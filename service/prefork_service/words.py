@@ -2,7 +2,12 @@
 import socket
 
 STOPS = ("QUIT", "INT", "TERM")
-WORDS = ("HUP", "USR1", "USR2", "WINCH", "TTIN", "TTOU", *STOPS)
+# Words that a signal says too.
+SIGNALS = ("HUP", "USR1", "USR2", "WINCH", "TTIN", "TTOU", *STOPS)
+ATTENDED = "USR2 attended"
+WORDS = (*SIGNALS, ATTENDED)
+# Words at which the configuration is read again.
+CHANGES = ("HUP", "USR2", ATTENDED)
 
 
 class Word:
@@ -11,7 +16,8 @@ class Word:
     def __init__(self, text: str, asker: socket.socket | None = None):
         self.text, self.asker = text, asker
 
-    def answer(self, text: str) -> None:
+    def tell(self, text: str) -> None:
+        """Says something before the block is there."""
         if not self.asker:
             return
         try:
@@ -19,5 +25,9 @@ class Word:
         except OSError:
             # The asker has gone.
             pass
-        self.asker.close()
+
+    def answer(self, text: str) -> None:
+        self.tell(text)
+        if self.asker:
+            self.asker.close()
         self.asker = None

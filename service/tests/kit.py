@@ -10,6 +10,8 @@ import tempfile
 import time
 import unittest
 import uuid
+from collections.abc import Callable
+from typing import Any
 
 from prefork_service.conversation import MARK, Conversation, marked
 
@@ -19,7 +21,7 @@ BIN, OUT, PROGRAMS = SERVICE / "bin", SERVICE / "out", SERVICE / "tests" / "prog
 PORTS = range(15000, 32000)
 
 
-def until(holds, seconds: float = 20.0) -> bool:
+def until(holds: Callable[[], Any], seconds: float = 20.0) -> bool:
     """Waits for something to hold; whether it did."""
     deadline = time.monotonic() + seconds
     while time.monotonic() < deadline:
@@ -49,7 +51,7 @@ def is_open(address: str) -> bool:
         return False
 
 
-def end_all(running, seconds: float = 5.0) -> None:
+def end_all(running: Callable[[], Any], seconds: float = 5.0) -> None:
     """Ends the processes whose numbers `running` gives. A process that holds a program for an adapter kills all that the
     program has started, and so it is left to end by itself, for some seconds."""
     deadline = time.monotonic() + seconds
@@ -91,9 +93,10 @@ class WorkerTest(unittest.TestCase):
     def setUp(self) -> None:
         room = tempfile.TemporaryDirectory(prefix="worker-")
         self.addCleanup(room.cleanup)
-        self.room, self.mark, self.talks = pathlib.Path(room.name), uuid.uuid4().hex, []
+        self.room, self.mark = pathlib.Path(room.name), uuid.uuid4().hex
+        self.talks: list[Conversation] = []
         self.path = self.room / "keeper.sock"
-        self.keeper = subprocess.Popen([BIN / "prefork-keeper", self.path], stdin=subprocess.PIPE)
+        self.keeper: Any = subprocess.Popen([BIN / "prefork-keeper", self.path], stdin=subprocess.PIPE)
         self.addCleanup(self.end)
         self.assertTrue(until(self.path.exists))
 

@@ -42,6 +42,20 @@ async def app(scope, receive, send):
     await send({"type": "http.response.start", "status": 200, "headers": headers})
     await send({"type": "http.response.body", "body": text})
 """
+# uvicorn closes a connection unheard that it has just accepted when it is told to finish: that has a second here.
+UVICORN = """import asyncio, sys
+import uvicorn
+
+class Server(uvicorn.Server):
+    async def shutdown(self, sockets=None):
+        for server in self.servers:
+            server.close()
+        await asyncio.sleep(1)
+        await super().shutdown(sockets)
+
+sys.path.insert(0, "@SITE@")
+Server(uvicorn.Config("app:app", fd=int(sys.argv[1]), log_level="error")).run()
+"""
 RACK = """run lambda { |env|
   sleep 1 if env["PATH_INFO"] == "/slow"
   [200, {"Content-Type" => "text/plain"}, ["version @VERSION@ process #{$$}\\n"]]
@@ -88,8 +102,6 @@ class Setup:
     # The file without which the application does not load.
     needed: str
     is_there: Callable[[], bool] = lambda: True
-    # How many requests its own stop may lose. puma and uvicorn lost one now and then; the cause is not known.
-    may_lose: int = 0
 
     def write(self, site: pathlib.Path, version: int) -> None:
         """Writes the application in a version, each file by a rename."""
@@ -129,7 +141,7 @@ def python_with(*modules: str) -> str | None:
     return None
 
 
-FLASK_PYTHON = python_with("waitress", "flask")
+FLASK_PYTHON, UVICORN_PYTHON = python_with("waitress", "flask"), python_with("uvicorn")
 FLASK_OPTIONS = ["--python", FLASK_PYTHON or "", "--chdir", "@SITE@", "--wsgi", "app:app"]
 GUNICORN_START = "gunicorn --chdir @SITE@ -w 1 -k gthread --threads 4 --log-level error app:app"
 # (nginx.conf is filled in by the script itself: $1 is the address then, and $2 the room)
@@ -140,12 +152,13 @@ SETUPS = [
     Setup("own program, by number", [], f'@SITE@/page "$1"', {}, "page"),
     Setup("own program, by LISTEN_FDS", ["--ready", "notify"], f"{PYTHON} @SITE@/page.py", {}, "page.py"),
     Setup("gunicorn", [], GUNICORN_START, {"app.py": WSGI}, "app.py", has("gunicorn")),
-    Setup("uvicorn", [], 'uvicorn --fd "$1" --app-dir @SITE@ --log-level error app:app', {"app.py": ASGI}, "app.py", has("uvicorn"),
-          may_lose=1),
+    Setup("uvicorn", [], f'{UVICORN_PYTHON} @SITE@/server.py "$1"', {"app.py": ASGI, "server.py": UVICORN}, "app.py",
+          lambda: UVICORN_PYTHON is not None),
     Setup("unicorn", ["--stop", "QUIT"], 'unicorn -E none -c @SITE@/unicorn.rb -l "$2" @SITE@/app.ru',
           {"app.ru": RACK, "unicorn.rb": 'worker_processes 2\nlogger Logger.new(File::NULL)\n'}, "app.ru", has("unicorn")),
-    Setup("puma", [], "puma --bind-to-activated-sockets only -q -t 4:4 -e production @SITE@/app.ru", {"app.ru": RACK}, "app.ru",
-          has("puma"), may_lose=1),
+    # It closes such a connection too: it is given none.
+    Setup("puma", ["--defer-accept"], "puma --bind-to-activated-sockets only -q -t 4:4 -e production @SITE@/app.ru",
+          {"app.ru": RACK}, "app.ru", has("puma")),
     Setup("node", [], "node @SITE@/app.js", {"app.js": NODE}, "app.js", has("node")),
     Setup("nginx", ["--stop", "QUIT", "--no-listen-fds", "--env", "NGINX={fds}"],
           NGINX_START, {"nginx.conf": NGINX, "index.html": "version @VERSION@\n", "slow": SLOW_PAGE}, "nginx.conf", has("nginx")),

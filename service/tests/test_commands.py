@@ -6,8 +6,9 @@ import tempfile
 import tomllib
 import types
 import unittest
+from typing import Any
 
-from kit import OUT, built
+from kit import BIN, OUT, built, until
 from prefork_service.commands import Commands, parted
 
 
@@ -151,6 +152,24 @@ class LaunchTest(unittest.TestCase):
                 lines = f"worker {generation} 0 7\nlistener x\ngo\n"
                 self.assertEqual(self.launched(room, "child", lines).stdout, f"{wanted}\n{lines}")
             self.assertEqual((place / "1.1").stat().st_ino, (place / "next").stat().st_ino)
+
+    def test_messages_of_workers_go_where_those_of_the_service_go(self) -> None:
+        with tempfile.TemporaryDirectory() as folder:
+            room = pathlib.Path(folder)
+            (room / "commands").mkdir()
+            (room / "commands" / "next").write_bytes(b"sh\0-c\0echo worker >&2\0")
+            with open(room / "said", "w") as said:
+                command = [BIN / "prefork-keeper", room / "keeper.sock"]
+                keeper: Any = subprocess.Popen(command, stdin=subprocess.PIPE, stderr=said)
+            self.assertTrue(until((room / "keeper.sock").exists))
+            more = {"PREFORK_KEEPER": str(room / "keeper.sock"), "PREFORK_PROGRAM": str(room / "master")}
+            (room / "master").write_text("#!/bin/sh\necho master >&2\n")
+            (room / "master").chmod(0o755)
+            for word, text in (("child", "worker 1.1 0 7\n"), ("adopt", "")):
+                self.assertEqual(self.launched(folder, word, text, **more).stderr, "")
+            keeper.stdin.close()
+            keeper.wait(20)
+            self.assertEqual((room / "said").read_text(), "worker\nmaster\n")
 
     def test_what_is_no_start_of_a_worker_is_refused(self) -> None:
         with tempfile.TemporaryDirectory() as room:

@@ -1,22 +1,15 @@
 """The keeper: one socket for each address, as long as it is held."""
+import os
 import pathlib
+import select
 import socket
 import subprocess
 import tempfile
 import time
 import unittest
+from typing import Any
 
-BIN = pathlib.Path(__file__).resolve().parent.parent / "bin"
-
-
-def until(holds, seconds: float = 20.0) -> bool:
-    """Waits for something to hold; whether it did."""
-    deadline = time.monotonic() + seconds
-    while time.monotonic() < deadline:
-        if holds():
-            return True
-        time.sleep(0.02)
-    return False
+from kit import BIN, free_address, until
 
 
 class KeeperTest(unittest.TestCase):
@@ -25,14 +18,18 @@ class KeeperTest(unittest.TestCase):
         self.addCleanup(room.cleanup)
         self.room = pathlib.Path(room.name)
         self.path = self.room / "keeper.sock"
-        command = [BIN / "prefork-keeper", self.path, "0.2"]
-        self.process = subprocess.Popen(command, stdin=subprocess.PIPE)
+        self.start()
         self.addCleanup(self.end)
+
+    def start(self, *options: str) -> None:
+        command = [BIN / "prefork-keeper", *options, self.path, "0.2"]
+        self.process: Any = subprocess.Popen(command, stdin=subprocess.PIPE)
         self.assertTrue(until(self.path.exists))
 
     def end(self) -> None:
         self.process.stdin.close()
         self.assertEqual(self.process.wait(20), 0)
+        self.path.unlink()
 
     def asked(self, address: str):
         """The answer for an address, its socket, and the connection that holds it."""
@@ -64,6 +61,29 @@ class KeeperTest(unittest.TestCase):
             said, listener, _ = self.asked(f"127.0.0.1:{other.getsockname()[1]}")
         self.assertTrue(said.startswith("no "), said)
         self.assertIsNone(listener)
+
+    def test_a_connection_is_held_back_until_its_first_bytes_are_there(self) -> None:
+        self.end()
+        self.start("--defer-accept")
+        place = free_address()
+        _, listener, _ = self.asked(place)
+        with socket.create_connection(("127.0.0.1", int(place.rpartition(":")[2]))) as client:
+            time.sleep(0.2)
+            with self.assertRaises(BlockingIOError):
+                listener.accept()
+            client.sendall(b"x")
+            self.assertTrue(until(lambda: select.select([listener], [], [], 0)[0]))
+            accepted, _ = listener.accept()
+            self.assertEqual(accepted.recv(1), b"x")
+            accepted.close()
+
+    def test_the_standard_error_of_the_service_is_given(self) -> None:
+        with socket.socket(socket.AF_UNIX, socket.SOCK_SEQPACKET) as asker:
+            asker.connect(str(self.path))
+            asker.send(b"errors")
+            said, given, _, _ = socket.recv_fds(asker, 200, 1)
+        self.addCleanup(os.close, given[0])
+        self.assertEqual((said, os.fstat(given[0])), (b"ok", os.fstat(2)))
 
     def test_an_address_that_is_none_is_refused(self) -> None:
         for address in ("nothing", "127.0.0.1:x", "127.0.0.1:99999"):

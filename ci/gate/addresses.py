@@ -1,0 +1,60 @@
+"""Free addresses on loopback, and what is served there."""
+import random
+import socket
+import threading
+
+# Below the ports that the system gives to outgoing connections.
+PORTS = range(15000, 32000)
+SECONDS = 60.0
+PICKING = threading.Lock()
+PICKED: set[int] = set()
+
+
+def free_address() -> str:
+    """An address that nobody listens on, and that this process has not given before."""
+    with PICKING:
+        while True:
+            port = random.choice(PORTS)
+            if port not in PICKED and is_free(port):
+                PICKED.add(port)
+                return f"127.0.0.1:{port}"
+
+
+def is_free(port: int) -> bool:
+    with socket.socket() as probe:
+        try:
+            probe.bind(("127.0.0.1", port))
+        except OSError:
+            return False
+    return True
+
+
+def place_of(address: str) -> tuple[str, int]:
+    """The host and the port of an address."""
+    host, _, port = address.rpartition(":")
+    return host, int(port)
+
+
+def answer_of(address: str, path: str = "/", seconds: float = SECONDS) -> str:
+    """The text of an answer, on a connection of its own."""
+    with socket.create_connection(place_of(address), seconds) as connection:
+        connection.sendall(f"GET {path} HTTP/1.1\r\nHost: gate\r\nConnection: close\r\n\r\n".encode())
+        with connection.makefile("rb") as got:
+            return got.read().decode().partition("\r\n\r\n")[2]
+
+
+def is_answered(address: str) -> bool:
+    try:
+        return bool(answer_of(address, seconds=5))
+    except OSError:
+        return False
+
+
+def is_refused(address: str) -> bool:
+    try:
+        answer_of(address, seconds=5)
+    except ConnectionRefusedError:
+        return True
+    except OSError:
+        pass
+    return False

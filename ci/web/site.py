@@ -1,0 +1,290 @@
+"""A service in a folder of its own, under load, and what is looked at in it."""
+import json
+import math
+import os
+import pathlib
+import re
+import shutil
+import signal
+import subprocess
+import sys
+import time
+from collections.abc import Callable, Collection, Iterable
+from typing import Any
+
+from gate.addresses import answer_of, free_address, is_answered
+from gate.configs import configuration
+from gate.processes import Mark
+from gate.tally import ROOT, Tally
+from gate.waiting import SECONDS, Wrong, comes, until
+
+SERVICE = ROOT / "service"
+BIN = SERVICE / "bin"
+# Of all clients of a scenario together; what was reached is looked at after it.
+RATE = 260
+# How long a request may wait. Where nobody serves for a while requests wait, on a busy machine for many seconds.
+PATIENCE = 50
+CLIENTS = 8
+CENSUS = re.compile(r"census \S+ : counted (\S+)$", re.M)
+# An application that cannot start, neither as a worker nor as a new master.
+BROKEN = "#!/bin/sh\nexit 7\n"
+
+
+def size_of(numbers: str) -> int:
+    """How many workers a census has counted: `0-2,5` are four."""
+    pairs = [part.partition("-") for part in numbers.split(",") if part != "none"]
+    return sum(int(last or first) - int(first) + 1 for first, _, last in pairs)
+
+
+def text_of(file: pathlib.Path) -> str:
+    return file.read_text() if file.exists() else ""
+
+
+def is_guard(words: list[str]) -> bool:
+    return str(BIN / "prefork-guard") in words[:2]
+
+
+class Site:
+    """A service in a folder of its own, with the load on it, and what was wrong."""
+
+    def __init__(self, prefork: str, room: str, name: str, options: Iterable[str] = ()):
+        self.room, self.name, self.options = pathlib.Path(room), name, options
+        # The program of masters, which a scenario can replace, and the one that certifies.
+        self.prefork, self.certifier = str(self.room / "prefork"), prefork
+        (self.room / "prefork").symlink_to(prefork)
+        self.mark, self.tally, self.slowest_rate = Mark("PREFORK_HTTP"), Tally(), math.inf
+        # Processes, once they are started.
+        self.load: Any = None
+        self.serve: Any = None
+        self.home, self.run, self.hold = self.room / "site", self.room / "run", self.room / "hold"
+        self.pid_file, self.config = self.room / "master.pid", self.room / "site.toml"
+        self.home.mkdir()
+        for file in (SERVICE / "double").iterdir():
+            if file.is_file():
+                shutil.copy(file, self.home)
+        self.app_text = (self.home / "app").read_text()
+        self.first, self.second = free_address(), free_address()
+        interpreter = str(pathlib.Path(sys.executable).parent)
+        self.environment = self.mark.environment(PATH=f"{interpreter}:{os.environ['PATH']}")
+        self.said = open(self.room / "said", "w+")
+
+    # What it consists of.
+
+    def configure(self, file: str = "site.toml", **settings: Any) -> None:
+        """Writes a configuration: the first address and two workers, if nothing else or groups are said."""
+        served = {} if "groups" in settings else {"listeners": [self.first], "workers": 2}
+        command = [str(self.home / "app"), "child"]
+        settings = {**served, "command": command, "timeout": 60, "pid": str(self.pid_file), **settings}
+        new = self.room / "new.toml"
+        new.write_text(configuration(**settings))
+        new.replace(self.room / file)
+
+    def go_over_to(self, **settings: Any) -> None:
+        """Writes the configuration that the next word goes over to, and keeps it to certify with."""
+        self.configure("to.toml", **settings)
+        self.configure(**settings)
+
+    def install(self, text: str) -> None:
+        """Puts another application in the place of the one that runs."""
+        new = self.home / "new"
+        new.write_text(text)
+        new.chmod(0o755)
+        new.replace(self.home / "app")
+
+    def replace_master(self, text: str | None = None) -> None:
+        """Puts another program in the place of the masters', or the right one back."""
+        new = self.room / "new-master"
+        if text is None:
+            new.symlink_to(self.certifier)
+        else:
+            new.write_text(text)
+            new.chmod(0o755)
+        new.replace(self.prefork)
+
+    def version(self, number: int, waits: str = "") -> str:
+        """The text of the application in another version, whose workers wait while a file is there."""
+        loop = f'\nwhile sys.argv[1:] == ["child"] and os.path.exists({waits!r}):\n    time.sleep(0.02)\n'
+        more = loop if waits else ""
+        return self.app_text.replace('VERSION = "1"', f'VERSION = "{number}"{more}')
+
+    def hold_slow(self) -> pathlib.Path:
+        """Lets the slow page make a file when it is asked for, and wait while another one is there."""
+        began = self.room / "slow"
+        makes = f"open({str(began)!r}, 'w').close()"
+        slow = f"{makes}\n        while os.path.exists({str(self.hold)!r}):\n            time.sleep(0.02)"
+        self.app_text = self.app_text.replace("time.sleep(3)", slow)
+        self.install(self.app_text)
+        self.hold.touch()
+        return began
+
+    def let_go_once(self, said: str) -> None:
+        """Ends the wait of the slow page once `serve` has said something."""
+        until(said, lambda: said in text_of(self.room / "said"))
+        self.hold.unlink()
+
+    # Who runs.
+
+    def begin(self, **settings: Any) -> None:
+        """Starts it with a configuration, and the load on its first address."""
+        self.configure("from.toml", **settings)
+        self.configure("to.toml", **settings)
+        self.configure(**settings)
+        self.serve = self.started()
+        until("the pid file of serve", lambda: text_of(self.run / "serve.pid") == f"{self.serve.pid}\n")
+        until("the first block", lambda: "\ndone " in self.blocks() and is_answered(self.first))
+        self.load = subprocess.Popen(
+            [
+                BIN / "prefork-load", "--json", "--clients", str(CLIENTS), "--rate", str(RATE), "--patience",
+                str(PATIENCE), self.first,
+            ],
+            stdout=subprocess.PIPE, text=True, env=self.environment, cwd=self.room,
+        )
+        # So that there is load before the first word.
+        time.sleep(0.5)
+
+    def started(self) -> subprocess.Popen:
+        command: list[Any] = [BIN / "prefork-serve", "--folder", self.run, "--prefork", self.prefork]
+        command += [*self.options, "site.toml"]
+        streams: dict[str, Any] = {"stdin": subprocess.DEVNULL, "stderr": self.said}
+        return subprocess.Popen(command, env=self.environment, cwd=self.room, **streams)
+
+    def blocks(self) -> str:
+        return text_of(self.run / "blocks")
+
+    def workers(self) -> set[int]:
+        """The processes that are workers."""
+        own = [str(self.home / "app"), "child"]
+        return {number for number, words in self.mark.processes().items() if words[-2:] == own and not is_guard(words)}
+
+    def has_others(self, old: Collection[int], count: int = 2) -> bool:
+        """Whether so many workers run, and none of the old ones; in one look."""
+        now = self.workers()
+        return len(now) == count and not now & set(old)
+
+    def guards(self) -> int:
+        """How many guards run."""
+        return sum(is_guard(words) for words in self.mark.processes().values())
+
+    def found(self, is_it: Callable[[list[str]], bool]) -> int | None:
+        """The process whose arguments are the wanted ones."""
+        return next((number for number, words in self.mark.processes().items() if is_it(words)), None)
+
+    def new_master(self) -> int | None:
+        """The new master, once it is one."""
+        return self.found(lambda words: words[:2] == [self.prefork, "adopt"])
+
+    def master(self) -> int | None:
+        """The master that `serve` has started."""
+        return self.found(lambda words: words[:2] == [self.prefork, "supervise"])
+
+    def keeper(self) -> int | None:
+        return self.found(lambda words: str(BIN / "prefork-keeper") in words[:2])
+
+    def kill(self, number: int | None) -> None:
+        """Kills a process that was found."""
+        if number is None:
+            raise Wrong("no process to kill")
+        os.kill(number, signal.SIGKILL)
+
+    def guarded(self, script: str) -> Any:
+        """A shell behind `guard`, with a second for its answers."""
+        return subprocess.Popen(
+            [BIN / "prefork-guard", "1", "sh", "-c", script], stdin=subprocess.PIPE, stdout=subprocess.PIPE,
+            stderr=self.said, text=True, env=self.environment,
+        )
+
+    # What is told and wanted.
+
+    def check(self, what: str, holds: Any) -> None:
+        self.tally.check([] if holds else [f"{self.name}: {what}"])
+
+    def sent(self, word: str) -> subprocess.Popen:
+        """A word on its way: `ctl`."""
+        command: list[Any] = [BIN / "prefork-ctl", "--folder", self.run, word]
+        streams: dict[str, Any] = {"stdout": subprocess.PIPE, "stderr": subprocess.PIPE}
+        return subprocess.Popen(command, **streams, text=True, env=self.environment)
+
+    def question(self) -> str:
+        """What `ctl` says without a word."""
+        command: list[Any] = [BIN / "prefork-ctl", "--folder", self.run]
+        return subprocess.run(command, capture_output=True, text=True, env=self.environment, timeout=SECONDS).stdout
+
+    def wants(self, word: str, status: int, report: str, workers: int) -> str:
+        """Sends a word and looks at what comes of it."""
+        return self.heard(self.sent(word), word, status, report, workers)
+
+    def heard(self, sent: subprocess.Popen, word: str, status: int, report: str, workers: int) -> str:
+        """Waits for what comes of a word, and looks at it."""
+        block, faults = sent.communicate(timeout=SECONDS)
+        self.check(f"{word}: ctl's status is {sent.returncode}: {block}{faults}", sent.returncode == status)
+        self.check(f"{word}: the block is {block!r}", block.startswith(f"word {word}\n"))
+        self.check(f"{word}: the report is {block!r}", block.split("\n")[-2].startswith(report))
+        counted = CENSUS.findall(block)
+        self.check(f"{word}: counted {counted}", counted and size_of(counted[-1]) == workers)
+        self.check_workers(word, workers)
+        return block
+
+    def wants_refused(self, word: str, report: str) -> None:
+        """Sends a word that is refused before anything is done."""
+        block, faults = self.sent(word).communicate(timeout=SECONDS)
+        self.check(f"{word}: not refused as {report}: {block}{faults}", block == f"word {word}\n{report}\n")
+
+    def check_workers(self, word: str, wanted: int) -> None:
+        """Old workers that finish what they serve are still there for a moment."""
+        is_met = comes(lambda: len(self.workers()) == wanted)
+        self.check(f"{word}: {len(self.workers())} workers run, and {wanted} are wanted", is_met)
+
+    def answered_by(self, version: int) -> None:
+        until(f"an answer by version {version}", lambda: f"version {version} " in answer_of(self.first))
+
+    # Its end.
+
+    def end_load(self) -> dict[str, Any]:
+        """What the load says; it has a while more, so that what comes of the last word is met by it."""
+        time.sleep(0.5)
+        self.load.send_signal(signal.SIGTERM)
+        found = json.loads(self.load.communicate(timeout=SECONDS)[0])
+        self.load = None
+        self.slowest_rate = min(self.slowest_rate, found["rate"])
+        return found
+
+    def end(self, versions: Iterable[str], may_fail: int = 0) -> dict[str, Any]:
+        """Ends load and service, and looks at what is left."""
+        found = self.end_load()
+        self.check_load(found, versions, may_fail)
+        sent = self.sent("QUIT")
+        block, faults = sent.communicate(timeout=SECONDS)
+        self.check(f"QUIT: {sent.returncode}, {block}{faults}", sent.returncode == 0)
+        self.check("serve ends with another status", self.serve.wait(SECONDS) == 0)
+        self.nothing_left()
+        return found
+
+    def check_load(self, found: dict[str, Any], versions: Iterable[str], may_fail: int = 0) -> None:
+        self.check(f"{found['failed']} requests failed: {found['failures']}", found["failed"] <= may_fail)
+        self.check(f"answers of {found['versions']}", set(found["versions"]) == set(versions))
+
+    def nothing_left(self) -> None:
+        """No process, socket or pid file of it is left."""
+        running = self.mark.left()
+        self.check(f"processes are left: {running}", not running)
+        left = sorted(file.name for file in self.run.iterdir() if not file.name.startswith("blocks"))
+        self.check(f"files are left: {left}", not left)
+        self.check("a pid file is left", not list(self.room.glob("master.pid*")))
+
+    def certify(self, text: str | None = None) -> None:
+        """`certify` accepts the blocks."""
+        command = [self.certifier, "certify", "--bare", "--from", "from.toml", "--to", "to.toml"]
+        blocks = self.blocks() if text is None else text
+        said = subprocess.run(command, input=blocks, cwd=self.room, capture_output=True, text=True, timeout=SECONDS)
+        self.check(f"certify: {said.stderr}{blocks[-2000:]}", said.returncode == 0)
+
+    def close(self) -> None:
+        """Ends what still runs, by number."""
+        self.mark.end_all()
+        for started in (self.load, self.serve):
+            if started:
+                started.wait()
+        self.said.close()
+
+
+Scenario = Callable[[Site], None]

@@ -1,0 +1,43 @@
+"""The questions of an attended upgrade: how the master asks them, what answers them, and what its operator is told."""
+import re
+
+# A line of the master's log, and the one in which it asks.
+LOG = re.compile(r"\[[A-Z]+ +prefork\] (.*)")
+ASKS = re.compile(r"asks ([12]): .*")
+# What is told to the master for an answer. QUIT would go on too, and a moment later it would stop the service.
+ANSWERS = {"go": "WINCH", "back": "HUP"}
+# What prefork-ctl sends where it is given no word.
+STATE = "question"
+NOT_ASKED = "refused not-asked"
+WHO_SERVES = {1: "old and new workers serve", 2: "the new workers alone serve"}
+MORE = {
+    1: """\
+Look at the answers and the logs of the new workers: they have part of the requests.
+prefork-ctl go: the old workers finish and leave. Then it asks again.
+prefork-ctl back: the new workers finish and leave, and the old ones serve on.
+""",
+    2: """\
+Look at the new workers under the whole load. The old master waits, without workers.
+prefork-ctl go: the old master leaves, and the upgrade is done.
+prefork-ctl back: the old master starts its workers again, from the files as they are now. Then the new ones leave.
+""",
+}
+NO_TICK = "While it asks, a worker that ends is not replaced, and other words wait.\n"
+
+
+def line_of(question: int) -> str:
+    """A question in one line."""
+    return f"asks {question}: {WHO_SERVES[question]}\n"
+
+
+def state(question: int, word: str | None, waiting: int) -> str:
+    """What an operator is told of the service: which question it asks, the word that is being carried out, and how many
+    wait."""
+    if question:
+        return line_of(question) + MORE[question] + NO_TICK + waits(waiting)
+    is_busy = word is not None and not word.startswith("tick ")
+    return (f"asks nothing: {word} is being carried out\n" if is_busy else "asks nothing\n") + waits(waiting)
+
+
+def waits(count: int) -> str:
+    return f"{count} more word{'s wait' if count > 1 else ' waits'}\n" if count else ""
