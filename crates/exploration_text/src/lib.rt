@@ -1,6 +1,6 @@
-//! Texts of explored runs: a run that is listed, and what all of them came to.
+//! Texts of explored runs: a run that is listed, and what all of them ended in.
 //!
-//! Each text is a function to bytes in `specs/`. Writers put it behind what was written before.
+//! Each text is a function to bytes in `specs/`. Writers append it.
 #![tactic(auto)]
 
 mod events;

@@ -22,8 +22,7 @@ fn write_events(out: &mut Vec<u8>, tried: &Tried) -> Result<(), AllocError>
     }
 }
 
-/// Puts a run behind what was written: a line for each of its events, and the line of its report. The only refusal is want of
-/// memory.
+/// Appends a run: a line for each of its events, and the line of its report. It fails only where memory is refused.
 pub fn write_run(out: &mut Vec<u8>, tried: &Tried, report: &Report) -> Result<(), AllocError>
     ensures { IfOk result (λ _. out.new.items ≡ out.old.items ++ run_text tried.now report.now) }
 {

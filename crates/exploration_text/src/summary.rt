@@ -1,4 +1,4 @@
-//! What runs came to, counted.
+//! What runs ended in, counted.
 ghost use Rattle.std.specs.Prelude.{◌≡◌, ◌++◌, IfOk};
 ghost use Rattle.exploration_text.specs.SummaryText.{tried_text, under_text, shortest_text, count_text, end_line, shortfall_line, full_text, degraded_text, ends_text, place_text, ready_text, least_line, tables_line, cut_text, summary_text};
 
@@ -40,7 +40,7 @@ fn write_shortest(out: &mut Vec<u8>, shortest: Option<Tried>) -> Result<(), Allo
     }
 }
 
-/// A number behind what it counts.
+/// A number, after what it counts.
 #[tactic(auto, unfolding(crate::specs::SummaryText::count_text))]
 fn write_count(out: &mut Vec<u8>, name: &[u8], number: u64) -> Result<(), AllocError>
     ensures { IfOk result (λ _. out.new.items ≡ out.old.items ++ count_text name.now number) }
@@ -143,9 +143,8 @@ fn write_cut(out: &mut Vec<u8>, is_cut: bool) -> Result<(), AllocError>
     Ok(())
 }
 
-/// Puts what runs came to behind what was written: a line for each kind of end, one for the largest shortfall, one for the fewest
-/// workers that an address had, one for the number of tables, and one more where runs were left out. The only refusal is want of
-/// memory.
+/// Appends what runs ended in: a line for each kind of end, one for the largest shortfall, one for the fewest workers that an
+/// address had, one for the number of tables, and one more where runs were left out. It fails only where memory is refused.
 pub fn write_summary(out: &mut Vec<u8>, found: &Findings, is_cut: bool) -> Result<(), AllocError>
     ensures { IfOk result (λ _. out.new.items ≡ out.old.items ++ summary_text found.now.tally found.now.least found.now.tables is_cut) }
 {

@@ -7,10 +7,12 @@ use Rattle.definitions.specs.Record.{Record}
 use Rattle.explorer.specs.declared.events.Event.{Event}
 use Rattle.explorer.specs.declared.events.Mishap.{Mishap}
 use Rattle.explorer.specs.declared.events.Tried.{Tried}
+use Rattle.explorer.specs.declared.events.Tried.TheVariants.{Two}
 use Rattle.explorer.specs.declared.tally.Tally.{Tally}
 use Rattle.explorer.specs.Tallies.{counted}
 use Rattle.explorer.specs.Events.{event_at}
 use Rattle.explorer.specs.Explored.{report_under, with_runs, with_pairs, each_with_pairs}
+use Rattle.explorer.proofs.Turning.{IsCounting}
 
 module _ (r : Record) (to : Target) (t : Table) where
   pub with_runs-append : (xs ys : List Tried) (tally : Tally) → with_runs r to t (xs ++ ys) tally ≡ with_runs r to t ys (with_runs r to t xs tally)
@@ -27,7 +29,7 @@ module _ (r : Record) (to : Target) (t : Table) where
       ap (λ zs. with_pairs r to t pairs x ++ zs) (each-append pairs xs ys)
       ∙ sym (append_assoc (with_pairs r to t pairs x) (each_with_pairs r to t pairs xs) (each_with_pairs r to t pairs ys))
 
-  pub with_runs-each : (pairs : Bool) (xs ys : List Event) (tally : Tally) →
+  with_runs-each : (pairs : Bool) (xs ys : List Event) (tally : Tally) →
       with_runs r to t (each_with_pairs r to t pairs (xs ++ ys)) tally ≡ with_runs r to t (each_with_pairs r to t pairs ys) (with_runs r to t (each_with_pairs r to t pairs xs) tally)
   with_runs-each pairs xs ys tally =
       ap (λ zs. with_runs r to t zs tally) (each-append pairs xs ys) ∙ with_runs-append (each_with_pairs r to t pairs xs) (each_with_pairs r to t pairs ys) tally
@@ -46,3 +48,17 @@ module _ (r : Record) (to : Target) (t : Table) where
       ap (with_runs r to t (each_with_pairs r to t pairs (map (event_at n) (drop (i + 1) ms)))) is
       ∙ sym (with_runs-append (with_pairs r to t pairs (event_at n (get_or ms i d))) (each_with_pairs r to t pairs (map (event_at n) (drop (i + 1) ms))) tally)
       ∙ sym (ap (λ xs. with_runs r to t (each_with_pairs r to t pairs (map (event_at n) xs)) tally) (drop_more ms i d within))
+
+  -- events, each counted as the second one of a pair
+  abbrev pub with-second : Event → List Event → Tally → Tally
+  with-second first es tally = with_runs r to t (map (Two first) es) tally
+
+  pub seconds-counting : (first : Event) → IsCounting (with-second first)
+  seconds-counting first = record { none = λ tally. refl; splits = with_runs-map (Two first) }
+
+  -- events, each counted as the first one
+  abbrev pub with-first : Bool → List Event → Tally → Tally
+  with-first pairs es tally = with_runs r to t (each_with_pairs r to t pairs es) tally
+
+  pub firsts-counting : (pairs : Bool) → IsCounting (with-first pairs)
+  firsts-counting pairs = record { none = λ tally. refl; splits = with_runs-each pairs }

@@ -9,3 +9,7 @@ mod Numbers
 mod Once
 mod Passing
 mod Refusing
+mod Turning
+mod Totals
+mod Staying
+mod Fewest

@@ -3,4 +3,7 @@ pub mod Tallies
 pub mod Explored
 pub mod Positions
 pub mod Known
+pub mod Branching
 pub mod Refusals
+pub mod Readiness
+pub mod Least

@@ -1,18 +1,22 @@
 //! Runs, carried out and counted.
-ghost use Rattle.std.specs.Prelude.{◌≡◌, ◌∷◌, [], OnOk};
+ghost use Rattle.std.specs.Prelude.{◌≡◌, ◌∷◌, [], IfOk, OnOk};
+ghost use Rattle.definitions.specs.Exits.{after_exits};
 ghost use Rattle.definitions.specs.Run.{Progress};
 ghost use Rattle.explorer.specs.Events.{pattern_of};
 ghost use Rattle.explorer.specs.Tallies.{counted};
-ghost use Rattle.explorer.specs.Explored.{with_runs};
 ghost use Rattle.explorer.specs.Positions.{IsFit, IsAt, IsQuietFrom};
+ghost use Rattle.explorer.specs.Branching.{AreCounted};
+ghost use Rattle.explorer.specs.Readiness.{low_after_exits};
+ghost use Rattle.explorer.specs.Least.{exits_between, HasLow, IsSeenBetween, IsLeastBetween};
 
+use crate::branching::BranchPoint;
 use crate::effects;
 use crate::events::{Mishap, Tried};
 use crate::findings::{Findings, low_after, low_without};
 use crate::position::Position;
-use plan_walk::Due;
+use kernel_model::Kernel;
 use std::alloc::AllocError;
-use vocabulary::{Name, Report};
+use vocabulary::{Actor, Name, Report};
 
 /// Why the counting of runs stops before their end.
 #[derive(Clone, Copy, Debug)]
@@ -59,8 +63,8 @@ pub(crate) fn count_report<A: Audience>(
     }
 }
 
-/// Carries the rest of a run out, in which nothing more goes wrong, and counts the run. Each address that both services
-/// name has at least so many Ready workers before it.
+/// Carries out the rest of a run, in which nothing more goes wrong, and counts the run. Each address that both services name
+/// has at least `low` Ready workers before it.
 pub(crate) fn count_run<A: Audience>(
     run: Position<'_>,
     low: u32,
@@ -69,7 +73,7 @@ pub(crate) fn count_run<A: Audience>(
 ) -> Result<(), ExploreRefusal>
     requires fit { IsFit run }
     requires quiet { IsQuietFrom run.made (pattern_of run.tried) }
-    ensures { (p : Progress) → IsAt run.entry p → OnOk result (found.new.tally ≡ with_runs run.entry.state.now run.entry.target.now run.entry.first.now.table (run.entry.tried ∷ []) found.old.tally) }
+    ensures { (p : Progress) → IsAt run.entry p → OnOk result (AreCounted run.entry (run.entry.tried ∷ []) found.old.tally found.new.tally) }
 {
     if !audience.wants_more() {
         return Err(ExploreRefusal::Enough);
@@ -79,34 +83,61 @@ pub(crate) fn count_run<A: Audience>(
     count_report(&tried, &report, found, audience)
 }
 
-/// Looks at the table between the exits of a moment and its call, where this process exits already, where one does, and
-/// this goes wrong at the call that is due. Gives how many Ready workers each address has at least after the call.
+/// How many Ready workers each address has at least after this exit, if it had so many before and `gone`, where it is given,
+/// exits first.
+fn low_between(gone: Option<Name>, name: Name, low: u32) -> u32
+    ensures { result ≡ low_after_exits (exits_between gone name) low }
+{
+    match gone {
+        Some(gone) => low_without(name, low_without(gone, low)),
+        None => low_without(name, low),
+    }
+}
+
+/// The kernel after these exits.
+fn kernel_between(
+    kernel: &Kernel,
+    by: Actor,
+    gone: Option<Name>,
+    name: Name,
+) -> Result<Kernel, AllocError>
+    ensures { IfOk result (λ k. k.table ≡ after_exits (exits_between gone name) kernel.now.table) }
+{
+    match gone {
+        Some(gone) => effects::after_exits(kernel, by, &[gone, name]),
+        None => effects::after_exits(kernel, by, &[name]),
+    }
+}
+
+/// Looks at the table between the exits of a moment and its call: this mishap happens at the call that is due and, if `gone` is
+/// given, that process exits first. Gives how many Ready workers each address has at least after the call.
+///
+/// Whoever exits first, none of the addresses has fewer workers in between than the fewest that are found, and what is found
+/// there is told of this run and of the number of calls before.
 pub(crate) fn look_between(
-    run: &Position<'_>,
-    due: &Due,
+    point: &BranchPoint<'_, '_>,
     gone: Option<Name>,
     mishap: Mishap,
-    low: u32,
     tried: &Tried,
     found: &mut Findings,
 ) -> Result<u32, AllocError>
-    ensures { found.new.tally ≡ found.old.tally }
+    ensures tally { found.new.tally ≡ found.old.tally }
+    ensures least { IsLeastBetween point.now gone mishap tried.now found.old found.new }
+    ensures seen { HasLow point.now found.old → OnOk result (IsSeenBetween point.now gone mishap found.new) }
 {
-    let low = match gone {
-        Some(gone) => low_without(gone, low),
-        None => low,
-    };
+    let (run, due) = (point.run, point.due);
     let Mishap::Exit(name, _) = mishap else {
+        let low = match gone {
+            Some(gone) => low_without(gone, point.low),
+            None => point.low,
+        };
         return Ok(low_after(&due.call, low));
     };
-    let low = low_without(name, low);
+    let low = low_between(gone, name, point.low);
     if !found.may_have_fewer(low) {
         return Ok(low_after(&due.call, low));
     }
-    let kernel = match gone {
-        Some(gone) => effects::after_exits(&run.kernel, due.by, &[gone, name])?,
-        None => effects::after_exits(&run.kernel, due.by, &[name])?,
-    };
+    let kernel = kernel_between(&run.kernel, due.by, gone, name)?;
     let low = found.look(&kernel, low, tried, run.made)?;
     Ok(low_after(&due.call, low))
 }

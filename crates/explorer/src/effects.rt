@@ -15,6 +15,7 @@ use kernel_pattern::Moment;
 use kernel_table::Row;
 use listener_set::{Numbers, WORKER_LIMIT};
 use plan_executor::reserved_copy;
+use plan_walk::Due;
 use std::alloc::{AllocError, Global};
 use vocabulary::{Actor, Call, Fate, Name, Stance};
 
@@ -47,7 +48,7 @@ fn takes_effect(
     Ok(reply_to(&answer, &Numbers::none()) != kernel.own_reply(by, call, text))
 }
 
-/// The exit of a process, where it matters: of one with a higher number than this, where this master has yet to take over.
+/// The exit of a process, where it matters while this master has yet to take over: that of one with a higher number than `above`.
 fn exit_of(row: &Row, heir: Option<u32>, above: u32) -> Option<Mishap>
     ensures { result ≡ exit_of (listed heir) above row.now }
 {
@@ -90,7 +91,7 @@ fn is_active(stance: Stance) -> bool
     }
 }
 
-/// Who has yet to take over, at a call and after it.
+/// The master that has yet to take over, at a call and after it.
 pub(crate) fn waiting(call: &Call, heir: Option<u32>) -> Option<u32>
     ensures { listed result ≡ waiting call.now (listed heir) }
 {
@@ -145,26 +146,24 @@ fn add_fates(
     Ok(())
 }
 
-/// What can go wrong at a call, of exits those of processes with a higher number than this, where this master has yet to
-/// take over.
+/// What can go wrong at a call, while this master has yet to take over. Only processes with a higher number than `above` exit.
 pub(crate) fn mishaps_at(
     alloc: Global,
     kernel: &Kernel,
-    by: Actor,
-    call: &Call,
+    due: &Due,
     text: &[u8],
     heir: Option<u32>,
     above: u32,
 ) -> Result<Vec<Mishap>, AllocError>
-    ensures { IfOk result (λ mishaps. mishaps.items ≡ mishaps_at text.now by call.now (listed heir) above kernel.now.table) }
+    ensures { IfOk result (λ mishaps. mishaps.items ≡ mishaps_at text.now due.now.by due.now.call (listed heir) above kernel.now.table) }
 {
     let mut mishaps = Vec::new(alloc);
     add_exits(kernel, heir, above, &mut mishaps)?;
-    add_fates(kernel, by, call, text, &mut mishaps)?;
+    add_fates(kernel, due.by, &due.call, text, &mut mishaps)?;
     Ok(mishaps)
 }
 
-/// The kernel after these exits. They come with a call, so one is made that asks for a master and changes nothing.
+/// The kernel after these exits. Exits come with a call, so it makes one that asks for a master and changes nothing.
 pub(crate) fn after_exits(kernel: &Kernel, by: Actor, exits: &[Name]) -> Result<Kernel, AllocError>
     ensures { IfOk result (λ k. k.table ≡ after_exits exits.now kernel.now.table) }
 {

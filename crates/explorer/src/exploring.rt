@@ -1,18 +1,18 @@
 //! All runs of a target in which at most two things go wrong.
 ghost use Rattle.std.specs.Prelude.{◌≡◌, ◌≤◌, ◌+◌, ◌↔◌, ◌⊎◌, ◌∷◌, [], map, None, Some, IfOk, OnOk, IsErrOf};
 ghost use Rattle.std.specs.List.{AllByRecursion};
-ghost use Rattle.definitions.specs.Target.{IsTarget, text_handed};
-ghost use Rattle.definitions.specs.Exits.{after_exits};
-ghost use Rattle.definitions.specs.Run.{Pattern, Progress, quiet};
-ghost use Rattle.plan_walk.specs.Walk.{trail_of, AsksFor};
-ghost use Rattle.plan_executor.specs.Naming.{listed};
-ghost use Rattle.plan_executor.specs.Refusals.{IsPlannable, IsRefused};
+ghost use Rattle.definitions.specs.Target.{IsTarget};
+ghost use Rattle.definitions.specs.Run.{Progress};
+ghost use Rattle.plan_executor.specs.Refusals.{IsPlannable};
 ghost use Rattle.plan_executor.specs.declared.enactment.EnactRefusal.{EnactRefusal as Refusal};
-ghost use Rattle.explorer.specs.Events.{pattern_of, with_mishap, event_at, beside, waiting};
-ghost use Rattle.explorer.specs.Explored.{report_under, with_runs, with_pairs, each_with_pairs, all_tried, most_events, AreOnce, explored_from};
-ghost use Rattle.explorer.specs.Known.{IsKnownAt, IsPassed};
-ghost use Rattle.explorer.specs.Positions.{IsFit, IsAt, IsSameUpTo, IsLater, left, moment_of};
+ghost use Rattle.explorer.specs.Events.{pattern_of};
+ghost use Rattle.explorer.specs.Explored.{all_tried, most_events, AreOnce, explored_from};
+ghost use Rattle.explorer.specs.Known.{IsPassed};
+ghost use Rattle.explorer.specs.Positions.{IsFit, IsAt, IsSameUpTo, left, moment_of};
+ghost use Rattle.explorer.specs.Branching.{IsDue, AreKnown, report_of_run, report_with, runs_with, runs_with_each, pairs_here, pairs_beside, AreCounted, AreCountedHere, AreAllCounted};
+ghost use Rattle.explorer.specs.Refusals.{IsRefusedAlways};
 
+use crate::branching::BranchPoint;
 use crate::counting::{Audience, ExploreRefusal, count_report, count_run, look_between};
 use crate::effects;
 use crate::events::{Event, Mishap, Tried};
@@ -21,10 +21,19 @@ use crate::known::{self, Known, RestOfRun};
 use crate::position::Position;
 use kernel_model::Kernel;
 use plan_executor::{EnactRefusal, agrees, plan_of};
-use plan_walk::Due;
 use service_state::Record;
 use std::alloc::{AllocError, Global};
 use vocabulary::{Name, Target};
+
+/// What is explored: the runs of a target, from a kernel and what its master knows of itself, and with pairs of events where
+/// these are asked for.
+#[derive(Clone, Copy)]
+pub struct Search<'a> {
+    pub kernel: &'a Kernel,
+    pub state: &'a Record,
+    pub target: &'a Target,
+    pub pairs: bool,
+}
 
 /// Why the runs of a target are not all counted.
 #[derive(Clone, Copy, Debug)]
@@ -69,74 +78,47 @@ impl From<ExploreRefusal> for Unexplored {
     }
 }
 
-/// The run in which this goes wrong, which is the same so far, after the call that is due, before which this process exits
-/// already, where one does, and at which this goes wrong.
-fn branch_with<'a>(
-    run: &Position<'a>,
-    due: &Due,
-    tried: Tried,
-    gone: Option<Name>,
-    mishap: Mishap,
-) -> Result<Position<'a>, AllocError>
-    requires fit { IsFit run.now }
-    requires due { AsksFor (trail_of run.now.walk) due.now.by due.now.call }
-    requires moment { pattern_of tried (run.now.made + 1) ≡ with_mishap mishap (moment_of gone) }
-    ensures { IfOk result (IsLater (record run.now { tried = tried }) due.now (with_mishap mishap (moment_of gone))) }
-{
-    match (gone, mishap) {
-        (None, Mishap::Exit(name, _)) => run.branch(due, tried, &[name], None),
-        (None, Mishap::Fail(fate)) => run.branch(due, tried, &[], Some(fate)),
-        (Some(gone), Mishap::Exit(name, _)) => run.branch(due, tried, &[gone, name], None),
-        (Some(gone), Mishap::Fail(fate)) => run.branch(due, tried, &[gone], Some(fate)),
-    }
-}
-
-/// Counts the run in which this goes wrong, too, at the call that is due, before which this process exits already, where
-/// one does.
+/// Counts the run with this mishap, too, at the call that is due. If `gone` is given, that process exits before it already.
 fn count_pair<A: Audience>(
-    run: &Position<'_>,
-    due: &Due,
+    point: &BranchPoint<'_, '_>,
     first: Event,
     gone: Option<Name>,
     mishap: Mishap,
-    low: u32,
     found: &mut Findings,
     audience: &mut A,
 ) -> Result<(), ExploreRefusal>
-    requires fit { IsFit run.now }
-    requires due { AsksFor (trail_of run.now.walk) due.now.by due.now.call }
-    requires tried { IsSameUpTo run.now.made (pattern_of run.now.tried) (pattern_of (Tried.One first)) }
-    requires first { first.number ≤ run.now.made + 1 }
-    requires moment { pattern_of (Tried.One first) (run.now.made + 1) ≡ moment_of gone }
-    ensures { (p : Progress) → IsAt run.now p → OnOk result (found.new.tally ≡ with_runs run.now.state.now run.now.target.now run.now.first.now.table (Tried.Two first (event_at (run.now.made + 1) mishap) ∷ []) found.old.tally) }
+    requires fit { IsFit point.now.run.now }
+    requires due { IsDue point.now }
+    requires tried { IsSameUpTo point.now.run.now.made (pattern_of point.now.run.now.tried) (pattern_of (Tried.One first)) }
+    requires first { first.number ≤ point.now.run.now.made + 1 }
+    requires moment { pattern_of (Tried.One first) (point.now.run.now.made + 1) ≡ moment_of gone }
+    ensures { (p : Progress) → IsAt point.now.run.now p → OnOk result (AreCountedHere point.now (pairs_here point.now first (mishap ∷ [])) found.old.tally found.new.tally) }
 {
-    let number = run.made + 1;
+    let number = point.run.made + 1;
     let tried = Tried::Two(first, Event { number, mishap });
-    let after = look_between(run, due, gone, mishap, low, &tried, found)?;
-    let branch = branch_with(run, due, tried, gone, mishap)?;
+    let after = look_between(point, gone, mishap, &tried, found)?;
+    let branch = point.branch(tried, gone, mishap)?;
     count_run(branch, after, found, audience)
 }
 
-/// Counts the runs in which one of these goes wrong, too, at the call that is due.
+/// Counts the runs with one of these mishaps, too, at the call that is due.
 fn count_pairs<A: Audience>(
-    run: &Position<'_>,
-    due: &Due,
+    point: &BranchPoint<'_, '_>,
     first: Event,
     gone: Option<Name>,
     mishaps: &[Mishap],
-    low: u32,
     found: &mut Findings,
     audience: &mut A,
 ) -> Result<(), ExploreRefusal>
-    requires fit { IsFit run.now }
-    requires due { AsksFor (trail_of run.now.walk) due.now.by due.now.call }
-    requires tried { IsSameUpTo run.now.made (pattern_of run.now.tried) (pattern_of (Tried.One first)) }
-    requires first { first.number ≤ run.now.made + 1 }
-    requires moment { pattern_of (Tried.One first) (run.now.made + 1) ≡ moment_of gone }
-    ensures { (p : Progress) → IsAt run.now p → OnOk result (found.new.tally ≡ with_runs run.now.state.now run.now.target.now run.now.first.now.table (map (Tried.Two first) (map (event_at (run.now.made + 1)) mishaps.now)) found.old.tally) }
+    requires fit { IsFit point.now.run.now }
+    requires due { IsDue point.now }
+    requires tried { IsSameUpTo point.now.run.now.made (pattern_of point.now.run.now.tried) (pattern_of (Tried.One first)) }
+    requires first { first.number ≤ point.now.run.now.made + 1 }
+    requires moment { pattern_of (Tried.One first) (point.now.run.now.made + 1) ≡ moment_of gone }
+    ensures { (p : Progress) → IsAt point.now.run.now p → OnOk result (AreCountedHere point.now (pairs_here point.now first mishaps.now) found.old.tally found.new.tally) }
 {
     for mishap in mishaps {
-        count_pair(run, due, first, gone, *mishap, low, found, audience)?;
+        count_pair(point, first, gone, *mishap, found, audience)?;
     }
     Ok(())
 }
@@ -144,27 +126,24 @@ fn count_pairs<A: Audience>(
 /// Counts the runs in which one thing more goes wrong at the call of the first one, which is due.
 fn count_beside<A: Audience>(
     alloc: Global,
-    run: &Position<'_>,
-    due: &Due,
+    point: &BranchPoint<'_, '_>,
     first: Event,
-    low: u32,
     found: &mut Findings,
     audience: &mut A,
 ) -> Result<(), ExploreRefusal>
-    requires fit { IsFit run.now }
-    requires due { AsksFor (trail_of run.now.walk) due.now.by due.now.call }
-    requires tried { run.now.tried ≡ Tried.Nothing }
-    requires first { first.number ≡ run.now.made + 1 }
-    ensures { (p : Progress) → IsAt run.now p → OnOk result (found.new.tally ≡ with_runs run.now.state.now run.now.target.now run.now.first.now.table (map (Tried.Two first) (map (event_at (run.now.made + 1)) (beside (text_handed run.now.state.now run.now.target.now) due.now.by due.now.call (waiting due.now.call (listed run.now.heir)) first.mishap (after_exits (with_mishap first.mishap quiet).exits run.now.kernel.table)))) found.old.tally) }
+    requires fit { IsFit point.now.run.now }
+    requires due { IsDue point.now }
+    requires tried { point.now.run.now.tried ≡ Tried.Nothing }
+    requires first { first.number ≡ point.now.run.now.made + 1 }
+    ensures { (p : Progress) → IsAt point.now.run.now p → OnOk result (AreCountedHere point.now (pairs_beside point.now first) found.old.tally found.new.tally) }
 {
+    let (run, due) = (point.run, point.due);
     match first.mishap {
         Mishap::Exit(name, process) => {
             let kernel = effects::after_exits(&run.kernel, due.by, &[name])?;
             let heir = effects::waiting(&due.call, run.heir);
-            let mishaps = effects::mishaps_at(
-                alloc, &kernel, due.by, &due.call, run.text, heir, process,
-            )?;
-            count_pairs(run, due, first, Some(name), &mishaps, low, found, audience)
+            let mishaps = effects::mishaps_at(alloc, &kernel, due, run.text, heir, process)?;
+            count_pairs(point, first, Some(name), &mishaps, found, audience)
         }
         Mishap::Fail(_) => Ok(()),
     }
@@ -181,106 +160,103 @@ fn count_later<A: Audience>(
     requires fit { IsFit run }
     requires tried { run.tried ≡ Tried.One first }
     requires first { first.number ≤ run.made }
-    ensures { (p : Progress) → IsAt run.entry p → OnOk result (found.new.tally ≡ with_runs run.entry.state.now run.entry.target.now run.entry.first.now.table (map (Tried.Two first) (left run.entry p (Some first))) found.old.tally) }
+    ensures { (p : Progress) → IsAt run.entry p → OnOk result (AreCounted run.entry (map (Tried.Two first) (left run.entry p (Some first))) found.old.tally found.new.tally) }
 {
     while let Some(due) = run.due() {
         let low = found.look(&run.kernel, 0, &run.tried, run.made)?;
         let mishaps = run.mishaps(alloc, &due, 0)?;
-        count_pairs(&run, &due, first, None, &mishaps, low, found, audience)?;
+        let point = BranchPoint {
+            run: &run,
+            due: &due,
+            known: &[],
+            low,
+        };
+        count_pairs(&point, first, None, &mishaps, found, audience)?;
         run.make(&due, &[], None);
     }
     Ok(())
 }
 
-/// What the run comes to in which this goes wrong at the call that is due: what is known of it, or else what is found by
-/// carrying it out.
-fn ended(
-    run: &Position<'_>,
-    due: &Due,
+/// The report of the run with this event, at the call that is due, and its tables: what is known of it, or else what is found
+/// when it is carried out.
+fn rest_of_run(
+    point: &BranchPoint<'_, '_>,
     event: Event,
-    known: &[Known],
-    low: u32,
     found: &mut Findings,
 ) -> Result<RestOfRun, ExploreRefusal>
-    requires fit { IsFit run.now }
-    requires due { AsksFor (trail_of run.now.walk) due.now.by due.now.call }
-    requires tried { run.now.tried ≡ Tried.Nothing }
-    requires number { event.number ≡ run.now.made + 1 }
-    ensures report { (p : Progress) → IsAt run.now p → AllByRecursion (IsKnownAt run.now (run.now.made + 1)) known.now → IfOk result (λ rest. rest.report ≡ report_under run.now.state.now run.now.target.now run.now.first.now.table (Tried.One event)) }
+    requires fit { IsFit point.now.run.now }
+    requires due { IsDue point.now }
+    requires tried { point.now.run.now.tried ≡ Tried.Nothing }
+    requires number { event.number ≡ point.now.run.now.made + 1 }
+    ensures report { (p : Progress) → IsAt point.now.run.now p → AreKnown point.now → IfOk result (λ rest. rest.report ≡ report_of_run point.now.run.now (Tried.One event)) }
     ensures found { found.new.tally ≡ found.old.tally }
 {
     let tried = Tried::One(event);
-    let after = look_between(run, due, None, event.mishap, low, &tried, found)?;
-    if let Some(rest) = known::find(known, event.mishap) {
+    let after = look_between(point, None, event.mishap, &tried, found)?;
+    if let Some(rest) = known::find(point.known, event.mishap) {
         let tables = rest.tables.saturating_sub(1);
         found.pass(tables);
         return Ok(RestOfRun { tables, ..rest });
     }
-    let whole = branch_with(run, due, tried, None, event.mishap)?;
+    let whole = point.branch(tried, None, event.mishap)?;
     let before = found.tables;
     let report = whole.finish(after, found)?;
     let tables = found.tables.saturating_sub(before);
     Ok(RestOfRun { report, tables })
 }
 
-/// Counts the run in which this goes wrong at the call that is due and, where pairs are asked for, each in which one thing
-/// more does. Gives what the run comes to.
+/// Counts the run with this mishap at the call that is due and, where pairs are asked for, each in which one thing more goes
+/// wrong. Gives what the run comes to.
 fn count_with_pairs<A: Audience>(
     alloc: Global,
-    run: &Position<'_>,
-    due: &Due,
+    point: &BranchPoint<'_, '_>,
     mishap: Mishap,
-    known: &[Known],
     pairs: bool,
-    low: u32,
     found: &mut Findings,
     audience: &mut A,
 ) -> Result<RestOfRun, ExploreRefusal>
-    requires fit { IsFit run.now }
-    requires due { AsksFor (trail_of run.now.walk) due.now.by due.now.call }
-    requires tried { run.now.tried ≡ Tried.Nothing }
-    ensures report { (p : Progress) → IsAt run.now p → AllByRecursion (IsKnownAt run.now (run.now.made + 1)) known.now → IfOk result (λ rest. rest.report ≡ report_under run.now.state.now run.now.target.now run.now.first.now.table (Tried.One (event_at (run.now.made + 1) mishap))) }
-    ensures counted { (p : Progress) → IsAt run.now p → AllByRecursion (IsKnownAt run.now (run.now.made + 1)) known.now → OnOk result (found.new.tally ≡ with_runs run.now.state.now run.now.target.now run.now.first.now.table (with_pairs run.now.state.now run.now.target.now run.now.first.now.table pairs (event_at (run.now.made + 1) mishap)) found.old.tally) }
+    requires fit { IsFit point.now.run.now }
+    requires due { IsDue point.now }
+    requires tried { point.now.run.now.tried ≡ Tried.Nothing }
+    ensures report { (p : Progress) → IsAt point.now.run.now p → AreKnown point.now → IfOk result (λ rest. rest.report ≡ report_with point.now mishap) }
+    ensures counted { (p : Progress) → IsAt point.now.run.now p → AreKnown point.now → OnOk result (AreCountedHere point.now (runs_with point.now pairs mishap) found.old.tally found.new.tally) }
 {
     if !audience.wants_more() {
         return Err(ExploreRefusal::Enough);
     }
-    let number = run.made + 1;
+    let number = point.run.made + 1;
     let first = Event { number, mishap };
-    let rest = ended(run, due, first, known, low, found)?;
+    let rest = rest_of_run(point, first, found)?;
     count_report(&Tried::One(first), &rest.report, found, audience)?;
     if !pairs {
         return Ok(rest);
     }
-    count_beside(alloc, run, due, first, low, found, audience)?;
-    let behind = branch_with(run, due, Tried::One(first), None, mishap)?;
+    count_beside(alloc, point, first, found, audience)?;
+    let behind = point.branch(Tried::One(first), None, mishap)?;
     count_later(alloc, behind, first, found, audience)?;
     Ok(rest)
 }
 
-/// Counts the runs in which one of these goes wrong first, at the call that is due. Gives what is known of those in which
-/// it goes wrong at the next call.
+/// Counts the runs with one of these mishaps first, at the call that is due. Gives what is known of those with it at the next
+/// call.
 fn count_all_with_pairs<A: Audience>(
     alloc: Global,
-    run: &Position<'_>,
-    due: &Due,
+    point: &BranchPoint<'_, '_>,
     mishaps: &[Mishap],
-    known: &[Known],
     pairs: bool,
-    low: u32,
     found: &mut Findings,
     audience: &mut A,
 ) -> Result<Vec<Known>, ExploreRefusal>
-    requires fit { IsFit run.now }
-    requires due { AsksFor (trail_of run.now.walk) due.now.by due.now.call }
-    requires tried { run.now.tried ≡ Tried.Nothing }
-    ensures known { (p : Progress) → IsAt run.now p → AllByRecursion (IsKnownAt run.now (run.now.made + 1)) known.now → IfOk result (λ next. AllByRecursion (IsPassed run.now due.now.call) next.items) }
-    ensures counted { (p : Progress) → IsAt run.now p → AllByRecursion (IsKnownAt run.now (run.now.made + 1)) known.now → OnOk result (found.new.tally ≡ with_runs run.now.state.now run.now.target.now run.now.first.now.table (each_with_pairs run.now.state.now run.now.target.now run.now.first.now.table pairs (map (event_at (run.now.made + 1)) mishaps.now)) found.old.tally) }
+    requires fit { IsFit point.now.run.now }
+    requires due { IsDue point.now }
+    requires tried { point.now.run.now.tried ≡ Tried.Nothing }
+    ensures known { (p : Progress) → IsAt point.now.run.now p → AreKnown point.now → IfOk result (λ next. AllByRecursion (IsPassed point.now.run.now point.now.due.now.call) next.items) }
+    ensures counted { (p : Progress) → IsAt point.now.run.now p → AreKnown point.now → OnOk result (AreAllCounted point.now pairs mishaps.now found.old.tally found.new.tally) }
 {
     let mut next = Vec::new(alloc);
     for mishap in mishaps {
-        let rest = count_with_pairs(alloc, run, due, *mishap, known, pairs, low, found, audience)?;
-        if let Some(item) = known::of_next(&due.call, *mishap, rest) {
+        let rest = count_with_pairs(alloc, point, *mishap, pairs, found, audience)?;
+        if let Some(item) = known::known_at_next(&point.due.call, *mishap, rest) {
             effects::push(&mut next, item)?;
         }
     }
@@ -289,7 +265,7 @@ fn count_all_with_pairs<A: Audience>(
 
 /// Counts the runs in which something goes wrong at one of the calls that are left. Most exits make no difference to a call:
 /// what is known of the run in which a worker exits before it is so of the one in which it exits before the next.
-fn over_calls<A: Audience>(
+fn count_events<A: Audience>(
     alloc: Global,
     mut run: Position<'_>,
     pairs: bool,
@@ -298,15 +274,19 @@ fn over_calls<A: Audience>(
 ) -> Result<(), ExploreRefusal>
     requires fit { IsFit run }
     requires tried { run.tried ≡ Tried.Nothing }
-    ensures { (p : Progress) → IsAt run.entry p → OnOk result (found.new.tally ≡ with_runs run.entry.state.now run.entry.target.now run.entry.first.now.table (each_with_pairs run.entry.state.now run.entry.target.now run.entry.first.now.table pairs (left run.entry p None)) found.old.tally) }
+    ensures { (p : Progress) → IsAt run.entry p → OnOk result (AreCounted run.entry (runs_with_each run.entry pairs (left run.entry p None)) found.old.tally found.new.tally) }
 {
     let mut known = Vec::new(alloc);
     while let Some(due) = run.due() {
         let low = found.look(&run.kernel, 0, &run.tried, run.made)?;
         let mishaps = run.mishaps(alloc, &due, 0)?;
-        known = count_all_with_pairs(
-            alloc, &run, &due, &mishaps, &known, pairs, low, found, audience,
-        )?;
+        let point = BranchPoint {
+            run: &run,
+            due: &due,
+            known: &known,
+            low,
+        };
+        known = count_all_with_pairs(alloc, &point, &mishaps, pairs, found, audience)?;
         run.make(&due, &[], None);
     }
     Ok(())
@@ -321,20 +301,23 @@ fn over_calls<A: Audience>(
 /// told only where neither E2 nor E3 is due.
 pub fn explore<A: Audience>(
     alloc: Global,
-    kernel: &Kernel,
-    state: &Record,
-    target: &Target,
-    pairs: bool,
+    search: &Search<'_>,
     found: &mut Findings,
     audience: &mut A,
 ) -> Result<(), Unexplored>
-    requires { IsTarget target.now }
-    ensures counted { OnOk result (found.new.tally ≡ explored_from state.now target.now kernel.now.table pairs found.old.tally) }
-    ensures once { OnOk result (AreOnce (most_events pairs) (all_tried state.now target.now kernel.now.table pairs)) }
+    requires { IsTarget search.now.target.now }
+    ensures counted { OnOk result (found.new.tally ≡ explored_from search.now.state.now search.now.target.now search.now.kernel.now.table search.now.pairs found.old.tally) }
+    ensures once { OnOk result (AreOnce (most_events search.now.pairs) (all_tried search.now.state.now search.now.target.now search.now.kernel.now.table search.now.pairs)) }
     ensures exact { (why : Refusal)
-        → IsErrOf result (Unexplored.Enact EnactRefusal.Memory) ⊎ (IsErrOf result (Unexplored.Enact why) ↔ ((pattern : Pattern) → IsRefused kernel.now.table state.now target.now pattern why)) }
-    ensures memory { IsErrOf result (Unexplored.Enact EnactRefusal.Memory) → IsPlannable kernel.now.table state.now target.now }
+        → IsErrOf result (Unexplored.Enact EnactRefusal.Memory) ⊎ (IsErrOf result (Unexplored.Enact why) ↔ IsRefusedAlways search.now why) }
+    ensures memory { IsErrOf result (Unexplored.Enact EnactRefusal.Memory) → IsPlannable search.now.kernel.now.table search.now.state.now search.now.target.now }
 {
+    let Search {
+        kernel,
+        state,
+        target,
+        pairs,
+    } = *search;
     if !agrees(state, kernel) {
         return Err(Unexplored::Enact(EnactRefusal::RecordDisagrees));
     }
@@ -344,6 +327,6 @@ pub fn explore<A: Audience>(
     let run = Position::start(kernel, state, target, &plan)?;
     found.begin(common);
     count_run(whole, 0, found, audience)?;
-    over_calls(alloc, run, pairs, found, audience)?;
+    count_events(alloc, run, pairs, found, audience)?;
     Ok(())
 }

@@ -1,12 +1,18 @@
 //! What runs come to: how they end, and how few workers served on the way.
-ghost use Rattle.std.specs.Prelude.{◌≡◌, false};
+ghost use Rattle.std.specs.Prelude.{◌≡◌, ◌-◌, ◌^◌, false, nat_lt, min, map, None, IfOk, OnOk};
+ghost use Rattle.std.specs.List.{sum_by};
+ghost use Rattle.std.specs.Ordering.{is_eq};
 ghost use Rattle.definitions.specs.After.{lacks_generation};
+ghost use Rattle.kernel_service.specs.Served.{seen_count, seen_served};
+ghost use Rattle.kernel_service.specs.Services.{address_cmp};
 ghost use Rattle.explorer.specs.Tallies.{nothing_counted};
+ghost use Rattle.explorer.specs.Readiness.{listed_at, fewer, fewest_from, low_without, HaveAtLeast};
+ghost use Rattle.explorer.specs.Least.{bound_of, IsSeen, IsLeastSince};
 
 use crate::events::Tried;
 use crate::tally::Tally;
 use kernel_model::Kernel;
-use kernel_service::{Count, Service};
+use kernel_service::{Count, Served};
 use listener_set::Address;
 use service_state::{Record, want};
 use std::alloc::{AllocError, Global};
@@ -54,7 +60,9 @@ impl Findings {
     }
 
     /// How few workers there must be at an address to be the fewest so far.
-    fn bound(&self) -> u32 {
+    fn bound(&self) -> u32
+        ensures { result ≡ bound_of self.now.least }
+    {
         match &self.least {
             Some(least) => least.ready,
             None => u32::MAX,
@@ -62,7 +70,9 @@ impl Findings {
     }
 
     /// Whether a table must be counted in which each of the addresses has at least so many Ready workers.
-    pub(crate) fn may_have_fewer(&self, low: u32) -> bool {
+    pub(crate) fn may_have_fewer(&self, low: u32) -> bool
+        ensures { result ≡ nat_lt low (bound_of self.now.least) }
+    {
         low < self.bound()
     }
 
@@ -82,16 +92,23 @@ impl Findings {
         tried: &Tried,
         made: u32,
     ) -> Result<u32, AllocError>
-        ensures { self.new.tally ≡ self.old.tally }
+        ensures tally { self.new.tally ≡ self.old.tally }
+        ensures least { IsLeastSince kernel.now.table tried.now made self.old self.new }
+        ensures seen { HaveAtLeast self.old.common.items kernel.now.table low → OnOk result (IsSeen self.new kernel.now.table) }
+        ensures low { HaveAtLeast self.old.common.items kernel.now.table low → IfOk result (HaveAtLeast self.old.common.items kernel.now.table) }
     {
         self.tables = self.tables.saturating_add(1);
-        if self.common.is_empty() || !self.may_have_fewer(low) {
+        if self.common.is_empty() {
+            return Ok(low);
+        }
+        if !self.may_have_fewer(low) {
             return Ok(low);
         }
         let service = kernel.service()?;
-        let Some((address, ready)) = fewest_at(&self.common, &service) else {
+        let Some(fewest) = fewest_at(&self.common, service.entries()) else {
             return Ok(low);
         };
+        let (address, ready) = fewest;
         if self.may_have_fewer(ready) {
             self.least = Some(Least {
                 ready,
@@ -105,28 +122,47 @@ impl Findings {
 }
 
 /// The first of the addresses that has the fewest workers, and how many these are.
-fn fewest_at(addresses: &[Address], service: &Service) -> Option<(Address, u32)> {
-    let mut fewest = u32::MAX;
+fn fewest_at(addresses: &[Address], entries: &[Served]) -> Option<(Address, u32)>
+    ensures { result ≡ fewest_from (map seen_served entries.now) None addresses.now }
+{
+    let mut fewest = None;
     for address in addresses {
-        fewest = fewest.min(ready_at(service, address));
+        fewest = Some(fewer(fewest, address, ready_at(entries, address)));
     }
-    let address = addresses
-        .iter()
-        .find(|address| ready_at(service, address) == fewest)?;
-    Some((*address, fewest))
+    fewest
+}
+
+/// The address with this number of workers, if it has fewer.
+fn fewer(fewest: Option<(Address, u32)>, address: &Address, ready: u32) -> (Address, u32)
+    ensures { result ≡ fewer fewest address.now ready }
+{
+    match fewest {
+        Some(fewest) if ready >= fewest.1 => fewest,
+        _ => (*address, ready),
+    }
 }
 
 /// How many workers serve an address.
-fn ready_at(service: &Service, address: &Address) -> u32 {
-    for entry in service.entries() {
-        if entry.address.bytes() == address.bytes() {
+fn ready_at(entries: &[Served], address: &Address) -> u32
+    ensures { result ≡ listed_at (map seen_served entries.now) address.now }
+{
+    for entry in entries {
+        if is_of(entry, address) {
             return workers_in(&entry.counts);
         }
     }
     0
 }
 
-fn workers_in(counts: &[Count]) -> u32 {
+fn is_of(entry: &Served, address: &Address) -> bool
+    ensures { result ≡ is_eq (address_cmp address.now entry.now.address) }
+{
+    address.bytes() == entry.address.bytes()
+}
+
+fn workers_in(counts: &[Count]) -> u32
+    ensures { result ≡ min (sum_by (λ c. c.1) (map seen_count counts.now)) (2 ^ 32 - 1) }
+{
     let mut sum = 0u32;
     for count in counts {
         sum = sum.saturating_add(count.workers);
@@ -145,7 +181,9 @@ pub(crate) fn low_after(call: &Call, low: u32) -> u32 {
 }
 
 /// The same after an exit.
-pub(crate) fn low_without(name: Name, low: u32) -> u32 {
+pub(crate) fn low_without(name: Name, low: u32) -> u32
+    ensures { result ≡ low_without name low }
+{
     match name {
         Name::Worker(..) => low.saturating_sub(1),
         Name::Draining(..) => low,

@@ -6,14 +6,14 @@ ghost use Rattle.explorer.specs.Known.{passes_by};
 use crate::events::Mishap;
 use vocabulary::{Call, Name, Report};
 
-/// What a run comes to, and how many tables it passes behind what goes wrong.
+/// What a run reports, and how many tables it passes after its event.
 #[derive(Clone, Copy)]
 pub(crate) struct RestOfRun {
     pub(crate) report: Report,
     pub(crate) tables: u64,
 }
 
-/// What the run comes to in which this process exits before a call.
+/// What is known of the run in which this process exits before a call.
 #[derive(Clone, Copy)]
 pub(crate) struct Known {
     pub(crate) name: Name,
@@ -21,8 +21,8 @@ pub(crate) struct Known {
     pub(crate) rest: RestOfRun,
 }
 
-/// Whether a call is of a worker by its name, and of another than this: then it makes no difference whether this one exits
-/// before the call or behind it.
+/// Whether a call names a worker, and another one than this. Then it makes no difference whether this one exits before the call
+/// or after it.
 fn passes_by(call: &Call, name: Name) -> bool
     ensures { result ≡ passes_by call.now name }
 {
@@ -40,7 +40,7 @@ fn passes_by(call: &Call, name: Name) -> bool
     }
 }
 
-/// What is known of the run in which this goes wrong.
+/// What is known of the run with this mishap.
 pub(crate) fn find(known: &[Known], mishap: Mishap) -> Option<RestOfRun>
     ensures { IfSome result (λ rest. (k : Known) × Contains known.now k × (mishap ≡ Exit k.name k.process) × (rest ≡ k.rest)) }
 {
@@ -55,8 +55,8 @@ pub(crate) fn find(known: &[Known], mishap: Mishap) -> Option<RestOfRun>
     None
 }
 
-/// What is known of the run in which this goes wrong at the next call, where it is the same run.
-pub(crate) fn of_next(call: &Call, mishap: Mishap, rest: RestOfRun) -> Option<Known>
+/// What is known of the run with this mishap at the next call, if that is the same run.
+pub(crate) fn known_at_next(call: &Call, mishap: Mishap, rest: RestOfRun) -> Option<Known>
     ensures { IfSome result (λ k. (passes_by call.now k.name ≡ true) × (mishap ≡ Exit k.name k.process) × (rest ≡ k.rest)) }
 {
     match mishap {

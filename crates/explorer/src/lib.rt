@@ -2,6 +2,7 @@
 //! pair of these.
 #![tactic(auto)]
 
+mod branching;
 mod counting;
 mod effects;
 mod events;
@@ -13,6 +14,6 @@ mod tally;
 
 pub use counting::Audience;
 pub use events::{Event, Mishap, Tried};
-pub use exploring::{Unexplored, explore};
+pub use exploring::{Search, Unexplored, explore};
 pub use findings::{Findings, Least};
 pub use tally::{Ended, Tally};

@@ -11,8 +11,8 @@ ghost use Rattle.kernel_model.specs.Room.{LacksNumbers};
 ghost use Rattle.plan_walk.specs.Walk.{trail_of, AsksFor};
 ghost use Rattle.plan_executor.specs.Naming.{listed};
 ghost use Rattle.explorer.specs.Events.{pattern_of, mishaps_at, waiting};
-ghost use Rattle.explorer.specs.Explored.{report_under};
 ghost use Rattle.explorer.specs.Positions.{IsFit, IsAt, IsQuietFrom, IsPlanOf, IsStartOf, IsLater};
+ghost use Rattle.explorer.specs.Branching.{report_of_run};
 
 use crate::effects;
 use crate::events::{Mishap, Tried};
@@ -77,7 +77,7 @@ impl<'a> Position<'a> {
         self.walk.due()
     }
 
-    /// What can go wrong at the call that is due, of exits those of processes with a higher number than this.
+    /// What can go wrong at the call that is due. Only processes with a higher number than `above` exit.
     pub(crate) fn mishaps(
         &self,
         alloc: Global,
@@ -87,15 +87,7 @@ impl<'a> Position<'a> {
         ensures { IfOk result (λ mishaps. mishaps.items ≡ mishaps_at self.now.text.now due.now.by due.now.call (waiting due.now.call (listed self.now.heir)) above self.now.kernel.table) }
     {
         let heir = effects::waiting(&due.call, self.heir);
-        effects::mishaps_at(
-            alloc,
-            &self.kernel,
-            due.by,
-            &due.call,
-            self.text,
-            heir,
-            above,
-        )
+        effects::mishaps_at(alloc, &self.kernel, due, self.text, heir, above)
     }
 
     /// Makes the call that is due, in its moment of the run: these exit before it, and so it fails.
@@ -111,8 +103,8 @@ impl<'a> Position<'a> {
         self.heir = effects::waiting(&due.call, self.heir);
     }
 
-    /// The run in which this goes wrong, which is the same so far, after the call that is due: these exit before it, and so
-    /// it fails.
+    /// The run with these events, which is the same so far, after the call that is due: these exit before it, and so it
+    /// fails.
     pub(crate) fn branch(
         &self,
         due: &Due,
@@ -145,7 +137,7 @@ impl<'a> Position<'a> {
     pub(crate) fn finish(mut self, low: u32, found: &mut Findings) -> Result<Report, AllocError>
         requires fit { IsFit self }
         requires quiet { IsQuietFrom self.made (pattern_of self.tried) }
-        ensures report { (p : Progress) → IsAt self.entry p → IfOk result (λ report. report ≡ report_under self.entry.state.now self.entry.target.now self.entry.first.now.table self.entry.tried) }
+        ensures report { (p : Progress) → IsAt self.entry p → IfOk result (λ report. report ≡ report_of_run self.entry self.entry.tried) }
         ensures found { found.new.tally ≡ found.old.tally }
     {
         let mut low = found.look(&self.kernel, low, &self.tried, self.made)?;

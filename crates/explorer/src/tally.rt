@@ -67,7 +67,7 @@ impl Tally {
         }
     }
 
-    /// Counts one run more. A tally of 2^64 runs that ended alike would want memory.
+    /// Counts one run more. A tally of 2^64 runs that ended alike would be out of memory.
     pub fn count(&mut self, tried: &Tried, outcome: &Outcome) -> Result<(), AllocError>
         ensures { OnOk result (self.new ≡ counted tried.now outcome.now self.old) }
     {

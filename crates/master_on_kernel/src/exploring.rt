@@ -3,11 +3,8 @@ ghost use Rattle.std.specs.Prelude.{IfOk};
 ghost use Rattle.definitions.specs.Target.{IsTarget};
 ghost use Rattle.master_on_kernel.specs.Explorations.{AreCounted};
 
-use explorer::{Audience, Findings, Unexplored, explore};
-use kernel_model::Kernel;
-use service_state::Record;
+use explorer::{Audience, Findings, Search, Unexplored, explore};
 use std::alloc::{AllocError, Global};
-use vocabulary::Target;
 use word_runner::{Body, TargetRefusal};
 
 /// What came of the runs of a word.
@@ -23,19 +20,16 @@ pub enum Explored {
 
 /// Counts how a target ends under no event, under each event that this run meets, and under each pair where these are
 /// asked for.
-pub(crate) fn counted<A: Audience>(
+pub(crate) fn count_runs<A: Audience>(
     alloc: Global,
-    kernel: &Kernel,
-    state: &Record,
-    target: &Target,
-    pairs: bool,
+    search: &Search<'_>,
     found: &mut Findings,
     audience: &mut A,
 ) -> Result<Explored, AllocError>
-    requires { IsTarget target.now }
-    ensures { IfOk result (AreCounted state.now target.now kernel.now.table pairs found.old.tally found.new.tally) }
+    requires { IsTarget search.now.target.now }
+    ensures { IfOk result (AreCounted search.now.state.now search.now.target.now search.now.kernel.now.table search.now.pairs found.old.tally found.new.tally) }
 {
-    match explore(alloc, kernel, state, target, pairs, found, audience) {
+    match explore(alloc, search, found, audience) {
         Ok(()) => Ok(Explored::All),
         Err(Unexplored::Enough) => Ok(Explored::Cut),
         Err(Unexplored::Enact(refusal)) => match TargetRefusal::from(refusal) {

@@ -13,11 +13,11 @@ ghost use Rattle.definitions.specs.Target.{IsTarget};
 ghost use Rattle.master_on_kernel.specs.Explorations.{IsExplored};
 ghost use Rattle.master_on_kernel.specs.Rehearsals.{Held, IsOfHeld, IsRehearsed, IsShownOf, IsShownBy};
 
-use crate::exploring::{Explored, counted};
+use crate::exploring::{Explored, count_runs};
 use crate::start::{Start, silent_workers};
 use certifier::{BlockMismatch, Mismatch, certify_beginning, certify_blocks};
 use control_words::Word;
-use explorer::{Audience, Findings};
+use explorer::{Audience, Findings, Search};
 use faults::Fault;
 use kernel_model::{Kernel, Pattern, WIDEST_LIMITS};
 use listener_set::{Address, WORKER_LIMIT};
@@ -177,15 +177,15 @@ impl Rehearsal {
             return Ok(Explored::Told(Body::Nothing));
         };
         match asked_by(word, &record, &self.standing.workers, Some(&self.next)) {
-            Asked::Act(target) => counted(
-                alloc,
-                &self.standing.world,
-                &record,
-                &target,
-                pairs,
-                found,
-                audience,
-            ),
+            Asked::Act(target) => {
+                let search = Search {
+                    kernel: &self.standing.world,
+                    state: &record,
+                    target: &target,
+                    pairs,
+                };
+                count_runs(alloc, &search, found, audience)
+            }
             Asked::Beat(heard) => Ok(Explored::Told(note(&mut self.standing.workers, heard))),
             Asked::Nothing => Ok(Explored::Told(Body::Nothing)),
             Asked::Refused(code) => Ok(Explored::Told(Body::Refused(code))),

@@ -14,16 +14,16 @@ use Rattle.explorer.proofs.exploring.count_all_with_pairs.Goals.{in-Some+in_ok-p
 
 pub loop-mishap-preserved : goal.loop-mishap-preserved
 loop-mishap-preserved g c = λ p at all.
-    let run = c.args.run.now in
+    let run = c.args.point.now.run.now in
     let kept = c.loop-mishap.invariant p at all in
     record {
-      known = elim c.match-of_next.branch [
+      known = elim c.match-known_at_next.branch [
         | in-Some+in_ok-push w ↦
             let is = w.in-Some.ensures in
             let report = ap (λ (x : RestOfRun). x.report) (sym is.2) ∙ c.in_ok-rest.ensures.report p at all ∙ ap (λ (m : Mishap). report_under run.state.now run.target.now run.first.now.table (One (event_at (run.made + 1) m))) is.1 in
-            subst (AllByRecursion (IsPassed run c.args.due.now.call)) (sym (ap (λ v. v.items) w.next-is ∙ w.in_ok-push.ensures))
-            (every-append (IsPassed run c.args.due.now.call) c.loop-mishap.next.items _ kept.known (is.0, report))
-        | in_default w ↦ subst (AllByRecursion (IsPassed run c.args.due.now.call)) (sym (ap (λ v. v.items) w.next-is)) kept.known
+            subst (AllByRecursion (IsPassed run c.args.point.now.due.now.call)) (sym (ap (λ v. v.items) w.next-is ∙ w.in_ok-push.ensures))
+            (every-append (IsPassed run c.args.point.now.due.now.call) c.loop-mishap.next.items _ kept.known (is.0, report))
+        | in_default w ↦ subst (AllByRecursion (IsPassed run c.args.point.now.due.now.call)) (sym (ap (λ v. v.items) w.next-is)) kept.known
       ];
       counts =
           firsts-turn run.state.now run.target.now run.first.now.table c.args.pairs (run.made + 1) c.args.mishaps.now c.loop-mishap.mishap-index _ c.loop-mishap.found.tally c.count_with_pairs.new.found.tally c.loop-mishap-test.true (c.in_ok-rest.ensures.counted p at all)
@@ -35,7 +35,7 @@ returns-clause-known g c = λ p at all. (c.loop-mishap.invariant p at all).known
 
 pub returns-clause-counted : goal.returns-clause-counted
 returns-clause-counted g c = λ p at all.
-    let run = c.args.run.now in
+    let run = c.args.point.now.run.now in
     let r = run.state.now in
     let to = run.target.now in
     let t = run.first.now.table in

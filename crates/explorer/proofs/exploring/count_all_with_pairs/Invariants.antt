@@ -1,15 +1,17 @@
-use Rattle.std.proofs.Common.{◌≡◌, ◌+◌, map, drop}
+use Rattle.std.proofs.Common.{◌≡◌, map, drop}
 use Rattle.std.specs.List.{AllByRecursion}
 use Rattle.definitions.specs.Run.{Progress}
-use Rattle.explorer.specs.Events.{event_at}
-use Rattle.explorer.specs.Explored.{with_runs, each_with_pairs}
-use Rattle.explorer.specs.Known.{IsKnownAt, IsPassed}
+use Rattle.explorer.specs.Branching.{AreKnown, event_here, runs_with_each}
+use Rattle.explorer.specs.Explored.{with_runs}
+use Rattle.explorer.specs.Known.{IsPassed}
 use Rattle.explorer.specs.Positions.{IsAt}
 use Rattle.explorer.proofs.exploring.count_all_with_pairs.Given as goal
 
 abbrev pub invariant-loop-mishap : goal.invariant-loop-mishap
-invariant-loop-mishap g l = (p : Progress) → IsAt l.run p → AllByRecursion (IsKnownAt l.run (l.run.made + 1)) l.known → record {
-  known : AllByRecursion (IsPassed l.run l.due.call) l.next.items;
-  counts : with_runs l.run.state.now l.run.target.now l.run.first.now.table (each_with_pairs l.run.state.now l.run.target.now l.run.first.now.table l.pairs (map (event_at (l.run.made + 1)) (drop l.mishap-index l.mishaps))) l.found.tally
-      ≡ with_runs l.run.state.now l.run.target.now l.run.first.now.table (each_with_pairs l.run.state.now l.run.target.now l.run.first.now.table l.pairs (map (event_at (l.run.made + 1)) l.mishaps)) l.fn.found.tally;
-}
+invariant-loop-mishap g l =
+    let run = l.point.run.now in
+    (p : Progress) → IsAt run p → AreKnown l.point → record {
+      known : AllByRecursion (IsPassed run l.point.due.now.call) l.next.items;
+      counts : with_runs run.state.now run.target.now run.first.now.table (runs_with_each run l.pairs (map (event_here l.point) (drop l.mishap-index l.mishaps))) l.found.tally
+          ≡ with_runs run.state.now run.target.now run.first.now.table (runs_with_each run l.pairs (map (event_here l.point) l.mishaps)) l.fn.found.tally;
+    }

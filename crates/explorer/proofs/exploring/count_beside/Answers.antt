@@ -11,8 +11,8 @@ use Rattle.explorer.proofs.exploring.count_beside.Goals as goal
 
 pub returns-in_ok-mishaps-in-Exit : goal.returns-in_ok-mishaps-in-Exit
 returns-in_ok-mishaps-in-Exit g c = λ p at.
-    let run = c.args.run.now in
-    let due = c.args.due.now in
+    let run = c.args.point.now.run.now in
+    let due = c.args.point.now.due.now in
     let text = text_handed run.state.now run.target.now in
     let waits = waiting due.call (listed run.heir) in
     let there : c.deref.result.now ≡ beside text due.by due.call waits c.args.first.mishap (after_exits (with_mishap c.args.first.mishap quiet).exits run.kernel.table) =

@@ -1,10 +1,10 @@
-use Rattle.std.proofs.Common.{◌≡◌, ◌≤◌, map, Some}
-use Rattle.definitions.specs.Run.{Progress}
+use Rattle.std.proofs.Common.{◌≡◌, ◌≤◌, Some}
 use Rattle.plan_walk.specs.Fit.{height_next}
 use Rattle.plan_walk.specs.Walk.{trail_of}
-use Rattle.explorer.specs.declared.events.Tried.TheVariants.{One, Two}
-use Rattle.explorer.specs.Explored.{with_runs}
-use Rattle.explorer.specs.Positions.{IsFit, IsAt, left}
+use Rattle.explorer.specs.declared.events.Tried.TheVariants.{One}
+use Rattle.explorer.specs.Positions.{IsFit}
+use Rattle.explorer.proofs.Counted.{with-second, seconds-counting}
+use Rattle.explorer.proofs.Turning.{Reaches}
 use Rattle.explorer.proofs.exploring.count_later.Given as goal
 
 abbrev pub invariant-loop-due : goal.invariant-loop-due
@@ -19,8 +19,7 @@ invariant-loop-due g l =
       target : l.run.target.now ≡ to;
       tried : l.run.tried ≡ One l.first;
       made : l.first.number ≤ l.run.made;
-      counts : (p : Progress) → IsAt l.fn.run p → (q : Progress) × IsAt l.run q ×
-          (with_runs r to t (map (Two l.first) (left l.run q (Some l.first))) l.found.tally ≡ with_runs r to t (map (Two l.first) (left l.fn.run p (Some l.first))) l.fn.found.tally);
+      counts : Reaches l.fn.run (Some l.first) (with-second r to t l.first) (seconds-counting r to t l.first) l.run l.fn.found.tally l.found.tally;
     }
 
 abbrev pub decreases-loop-due : goal.decreases-loop-due

@@ -15,18 +15,18 @@ use Rattle.explorer.proofs.exploring.count_pair.Goals as goal
 
 pub overflow_add-number : goal.overflow_add-number
 overflow_add-number g c =
-    let t = trail_of c.args.run.now.walk in
+    let t = trail_of c.args.point.now.run.now.walk in
     let left = asks_height t.rest t.lacking _ (c.requires.due MasterGone) in
     omega (arith, left, c.requires.fit.room, c.requires.fit.countable)
 
-pub branch_with-requires-clause-moment : goal.branch_with-requires-clause-moment
-branch_with-requires-clause-moment g c =
-    let n = c.args.run.now.made + 1 in
+pub branch-point-requires-clause-moment : goal.branch-point-requires-clause-moment
+branch-point-requires-clause-moment g c =
+    let n = c.args.point.now.run.now.made + 1 in
     at-event (event_at n c.args.mishap) (pattern_of (One c.args.first)) n refl ∙ ap (with_mishap c.args.mishap) c.requires.moment
 
 pub count_run-requires-clause-quiet : goal.count_run-requires-clause-quiet
 count_run-requires-clause-quiet g c =
-    let n = c.args.run.now.made + 1 in
+    let n = c.args.point.now.run.now.made + 1 in
     let is = c.in_ok-branch.ensures in
     let second = event_at n c.args.mishap in
     let both : IsQuietFrom n (pattern_of (Two c.args.first second)) =
@@ -35,7 +35,7 @@ count_run-requires-clause-quiet g c =
 
 pub returns : goal.returns
 returns g c = λ p at.
-    let run = c.args.run.now in
+    let run = c.args.point.now.run.now in
     let n = run.made + 1 in
     let is = c.in_ok-branch.ensures in
     let second = event_at n c.args.mishap in
@@ -43,5 +43,5 @@ returns g c = λ p at.
     λ m le. same-before second (pattern_of (One c.args.first)) run.made (omega arith) m le ∙ c.requires.tried m le in
     let whole : with_runs c.in_ok-branch.branch.state.now c.in_ok-branch.branch.target.now c.in_ok-branch.branch.first.now.table (c.in_ok-branch.branch.tried ∷ []) c.look_between.new.found.tally
     ≡ with_runs run.state.now run.target.now run.first.now.table (Two c.args.first second ∷ []) c.args.found.now.tally =
-    λ i. with_runs (is.state i) (is.target i) ((is.first i).table) (is.tried i ∷ []) (c.look_between.ensures i) in
+    λ i. with_runs (is.state i) (is.target i) ((is.first i).table) (is.tried i ∷ []) (c.look_between.ensures.tally i) in
     subst (λ (x : Tally). OnOk c.count_run.result (c.count_run.new.found.tally ≡ x)) whole (c.count_run.ensures _ (is.at p (elsewhere run p (Two c.args.first second) both at)))

@@ -1,12 +1,13 @@
-use Rattle.std.proofs.Common.{◌≡◌, ◌+◌, map, drop}
+use Rattle.std.proofs.Common.{◌≡◌, drop}
 use Rattle.definitions.specs.Run.{Progress}
-use Rattle.explorer.specs.declared.events.Tried.TheVariants.{Two}
-use Rattle.explorer.specs.Events.{event_at}
+use Rattle.explorer.specs.Branching.{pairs_here}
 use Rattle.explorer.specs.Explored.{with_runs}
 use Rattle.explorer.specs.Positions.{IsAt}
 use Rattle.explorer.proofs.exploring.count_pairs.Given as goal
 
 abbrev pub invariant-loop-mishap : goal.invariant-loop-mishap
-invariant-loop-mishap g l = (p : Progress) → IsAt l.run p →
-    with_runs l.run.state.now l.run.target.now l.run.first.now.table (map (Two l.first) (map (event_at (l.run.made + 1)) (drop l.mishap-index l.mishaps))) l.found.tally
-    ≡ with_runs l.run.state.now l.run.target.now l.run.first.now.table (map (Two l.first) (map (event_at (l.run.made + 1)) l.mishaps)) l.fn.found.tally
+invariant-loop-mishap g l =
+    let run = l.point.run.now in
+    (p : Progress) → IsAt run p →
+    with_runs run.state.now run.target.now run.first.now.table (pairs_here l.point l.first (drop l.mishap-index l.mishaps)) l.found.tally
+    ≡ with_runs run.state.now run.target.now run.first.now.table (pairs_here l.point l.first l.mishaps) l.fn.found.tally

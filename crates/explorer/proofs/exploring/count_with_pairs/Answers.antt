@@ -25,28 +25,28 @@ use Rattle.explorer.proofs.exploring.count_with_pairs.Goals as goal
 
 pub overflow_add-number : goal.overflow_add-number
 overflow_add-number g c =
-    let t = trail_of c.args.run.now.walk in
+    let t = trail_of c.args.point.now.run.now.walk in
     let left = asks_height t.rest t.lacking _ (c.requires.due MasterGone) in
     omega (arith, left, c.requires.fit.room, c.requires.fit.countable)
 
 pub returns-then-not-pairs-clause-counted : goal.returns-then-not-pairs-clause-counted
 returns-then-not-pairs-clause-counted g c = λ p at all.
-    let run = c.args.run.now in
+    let run = c.args.point.now.run.now in
     let r = run.state.now in
     let to = run.target.now in
     let t = run.first.now.table in
     let first = event_at (run.made + 1) c.args.mishap in
     c.in_ok-count_report.ensures
-    ∙ ap (λ (x : Report). counted (One first) x.outcome c.ended.new.found.tally) (c.in_ok-rest.ensures.report p at all)
-    ∙ ap (counted (One first) (report_under r to t (One first)).outcome) c.ended.ensures.found
+    ∙ ap (λ (x : Report). counted (One first) x.outcome c.rest_of_run.new.found.tally) (c.in_ok-rest.ensures.report p at all)
+    ∙ ap (counted (One first) (report_under r to t (One first)).outcome) c.rest_of_run.ensures.found
     ∙ ap (λ (b : Bool). with_runs r to t (One first ∷ (if b then map (Two first) (events_after r to t (One first)) else [])) c.args.found.now.tally) (sym off) where
       off : c.args.pairs ≡ false
       off = cc
 
 pub returns-clause-counted : goal.returns-clause-counted
 returns-clause-counted g c = λ p at all.
-    let run = c.args.run.now in
-    let due = c.args.due.now in
+    let run = c.args.point.now.run.now in
+    let due = c.args.point.now.due.now in
     let r = run.state.now in
     let to = run.target.now in
     let t = run.first.now.table in
@@ -69,8 +69,8 @@ returns-clause-counted g c = λ p at all.
     ∙ ap (λ (ms : List Mishap). map (event_at n) ms ++ left behind onto (Some first)) (open-beside text due.by due.call waits first n (after_exits m.exits run.kernel.table) refl) in
     let one : c.count_report.new.found.tally ≡ with_runs r to t (One first ∷ []) c.args.found.now.tally =
     c.in_ok-count_report.ensures
-    ∙ ap (λ (x : Report). counted (One first) x.outcome c.ended.new.found.tally) (c.in_ok-rest.ensures.report p at all)
-    ∙ ap (counted (One first) (report_under r to t (One first)).outcome) c.ended.ensures.found in
+    ∙ ap (λ (x : Report). counted (One first) x.outcome c.rest_of_run.new.found.tally) (c.in_ok-rest.ensures.report p at all)
+    ∙ ap (counted (One first) (report_under r to t (One first)).outcome) c.rest_of_run.ensures.found in
     let two : c.count_beside.new.found.tally ≡ with_runs r to t (map (Two first) (map (event_at n) here)) (with_runs r to t (One first ∷ []) c.args.found.now.tally) =
     c.in_ok-count_beside.ensures p at ∙ ap (with_runs r to t (map (Two first) (map (event_at n) here))) one in
     let whole : with_runs behind.state.now behind.target.now behind.first.now.table (map (Two first) (left behind onto (Some first))) c.count_beside.new.found.tally

@@ -16,64 +16,64 @@ use Rattle.explorer.proofs.exploring.explore.Goals as goal
 
 pub returns-clause-counted : goal.returns-clause-counted
 returns-clause-counted g c =
-    let r = c.args.state.now in
-    let to = c.args.target.now in
-    let t = c.args.kernel.now.table in
+    let r = c.args.search.now.state.now in
+    let to = c.args.search.now.target.now in
+    let t = c.args.search.now.kernel.now.table in
     let start = start_at t r.note in
     let w = c.in_ok-whole.ensures.start in
     let is = c.in_ok-run.ensures.start in
     let run = c.in_ok-run.run' in
     let quiet : c.count_run.new.found.tally ≡ with_runs r to t (Nothing ∷ []) c.args.found.now.tally =
     c.in_ok-count_run.ensures start w.at ∙ (λ i. with_runs (w.of.state i) (w.of.target i) (w.of.first i) (w.tried i ∷ []) (c.begin.ensures i)) in
-    let whole : with_runs run.state.now run.target.now run.first.now.table (each_with_pairs run.state.now run.target.now run.first.now.table c.args.pairs (left run start None)) c.count_run.new.found.tally ≡ explored_from r to t c.args.pairs c.args.found.now.tally =
-    (λ i. with_runs (is.of.state i) (is.of.target i) (is.of.first i) (each_with_pairs (is.of.state i) (is.of.target i) (is.of.first i) c.args.pairs (is.meets i)) (quiet i)) in
-    c.in_ok-over_calls.ensures start is.at ∙ whole
+    let whole : with_runs run.state.now run.target.now run.first.now.table (each_with_pairs run.state.now run.target.now run.first.now.table c.args.search.now.pairs (left run start None)) c.count_run.new.found.tally ≡ explored_from r to t c.args.search.now.pairs c.args.found.now.tally =
+    (λ i. with_runs (is.of.state i) (is.of.target i) (is.of.first i) (each_with_pairs (is.of.state i) (is.of.target i) (is.of.first i) c.args.search.now.pairs (is.meets i)) (quiet i)) in
+    c.in_ok-count_events.ensures start is.at ∙ whole
 
 pub returns-clause-once : goal.returns-clause-once
 returns-clause-once g c =
-    all-once c.args.state.now c.args.target.now c.args.kernel.now.table c.args.pairs c.in_ok-whole.ensures.formed
+    all-once c.args.search.now.state.now c.args.search.now.target.now c.args.search.now.kernel.now.table c.args.search.now.pairs c.in_ok-whole.ensures.formed
 
 ---- Which refusal is told
 
 pub returns-then-not-agrees-clause-exact : goal.returns-then-not-agrees-clause-exact
 returns-then-not-agrees-clause-exact g c =
-    told-refused c.args.kernel.now.table c.args.state.now c.args.target.now RecordDisagrees (Err (Enact RecordDisagrees))
+    told-refused c.args.search.now.kernel.now.table c.args.search.now.state.now c.args.search.now.target.now RecordDisagrees (Err (Enact RecordDisagrees))
     (inr (λ pattern h. let yes = c.agrees.ensures.agrees.1 h in absurd (true≢false (sym yes ∙ c.if-not-agrees.true)))) refl
 
 pub returns-in_err-plan-clause-exact : goal.returns-in_err-plan-clause-exact
 returns-in_err-plan-clause-exact g c =
-    let agrees : Agrees c.args.kernel.now.table c.args.state.now = c.agrees.ensures.agrees.0 (search rules) in
+    let agrees : Agrees c.args.search.now.kernel.now.table c.args.search.now.state.now = c.agrees.ensures.agrees.0 (search rules) in
     let why = c.in_err-plan.field-0.0 in
     let p = err_from_is_err_and c.from_residual.result c.from_residual.ensures.1 in
     let is : c.from_residual.result ≡ Err (Enact why) = cc in
-    told-refused c.args.kernel.now.table c.args.state.now c.args.target.now why c.from_residual.result
-    (planless c.args.kernel.now.table c.args.state.now c.args.target.now why agrees c.in_err-plan.ensures.refused) is
+    told-refused c.args.search.now.kernel.now.table c.args.search.now.state.now c.args.search.now.target.now why c.from_residual.result
+    (planless c.args.search.now.kernel.now.table c.args.search.now.state.now c.args.search.now.target.now why agrees c.in_err-plan.ensures.refused) is
 
 pub returns-in_err-whole-clause-exact : goal.returns-in_err-whole-clause-exact
 returns-in_err-whole-clause-exact g c =
-    let agrees : Agrees c.args.kernel.now.table c.args.state.now = c.agrees.ensures.agrees.0 (search rules) in
+    let agrees : Agrees c.args.search.now.kernel.now.table c.args.search.now.state.now = c.agrees.ensures.agrees.0 (search rules) in
     let why = c.in_err-whole.field-0.0 in
     let p = err_from_is_err_and c.from_residual-in_err-whole.result c.from_residual-in_err-whole.ensures.1 in
     let is : c.from_residual-in_err-whole.result ≡ Err (Enact why) = cc in
-    told-refused c.args.kernel.now.table c.args.state.now c.args.target.now why c.from_residual-in_err-whole.result
-    (short c.args.kernel.now.table c.args.state.now c.args.target.now why agrees c.in_ok-plan.ensures.planned c.in_err-whole.ensures.refused) is
+    told-refused c.args.search.now.kernel.now.table c.args.search.now.state.now c.args.search.now.target.now why c.from_residual-in_err-whole.result
+    (short c.args.search.now.kernel.now.table c.args.search.now.state.now c.args.search.now.target.now why agrees c.in_ok-plan.ensures.planned c.in_err-whole.ensures.refused) is
 
 pub returns-in_err-count_run-clause-exact : goal.returns-in_err-count_run-clause-exact
 returns-in_err-count_run-clause-exact g c =
-    let agrees : Agrees c.args.kernel.now.table c.args.state.now = c.agrees.ensures.agrees.0 (search rules) in
+    let agrees : Agrees c.args.search.now.kernel.now.table c.args.search.now.state.now = c.agrees.ensures.agrees.0 (search rules) in
     let why = c.in_err-count_run.field-0.0 in
     let p = err_from_is_err_and c.from_residual-in_err-count_run.result c.from_residual-in_err-count_run.ensures.1 in
     let is : c.from_residual-in_err-count_run.result ≡ Err (unexplored why) = cc in
-    told-stopped c.args.kernel.now.table c.args.state.now c.args.target.now agrees c.in_ok-plan.ensures.planned c.in_ok-whole.ensures.numbers why c.from_residual-in_err-count_run.result is
+    told-stopped c.args.search.now.kernel.now.table c.args.search.now.state.now c.args.search.now.target.now agrees c.in_ok-plan.ensures.planned c.in_ok-whole.ensures.numbers why c.from_residual-in_err-count_run.result is
 
-pub returns-in_err-over_calls-clause-exact : goal.returns-in_err-over_calls-clause-exact
-returns-in_err-over_calls-clause-exact g c =
-    let agrees : Agrees c.args.kernel.now.table c.args.state.now = c.agrees.ensures.agrees.0 (search rules) in
-    let why = c.in_err-over_calls.field-0.0 in
-    let p = err_from_is_err_and c.from_residual-in_err-over_calls.result c.from_residual-in_err-over_calls.ensures.1 in
-    let is : c.from_residual-in_err-over_calls.result ≡ Err (unexplored why) = cc in
-    told-stopped c.args.kernel.now.table c.args.state.now c.args.target.now agrees c.in_ok-plan.ensures.planned c.in_ok-whole.ensures.numbers why c.from_residual-in_err-over_calls.result is
+pub returns-in_err-count_events-clause-exact : goal.returns-in_err-count_events-clause-exact
+returns-in_err-count_events-clause-exact g c =
+    let agrees : Agrees c.args.search.now.kernel.now.table c.args.search.now.state.now = c.agrees.ensures.agrees.0 (search rules) in
+    let why = c.in_err-count_events.field-0.0 in
+    let p = err_from_is_err_and c.from_residual-in_err-count_events.result c.from_residual-in_err-count_events.ensures.1 in
+    let is : c.from_residual-in_err-count_events.result ≡ Err (unexplored why) = cc in
+    told-stopped c.args.search.now.kernel.now.table c.args.search.now.state.now c.args.search.now.target.now agrees c.in_ok-plan.ensures.planned c.in_ok-whole.ensures.numbers why c.from_residual-in_err-count_events.result is
 
 pub returns-clause-exact : goal.returns-clause-exact
 returns-clause-exact g c =
-    told-begun c.args.kernel.now.table c.args.state.now c.args.target.now (c.agrees.ensures.agrees.0 (search rules)) c.in_ok-plan.ensures.planned c.in_ok-whole.ensures.numbers
+    told-begun c.args.search.now.kernel.now.table c.args.search.now.state.now c.args.search.now.target.now (c.agrees.ensures.agrees.0 (search rules)) c.in_ok-plan.ensures.planned c.in_ok-whole.ensures.numbers

@@ -27,12 +27,12 @@ loop-due-preserved c =
       target = is.target ∙ kept.target;
       tried = is.tried ∙ kept.tried;
       made = omega (arith, kept.made, is.made);
-      found = c.look-in-Some.ensures ∙ kept.found;
+      found = c.look-in-Some.ensures.tally ∙ kept.found;
       at = λ p at. let q = kept.at p at in (after_due c.loop-due.self quiet q.0, is.at q.0 q.1);
     }
 
 pub returns-in_err-low-2-clause-found : goal.returns-in_err-low-2-clause-found
-returns-in_err-low-2-clause-found c = c.look-in-Some.ensures ∙ c.loop-due.invariant.found
+returns-in_err-low-2-clause-found c = c.look-in-Some.ensures.tally ∙ c.loop-due.invariant.found
 
 pub returns-clause-found : goal.returns-clause-found
 returns-clause-found c = c.loop-due.invariant.found

@@ -5,10 +5,11 @@ use Rattle.definitions.specs.Run.{Progress}
 use Rattle.plan_walk.specs.Fit.{height_next}
 use Rattle.plan_walk.specs.Walk.{trail_of, AsksFor}
 use Rattle.explorer.specs.declared.events.Tried.TheVariants.{Nothing}
-use Rattle.explorer.specs.Explored.{with_runs, each_with_pairs}
 use Rattle.explorer.specs.Known.{IsKnownAt}
-use Rattle.explorer.specs.Positions.{IsFit, IsAt, left}
-use Rattle.explorer.proofs.exploring.over_calls.Given as goal
+use Rattle.explorer.specs.Positions.{IsFit, IsAt}
+use Rattle.explorer.proofs.Counted.{with-first, firsts-counting}
+use Rattle.explorer.proofs.Turning.{Reaches}
+use Rattle.explorer.proofs.exploring.count_events.Given as goal
 
 abbrev pub invariant-loop-due : goal.invariant-loop-due
 invariant-loop-due g l =
@@ -22,8 +23,7 @@ invariant-loop-due g l =
       target : l.run.target.now ≡ to;
       tried : l.run.tried ≡ Nothing;
       known : (p : Progress) → IsAt l.fn.run p → (by : ℕ) (call : Call) → AsksFor (trail_of l.run.walk) by call → AllByRecursion (IsKnownAt l.run (l.run.made + 1)) l.known.items;
-      counts : (p : Progress) → IsAt l.fn.run p → (q : Progress) × IsAt l.run q ×
-          (with_runs r to t (each_with_pairs r to t l.pairs (left l.run q None)) l.found.tally ≡ with_runs r to t (each_with_pairs r to t l.pairs (left l.fn.run p None)) l.fn.found.tally);
+      counts : Reaches l.fn.run None (with-first r to t l.pairs) (firsts-counting r to t l.pairs) l.run l.fn.found.tally l.found.tally;
     }
 
 abbrev pub decreases-loop-due : goal.decreases-loop-due

@@ -7,11 +7,11 @@ use Rattle.explorer.specs.Explored.{report_under}
 use Rattle.explorer.specs.Positions.{IsSameUpTo}
 use Rattle.explorer.proofs.Later.{elsewhere}
 use Rattle.explorer.proofs.Meeting.{same-before}
-use Rattle.explorer.proofs.exploring.ended.Goals as goal
+use Rattle.explorer.proofs.exploring.rest_of_run.Goals as goal
 
 pub returns-clause-report : goal.returns-clause-report
 returns-clause-report c = λ p at all.
-    let run = c.args.run.now in
+    let run = c.args.point.now.run.now in
     let event = c.args.event in
     let is = c.in_ok-whole.ensures in
     let same : IsSameUpTo run.made (pattern_of run.tried) (pattern_of (One event)) =

@@ -1,0 +1,51 @@
+-- How few workers serve on the way.
+use Rattle.std.specs.Prelude.{ℕ, ◌≤◌, ◌-◌, ◌^◌, min, nat_lt, Bool, false, ◌&&◌, List, [], ◌∷◌, Option, Some, None, unwrap_or, count_by, if◌then◌else◌}
+use Rattle.std.specs.List.{list_any, sum_by, AllByRecursion}
+use Rattle.std.specs.FinMap.{find}
+use Rattle.definitions.specs.Table.{Address, Process, Master, Worker, Foreign, Table, is_ready, is_active, is_named, has_address, Generation}
+use Rattle.definitions.specs.Exits.{Name}
+use Rattle.vocabulary.specs.declared.names.Name.TheVariants as name
+use Rattle.definitions.specs.Service.{is_live_with}
+use Rattle.kernel_service.specs.Services.{Services, address_cmp}
+
+-- a Ready worker that holds the address
+abbrev pub is_ready_at : Address → Process → Bool
+is_ready_at a (Worker n q g k s hs) = is_ready s && has_address a hs
+is_ready_at a (Master n q i live hs) = false
+is_ready_at a (Foreign n hs) = false
+
+-- How many Ready workers an address has in a table, and none where no live master holds it. They are counted up to 2^32 - 1.
+abbrev pub ready_at : Table → Address → ℕ
+ready_at t a = if list_any (is_live_with (has_address a)) t.rows then min (count_by (is_ready_at a) t.rows) (2 ^ 32 - 1) else 0
+
+-- The same of a service that is listed.
+abbrev pub listed_at : Services → Address → ℕ
+listed_at s a = min (sum_by (λ c. c.1) (unwrap_or (find address_cmp a s) [])) (2 ^ 32 - 1)
+
+-- the one that has fewer, and else the first
+abbrev pub fewer : Option (Address × ℕ) → Address → ℕ → Address × ℕ
+fewer None a n = (a, n)
+fewer (Some least) a n = if nat_lt n least.1 then (a, n) else least
+
+-- The first of the addresses that has fewest, with their number, where another one was the first before them.
+abbrev pub fewest_from : Services → Option (Address × ℕ) → List Address → Option (Address × ℕ)
+fewest_from s least [] = least
+fewest_from s least (a ∷ addresses) = fewest_from s (Some (fewer least a (listed_at s a))) addresses
+
+-- Each of the addresses has at least so many.
+abbrev pub HaveAtLeast : List Address → Table → ℕ → Type 0
+HaveAtLeast addresses t low = AllByRecursion (λ a. low ≤ ready_at t a) addresses
+
+-- No two Starting or Ready workers bear one name.
+abbrev pub AreNamedOnce : Table → Type 0
+AreNamedOnce t = (g : Generation) (k : ℕ) → count_by (is_named is_active g k) t.rows ≤ 1
+
+-- As many as that each address has at least after an exit, if it had so many before.
+abbrev pub low_without : Name → ℕ → ℕ
+low_without (name.Worker g k) low = low - 1
+low_without (name.Draining g k) low = low
+low_without (name.Master i) low = 0
+
+abbrev pub low_after_exits : List Name → ℕ → ℕ
+low_after_exits [] low = low
+low_after_exits (e ∷ es) low = low_after_exits es (low_without e low)
