@@ -37,22 +37,30 @@ pub(crate) fn replay_all(replay: &mut Replay<'_>, log: &Transcript) -> Result<()
     Ok(())
 }
 
+/// The masters that execute a plan.
+#[derive(Clone, Copy)]
+struct Executing {
+    /// That of the record.
+    image: u32,
+    /// The new one of an upgrade.
+    heir: Option<u32>,
+}
+
 /// Holds entries and a report against a plan, on a kernel with room for its longest path.
 fn hold(
     alloc: Global,
     plan: &Plan,
     kernel: Kernel,
-    image: u32,
-    heir: Option<u32>,
+    masters: Executing,
     log: &Transcript,
     report: &Report,
 ) -> Result<Certificate, Mismatch>
     requires { kernel.room ≡ height (tree_of plan.now) }
-    ensures ok { IfOk result (λ it. Holds (text_of plan.now) (listed heir) (sides_told plan.now) (record { trail = begin (tree_of plan.now) (note_of plan.now); table = kernel.table; executing = image ∷ [] }) log.now.entries report.now it.pattern) }
-    ensures led { IfOk result (λ it. IsLed (text_of plan.now) (listed heir) (height (tree_of plan.now)) (record { trail = begin (tree_of plan.now) (note_of plan.now); table = kernel.table; executing = image ∷ [] }) log.now.entries it.kernel) }
-    ensures err { IfErr result (FailsBy (text_of plan.now) (listed heir) (sides_told plan.now) (record { trail = begin (tree_of plan.now) (note_of plan.now); table = kernel.table; executing = image ∷ [] }) log.now.entries report.now) }
+    ensures ok { IfOk result (λ it. Holds (text_of plan.now) (listed masters.heir) (sides_told plan.now) (record { trail = begin (tree_of plan.now) (note_of plan.now); table = kernel.table; executing = masters.image ∷ [] }) log.now.entries report.now it.pattern) }
+    ensures led { IfOk result (λ it. IsLed (text_of plan.now) (listed masters.heir) (height (tree_of plan.now)) (record { trail = begin (tree_of plan.now) (note_of plan.now); table = kernel.table; executing = masters.image ∷ [] }) log.now.entries it.kernel) }
+    ensures err { IfErr result (FailsBy (text_of plan.now) (listed masters.heir) (sides_told plan.now) (record { trail = begin (tree_of plan.now) (note_of plan.now); table = kernel.table; executing = masters.image ∷ [] }) log.now.entries report.now) }
 {
-    let mut replay = Replay::new(alloc, plan, kernel, image, heir);
+    let mut replay = Replay::new(alloc, plan, kernel, masters.image, masters.heir);
     replay_all(&mut replay, log)?;
     replay.end(report)
 }
@@ -82,15 +90,11 @@ pub(crate) fn certificate(
     let copy = reserved_copy(kernel, plan.longest())?;
     let heir = heir_of(state, target);
     ends_as_reported(target);
-    hold(
-        alloc,
-        &plan,
-        copy,
-        state.generation.image,
+    let masters = Executing {
+        image: state.generation.image,
         heir,
-        log,
-        report,
-    )
+    };
+    hold(alloc, &plan, copy, masters, log, report)
 }
 
 /// Holds a transcript of a target, its calls with their answers and its report, against the modelled kernel.

@@ -6,14 +6,14 @@ const HEADING: &[u8] = b"[[groups]]";
 
 /// A line of a text, with its number from 1.
 #[derive(Clone, Copy)]
-pub struct Line<'a> {
+pub struct FoundLine<'a> {
     pub number: usize,
     pub text: &'a [u8],
 }
 
 /// The line of a configuration in which the key stands that a refusal is about, where it is about one: of a group's key,
 /// the line behind the heading of the group, or the heading itself where the group has no such line.
-pub fn line_of_refusal<'a>(text: &'a [u8], refusal: &ConfigRefusal) -> Option<Line<'a>> {
+pub fn line_of_refusal<'a>(text: &'a [u8], refusal: &ConfigRefusal) -> Option<FoundLine<'a>> {
     if let ConfigRefusal::Group(index, fault) = refusal {
         let found = line_of_group(text, *index, key_of_group(fault));
         if found.is_some() {
@@ -52,10 +52,10 @@ fn key_of_group(fault: &GroupFault) -> Option<Key> {
 }
 
 /// The first line that begins with a key, or with a heading of its name.
-fn line_of_key(text: &[u8], key: Key) -> Option<Line<'_>> {
+fn line_of_key(text: &[u8], key: Key) -> Option<FoundLine<'_>> {
     for (place, line) in text.split(|byte| *byte == b'\n').enumerate() {
         if names(line, key) {
-            return Some(Line {
+            return Some(FoundLine {
                 number: place.saturating_add(1),
                 text: line,
             });
@@ -65,7 +65,7 @@ fn line_of_key(text: &[u8], key: Key) -> Option<Line<'_>> {
 }
 
 /// The last line behind the heading of the group at an index, counted from 0, that begins with a key, or else the heading.
-fn line_of_group(text: &[u8], index: usize, key: Option<Key>) -> Option<Line<'_>> {
+fn line_of_group(text: &[u8], index: usize, key: Option<Key>) -> Option<FoundLine<'_>> {
     let mut begun: usize = 0;
     let mut found = None;
     for (place, line) in text.split(|byte| *byte == b'\n').enumerate() {
@@ -75,7 +75,7 @@ fn line_of_group(text: &[u8], index: usize, key: Option<Key>) -> Option<Line<'_>
         }
         let is_its = is_heading || key.is_some_and(|key| names(line, key));
         if begun == index.saturating_add(1) && is_its {
-            found = Some(Line {
+            found = Some(FoundLine {
                 number: place.saturating_add(1),
                 text: line,
             });
@@ -95,7 +95,7 @@ fn names(line: &[u8], key: Key) -> bool {
 
 /// The line at a place of a block, behind its first line, or the last that the block has before that. Blocks are counted
 /// from 1, and begin with `word` or `unread`.
-pub fn line_of_block(given: &[u8], number: usize, place: usize) -> Option<Line<'_>> {
+pub fn line_of_block(given: &[u8], number: usize, place: usize) -> Option<FoundLine<'_>> {
     let mut begun: usize = 0;
     let mut behind: usize = 0;
     let mut found = None;
@@ -107,7 +107,7 @@ pub fn line_of_block(given: &[u8], number: usize, place: usize) -> Option<Line<'
             behind = behind.saturating_add(1);
         }
         if begun == number && behind <= place && !text.is_empty() {
-            found = Some(Line {
+            found = Some(FoundLine {
                 number: index.saturating_add(1),
                 text,
             });

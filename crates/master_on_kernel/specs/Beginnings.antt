@@ -4,7 +4,7 @@ use Rattle.listener_set.specs.AddressText.{reading}
 use Rattle.faults.specs.declared.fault.Fault.{Fault}
 use Rattle.faults.specs.Faults.{IsDue}
 use Rattle.master_on_kernel.specs.declared.rehearsal.Rehearsal.{Rehearsal}
-use Rattle.master_on_kernel.specs.declared.start.Setup.{Setup}
+use Rattle.master_on_kernel.specs.declared.start.StartSetup.{StartSetup}
 use Rattle.master_on_kernel.specs.declared.start.Start.{Start}
 use Rattle.master_on_kernel.specs.Starts.{IsStart, IsOfStart, IsStarted, record_at}
 use Rattle.master_on_kernel.specs.Rehearsals.{Held, IsOfHeld}
@@ -20,7 +20,7 @@ IsOfNamed None old fault = ⊥
 IsOfNamed (Some text) old fault = IsOfHeld (reading text) old.standing.world fault
 
 -- The master of a start that is asked for, on a kernel where somebody holds the address that is named.
-pub record HasBegun (setup : Setup) (held : Option (List ℕ)) (it : Rehearsal) : Type 0 where
+pub record HasBegun (setup : StartSetup) (held : Option (List ℕ)) (it : Rehearsal) : Type 0 where
   pub start : Start
   pub is_read : IsStart setup start
   pub before : Rehearsal
@@ -28,5 +28,5 @@ pub record HasBegun (setup : Setup) (held : Option (List ℕ)) (it : Rehearsal) 
   pub is_held : HoldsNamed held before it
 
 -- Why it can't begin: the start can't be read; no master can start so; or nobody can hold the address.
-abbrev pub IsOfBeginning : Setup → Option (List ℕ) → Fault → Type 0
+abbrev pub IsOfBeginning : StartSetup → Option (List ℕ) → Fault → Type 0
 IsOfBeginning setup held fault = IsOfStart setup fault ⊎ ((start : Start) × IsStart setup start × (IsDue (record_at start) fault ⊎ ((it : Rehearsal) × IsStarted start it × IsOfNamed held it fault)))

@@ -12,7 +12,7 @@ use Rattle.faults.specs.declared.fault.Fault.{Fault}
 use Rattle.faults.specs.declared.fault.Fault.TheVariants.{Boot}
 use Rattle.faults.specs.Faults.{config_fault}
 use Rattle.kernel_model.specs.declared.boot.BootRefusal.TheVariants.{BadLimits}
-use Rattle.master_on_kernel.specs.declared.start.Setup.{Setup}
+use Rattle.master_on_kernel.specs.declared.start.StartSetup.{StartSetup}
 use Rattle.master_on_kernel.specs.declared.start.Start.{Start}
 use Rattle.master_on_kernel.specs.declared.rehearsal.Rehearsal.{Rehearsal}
 
@@ -22,14 +22,14 @@ IsOfSettings path fault = (refusal : ConfigRefusal) × IsRefusalOf path refusal 
 
 -- How a master starts that is asked for: the settings of the files, or the plain ones and those of the start; as many workers
 -- as an option says, or else the start's settings; and none of them runs where the start is bare.
-pub record IsStart (setup : Setup) (start : Start) : Type 0 where
+pub record IsStart (setup : StartSetup) (start : Start) : Type 0 where
   pub settings : AreNamed (option_map (λ text. text.now) setup.from) plain_settings start.settings
   pub next : AreNamed (option_map (λ text. text.now) setup.to) start.settings start.next
   pub wanted : start.wanted ≡ unwrap_or setup.workers start.settings.workers
   pub running : start.running ≡ (if setup.bare then 0 else start.wanted)
 
 -- Why a start can't be read: the settings of one of its files can't be had.
-abbrev pub IsOfStart : Setup → Fault → Type 0
+abbrev pub IsOfStart : StartSetup → Fault → Type 0
 IsOfStart setup fault = IsOfSettings (option_map (λ text. text.now) setup.from) fault ⊎ IsOfSettings (option_map (λ text. text.now) setup.to) fault
 
 -- what the master knows of itself at first

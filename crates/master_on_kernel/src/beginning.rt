@@ -2,14 +2,14 @@
 ghost use Rattle.std.specs.Prelude.{IfOk, IfErr, OnOk, option_map};
 ghost use Rattle.master_on_kernel.specs.Beginnings.{HasBegun, HoldsNamed, IsOfBeginning, IsOfNamed};
 
-use crate::{Rehearsal, Setup, Start};
+use crate::{Rehearsal, Start, StartSetup};
 use faults::Fault;
 use std::rt::Files;
 
 /// Reads the files and boots the master, and lets a foreign process hold the address that is named.
 pub fn begin<R: AllocGlobal + Files>(
     rt: &R,
-    setup: &Setup<'_>,
+    setup: &StartSetup<'_>,
     held: Option<&str>,
 ) -> Result<Rehearsal, Fault>
     ensures ok { IfOk result (HasBegun setup.now (option_map (λ text. text.now) held.entry)) }

@@ -17,5 +17,5 @@ pub use enacting::{rehearse, show_state};
 pub use exploring::Explored;
 pub use planning::{Form, Outlook, look_ahead, told};
 pub use rehearsal::Rehearsal;
-pub use start::{Setup, Start};
+pub use start::{Start, StartSetup};
 pub use summing::summary;

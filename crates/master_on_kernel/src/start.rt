@@ -14,7 +14,7 @@ use worker_table::WorkerTable;
 
 /// What a start is asked for: the files that it reads, and how many workers it has.
 #[derive(Clone, Copy)]
-pub struct Setup<'a> {
+pub struct StartSetup<'a> {
     /// The file of the settings. Without it the defaults hold.
     pub from: Option<&'a str>,
     /// The file of the settings that HUP and USR2 go over to. Without it they are those of the start.
@@ -41,7 +41,7 @@ pub struct Start {
 impl Start {
     /// Reads the files, that of the start first. Without one the defaults hold; the start's
     /// settings are taken up again where no other file is named.
-    pub fn read<R: AllocGlobal + Files>(rt: &R, setup: &Setup<'_>) -> Result<Start, Fault>
+    pub fn read<R: AllocGlobal + Files>(rt: &R, setup: &StartSetup<'_>) -> Result<Start, Fault>
         ensures ok { IfOk result (IsStart setup.now) }
         ensures err { IfErr result (IsOfStart setup.now) }
     {

@@ -3,17 +3,17 @@ ghost use Rattle.std.specs.Prelude.{◌≡◌};
 
 use command_line::StartOptions;
 use faults::Fault;
-use master_on_kernel::{Rehearsal, Setup};
+use master_on_kernel::{Rehearsal, StartSetup};
 use std::rt::Files;
 
 /// What options say of a start.
-pub fn setup_of<'a>(options: &StartOptions<'a>) -> Setup<'a>
+pub fn setup_of<'a>(options: &StartOptions<'a>) -> StartSetup<'a>
     ensures from { result.from ≡ options.now.from }
     ensures to { result.to ≡ options.now.to }
     ensures workers { result.workers ≡ options.now.workers }
     ensures bare { result.bare ≡ options.now.bare }
 {
-    Setup {
+    StartSetup {
         from: options.from,
         to: options.to,
         workers: options.workers,

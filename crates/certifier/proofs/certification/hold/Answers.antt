@@ -11,10 +11,10 @@ pub returns-clause-led : goal.returns-clause-led
 returns-clause-led c =
     let plan = c.args.plan.now in
     let entries = c.args.log.now.entries in
-    let from : Place = record { trail = begin (tree_of plan) (note_of plan); table = c.args.kernel.table; executing = c.args.image ∷ [] } in
+    let from : Place = record { trail = begin (tree_of plan) (note_of plan); table = c.args.kernel.table; executing = c.args.masters.image ∷ [] } in
     let x = c.replay_all.new.replay in
     let before = c.new-replay.ensures in
-    let heirs : listed c.new-replay.result.heir ≡ listed c.args.heir = ap listed before.heir in
-    let taken : HasTaken (text_of plan) (listed c.args.heir) (sides_told plan) from entries x =
+    let heirs : listed c.new-replay.result.heir ≡ listed c.args.masters.heir = ap listed before.heir in
+    let taken : HasTaken (text_of plan) (listed c.args.masters.heir) (sides_told plan) from entries x =
     subst (λ (X : Type 0). X) (λ i. HasTaken (before.text i) (heirs i) (before.sides i) (before.place i) entries x) c.in_ok-replay_all.ensures.ok in
-    ends-led (text_of plan) (listed c.args.heir) (sides_told plan) from entries c.args.report.now x taken (height (tree_of plan)) (c.in_ok-replay_all.ensures.left ∙ (before.room ∙ c.requires)) c.end.result c.end.ensures.kernel
+    ends-led (text_of plan) (listed c.args.masters.heir) (sides_told plan) from entries c.args.report.now x taken (height (tree_of plan)) (c.in_ok-replay_all.ensures.left ∙ (before.room ∙ c.requires)) c.end.result c.end.ensures.kernel
