@@ -1,5 +1,5 @@
 -- What was read of a child or of an input, and is told by no line yet.
-use Rattle.std.specs.Prelude.{ℕ, ◌+◌, ◌==◌, Bool, true, false, List, [], Option, Some, None, length, take, drop, position, if◌then◌else◌}
+use Rattle.std.specs.Prelude.{ℕ, ◌+◌, ◌==◌, ◌++◌, Bool, true, false, List, [], Option, Some, None, length, take, drop, position, if◌then◌else◌}
 use Rattle.child_family.specs.Told.{Hearing, line, too_long, ended}
 
 -- the bytes, and whether those up to the next newline belong to a line that is dropped
@@ -41,3 +41,7 @@ left_first u = left_by u (newline_in u.bytes)
 -- what is told at the end, where no newline is left
 abbrev pub told_last : List ℕ → Hearing
 told_last bytes = if length bytes == 0 then ended else line bytes
+
+-- what is left for lines to tell, where these bytes come behind those that were read
+abbrev pub due : Unheard → List ℕ → List ℕ
+due u more = (dropped (record { bytes = u.bytes ++ more; drops = u.drops })).bytes

@@ -69,6 +69,7 @@ impl LineBuffer {
         ensures left { self.new ≡ left_first (dropped self.old) }
         ensures room { IsNone result → length self.new.bytes < 4097 }
         ensures whole { IfSome result (λ h. h ≢ Ended) }
+        ensures fits { length self.old.bytes ≤ 4097 }
     {
         if self.drops {
             self.drop_rest();
@@ -81,6 +82,7 @@ impl LineBuffer {
         ensures left { self.new ≡ left_first self.old }
         ensures room { IsNone result → length self.new.bytes < 4097 }
         ensures whole { IfSome result (λ h. h ≢ Ended) }
+        ensures fits { length self.old.bytes ≤ 4097 }
     {
         match newline_in(&self.bytes[..self.filled]) {
             Some(at) => {

@@ -264,7 +264,7 @@ impl<R: Processes + Files + Drop> Family for OsFamily<R> {
 
     fn hear(&mut self, id: u32, line: &mut Line) -> Heard {
         match self.open_mut(id) {
-            Some(open) => open.heard.hear(line),
+            Some(open) => open.heard.hear(line).unwrap_or(Heard::Ended),
             None => Heard::Ended,
         }
     }

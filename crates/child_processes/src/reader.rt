@@ -1,6 +1,10 @@
 //! The lines of a reader.
-ghost use Rattle.std.specs.Prelude.{◌≡◌, ◌≤◌, length, IfOk};
+ghost use Rattle.std.specs.Prelude.{◌≡◌, Some, IsNone, IfSome, IfOk, OnErr};
+ghost use Rattle.std.specs.Io.KnownBytes.{Keeps};
+ghost use Rattle.child_family.specs.Told.{heard_of};
 ghost use Rattle.child_family.specs.declared.role.Heard.TheVariants.{Ended};
+ghost use Rattle.child_processes.specs.Unheard.{nothing};
+ghost use Rattle.child_processes.specs.NextLine.{heard_in, left_in, line_in, rest_in, unheard, IsNext, IsLast};
 
 use crate::buffer::LineBuffer;
 use child_family::Heard;
@@ -10,6 +14,8 @@ use std::io::{ErrorKind, Read};
 
 /// A reader's lines. It takes no memory. A line of more than 4,096 bytes is told once, and dropped; the next line is
 /// heard as ever.
+///
+/// What is said of lines is said where the bytes of the reader are known.
 #[derive(Drop)]
 pub struct LineReader<R: Read + Drop> {
     reader: R,
@@ -18,23 +24,33 @@ pub struct LineReader<R: Read + Drop> {
 
 impl<R: Read + Drop> LineReader<R> {
     /// The lines of a reader.
-    pub fn new(reader: R) -> LineReader<R> {
+    pub fn new(reader: R) -> LineReader<R>
+        ensures reader { result.reader ≡ reader }
+        ensures buffer { result.buffer ≡ nothing }
+        ensures unheard { Keeps (R.remaining reader) (unheard R.remaining result) }
+    {
         LineReader {
             reader,
             buffer: LineBuffer::new(),
         }
     }
 
-    /// The next line of a child, which is waited for. `Ended` where there is none, where it has no newline, or where the
-    /// reader fails: of a child no more is wanted then.
-    pub fn hear(&mut self, line: &mut Line) -> Heard {
-        self.whole_line(line).unwrap_or(Heard::Ended)
+    /// The next line of a child, which is waited for. `Ended` at the end; what stands there without a newline is no line,
+    /// and is kept. The only refusal is that of a read; no byte is lost by it, and the next call reads on.
+    pub fn hear(&mut self, line: &mut Line) -> io::Result<Heard>
+        ensures heard { IfOk result (λ h. IsNext heard_in left_in (unheard R.remaining self.old) (unheard R.remaining self.new) (heard_of h line.new)) }
+        ensures failed { OnErr result (Keeps (unheard R.remaining self.old) (unheard R.remaining self.new)) }
+    {
+        self.whole_line(line)
     }
 
     /// The next line of an input, which is waited for. A last line without a newline is given too, once; `Ended` comes only
     /// at the end, where nothing is left. The only refusal is that of a read; no byte is lost by it, and the next call reads
     /// on.
-    pub fn next_line(&mut self, line: &mut Line) -> io::Result<Heard> {
+    pub fn next_line(&mut self, line: &mut Line) -> io::Result<Heard>
+        ensures heard { IfOk result (λ h. IsNext line_in rest_in (unheard R.remaining self.old) (unheard R.remaining self.new) (heard_of h line.new)) }
+        ensures failed { OnErr result (Keeps (unheard R.remaining self.old) (unheard R.remaining self.new)) }
+    {
         match self.whole_line(line)? {
             Heard::Ended => Ok(self.buffer.take_rest(line)),
             heard => Ok(heard),
@@ -43,19 +59,33 @@ impl<R: Read + Drop> LineReader<R> {
 
     /// The next line that has a newline. `Ended` at the end; what stands there without a newline is kept.
     fn whole_line(&mut self, line: &mut Line) -> io::Result<Heard>
-        ensures rest { IfOk result (λ h. h ≡ Ended → length self.new.buffer.bytes ≤ 4096) }
+        ensures heard { IfOk result (λ h. IsNext heard_in left_in (unheard R.remaining self.old) (unheard R.remaining self.new) (heard_of h line.new)) }
+        ensures failed { OnErr result (Keeps (unheard R.remaining self.old) (unheard R.remaining self.new)) }
+        ensures rest { IfOk result (λ h. h ≡ Ended → IsLast R.remaining self.new) }
     {
         for _ in 0..u64::MAX {
-            if let Some(heard) = self.buffer.take_line(line) {
+            if let Some(heard) = self.turn(line)? {
                 return Ok(heard);
-            }
-            match self.buffer.fill(&mut self.reader) {
-                Ok(0) => return Ok(Heard::Ended),
-                Ok(_) => {}
-                Err(error) if error.kind() == ErrorKind::Interrupted => {}
-                Err(error) => return Err(error),
             }
         }
         Err(io::Error::from(ErrorKind::Other))
+    }
+
+    /// What can be told without reading on; else it reads once, and tells the end.
+    fn turn(&mut self, line: &mut Line) -> io::Result<Option<Heard>>
+        ensures heard { IfOk result (λ o. IfSome o (λ h. IsNext heard_in left_in (unheard R.remaining self.old) (unheard R.remaining self.new) (heard_of h line.new))) }
+        ensures on { IfOk result (λ o. IsNone o → Keeps (unheard R.remaining self.old) (unheard R.remaining self.new)) }
+        ensures failed { OnErr result (Keeps (unheard R.remaining self.old) (unheard R.remaining self.new)) }
+        ensures rest { IfOk result (λ o. o ≡ Some Ended → IsLast R.remaining self.new) }
+    {
+        if let Some(heard) = self.buffer.take_line(line) {
+            return Ok(Some(heard));
+        }
+        match self.buffer.fill(&mut self.reader) {
+            Ok(0) => Ok(Some(Heard::Ended)),
+            Ok(_) => Ok(None),
+            Err(error) if error.kind() == ErrorKind::Interrupted => Ok(None),
+            Err(error) => Err(error),
+        }
     }
 }

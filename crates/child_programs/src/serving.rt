@@ -11,10 +11,10 @@ use crate::worker::WorkerProgram;
 use child_edge::Edge;
 use child_family::{Family, Heard};
 use child_processes::LineReader;
-use handover_text::Handover;
 use plain_text::Line;
-use std::alloc::{AllocError, Global};
-use std::io::{Read, Write};
+use std::alloc::Global;
+use std::io;
+use std::io::{ErrorKind, Read, Write};
 
 /// For how many workers at once a new master takes memory before it takes over: for a reload and its draining workers at
 /// the limit of 1,024. Only where there were more could a start want for memory.
@@ -30,7 +30,7 @@ fn obey<H: Hears, O: Write>(program: &mut H, line: &[u8], output: &mut O) -> Opt
 }
 
 /// Hears lines up to the end of input, or to one at which the program ends. A line that is too long is heard as an empty
-/// one, which no program can be told.
+/// one, which no program can be told. A read that fails ends the program with status 1.
 fn serve<H: Hears, I: Read + Drop, O: Write>(
     program: &mut H,
     lines: &mut LineReader<I>,
@@ -39,9 +39,10 @@ fn serve<H: Hears, I: Read + Drop, O: Write>(
     let mut line = Line::new();
     for _ in 0..u64::MAX {
         match lines.hear(&mut line) {
-            Heard::Ended => return 0,
-            Heard::TooLong => line.clear(),
-            Heard::Line => {}
+            Ok(Heard::Ended) => return 0,
+            Ok(Heard::TooLong) => line.clear(),
+            Ok(Heard::Line) => {}
+            Err(_) => return 1,
         }
         if let Some(status) = obey(program, line.bytes(), output) {
             return status;
@@ -51,7 +52,7 @@ fn serve<H: Hears, I: Read + Drop, O: Write>(
 }
 
 /// A worker on pipes. Gives the exit status: 0 after `quit` and at the end of input, and 1 at a line that it can't be told
-/// ([`WorkerProgram::hear`]), one of more than 4,096 bytes too, and where an answer can't be written.
+/// ([`WorkerProgram::hear`]), one of more than 4,096 bytes too, and where a read fails or an answer can't be written.
 pub fn serve_worker<I: Read + Drop, O: Write>(input: I, output: &mut O) -> u8 {
     serve(
         &mut WorkerProgram::new(),
@@ -81,15 +82,15 @@ enum Received {
 }
 
 /// Hears the lines of a handover. One that is too long is taken as an empty one, which no handover has. The last line
-/// that was heard is in `line` then.
+/// that was heard is in `line` then. Want of memory and a read that fails are refusals.
 fn receive<I: Read + Drop>(
     alloc: Global,
     lines: &mut LineReader<I>,
     line: &mut Line,
-) -> Result<Received, AllocError> {
+) -> io::Result<Received> {
     let mut handover = HandoverLines::new(alloc)?;
     for _ in 0..u64::MAX {
-        match lines.hear(line) {
+        match lines.hear(line)? {
             Heard::Ended => return Ok(Received::Ended),
             Heard::TooLong => line.clear(),
             Heard::Line => {}
@@ -100,25 +101,16 @@ fn receive<I: Read + Drop>(
             Part::Other => return Ok(Received::Broken(handover)),
         }
     }
-    Ok(Received::Ended)
+    Err(io::Error::from(ErrorKind::Other))
 }
 
-/// Serves as a master that takes over.
+/// Serves as a master that takes over, on its edge.
 fn serve_adopted<F: Family + Drop, I: Read + Drop, O: Write>(
-    alloc: Global,
-    family: F,
-    pid: u32,
-    told: &Handover,
+    edge: Edge<F>,
     handover: HandoverLines,
     lines: &mut LineReader<I>,
     output: &mut O,
 ) -> ServedMaster<F> {
-    let Ok(edge) = Edge::adopt(alloc, family, told, pid, ROOM) else {
-        return ServedMaster {
-            status: 1,
-            family: None,
-        };
-    };
     let mut master = NewMaster::new(edge, handover);
     let status = serve(&mut master, lines, output);
     ServedMaster {
@@ -148,8 +140,8 @@ fn serve_refusing<I: Read + Drop, O: Write>(
 /// the master is gone. A line that asks for an answer ends a handover that has no line `end`, which is faulty then, and is
 /// answered.
 ///
-/// The exit status is 0 at the end of input, and 1 at a line that it can't be told, where an answer can't be written, and
-/// for want of memory. Its children are still there: they end with their input.
+/// The exit status is 0 at the end of input, and 1 at a line that it can't be told, where a read fails or an answer can't
+/// be written, and for want of memory. Its children are still there: they end with their input.
 pub fn serve_master<F: Family + Drop, I: Read + Drop, O: Write>(
     alloc: Global,
     family: F,
@@ -162,7 +154,13 @@ pub fn serve_master<F: Family + Drop, I: Read + Drop, O: Write>(
     let status = match receive(alloc, &mut lines, &mut line) {
         Ok(Received::Whole(handover)) => match handover_text::read(handover.text()) {
             Ok(told) => {
-                return serve_adopted(alloc, family, pid, &told, handover, &mut lines, output);
+                let Ok(edge) = Edge::adopt(alloc, family, &told, pid, ROOM) else {
+                    return ServedMaster {
+                        status: 1,
+                        family: None,
+                    };
+                };
+                return serve_adopted(edge, handover, &mut lines, output);
             }
             Err(_) => serve_refusing(handover, None, &mut lines, output),
         },

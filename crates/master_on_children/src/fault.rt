@@ -42,6 +42,11 @@ impl From<AllocError> for SupervisorFault {
 
 /// Want of memory, which may fail a read or a write too, or else a fault of a file.
 impl From<IoError> for SupervisorFault {
+    ghost use Rattle.std.specs.IoError.{error_kind};
+    ghost use Rattle.master_on_children.specs.Faults.{IsOfKind};
+
+    ghost from_gives = { λ error fault. IsOfKind (error_kind error) fault };
+
     fn from(error: IoError) -> SupervisorFault {
         match error.kind() {
             ErrorKind::OutOfMemory => SupervisorFault::Memory,

@@ -143,7 +143,7 @@ fn hear_all<F: Family + Drop, N: NextSettings, I: Read + Drop, O: Write, L: Log>
         let said = master.hear(read, next);
         status = tell(alloc, status, &said, output, log)?;
     }
-    Ok(status)
+    Err(SupervisorFault::File)
 }
 
 /// What the input gave, as a line that is read: one of more than 4,096 bytes is no word. At the end there is none.
