@@ -14,8 +14,6 @@ mod obeying;
 mod plans;
 #[cfg(test)]
 mod processes;
-#[cfg(test)]
-mod readers;
 mod recorded;
 #[cfg(test)]
 mod setup;

@@ -1,4 +1,4 @@
-//! Tests of texts: calls, answers and reports, lines, patterns and handovers.
+//! Tests of texts: calls, answers and reports, lines, patterns and handovers, and of the lines of readers.
 #![tactic(auto)]
 
 #[cfg(test)]
@@ -9,3 +9,5 @@ mod handovers;
 mod lines;
 #[cfg(test)]
 mod patterns;
+#[cfg(test)]
+mod readers;
