@@ -21,7 +21,7 @@ import tempfile
 import threading
 import time
 import uuid
-from collections.abc import Callable
+from typing import Any
 
 from . import places
 from .conversation import END, MARK, RUNS, Conversation, marked
@@ -76,10 +76,11 @@ class Bench:
     """What a worker is checked on: a keeper, addresses, and the points that were met or not."""
 
     def __init__(self, given: argparse.Namespace, room: pathlib.Path):
-        self.given, self.room, self.passed, self.failed, self.talks = given, room, 0, 0, []
+        self.given, self.room, self.passed, self.failed = given, room, 0, 0
+        self.talks: list[Conversation] = []
         self.patience, self.answer = given.patience, min(given.patience, ANSWER_SECONDS)
         self.path = room / "keeper.sock"
-        self.keeper = subprocess.Popen([places.KEEPER, self.path], stdin=subprocess.PIPE, start_new_session=True)
+        self.keeper: Any = subprocess.Popen([places.KEEPER, self.path], stdin=subprocess.PIPE, start_new_session=True)
         while not self.path.exists() and self.keeper.poll() is None:
             time.sleep(0.01)
 
@@ -87,8 +88,7 @@ class Bench:
         """A worker that was told its addresses."""
         mark = uuid.uuid4().hex
         environment = {**os.environ, MARK: mark, "PREFORK_KEEPER": keeper or str(self.path)}
-        talk = Conversation(self.given.command, environment)
-        talk.mark = mark
+        talk = Conversation(self.given.command, environment, mark)
         self.talks.append(talk)
         talk.say("worker 1.1 0 7", *(f"listener {address}" for address in addresses))
         if go:
@@ -105,7 +105,7 @@ class Bench:
 
     def point(self, what: str, found: object, wanted: object) -> None:
         """Notes whether a point is met: what was found is what is wanted, or the question `wanted` says yes."""
-        is_met = wanted(found) if isinstance(wanted, Callable) else found == wanted
+        is_met = wanted(found) if callable(wanted) else found == wanted
         self.passed, self.failed = self.passed + is_met, self.failed + (not is_met)
         print(f"ok     {what}" if is_met else f"FAULT  {what}; found: {found!r}", flush=True)
 

@@ -55,7 +55,9 @@ class Commands:
         self.place = folder.path / "commands"
         self.place.mkdir(mode=0o700, exist_ok=True)
         self.now, self.next = folder.path / "config.toml", folder.path / "next.toml"
-        self.known, self.is_changing, self.proposed = [], False, None
+        self.known: list[pathlib.Path] = []
+        self.proposed: list[str] | None = None
+        self.is_changing = False
         self.current = self.read(self.now)
 
     def read(self, target: pathlib.Path) -> list[str] | None:

@@ -25,10 +25,10 @@ def marked(mark: str) -> list[int]:
 class Conversation:
     """A worker that was started, and the pipes to it."""
 
-    def __init__(self, command: list[str], environment: dict[str, str]):
+    def __init__(self, command: list[str], environment: dict[str, str], mark: str = ""):
         pipes: dict[str, Any] = {"stdin": subprocess.PIPE, "stdout": subprocess.PIPE, "bufsize": 0}
         self.process: Any = subprocess.Popen(command, **pipes, env=environment)
-        self.unread = b""
+        self.unread, self.mark = b"", mark
 
     def say(self, *lines: str) -> None:
         try:

@@ -17,6 +17,7 @@ import signal
 import subprocess
 import sys
 import time
+from typing import Any
 
 FINISH_SECONDS = 40.0
 PARENT_DEATH = 1
@@ -45,9 +46,12 @@ class Guard:
     """A worker, and what it owes: the questions that it has not answered, each with the time when it is due."""
 
     def __init__(self, seconds: float, finish: float, command: list[str]):
-        self.seconds, self.finish, self.due, self.last = seconds, finish, collections.deque(), None
-        pipes = {"stdin": subprocess.PIPE, "stdout": subprocess.PIPE, "bufsize": 0}
-        self.worker = subprocess.Popen(command, **pipes, start_new_session=True, preexec_fn=die_with_guard)
+        self.seconds, self.finish = seconds, finish
+        self.due: collections.deque[tuple[float, str]] = collections.deque()
+        # When the worker has to have ended, once it was told to.
+        self.last: float | None = None
+        pipes: dict[str, Any] = {"stdin": subprocess.PIPE, "stdout": subprocess.PIPE, "bufsize": 0}
+        self.worker: Any = subprocess.Popen(command, **pipes, start_new_session=True, preexec_fn=die_with_guard)
         self.end = os.pidfd_open(self.worker.pid)
         self.master, self.answers = Lines(0), Lines(self.worker.stdout.fileno())
 

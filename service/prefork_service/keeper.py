@@ -92,9 +92,12 @@ class Keeper:
         self.held: dict[socket.socket, Kept] = {}
         self.events = selectors.DefaultSelector()
         self.door = socket.socket(socket.AF_UNIX, socket.SOCK_SEQPACKET)
-        self.door.bind(path)
-        os.chmod(path, 0o600)
+        # Under its own name once it listens: whoever finds it can connect.
+        new = os.path.join(os.path.dirname(path), f".{os.getpid()}")
+        self.door.bind(new)
+        os.chmod(new, 0o600)
         self.door.listen(QUEUE)
+        os.rename(new, path)
         self.events.register(self.door, selectors.EVENT_READ, self.admit)
 
     def run(self) -> None:

@@ -16,6 +16,7 @@ import socket
 import sys
 import threading
 import time
+from typing import Any
 
 PATIENCE = 10.0
 
@@ -30,7 +31,9 @@ class Tally:
     def __init__(self):
         self.lock, self.began = threading.Lock(), time.monotonic()
         self.last, self.gap, self.slowest = self.began, 0.0, 0.0
-        self.answers, self.failures, self.again = {}, [], 0
+        self.answers: dict[str, int] = {}
+        self.failures: list[dict[str, Any]] = []
+        self.again = 0
 
     def answered(self, body: str, began: float) -> None:
         """Counts an answer: its version is the second word of its text."""
@@ -57,7 +60,9 @@ class Client:
 
     def __init__(self, given: argparse.Namespace, keeps: bool, tally: Tally, stopping: threading.Event):
         self.given, self.keeps, self.tally, self.stopping = given, keeps, tally, stopping
-        self.connection, self.unread = None, b""
+        # The connection that is open, if there is one.
+        self.connection: Any = None
+        self.unread = b""
 
     def run(self) -> None:
         pause, due = self.given.clients / self.given.rate if self.given.rate else 0, time.monotonic()

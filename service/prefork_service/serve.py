@@ -25,6 +25,7 @@ import os
 import subprocess
 import sys
 import time
+from typing import Any
 
 from . import places
 from .commands import Commands
@@ -36,7 +37,7 @@ from .service import Service
 KEEPER_SECONDS = 10
 
 
-def started_keeper(folder: Folder, options: list[str]) -> subprocess.Popen:
+def started_keeper(folder: Folder, options: list[str]) -> Any:
     """A keeper that runs, and ends with its input."""
     keeper = subprocess.Popen(
         [places.KEEPER, *options, folder.keeper], stdin=subprocess.PIPE, start_new_session=True, pass_fds=[folder.lock]

@@ -14,11 +14,13 @@ import importlib
 import importlib.util
 import logging
 import os
+import socket
 import sys
 import threading
 import time
 import traceback
 from collections.abc import Callable
+from typing import Any
 
 from .convention import Pipes, Unfit, clear_environment, socket_of, warn
 
@@ -27,8 +29,11 @@ class Worker:
     """The master's lines, heard by a thread of their own. The application is loaded and served by the main thread."""
 
     def __init__(self, given: argparse.Namespace, pipes: Pipes):
-        self.given, self.pipes, self.server = given, pipes, None
-        self.start, self.sockets, self.holds = "", {}, {}
+        self.given, self.pipes, self.start = given, pipes, ""
+        # The server, once the application is loaded.
+        self.server: Any = None
+        self.sockets: dict[str, socket.socket] = {}
+        self.holds: dict[str, socket.socket] = {}
         self.going, self.ready_by, self.was_told_to_quit = threading.Event(), 0.0, False
 
     def converse(self) -> None:
@@ -122,7 +127,7 @@ def reopen_logs() -> None:
 def loaded(text: str) -> Callable:
     """The application MODULE:APP; APP may be a path of attributes, and is `application` if it is missing."""
     module, _, name = text.partition(":")
-    found = importlib.import_module(module)
+    found: Any = importlib.import_module(module)
     for part in (name or "application").split("."):
         found = getattr(found, part)
     return found

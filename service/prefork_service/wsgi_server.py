@@ -10,6 +10,7 @@ import socket
 import threading
 import time
 from collections.abc import Callable
+from typing import Any
 
 from waitress import wasyncore
 from waitress.channel import HTTPChannel
@@ -26,7 +27,8 @@ class Requests:
     """The requests that are being answered, with the times of their beginnings."""
 
     def __init__(self):
-        self.begun, self.is_finishing = {}, False
+        self.begun: dict[int, float] = {}
+        self.is_finishing = False
 
     def oldest_if_all(self, threads: int) -> float | None:
         """If every thread is at a request: since when the last of them is."""
@@ -38,17 +40,20 @@ def channel_of(requests: Requests) -> type:
     """waitress's channel, whose tasks are noted and close their connections while the server finishes."""
 
     class Noted:
+        # It is mixed into tasks of waitress, which have the rest.
+        request: Any
+
         def service(self) -> None:
             requests.begun[id(self)] = time.monotonic()
             try:
-                super().service()
+                super().service()  # type: ignore[misc]
             finally:
                 del requests.begun[id(self)]
 
         def build_response_header(self) -> bytes:
             if requests.is_finishing:
                 self.request.headers["CONNECTION"] = "close"
-            return super().build_response_header()
+            return super().build_response_header()  # type: ignore[misc]
 
     task, fault = type("Task", (Noted, WSGITask), {}), type("Fault", (Noted, ErrorTask), {})
     return type("Channel", (HTTPChannel,), {"task_class": task, "error_task_class": fault})
@@ -58,9 +63,11 @@ class Server:
     """The loop of the main thread. Other threads call `close`, `finish` and `is_stuck`."""
 
     def __init__(self, application: Callable, sockets: dict[str, socket.socket], threads: int, keep: int):
-        self.requests, self.map, self.threads, self.turned = Requests(), {}, threads, time.monotonic()
-        self.lock, self.wanted, self.is_told_to_finish = threading.Lock(), [], False
-        limits = {
+        self.requests, self.threads, self.turned = Requests(), threads, time.monotonic()
+        self.lock, self.is_told_to_finish = threading.Lock(), False
+        self.map: dict[int, Any] = {}
+        self.wanted: list[str] = []
+        limits: dict[str, Any] = {
             "threads": threads, "backlog": BACKLOG, "connection_limit": MOST_CONNECTIONS, "channel_timeout": keep,
             "cleanup_interval": 1, "asyncore_use_poll": True, "ident": None, "clear_untrusted_proxy_headers": True,
         }
