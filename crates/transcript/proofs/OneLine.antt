@@ -107,7 +107,7 @@ forked_lacks : (g : Generation) (nr : ℕ) (share : Option (List ℕ)) → IsWor
 forked_lacks g nr None h s = worker_lacks g nr h
 forked_lacks g nr (Some fds) h s =
     lacks-append 10 (worker_text g nr) (codes " fds " ++ set_text fds) (worker_lacks g nr h)
-    (lacks-append 10 (codes " fds ") (set_text fds) refl (set_lacks 10 refl refl refl refl refl fds (are_numbers fds s.0)))
+    (lacks-append 10 (codes " fds ") (set_text fds) refl (set_lacks 10 refl refl refl refl refl fds (are_numbers fds s)))
 
 octet_lacks : (n : ℕ) → n ≤ 255 → lacks 10 (decimal n) ≡ true
 octet_lacks n le = number_lacks 10 n refl (omega (arith, le))
