@@ -50,8 +50,8 @@ pub record HasLow (point : BranchPoint) (found : Findings) : Type 0 where
 -- In the table after an exit none of the addresses has fewer than were found. A call that fails has no such table of its own.
 abbrev pub IsSeenBetween : BranchPoint → Option Name → Mishap → Findings → Type 0
 IsSeenBetween point gone (Exit name process) found = IsSeen found (table_between point gone name)
-IsSeenBetween point gone (Fail fate) found = ⊤
+IsSeenBetween point _ (Fail _) found = ⊤
 
 abbrev pub IsLeastBetween : BranchPoint → Option Name → Mishap → Tried → Findings → Findings → Type 0
 IsLeastBetween point gone (Exit name process) tried before after = IsLeastSince (table_between point gone name) tried point.run.now.made before after
-IsLeastBetween point gone (Fail fate) tried before after = after.least ≡ before.least
+IsLeastBetween point _ (Fail _) tried before after = after.least ≡ before.least
