@@ -1,5 +1,9 @@
+pub mod Attended
 pub mod Carried
 pub mod Faults
+pub mod Inbox
 pub mod Lines
+pub mod Questions
 pub mod Starts
 pub mod Summaries
+pub mod Typed

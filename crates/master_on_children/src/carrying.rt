@@ -7,34 +7,34 @@ ghost use Rattle.child_edge.specs.State.{state_of};
 ghost use Rattle.word_runner.specs.Enactors.{HasCode};
 ghost use Rattle.master_on_children.specs.Carried.{HasPlan, IsUnplanned, IsCarriedOut};
 
-use child_edge::Edge;
+use crate::Attended;
 use child_family::Family;
+use log::Log;
 use plan_walk::{Transcript, execute};
 use reload_planner::PlanRefusal;
 use rollback_plan::Plan;
 use service_state::Record;
 use std::alloc::Global;
+use std::io::Read;
 use std::marker::PhantomData;
 use vocabulary::Target;
 use word_runner::{CodeText, Enacted, Enactor, TargetRefusal};
 
 /// What carries targets out on the children of a family.
 #[derive(Clone, Copy)]
-pub struct OnChildren<F: Family + Drop> {
-    family: PhantomData<F>,
+pub struct OnChildren<F: Family + Drop, I: Read + Drop, L: Log + Drop> {
+    world: PhantomData<Attended<F, I, L>>,
 }
 
-impl<F: Family + Drop> OnChildren<F> {
+impl<F: Family + Drop, I: Read + Drop, L: Log + Drop> OnChildren<F, I, L> {
     /// On the children of any edge over such a family.
-    pub fn new() -> OnChildren<F> {
-        OnChildren {
-            family: PhantomData,
-        }
+    pub fn new() -> OnChildren<F, I, L> {
+        OnChildren { world: PhantomData }
     }
 }
 
-impl<F: Family + Drop> Enactor for OnChildren<F> {
-    type World = Edge<F>;
+impl<F: Family + Drop, I: Read + Drop, L: Log + Drop> Enactor for OnChildren<F, I, L> {
+    type World = Attended<F, I, L>;
 
     ghost enacts = { λ _ first place r target done last. IsCarriedOut (F.told first.family) (F.told last.family) (state_of first.state) (state_of last.state) r target done };
 
@@ -45,7 +45,7 @@ impl<F: Family + Drop> Enactor for OnChildren<F> {
     fn enact(
         &self,
         alloc: Global,
-        world: &mut Edge<F>,
+        world: &mut Attended<F, I, L>,
         _place: usize,
         state: &Record,
         target: &Target,
@@ -54,11 +54,11 @@ impl<F: Family + Drop> Enactor for OnChildren<F> {
     }
 }
 
-/// Carries a target out on the children of an edge: its plan is made, memory for all of its calls is taken, that of the
+/// Carries a target out on the children of an edge, with the operator's answers: its plan is made, memory for all of its calls is taken, that of the
 /// edge last, and then the calls are made.
-fn carry_out<F: Family + Drop>(
+fn carry_out<F: Family + Drop, I: Read + Drop, L: Log + Drop>(
     alloc: Global,
-    edge: &mut Edge<F>,
+    world: &mut Attended<F, I, L>,
     state: &Record,
     target: &Target,
 ) -> Result<Enacted, TargetRefusal>
@@ -73,10 +73,10 @@ fn carry_out<F: Family + Drop>(
     let Ok(mut log) = Transcript::with_room(alloc, longest) else {
         return Err(TargetRefusal::Memory);
     };
-    if edge.reserve(longest, plan.text()).is_err() {
+    if world.reserve(longest, plan.text()).is_err() {
         return Err(TargetRefusal::Memory);
     }
-    let report = execute(&plan, edge, &mut log);
+    let report = execute(&plan, world, &mut log);
     let after = state.after(target, &report, state.pid);
     Ok(Enacted { log, report, after })
 }

@@ -1,16 +1,20 @@
 //! Control words carried out on real children, line by line.
 #![tactic(auto)]
 
+mod attended;
 mod carrying;
 mod fault;
+mod inbox;
 mod master;
 mod next;
 mod said;
 mod summary;
 mod supervising;
+mod waiting;
 
+pub use attended::Attended;
 pub use carrying::OnChildren;
 pub use fault::SupervisorFault;
 pub use next::{NextRefusal, NextSettings};
 pub use summary::Summary;
-pub use supervising::{Supervised, SupervisorStart, supervise_on};
+pub use supervising::{Operator, Supervised, SupervisorStart, supervise_on};

@@ -6,44 +6,51 @@ ghost use Rattle.child_edge.specs.State.{state_of};
 ghost use Rattle.child_edge.specs.Edge.{begun_by};
 ghost use Rattle.master_on_children.specs.Lines.{tick_words, AreActed, IsAsked, IsTicked, IsRenewed, WordComesTo, LineComesTo, EndComesTo};
 
+use crate::inbox::Inbox;
 use crate::said::Said;
-use crate::{NextRefusal, NextSettings, OnChildren, SupervisorStart};
+use crate::{
+    Attended, NextRefusal, NextSettings, OnChildren, Operator, SupervisorFault, SupervisorStart,
+};
 use child_edge::Edge;
 use child_family::Family;
 use control_words::{Word, WordRefusal};
 use listener_set::{Numbers, WORKER_LIMIT};
+use log::Log;
 use service_state::Record;
 use std::alloc::{AllocError, Global};
+use std::io::Read;
 use vocabulary::Settings;
 use word_runner::{Block, Body, Standing, run_words};
 use worker_table::WorkerTable;
 
 /// A master over real children.
 #[derive(Drop)]
-pub(crate) struct Master<F: Family + Drop> {
+pub(crate) struct Master<F: Family + Drop, I: Read + Drop, L: Log + Drop> {
     alloc: Global,
     /// Where it stands: the edge to its children, what it knows of itself, and its workers.
-    standing: Standing<Edge<F>>,
+    standing: Standing<Attended<F, I, L>>,
 }
 
-impl<F: Family + Drop> Master<F> {
+impl<F: Family + Drop, I: Read + Drop, L: Log + Drop> Master<F, I, L> {
     /// A master that starts: as many workers are wanted as its settings say, and none is ready.
     pub(crate) fn begin(
         alloc: Global,
         family: F,
         start: &SupervisorStart,
+        operator: Operator<I, L>,
         workers: WorkerTable,
-    ) -> Master<F>
+    ) -> Master<F, I, L>
         requires { 1 ≤ start.now.pid }
         ensures family { result.standing.world.family ≡ family }
         ensures state { state_of result.standing.world.state ≡ begun_by (started start.now.settings start.now.settings.workers [] start.now.pid) }
         ensures record { result.standing.record ≡ Some (started start.now.settings start.now.settings.workers [] start.now.pid) }
         ensures workers { result.standing.workers ≡ workers }
     {
+        let Operator { input, log } = operator;
         let settings = &start.settings;
         let record = Record::start(settings, settings.workers, &Numbers::none(), start.pid);
         let standing = Standing {
-            world: Edge::begin(alloc, family, &record),
+            world: Attended::new(Edge::begin(alloc, family, &record), Inbox::new(input), log),
             record: Some(record),
             workers,
         };
@@ -61,6 +68,18 @@ impl<F: Family + Drop> Master<F> {
             workers: _,
         } = standing;
         world.into_family()
+    }
+
+    /// The next line to act on. At the end of the input there is none.
+    pub(crate) fn next_line(
+        &mut self,
+    ) -> Result<Option<Result<Word, WordRefusal>>, SupervisorFault> {
+        self.standing.world.next_line()
+    }
+
+    /// The log of the operator.
+    pub(crate) fn log(&self) -> &L {
+        self.standing.world.log()
     }
 
     /// Carries words out one after another.

@@ -12,11 +12,8 @@ ghost use Rattle.master_on_children.specs.Starts.{IsWritten, IsSupervised};
 use crate::master::Master;
 use crate::said::Said;
 use crate::{NextSettings, Summary, SupervisorFault};
-use child_family::{Family, Heard, pid_text};
-use child_processes::LineReader;
-use control_words::{Word, WordRefusal};
+use child_family::{Family, pid_text};
 use log::{Log, info};
-use plain_text::Line;
 use std::alloc::Global;
 use std::io::{Read, Write};
 use transcript::write_transcript;
@@ -30,6 +27,15 @@ pub struct SupervisorStart {
     pub settings: Settings,
     /// The own process number, at least 1. It is that of the record throughout.
     pub pid: u32,
+}
+
+/// Who attends a supervisor: what they type, and the log that they read.
+#[derive(Drop)]
+pub struct Operator<I: Read + Drop, L: Log + Drop> {
+    /// Control words, one in each line.
+    pub input: I,
+    /// A line for each block, and one for each question that a plan asks.
+    pub log: L,
 }
 
 /// What comes of a supervisor.
@@ -50,14 +56,13 @@ pub struct Supervised<F: Family + Drop> {
 ///
 /// Faults: want of memory, a line that cannot be read, a block or a pid file that cannot be written. It ends with the
 /// first; what was written before stays written.
-pub fn supervise_on<F: Family + Drop, N: NextSettings, I: Read + Drop, O: Write, L: Log>(
+pub fn supervise_on<F: Family + Drop, N: NextSettings, I: Read + Drop, L: Log + Drop, O: Write>(
     alloc: Global,
     mut family: F,
     start: &SupervisorStart,
     next: &mut N,
-    input: I,
+    operator: Operator<I, L>,
     output: &mut O,
-    log: &L,
 ) -> Supervised<F>
     requires { 1 ≤ start.now.pid }
     ensures { IfOk result.status (λ status. (blocks : List Done)
@@ -77,8 +82,8 @@ pub fn supervise_on<F: Family + Drop, N: NextSettings, I: Read + Drop, O: Write,
             status: Err(SupervisorFault::File),
         };
     }
-    let mut master = Master::begin(alloc, family, start, workers);
-    let status = follow(alloc, &mut master, next, input, output, log);
+    let mut master = Master::begin(alloc, family, start, operator, workers);
+    let status = follow(alloc, &mut master, next, output);
     Supervised {
         family: master.into_family(),
         status,
@@ -96,13 +101,11 @@ fn write_pid<F: Family>(family: &mut F, start: &SupervisorStart) -> bool
 }
 
 /// Acts on the first tick, on each line and on their end, and gives the status of all blocks.
-fn follow<F: Family + Drop, N: NextSettings, I: Read + Drop, O: Write, L: Log>(
+fn follow<F: Family + Drop, I: Read + Drop, L: Log + Drop, N: NextSettings, O: Write>(
     alloc: Global,
-    master: &mut Master<F>,
+    master: &mut Master<F, I, L>,
     next: &mut N,
-    input: I,
     output: &mut O,
-    log: &L,
 ) -> Result<u8, SupervisorFault>
     ensures { IfOk result (λ status. (blocks : List Done)
         × IsRun N.reads next.old master.old.standing blocks next.new master.new.standing
@@ -110,22 +113,20 @@ fn follow<F: Family + Drop, N: NextSettings, I: Read + Drop, O: Write, L: Log>(
         × (status ≡ gravest blocks)) }
 {
     let ticked = master.tick(0);
-    let first = tell(alloc, 0, &ticked, output, log)?;
-    let status = hear_all(alloc, first, master, next, input, output, log)?;
+    let first = tell(alloc, 0, &ticked, output, master.log())?;
+    let status = hear_all(alloc, first, master, next, output)?;
     let ended = master.end();
-    let gravest = tell(alloc, status, &ended, output, log)?;
+    let gravest = tell(alloc, status, &ended, output, master.log())?;
     Ok(gravest)
 }
 
 /// Acts on each line of the input, and gives the status of the blocks so far and of its own.
-fn hear_all<F: Family + Drop, N: NextSettings, I: Read + Drop, O: Write, L: Log>(
+fn hear_all<F: Family + Drop, I: Read + Drop, L: Log + Drop, N: NextSettings, O: Write>(
     alloc: Global,
     before: u8,
-    master: &mut Master<F>,
+    master: &mut Master<F, I, L>,
     next: &mut N,
-    input: I,
     output: &mut O,
-    log: &L,
 ) -> Result<u8, SupervisorFault>
     ensures { IfOk result (λ status. (lines : List (Result TheWord Refusal)) × (blocks : List Done)
         × AreHeard N.reads lines next.old master.old.standing blocks next.new master.new.standing
@@ -133,28 +134,14 @@ fn hear_all<F: Family + Drop, N: NextSettings, I: Read + Drop, O: Write, L: Log>
         × (status ≡ status_after before blocks)) }
 {
     let mut status = before;
-    let mut lines = LineReader::new(input);
-    let mut line = Line::new();
     for _ in 0..u64::MAX {
-        let heard = lines.next_line(&mut line)?;
-        let Some(read) = line_read(heard, line.bytes()) else {
+        let Some(line) = master.next_line()? else {
             return Ok(status);
         };
-        let said = master.hear(read, next);
-        status = tell(alloc, status, &said, output, log)?;
+        let said = master.hear(line, next);
+        status = tell(alloc, status, &said, output, master.log())?;
     }
     Err(SupervisorFault::File)
-}
-
-/// What the input gave, as a line that is read: one of more than 4,096 bytes is no word. At the end there is none.
-fn line_read(heard: Heard, line: &[u8]) -> Option<Result<Word, WordRefusal>>
-    ensures { result ≡ line_read heard line.now }
-{
-    match heard {
-        Heard::Line => Some(control_words::read(line)),
-        Heard::TooLong => Some(Err(WordRefusal::Unknown)),
-        Heard::Ended => None,
-    }
 }
 
 /// Tells what was said, and gives the status then. Want of memory comes behind the blocks that there are.

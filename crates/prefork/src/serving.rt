@@ -11,7 +11,7 @@ use log::sink::Writer;
 use log::{LevelFilter, Logged};
 use master_config::{ConfigRefusal, config_in, settings_in};
 use master_on_children::{
-    NextRefusal, NextSettings, SupervisorFault, SupervisorStart, supervise_on,
+    NextRefusal, NextSettings, Operator, SupervisorFault, SupervisorStart, supervise_on,
 };
 use std::alloc::Global;
 use std::env;
@@ -83,7 +83,8 @@ pub fn supervise<R: AllocGlobal + Files + Processes, I: Read, O: Write, E: Write
         settings: config.settings,
         pid: number.max(1),
     };
-    let mut supervised = supervise_on(alloc, family, &start, &mut next, input, output, &log);
+    let operator = Operator { input, log: &log };
+    let mut supervised = supervise_on(alloc, family, &start, &mut next, operator, output);
     supervised.family.finish();
     supervised.status.map_err(fault_of)
 }

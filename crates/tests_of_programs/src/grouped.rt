@@ -3,7 +3,7 @@ use certifier::certify_blocks;
 use kernel_model::{Kernel, WIDEST_LIMITS};
 use listener_set::{Address, ListenerSet, Numbers};
 use log::sink::Discard;
-use master_on_children::{NextRefusal, NextSettings, SupervisorStart, supervise_on};
+use master_on_children::{NextRefusal, NextSettings, Operator, SupervisorStart, supervise_on};
 use service_state::Record;
 use std::alloc::{AllocError, Global};
 use std::test::Fail;
@@ -55,15 +55,9 @@ fn written(alloc: Global, settings: &Settings, input: &[u8]) -> Vec<u8> {
     };
     let mut output = Vec::new(alloc);
     let family = Recorded::new(alloc, None);
-    let _ = supervise_on(
-        alloc,
-        family,
-        &start,
-        &mut next,
-        input,
-        &mut output,
-        &Discard,
-    );
+    let log = &Discard;
+    let operator = Operator { input, log };
+    let _ = supervise_on(alloc, family, &start, &mut next, operator, &mut output);
     output
 }
 

@@ -3,6 +3,10 @@
 #![tactic(auto)]
 
 #[cfg(test)]
+mod attended;
+#[cfg(test)]
+mod generations;
+#[cfg(test)]
 mod grouped;
 #[cfg(test)]
 mod new_masters;

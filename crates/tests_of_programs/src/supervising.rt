@@ -5,7 +5,7 @@ use listener_set::{FilePath, Numbers};
 use log::sink::{Discard, Memory};
 use log::{LevelFilter, Logged};
 use master_on_children::{
-    NextRefusal, NextSettings, Supervised, SupervisorFault, SupervisorStart, supervise_on,
+    NextRefusal, NextSettings, Operator, Supervised, SupervisorFault, SupervisorStart, supervise_on,
 };
 use service_state::Record;
 use std::alloc::{AllocError, Global};
@@ -59,7 +59,11 @@ fn run<I: Read + Drop, O: Write>(
         pid: 7,
     };
     let mut next = Next { gives, reads: 0 };
-    supervise_on(alloc, family, &start, &mut next, input, output, &Discard)
+    let operator = Operator {
+        input,
+        log: &Discard,
+    };
+    supervise_on(alloc, family, &start, &mut next, operator, output)
 }
 
 /// Whether a run over children that obey writes this, and ends so.
@@ -101,7 +105,7 @@ fn calls_text(alloc: Global, calls: &[Asked]) -> Result<Vec<u8>, AllocError> {
 }
 
 /// The first tick, where one worker is wanted.
-const FIRST_TICK: &[u8] = b"word tick 0\n\
+pub(crate) const FIRST_TICK: &[u8] = b"word tick 0\n\
     1 m1 fork 1.1 0 : forked\n\
     2 m1 await-ready 1.1 0 : ready\n\
     3 m1 census 1.1 : counted 0\n\
@@ -331,7 +335,7 @@ fn is_lost(block: &Block) -> bool {
 }
 
 /// Whether a modelled kernel could have given these blocks to a master that began without workers.
-fn are_certified(alloc: Global, blocks: &[Block]) -> Result<bool, Fail> {
+pub(crate) fn are_certified(alloc: Global, blocks: &[Block]) -> Result<bool, Fail> {
     let settings = Settings::plain();
     let kernel = Kernel::boot(alloc, &settings, 0, WIDEST_LIMITS)?;
     let record = Record::start(&settings, settings.workers, &Numbers::none(), 100);
@@ -413,15 +417,9 @@ fn writes_the_pid_file_first(rt: HostRuntime) -> Result<(), Fail> {
         let mut output = Vec::new(alloc);
         let family = Recorded::new(alloc, fails);
         let input = b"".as_slice();
-        let ended = supervise_on(
-            alloc,
-            family,
-            &start,
-            &mut next,
-            input,
-            &mut output,
-            &Discard,
-        );
+        let log = &Discard;
+        let operator = Operator { input, log };
+        let ended = supervise_on(alloc, family, &start, &mut next, operator, &mut output);
         let calls = calls_text(alloc, ended.family.calls())?;
         if fails.is_none() {
             assert!(rt; ended.status == Ok(0));
@@ -451,7 +449,8 @@ fn logs_a_line_for_each_block(rt: HostRuntime) -> Result<(), Fail> {
     let mut output = Vec::new(alloc);
     let family = Recorded::new(alloc, None);
     let input = b"tick 1\nHUP\nwhat\nQUIT\n".as_slice();
-    let ended = supervise_on(alloc, family, &start, &mut next, input, &mut output, &log);
+    let operator = Operator { input, log: &log };
+    let ended = supervise_on(alloc, family, &start, &mut next, operator, &mut output);
     assert!(rt; ended.status == Ok(1));
     assert_eq!(rt; next.reads, 1);
     let (_, sink) = log.into_parts();
