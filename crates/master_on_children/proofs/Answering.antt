@@ -4,9 +4,9 @@ use Rattle.std.specs.Prelude.{IsSome, ⊤}
 use Rattle.std.proofs.lemmas.List.{length-append}
 use Rattle.vocabulary.specs.declared.calls.Answer.{Answer}
 use Rattle.vocabulary.specs.declared.calls.Answer.TheVariants.{Back}
-use Rattle.master_on_children.specs.Typed.{Typed, AreRead, IsWhole}
-use Rattle.master_on_children.specs.Questions.{Asked, gives, lacks, reply_to, asked}
-use Rattle.master_on_children.specs.Inbox.{over, unread, ReadsOn, ReadsMore, IsGiven, IsAnswered}
+use Rattle.master_on_children.specs.Typed.{Typed, AreRead}
+use Rattle.master_on_children.specs.Questions.{Asked, reply_to, asked}
+use Rattle.master_on_children.specs.Inbox.{unread, ReadsOn, ReadsMore, IsGiven, IsAnswered}
 use Rattle.master_on_children.specs.declared.fault.SupervisorFault.{SupervisorFault}
 use Rattle.master_on_children.specs.declared.inbox.Inbox.{Inbox}
 use Rattle.master_on_children.proofs.Typing.{read_more, read_still, whole_later, asked_on, asked_given, asked_lacks, asked_full}

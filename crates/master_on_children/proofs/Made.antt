@@ -1,7 +1,6 @@
 -- Calls one after another, with their questions.
-use Rattle.std.proofs.Common.{◌≡◌, ℕ, Bool, true, false, cond, List, [], ◌∷◌, ◌++◌, Option, Some, None, refl, sym, ap, subst, ◌∙◌}
+use Rattle.std.proofs.Common.{◌≡◌, ℕ, Bool, true, false, cond, List, [], ◌∷◌, ◌++◌, Option, refl, ap, subst, ◌∙◌}
 use Rattle.std.specs.Prelude.{is_some}
-use Rattle.std.proofs.lemmas.Bool.{cases_Bool}
 use Rattle.vocabulary.specs.declared.reports.Entry.{Entry}
 use Rattle.master_on_children.specs.Questions.{question_of}
 use Rattle.master_on_children.specs.Inbox.{on_children, IsAnsweredTo, AreAnswered}

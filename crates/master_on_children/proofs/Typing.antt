@@ -1,14 +1,14 @@
 -- Lines that are typed, one after another.
-use Rattle.std.proofs.Common.{◌≡◌, ℕ, ◌<◌, ◌≤◌, ◌==◌, nat_lt, nat_le, Bool, true, false, cond, List, [], ◌∷◌, ◌++◌, Option, Some, None, Result, Ok, Err, length, take, refl, sym, ap, subst, ◌∙◌, append-nil, append_assoc, arith}
+use Rattle.std.proofs.Common.{◌≡◌, ℕ, ◌<◌, ◌≤◌, ◌==◌, nat_le, Bool, true, false, cond, List, [], ◌∷◌, ◌++◌, Option, Some, None, length, take, refl, sym, ap, subst, ◌∙◌, arith}
 use Rattle.std.specs.Io.KnownBytes.{Keeps}
 use Rattle.std.proofs.lemmas.Bool.{lt-ltb, le-ltb, eqb-true}
 use Rattle.child_family.specs.Told.{Hearing, line, too_long, ended}
 use Rattle.child_processes.specs.Unheard.{newline_in}
-use Rattle.child_processes.specs.NextLine.{told, last_line, line_at, rest_at, line_in, rest_in, IsNext}
+use Rattle.child_processes.specs.NextLine.{told, line_at, rest_at, line_in, rest_in, IsNext}
 use Rattle.vocabulary.specs.declared.calls.Answer.{Answer}
 use Rattle.vocabulary.specs.declared.calls.Answer.TheVariants.{Back}
 use Rattle.master_on_children.specs.Typed.{Typed, typed, AreTyped, AreRead, IsWhole}
-use Rattle.master_on_children.specs.Questions.{Asked, gives, lacks, by_reply, reply_to, asked}
+use Rattle.master_on_children.specs.Questions.{gives, lacks, by_reply, reply_to, asked}
 
 -- ---- what one read does
 told_some : (text : List ℕ) → told text ≡ ended → ⊥

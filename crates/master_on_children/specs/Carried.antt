@@ -7,11 +7,13 @@ use Rattle.definitions.specs.Plans.{plan_tree}
 use Rattle.definitions.specs.Path.{KeepsPathLaw}
 use Rattle.vocabulary.specs.declared.targets.Target.{Target}
 use Rattle.reload_planner.specs.declared.refusal.PlanRefusal.TheVariants.{NoGeneration}
-use Rattle.child_family.specs.Told.{Told}
-use Rattle.child_edge.specs.State.{State}
+use Rattle.child_family.specs.declared.family.Family.{Ghosts}
+use Rattle.child_edge.specs.State.{State, state_of}
 use Rattle.child_edge.specs.Edge.{CallsHeld}
 use Rattle.word_runner.specs.Codes.{unplanned_code}
 use Rattle.word_runner.specs.declared.enactor.Enacted.{Enacted}
+use Rattle.master_on_children.specs.Inbox.{on_children, AreAnswered}
+use Rattle.master_on_children.specs.declared.attended.Attended.{Attended}
 
 -- There is a plan: no number of the target's generation would pass its limit.
 abbrev pub HasPlan : Record → Target → Type 0
@@ -26,11 +28,13 @@ pub record IsUnplanned (r : Record) (target : Target) (code : List ℕ) : Type 0
 abbrev pub handed : State → Record → Target → State
 handed s r target = record s { text = text_handed r target }
 
--- The target's plan was carried out by an edge: the entries are a path of its tree and the report is theirs. Where the family
--- tells its calls, those between are the conversations of the entries, which led the edge from the one state to the other.
--- The record afterwards is what the report leaves, with the master's own process number.
-pub record IsCarriedOut (before after : Option (List Told)) (first last : State) (r : Record) (target : Target) (e : Enacted) : Type 0 where
-  pub has_plan : HasPlan r target
-  pub path_law : KeepsPathLaw (plan_tree r target) r.note (sides_of r target) e.log.entries e.report
-  pub calls : CallsHeld before after (handed first r target) e.log.entries last
-  pub record_is : e.after ≡ record_after r target e.report r.pid
+module _ {F I L : Type 0} {f : Ghosts F} (remaining : I → Option (List ℕ)) where
+  -- The target's plan was carried out: the entries are a path of its tree and the report is theirs. Its questions were answered from
+  -- the input. Where the family tells its calls, those between are the conversations of the other entries, which led the edge from
+  -- the one state to the other. The record afterwards is what the report leaves, with the master's own process number.
+  pub record IsCarriedOut (first : Attended F I L f) (r : Record) (target : Target) (e : Enacted) (last : Attended F I L f) : Type 0 where
+    pub has_plan : HasPlan r target
+    pub path_law : KeepsPathLaw (plan_tree r target) r.note (sides_of r target) e.log.entries e.report
+    pub calls : CallsHeld (f.told first.edge.family) (f.told last.edge.family) (handed (state_of first.edge.state) r target) (on_children e.log.entries) (state_of last.edge.state)
+    pub answered : AreAnswered remaining first.inbox e.log.entries last.inbox
+    pub record_is : e.after ≡ record_after r target e.report r.pid

@@ -1,11 +1,11 @@
 //! The calls of a plan whose questions an operator answers.
-ghost use Rattle.std.specs.Prelude.{◌≡◌, ◌≤◌, ◌+◌, max, OnOk, OnErr};
-ghost use Rattle.vocabulary.specs.declared.calls.Answer.TheVariants.{Counted};
+ghost use Rattle.std.specs.Prelude.{◌≡◌, ◌≤◌, ◌+◌, ◌⊎◌, max, OnOk, OnErr};
+ghost use Rattle.vocabulary.specs.declared.calls.Answer.TheVariants.{Counted, Go, Back};
 ghost use Rattle.child_family.specs.Talk.{Held};
 ghost use Rattle.child_edge.specs.State.{state_of};
 ghost use Rattle.child_edge.specs.Table.{tick_turn};
 ghost use Rattle.master_on_children.specs.Questions.{question_of};
-ghost use Rattle.master_on_children.specs.Inbox.{IsNextLine};
+ghost use Rattle.master_on_children.specs.Inbox.{IsNextLine, IsAnswered};
 
 use crate::SupervisorFault;
 use crate::inbox::Inbox;
@@ -62,6 +62,16 @@ impl<F: Family + Drop, I: Read + Drop, L: Log + Drop> Attended<F, I, L> {
         self.inbox.next_line()
     }
 
+    /// Asks the operator a question, and waits for the answer.
+    fn ask(&mut self, question: u32) -> Answer
+        ensures answered { IsAnswered I.remaining self.old.inbox result self.new.inbox }
+        ensures one { (result ≡ Go) ⊎ (result ≡ Back) }
+        ensures others { self.new ≡ record self.old { inbox = self.new.inbox } }
+    {
+        info!(&self.log; target: "prefork", "asks {question}: WINCH or QUIT goes on, HUP goes back");
+        self.inbox.answer()
+    }
+
     /// Tells each ready worker the moment, and then hears each. Gives the numbers of those that beat then.
     pub(crate) fn tick(&mut self, now: u64) -> Numbers
         ensures turn { Held (F.told self.old.edge.family) (F.told self.new.edge.family) (tick_turn (state_of self.old.edge.state) now) (state_of self.new.edge.state, Counted result) }
@@ -108,10 +118,7 @@ impl<F: Family + Drop, I: Read + Drop, L: Log + Drop> Calls for Attended<F, I, L
 
     fn make(&mut self, by: Actor, call: &Call) -> Answer {
         match question_of(call) {
-            Some(question) => {
-                info!(&self.log; target: "prefork", "asks {question}: WINCH or QUIT goes on, HUP goes back");
-                self.inbox.answer()
-            }
+            Some(question) => self.ask(question),
             None => self.edge.make(by, call),
         }
     }

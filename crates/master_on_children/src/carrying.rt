@@ -3,7 +3,6 @@ ghost use Rattle.std.specs.Prelude.{◌≡◌, IfOk, IfErr, IsErrOf, OnErr};
 ghost use Rattle.definitions.specs.Plans.{plan_tree};
 ghost use Rattle.definitions.specs.Target.{IsTarget, sides_of, text_handed};
 ghost use Rattle.rollback_plan.specs.Plans.{tree_of, note_of, sides_told, text_of};
-ghost use Rattle.child_edge.specs.State.{state_of};
 ghost use Rattle.word_runner.specs.Enactors.{HasCode};
 ghost use Rattle.master_on_children.specs.Carried.{HasPlan, IsUnplanned, IsCarriedOut};
 
@@ -36,7 +35,7 @@ impl<F: Family + Drop, I: Read + Drop, L: Log + Drop> OnChildren<F, I, L> {
 impl<F: Family + Drop, I: Read + Drop, L: Log + Drop> Enactor for OnChildren<F, I, L> {
     type World = Attended<F, I, L>;
 
-    ghost enacts = { λ _ first place r target done last. IsCarriedOut (F.told first.family) (F.told last.family) (state_of first.state) (state_of last.state) r target done };
+    ghost enacts = { λ _ first place r target done last. IsCarriedOut I.remaining first r target done last };
 
     ghost declines = { λ _ first place r target code. IsUnplanned r target code };
 
@@ -54,8 +53,8 @@ impl<F: Family + Drop, I: Read + Drop, L: Log + Drop> Enactor for OnChildren<F, 
     }
 }
 
-/// Carries a target out on the children of an edge, with the operator's answers: its plan is made, memory for all of its calls is taken, that of the
-/// edge last, and then the calls are made.
+/// Carries a target out on the children of an edge, with the operator's answers: its plan is made, memory for all of its
+/// calls is taken, that of the edge last, and then the calls are made.
 fn carry_out<F: Family + Drop, I: Read + Drop, L: Log + Drop>(
     alloc: Global,
     world: &mut Attended<F, I, L>,
@@ -63,10 +62,10 @@ fn carry_out<F: Family + Drop, I: Read + Drop, L: Log + Drop>(
     target: &Target,
 ) -> Result<Enacted, TargetRefusal>
     requires { IsTarget target.now }
-    ensures ok { IfOk result (IsCarriedOut (F.told edge.old.family) (F.told edge.new.family) (state_of edge.old.state) (state_of edge.new.state) state.now target.now) }
+    ensures ok { IfOk result (λ done. IsCarriedOut I.remaining world.old state.now target.now done world.new) }
     ensures declined { IfErr result (HasCode (IsUnplanned state.now target.now)) }
     ensures memory { IsErrOf result TargetRefusal.Memory → HasPlan state.now target.now }
-    ensures err { OnErr result (edge.new ≡ edge.old) }
+    ensures err { OnErr result (world.new ≡ world.old) }
 {
     let plan = plan_of(alloc, state, target)?;
     let longest = plan.longest();

@@ -1,10 +1,12 @@
 //! A master over real children, and what lines come to.
 ghost use Rattle.std.specs.Prelude.{◌≤◌, ◌≡◌, ◌∷◌, [], Some, None, IfOk};
+ghost use Rattle.std.specs.Io.KnownBytes.{Keeps};
 ghost use Rattle.std.specs.Option.{option_copied};
 ghost use Rattle.definitions.specs.Record.{started};
 ghost use Rattle.child_edge.specs.State.{state_of};
 ghost use Rattle.child_edge.specs.Edge.{begun_by};
-ghost use Rattle.master_on_children.specs.Lines.{tick_words, AreActed, IsAsked, IsTicked, IsRenewed, WordComesTo, LineComesTo, EndComesTo};
+ghost use Rattle.master_on_children.specs.Inbox.{unread, IsNextLine};
+ghost use Rattle.master_on_children.specs.Lines.{tick_words, taken, AreActed, IsAsked, IsTicked, IsRenewed, WordComesTo, LineComesTo, EndComesTo};
 
 use crate::inbox::Inbox;
 use crate::said::Said;
@@ -41,10 +43,13 @@ impl<F: Family + Drop, I: Read + Drop, L: Log + Drop> Master<F, I, L> {
         workers: WorkerTable,
     ) -> Master<F, I, L>
         requires { 1 ≤ start.now.pid }
-        ensures family { result.standing.world.family ≡ family }
-        ensures state { state_of result.standing.world.state ≡ begun_by (started start.now.settings start.now.settings.workers [] start.now.pid) }
+        ensures family { result.standing.world.edge.family ≡ family }
+        ensures state { state_of result.standing.world.edge.state ≡ begun_by (started start.now.settings start.now.settings.workers [] start.now.pid) }
         ensures record { result.standing.record ≡ Some (started start.now.settings start.now.settings.workers [] start.now.pid) }
         ensures workers { result.standing.workers ≡ workers }
+        ensures waiting { result.standing.world.inbox.waiting ≡ [] }
+        ensures open { result.standing.world.inbox.ended ≡ None }
+        ensures unread { Keeps (I.remaining operator.input) (unread I.remaining result.standing.world.inbox) }
     {
         let Operator { input, log } = operator;
         let settings = &start.settings;
@@ -59,7 +64,7 @@ impl<F: Family + Drop, I: Read + Drop, L: Log + Drop> Master<F, I, L> {
 
     /// The family of its children.
     pub(crate) fn into_family(self) -> F
-        ensures { result ≡ self.standing.world.family }
+        ensures { result ≡ self.standing.world.edge.family }
     {
         let Master { alloc: _, standing } = self;
         let Standing {
@@ -71,9 +76,10 @@ impl<F: Family + Drop, I: Read + Drop, L: Log + Drop> Master<F, I, L> {
     }
 
     /// The next line to act on. At the end of the input there is none.
-    pub(crate) fn next_line(
-        &mut self,
-    ) -> Result<Option<Result<Word, WordRefusal>>, SupervisorFault> {
+    pub(crate) fn next_line(&mut self) -> Result<Option<Result<Word, WordRefusal>>, SupervisorFault>
+        ensures next { IsNextLine I.remaining self.old.standing.world.inbox result self.new.standing.world.inbox }
+        ensures others { self.new.standing ≡ taken self.old.standing self.new.standing.world.inbox }
+    {
         self.standing.world.next_line()
     }
 
@@ -84,7 +90,7 @@ impl<F: Family + Drop, I: Read + Drop, L: Log + Drop> Master<F, I, L> {
 
     /// Carries words out one after another.
     fn act(&mut self, words: &[Word], settings: Option<&Settings>) -> Said
-        ensures { AreActed (option_copied settings.entry) words.now self.old.standing result self.new.standing }
+        ensures { AreActed I.remaining (option_copied settings.entry) words.now self.old.standing result self.new.standing }
     {
         let mut blocks = Vec::new(self.alloc);
         let done = run_words(
@@ -104,7 +110,7 @@ impl<F: Family + Drop, I: Read + Drop, L: Log + Drop> Master<F, I, L> {
         line: Result<Word, WordRefusal>,
         next: &mut N,
     ) -> Said
-        ensures { LineComesTo N.reads line next.old self.old.standing result next.new self.new.standing }
+        ensures { LineComesTo I.remaining N.reads line next.old self.old.standing result next.new self.new.standing }
     {
         match line {
             Ok(word) => self.obey(word, next),
@@ -114,7 +120,7 @@ impl<F: Family + Drop, I: Read + Drop, L: Log + Drop> Master<F, I, L> {
 
     /// What a word comes to.
     fn obey<N: NextSettings>(&mut self, word: Word, next: &mut N) -> Said
-        ensures { WordComesTo N.reads word next.old self.old.standing result next.new self.new.standing }
+        ensures { WordComesTo I.remaining N.reads word next.old self.old.standing result next.new self.new.standing }
     {
         match word {
             Word::Tick { now } => self.tick(now),
@@ -126,7 +132,7 @@ impl<F: Family + Drop, I: Read + Drop, L: Log + Drop> Master<F, I, L> {
     /// What a tick comes to. Where a master runs, its workers are asked first, and each beat that is heard is a word of
     /// its own before the tick.
     pub(crate) fn tick(&mut self, now: u64) -> Said
-        ensures { IsTicked self.old.standing.record now self.old.standing result self.new.standing }
+        ensures { IsTicked I.remaining self.old.standing.record now self.old.standing result self.new.standing }
     {
         if self.standing.record.is_none() {
             return self.act(&[Word::Tick { now }], None);
@@ -136,7 +142,7 @@ impl<F: Family + Drop, I: Read + Drop, L: Log + Drop> Master<F, I, L> {
 
     /// Asks the workers at a tick, and acts on what is heard and on the tick.
     fn ask_all(&mut self, now: u64) -> Said
-        ensures { IsAsked now self.old.standing result self.new.standing }
+        ensures { IsAsked I.remaining now self.old.standing result self.new.standing }
     {
         let heard = self.standing.world.tick(now);
         match tick_words(self.alloc, &heard, now) {
@@ -147,7 +153,7 @@ impl<F: Family + Drop, I: Read + Drop, L: Log + Drop> Master<F, I, L> {
 
     /// What a word comes to that takes the next settings up. Where a master runs they are read anew.
     fn renew<N: NextSettings>(&mut self, word: Word, next: &mut N) -> Said
-        ensures { IsRenewed N.reads self.old.standing.record word next.old self.old.standing result next.new self.new.standing }
+        ensures { IsRenewed I.remaining N.reads self.old.standing.record word next.old self.old.standing result next.new self.new.standing }
     {
         if self.standing.record.is_none() {
             return self.act(&[word], None);
@@ -164,7 +170,7 @@ impl<F: Family + Drop, I: Read + Drop, L: Log + Drop> Master<F, I, L> {
 
     /// What the end of the input comes to: a master that runs quits.
     pub(crate) fn end(&mut self) -> Said
-        ensures { EndComesTo self.old.standing.record self.old.standing result self.new.standing }
+        ensures { EndComesTo I.remaining self.old.standing.record self.old.standing result self.new.standing }
     {
         match self.standing.record {
             Some(_) => self.act(&[Word::Quit], None),

@@ -1,12 +1,11 @@
 //! Control words from an input, with their blocks on an output.
-ghost use Rattle.std.specs.Prelude.{◌≡◌, ◌≤◌, List, Result, IfOk, IsOk, IsTrue, OnOk};
+ghost use Rattle.std.specs.Prelude.{◌≡◌, ◌≤◌, List, IfOk, IsOk, IsTrue, OnOk};
 ghost use Rattle.std.specs.Io.KnownBytes.{Appends};
-ghost use Rattle.control_words.specs.declared.refusal.WordRefusal.{WordRefusal as Refusal};
-ghost use Rattle.control_words.specs.declared.words.Word.{Word as TheWord};
 ghost use Rattle.transcript.specs.Block.{block_text, transcript_text};
 ghost use Rattle.word_runner.specs.Status.{status_after, gravest};
 ghost use Rattle.word_runner.specs.declared.block.Block.{Block as Done};
-ghost use Rattle.master_on_children.specs.Lines.{line_read, AreHeard, IsRun};
+ghost use Rattle.master_on_children.specs.Typed.{Typed};
+ghost use Rattle.master_on_children.specs.Lines.{IsHeardOut, IsRun};
 ghost use Rattle.master_on_children.specs.Starts.{IsWritten, IsSupervised};
 
 use crate::master::Master;
@@ -51,8 +50,12 @@ pub struct Supervised<F: Family + Drop> {
 /// Carries the control words of the input's lines out on the children of a family.
 ///
 /// It writes the pid file, where there is a path for it, and acts on the word `tick 0` without any worker. Then it acts
-/// on each line, whose blocks are written and flushed before the next line is read, and logged in a line each. A line
+/// on each line, whose blocks are written and flushed before the next line is acted on, and logged in a line each. A line
 /// that is no word is a block of its own. At the end of the input a master that runs is told to quit.
+///
+/// A question of a plan is answered from the input: the next `WINCH` or `QUIT` lets it go on, the next `HUP`, the end of
+/// the input or a read that fails has it go back. Other lines that come meanwhile wait, in order; once 64 wait, the plan
+/// goes back. A read that fails while it asks is a fault once the lines that wait were acted on.
 ///
 /// Faults: want of memory, a line that cannot be read, a block or a pid file that cannot be written. It ends with the
 /// first; what was written before stays written.
@@ -66,7 +69,7 @@ pub fn supervise_on<F: Family + Drop, N: NextSettings, I: Read + Drop, L: Log + 
 ) -> Supervised<F>
     requires { 1 ≤ start.now.pid }
     ensures { IfOk result.status (λ status. (blocks : List Done)
-        × IsSupervised ⟦<F as Family>⟧ N.reads start.now.settings start.now.pid family next.old blocks next.new result.family
+        × IsSupervised L ⟦<F as Family>⟧ I.remaining N.reads start.now.settings start.now.pid family operator.input next.old blocks next.new result.family
         × Appends (O.contents output.old) (O.contents output.new) (transcript_text blocks)
         × (status ≡ gravest blocks)) }
 {
@@ -108,7 +111,7 @@ fn follow<F: Family + Drop, I: Read + Drop, L: Log + Drop, N: NextSettings, O: W
     output: &mut O,
 ) -> Result<u8, SupervisorFault>
     ensures { IfOk result (λ status. (blocks : List Done)
-        × IsRun N.reads next.old master.old.standing blocks next.new master.new.standing
+        × IsRun I.remaining N.reads next.old master.old.standing blocks next.new master.new.standing
         × Appends (O.contents output.old) (O.contents output.new) (transcript_text blocks)
         × (status ≡ gravest blocks)) }
 {
@@ -120,7 +123,7 @@ fn follow<F: Family + Drop, I: Read + Drop, L: Log + Drop, N: NextSettings, O: W
     Ok(gravest)
 }
 
-/// Acts on each line of the input, and gives the status of the blocks so far and of its own.
+/// Acts on each line up to the end of the input, and gives the status of the blocks so far and of its own.
 fn hear_all<F: Family + Drop, I: Read + Drop, L: Log + Drop, N: NextSettings, O: Write>(
     alloc: Global,
     before: u8,
@@ -128,14 +131,15 @@ fn hear_all<F: Family + Drop, I: Read + Drop, L: Log + Drop, N: NextSettings, O:
     next: &mut N,
     output: &mut O,
 ) -> Result<u8, SupervisorFault>
-    ensures { IfOk result (λ status. (lines : List (Result TheWord Refusal)) × (blocks : List Done)
-        × AreHeard N.reads lines next.old master.old.standing blocks next.new master.new.standing
+    ensures { IfOk result (λ status. (lines : List Typed) × (blocks : List Done)
+        × IsHeardOut I.remaining N.reads lines next.old master.old.standing blocks next.new master.new.standing
         × Appends (O.contents output.old) (O.contents output.new) (transcript_text blocks)
         × (status ≡ status_after before blocks)) }
 {
     let mut status = before;
     for _ in 0..u64::MAX {
-        let Some(line) = master.next_line()? else {
+        let next_line = master.next_line()?;
+        let Some(line) = next_line else {
             return Ok(status);
         };
         let said = master.hear(line, next);

@@ -1,23 +1,51 @@
-use Rattle.std.proofs.Common.{ℕ, List, [], ◌∷◌, ◌++◌, ◌∙◌, sym, ap, subst}
+use Rattle.std.proofs.Common.{ℕ, List, [], ◌∷◌, ◌++◌, Option, Ok, ◌∙◌, sym, ap, subst}
 use Rattle.std.specs.Io.KnownBytes.{Appends}
 use Rattle.std.proofs.KnownBytes.{Appends-trans}
 use Rattle.transcript.specs.Block.{transcript_text}
 use Rattle.word_runner.specs.Status.{status_after}
+use Rattle.word_runner.specs.declared.standing.Standing.{Standing}
+use Rattle.master_on_children.specs.Typed.{Typed}
+use Rattle.master_on_children.specs.Inbox.{IsNextLine}
+use Rattle.master_on_children.specs.Lines.{LineComesTo}
+use Rattle.master_on_children.specs.declared.attended.Attended.{Attended}
 use Rattle.master_on_children.proofs.Hearing.{heard-push}
 use Rattle.master_on_children.proofs.Telling.{text-append, status-append}
 use Rattle.master_on_children.proofs.supervising.hear_all.Goals as goal
 
 pub loop-preserved : goal.loop-preserved
 loop-preserved g c =
+    let remaining = g.I.Read.remaining in
+    let reads = g.N.NextSettings.reads in
     let h = c.loop.invariant in
+    let inbox = c.next_line.new.self.standing.world.inbox in
+    let line = c.in-Some.line in
     let said = c.hear-said.result in
     let first = g.O.Write.contents c.args.output.now in
-    let last = g.O.Write.contents c.tell.new.output in (
-      h.0 ++ c.in-Some.read ∷ [],
+    let last = g.O.Write.contents c.tell.new.output in
+    let next = subst (λ (one : Option Typed). IsNextLine remaining c.loop.master.standing.world.inbox (Ok one) inbox) c.in-Some.is c.in_ok-next_line.ensures.next in
+    let comes =
+    subst (λ (s : Standing (Attended _ _ _ _)). LineComesTo remaining reads line c.loop.next s said c.hear-said.new.next c.hear-said.new.self.standing) c.next_line.ensures.others c.hear-said.ensures in (
+      h.0 ++ line ∷ [],
       h.1 ++ said.blocks.items,
-      heard-push g.N.NextSettings.reads h.0 c.args.next.now c.args.master.now.standing h.1 c.loop.next c.loop.master.standing c.in-Some.read said c.hear-said.new.next c.hear-said.new.self.standing h.2
-          c.in_ok-status.ensures.whole c.hear-said.ensures,
+      heard-push remaining reads h.0 c.args.next.now c.args.master.now.standing h.1 c.loop.next c.loop.master.standing line inbox said c.hear-said.new.next c.hear-said.new.self.standing h.2 next c.in_ok-status.ensures.whole comes,
       subst (λ (text : List ℕ). Appends first last text) (sym (text-append h.1 said.blocks.items))
           (Appends-trans first (g.O.Write.contents c.loop.output) last (transcript_text h.1) (transcript_text said.blocks.items) h.3 c.in_ok-status.ensures.told),
       c.in_ok-status.ensures.status ∙ ap (λ n. status_after n said.blocks.items) h.4 ∙ sym (status-append c.args.before h.1 said.blocks.items),
+    )
+
+pub returns-in_default : goal.returns-in_default
+returns-in_default g c =
+    let remaining = g.I.Read.remaining in
+    let h = c.loop.invariant in
+    let inbox = c.next_line.new.self.standing.world.inbox in (
+      h.0,
+      h.1,
+      record {
+        before_end = c.loop.master.standing;
+        are_heard = h.2;
+        ended = subst (λ (one : Option Typed). IsNextLine remaining c.loop.master.standing.world.inbox (Ok one) inbox) c.in_default.is c.in_ok-next_line.ensures.next;
+        still = c.next_line.ensures.others;
+      },
+      h.3,
+      h.4,
     )

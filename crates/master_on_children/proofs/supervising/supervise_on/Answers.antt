@@ -10,14 +10,15 @@ use Rattle.master_on_children.proofs.supervising.supervise_on.Goals as goal
 
 pub returns : goal.returns
 returns g c =
+    let remaining = g.I.Read.remaining in
     let reads = g.N.NextSettings.reads in
     let begun = c.begin-master.result in
     let led = c.follow-status.new.master in
     let before = g.O.Write.contents c.args.output.now in
     let after = g.O.Write.contents c.follow-status.new.output in
     ok-map
-    (λ (status : ℕ). (blocks : List Block) × IsRun reads c.args.next.now begun.standing blocks c.follow-status.new.next led.standing × Appends before after (transcript_text blocks) × (status ≡ gravest blocks))
-    (λ (status : ℕ). (blocks : List Block) × IsSupervised g.F.Family reads c.args.start.now.settings c.args.start.now.pid c.args.family c.args.next.now blocks c.follow-status.new.next c.into_family.result × Appends before after (transcript_text blocks) × (status ≡ gravest blocks))
+    (λ (status : ℕ). (blocks : List Block) × IsRun remaining reads c.args.next.now begun.standing blocks c.follow-status.new.next led.standing × Appends before after (transcript_text blocks) × (status ≡ gravest blocks))
+    (λ (status : ℕ). (blocks : List Block) × IsSupervised g.row.L.Denot g.F.Family remaining reads c.args.start.now.settings c.args.start.now.pid c.args.family c.args.operator.input c.args.next.now blocks c.follow-status.new.next c.into_family.result × Appends before after (transcript_text blocks) × (status ≡ gravest blocks))
     c.follow-status.result
     (λ status h. (
       h.0,
@@ -25,7 +26,15 @@ returns g c =
         begun = c.write_pid.new.family;
         written = c.write_pid.ensures (search rules);
         first = begun.standing;
-        is_first = record { family_is = c.begin-master.ensures.family; knows = c.begin-master.ensures.state; record_is = c.begin-master.ensures.record; workers = c.begin-master.ensures.workers ∙ c.in-Ok.ensures };
+        is_first = record {
+          family_is = c.begin-master.ensures.family;
+          knows = c.begin-master.ensures.state;
+          record_is = c.begin-master.ensures.record;
+          workers = c.begin-master.ensures.workers ∙ c.in-Ok.ensures;
+          none_waits = c.begin-master.ensures.waiting;
+          is_open = c.begin-master.ensures.open;
+          unread_is = c.begin-master.ensures.unread;
+        };
         last = led.standing;
         is_run = h.1;
         left_is = c.into_family.ensures;

@@ -1,7 +1,6 @@
-use Rattle.std.proofs.Common.{Ok, Err, None, Option, Result, refl, sym, subst, arith}
+use Rattle.std.proofs.Common.{Ok, Err, None, Option, refl, subst, arith}
 use Rattle.master_on_children.specs.Inbox.{ReadsMore}
 use Rattle.master_on_children.specs.Typed.{Typed}
-use Rattle.master_on_children.specs.declared.fault.SupervisorFault.{SupervisorFault}
 use Rattle.master_on_children.proofs.Answering.{goes_back, replies, waits, is_full}
 use Rattle.master_on_children.proofs.inbox.Inbox.answer.Goals as goal
 

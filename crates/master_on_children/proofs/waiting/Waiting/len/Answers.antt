@@ -1,4 +1,4 @@
-use Rattle.std.proofs.Common.{ℕ, ◌≤◌, length, ◌∙◌, sym, ap, arith}
+use Rattle.std.proofs.Common.{◌≤◌, length, ◌∙◌, sym, ap, arith}
 use Rattle.std.proofs.lemmas.List.{length-take-le}
 use Rattle.master_on_children.proofs.waiting.Waiting.len.Goals as goal
 
