@@ -6,7 +6,7 @@ use Rattle.vocabulary.specs.declared.calls.Answer.{Answer}
 use Rattle.vocabulary.specs.declared.calls.Answer.TheVariants.{Back}
 use Rattle.master_on_children.specs.Typed.{Typed, AreRead}
 use Rattle.master_on_children.specs.Questions.{Asked, reply_to, asked}
-use Rattle.master_on_children.specs.Inbox.{unread, ReadsOn, ReadsMore, IsGiven, IsAnswered}
+use Rattle.master_on_children.specs.Inbox.{IsOver, unread, ReadsOn, ReadsMore, IsGiven, IsAnswered}
 use Rattle.master_on_children.specs.declared.fault.SupervisorFault.{SupervisorFault}
 use Rattle.master_on_children.specs.declared.inbox.Inbox.{Inbox}
 use Rattle.master_on_children.proofs.Typing.{read_more, read_still, whole_later, asked_on, asked_given, asked_lacks, asked_full}
@@ -43,34 +43,37 @@ module _ {I : Type 0} (remaining : I → Option (List ℕ)) where
       let small : length now.waiting < 64 = omega (arith, lt, g.4) in
       let eq = all_asked first now count g ∙ asked_lacks now.waiting small in
       let is : new.ended ≡ Some (Ok tt) = ap (λ (x : Inbox I). x.ended) r.0 in
+      let has_ended : IsOver first.ended new.ended = subst (λ (x : Option (Result (Unit {0}) SupervisorFault)). IsOver x new.ended) (sym still ∙ g.3) (subst IsSome (sym is) refl) in
       record {
         ahead = g.0;
         are_read = read_still (unread remaining first) (unread remaining now) (unread remaining new) g.0 g.1 r.1;
         none_read = g.2;
         is_given = subst (λ (x : Asked). IsGiven remaining x Back first new) (sym eq)
-            (refl, ap (λ (x : Inbox I). x.waiting) r.0, subst IsSome (sym is) refl, λ o e. whole_later (unread remaining first) (unread remaining now) (unread remaining new) g.0 g.1 r.2);
+            (refl, ap (λ (x : Inbox I). x.waiting) r.0, has_ended, λ o e. whole_later (unread remaining first) (unread remaining now) (unread remaining new) g.0 g.1 r.2);
       }
   goes_back first now new count g lt None still (Err fault) line r =
       let small : length now.waiting < 64 = omega (arith, lt, g.4) in
       let eq = all_asked first now count g ∙ asked_lacks now.waiting small in
       let is : new.ended ≡ Some (Err fault) = ap (λ (x : Inbox I). x.ended) r.0 in
+      let has_ended : IsOver first.ended new.ended = subst (λ (x : Option (Result (Unit {0}) SupervisorFault)). IsOver x new.ended) (sym still ∙ g.3) (subst IsSome (sym is) refl) in
       record {
         ahead = g.0;
         are_read = read_still (unread remaining first) (unread remaining now) (unread remaining new) g.0 g.1 r.1;
         none_read = g.2;
         is_given = subst (λ (x : Asked). IsGiven remaining x Back first new) (sym eq)
-            (refl, ap (λ (x : Inbox I). x.waiting) r.0, subst IsSome (sym is) refl, λ o e. (let other : Some (Err fault) ≡ Some (Ok tt) = sym is ∙ e in absurd cc));
+            (refl, ap (λ (x : Inbox I). x.waiting) r.0, has_ended, λ o e. (let other : Some (Err fault) ≡ Some (Ok tt) = sym is ∙ e in absurd cc));
       }
   goes_back first now new count g lt (Some end) still came line r =
       let small : length now.waiting < 64 = omega (arith, lt, g.4) in
       let eq = all_asked first now count g ∙ asked_lacks now.waiting small in
       let is : new.ended ≡ Some end = ap (λ (x : Inbox I). x.ended) r.1 ∙ still in
+      let has_ended : IsOver first.ended new.ended = subst (λ (x : Option (Result (Unit {0}) SupervisorFault)). IsOver x new.ended) (sym still ∙ g.3) is in
       record {
         ahead = g.0;
         are_read = subst (λ (x : Inbox I). AreRead (unread remaining first) g.0 (unread remaining x)) (sym r.1) g.1;
         none_read = g.2;
         is_given = subst (λ (x : Asked). IsGiven remaining x Back first new) (sym eq)
-            (refl, ap (λ (x : Inbox I). x.waiting) r.1, subst IsSome (sym is) refl, λ o e. (let other : Some end ≡ None = sym still ∙ g.3 ∙ o in absurd cc));
+            (refl, ap (λ (x : Inbox I). x.waiting) r.1, has_ended, λ o e. (let other : Some end ≡ None = sym still ∙ g.3 ∙ o in absurd cc));
       }
 
   -- a line is read only of an input that has not ended

@@ -19,6 +19,11 @@ abbrev pub over : Result (Unit {0}) SupervisorFault → Result (Option Typed) Su
 over (Ok done) = Ok None
 over (Err fault) = Err fault
 
+-- An input has ended, and if it had before, then as it did.
+abbrev pub IsOver : Option (Result (Unit {0}) SupervisorFault) → Option (Result (Unit {0}) SupervisorFault) → Type 0
+IsOver None new = IsSome new
+IsOver (Some end) new = new ≡ Some end
+
 module _ {I : Type 0} (remaining : I → Option (List ℕ)) where
   -- the bytes of the input that no line told, where they are known
   abbrev pub unread : Inbox I → Option (List ℕ)
@@ -44,10 +49,10 @@ module _ {I : Type 0} (remaining : I → Option (List ℕ)) where
   IsNextLine old next new = TakesNext old.waiting old next new
 
   -- What came of a question, where all lines that were read are used up. Where there was neither an answer nor 64 lines, the input has
-  -- ended, and the answer is to go back.
+  -- ended, and the answer is to go back. How it ended before is kept.
   abbrev pub IsGiven : Asked → Answer → Inbox I → Inbox I → Type 0
   IsGiven (gives answer waiting left) a old new = (a ≡ answer) × (new.waiting ≡ waiting) × (left ≡ []) × (new.ended ≡ old.ended)
-  IsGiven (lacks waiting) a old new = (a ≡ Back) × (new.waiting ≡ waiting) × IsSome new.ended × (old.ended ≡ None → new.ended ≡ Some (Ok tt) → IsWhole (unread old) (unread new))
+  IsGiven (lacks waiting) a old new = (a ≡ Back) × (new.waiting ≡ waiting) × IsOver old.ended new.ended × (old.ended ≡ None → new.ended ≡ Some (Ok tt) → IsWhole (unread old) (unread new))
 
   -- The answer to a question, by the lines that were read for it.
   pub record IsAnswered (old : Inbox I) (a : Answer) (new : Inbox I) : Type 0 where
