@@ -90,14 +90,12 @@ fn tell_more<R: AllocGlobal + Files, E: Write>(
     fault: &Fault,
     errors: &mut E,
 ) {
-    let instead = line_instead(rt, request, given, fault);
-    let evidence = Evidence {
-        given,
-        instead: match &instead {
-            Some(line) => Some(line.as_slice()),
-            None => None,
-        },
+    let found = line_instead(rt, request, given, fault);
+    let instead = match &found {
+        Some(line) => Some(line.as_slice()),
+        None => None,
     };
+    let evidence = Evidence { given, instead };
     tell(rt, request, &evidence, fault, errors);
 }
 
