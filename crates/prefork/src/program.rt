@@ -95,8 +95,12 @@ fn tell_more<R: AllocGlobal + Files, E: Write>(
         Some(line) => Some(line.as_slice()),
         None => None,
     };
-    let evidence = Evidence { given, instead };
-    tell(rt, request, &evidence, fault, errors);
+    tell(rt, request, &evidence_of(given, instead), fault, errors);
+}
+
+/// What is known beside a fault.
+fn evidence_of<'a>(given: &'a [u8], instead: Option<&'a [u8]>) -> Evidence<'a> {
+    Evidence { given, instead }
 }
 
 /// Answers a request. What is read of standard input is kept.
