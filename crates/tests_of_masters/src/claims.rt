@@ -23,6 +23,14 @@ fn booted(
     for listener in listeners {
         addresses.add(&listener.address)?;
     }
+    let count = addresses.len();
+    let shares = groups.as_slice().len();
+    if count < 1 || groups.addresses() as usize != count || groups.workers() != 2 || shares < 1 {
+        return Err(Fail::from("the groups do not share the addresses and two workers"));
+    }
+    if 100 < path.bytes().len() {
+        return Err(Fail::from("the path has no room for a suffix"));
+    }
     let settings = Settings {
         listeners: addresses,
         workers: 2,
