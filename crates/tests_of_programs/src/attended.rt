@@ -40,6 +40,11 @@ fn run<I: Read + Drop, L: Log + Drop>(
     (output, ended.status)
 }
 
+/// The word, and a line that answers to go on.
+const ASK: &[u8] = b"USR2 attended\n";
+
+const GO: &[u8] = b"WINCH\n";
+
 /// The upgrade up to its first question.
 const TO_THE_FIRST: &[u8] = b"word USR2 attended\n\
     1 m1 spawn-master 2 : spawned\n\
@@ -112,28 +117,31 @@ fn leads_to(alloc: Global, input: &[u8], parts: &[&[u8]], status: u8) -> Result<
     )
 }
 
+/// Whether it goes on where this line answers the first question, and then each line answers the second as it should.
+fn goes_on_by(alloc: Global, first: &[u8]) -> Result<bool, Fail> {
+    let ahead = joined(alloc, &[ASK, first])?;
+    let ahead = ahead.as_slice();
+    let hup = joined(alloc, &[ahead, b"HUP".as_slice()])?;
+    let winch = joined(alloc, &[ahead, GO])?;
+    let quit = joined(alloc, &[ahead, b"QUIT\n".as_slice()])?;
+    let late = [TO_THE_FIRST, TO_THE_SECOND, BACK_AT_THE_SECOND, FIRST_QUITS];
+    let over = [TO_THE_FIRST, TO_THE_SECOND, GONE_OVER, SECOND_QUITS];
+    let ended = leads_to(alloc, ahead, &late, 3)?;
+    let back = leads_to(alloc, &hup, &late, 3)?;
+    let one = leads_to(alloc, &winch, &over, 0)?;
+    let other = leads_to(alloc, &quit, &over, 0)?;
+    Ok(ended && back && one && other)
+}
+
 #[test]
 fn is_answered_at_each_question(rt: HostRuntime) -> Result<(), Fail> {
     let alloc = rt.alloc();
     let back = [TO_THE_FIRST, BACK_AT_THE_FIRST, FIRST_QUITS];
     assert!(rt; leads_to(alloc, b"USR2 attended\nHUP\nQUIT\n", &back, 3)?);
     // the end of the input is a way back, and then it quits
-    assert!(rt; leads_to(alloc, b"USR2 attended\n", &back, 3)?);
-    for first in [b"WINCH".as_slice(), b"QUIT".as_slice()] {
-        let ahead = joined(
-            alloc,
-            &[b"USR2 attended\n".as_slice(), first, b"\n".as_slice()],
-        )?;
-        let late = [TO_THE_FIRST, TO_THE_SECOND, BACK_AT_THE_SECOND, FIRST_QUITS];
-        assert!(rt; leads_to(alloc, &ahead, &late, 3)?);
-        let hup = joined(alloc, &[ahead.as_slice(), b"HUP".as_slice()])?;
-        assert!(rt; leads_to(alloc, &hup, &late, 3)?);
-        let over = [TO_THE_FIRST, TO_THE_SECOND, GONE_OVER, SECOND_QUITS];
-        for second in [b"WINCH\n".as_slice(), b"QUIT\n".as_slice()] {
-            let input = joined(alloc, &[ahead.as_slice(), second])?;
-            assert!(rt; leads_to(alloc, &input, &over, 0)?);
-        }
-    }
+    assert!(rt; leads_to(alloc, ASK, &back, 3)?);
+    assert!(rt; goes_on_by(alloc, GO)?);
+    assert!(rt; goes_on_by(alloc, b"QUIT\n")?);
     Ok(())
 }
 
@@ -206,36 +214,51 @@ const TAKEN_AWAY: &[u8] = b"word WINCH\n\
 const QUITS_WITHOUT_WORKERS: &[u8] = b"word QUIT\n1 m1 leave : ok\ndone cause none pid no-file\n";
 
 #[test]
-fn goes_back_once_64_lines_wait(rt: HostRuntime) -> Result<(), Fail> {
+fn goes_on_behind_63_lines_that_wait(rt: HostRuntime) -> Result<(), Fail> {
     let alloc = rt.alloc();
-    let ask = b"USR2 attended\n".as_slice();
-    let go = b"WINCH\n".as_slice();
     let lines = times(alloc, 63, b"what\n")?;
     let blocks = times(alloc, 63, b"unread W1\n")?;
-    let (lines, blocks) = (lines.as_slice(), blocks.as_slice());
-    let input = joined(alloc, &[ask, lines, go, go])?;
+    let input = joined(alloc, &[ASK, lines.as_slice(), GO, GO])?;
+    let blocks = blocks.as_slice();
     let over = [TO_THE_FIRST, TO_THE_SECOND, GONE_OVER, blocks, SECOND_QUITS];
     assert!(rt; leads_to(alloc, &input, &over, 1)?);
-    let one = b"what\n".as_slice();
-    let its = b"unread W1\n".as_slice();
-    // what comes behind the 64th is read when the lines that wait are done
-    let input = joined(alloc, &[ask, lines, one, go])?;
+    Ok(())
+}
+
+/// What comes behind the 64th line is read when the lines that wait are done.
+#[test]
+fn goes_back_at_the_first_question_once_64_lines_wait(rt: HostRuntime) -> Result<(), Fail> {
+    let alloc = rt.alloc();
+    let lines = times(alloc, 64, b"what\n")?;
+    let blocks = times(alloc, 64, b"unread W1\n")?;
+    let input = joined(alloc, &[ASK, lines.as_slice(), GO])?;
+    let blocks = blocks.as_slice();
     let back = [
         TO_THE_FIRST,
         BACK_AT_THE_FIRST,
         blocks,
-        its,
         TAKEN_AWAY,
         QUITS_WITHOUT_WORKERS,
     ];
     assert!(rt; leads_to(alloc, &input, &back, 1)?);
-    let input = joined(alloc, &[ask, lines, go, one, go])?;
+    Ok(())
+}
+
+#[test]
+fn goes_back_at_the_second_question_once_64_lines_wait(rt: HostRuntime) -> Result<(), Fail> {
+    let alloc = rt.alloc();
+    let lines = times(alloc, 63, b"what\n")?;
+    let blocks = times(alloc, 64, b"unread W1\n")?;
+    let input = joined(
+        alloc,
+        &[ASK, lines.as_slice(), GO, b"what\n".as_slice(), GO],
+    )?;
+    let blocks = blocks.as_slice();
     let late = [
         TO_THE_FIRST,
         TO_THE_SECOND,
         BACK_AT_THE_SECOND,
         blocks,
-        its,
         TAKEN_AWAY,
         QUITS_WITHOUT_WORKERS,
     ];
