@@ -23,7 +23,7 @@ def until(what: str, holds: Callable[[], Any], seconds: float = SECONDS) -> Any:
 
 
 def comes(holds: Callable[[], Any], seconds: float = SECONDS) -> bool:
-    """Whether something comes to hold."""
+    """Whether a condition becomes true in time."""
     try:
         return bool(until("", holds, seconds))
     except Wrong:

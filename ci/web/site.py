@@ -157,7 +157,7 @@ class Site:
         return {number for number, words in self.mark.processes().items() if words[-2:] == own and not is_guard(words)}
 
     def has_others(self, old: Collection[int], count: int = 2) -> bool:
-        """Whether so many workers run, and none of the old ones; in one look."""
+        """Whether this number of workers runs and none of the old ones, in one look at the processes."""
         now = self.workers()
         return len(now) == count and not now & set(old)
 
@@ -187,7 +187,7 @@ class Site:
         os.kill(number, signal.SIGKILL)
 
     def guarded(self, script: str) -> Any:
-        """A shell behind `guard`, with a second for its answers."""
+        """A shell under `guard`, which gives it one second to answer."""
         return subprocess.Popen(
             [BIN / "prefork-guard", "1", "sh", "-c", script], stdin=subprocess.PIPE, stdout=subprocess.PIPE,
             stderr=self.said, text=True, env=self.environment,

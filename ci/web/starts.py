@@ -27,7 +27,7 @@ def signals_are_words(site: Site) -> None:
         is_own = sent.returncode == 0 and block.startswith(f"word {word}\n") and block.count("word ") == 1
         site.check(f"{word}, beside others: {sent.returncode}, {block}{faults}", is_own)
     sent = site.sent("HUPP")
-    site.check("a word that is none", "unread W1" in sent.communicate(timeout=SECONDS)[0] and sent.returncode == 2)
+    site.check("a line that is no control word", "unread W1" in sent.communicate(timeout=SECONDS)[0] and sent.returncode == 2)
     site.end("1")
     site.certify()
 
@@ -88,7 +88,7 @@ def guards(site: Site) -> None:
         site.check(f"{script}: output is open", guard.stdout.read() == "")
         guard.stdin.close()
     killed = site.guarded("exec sleep 1000")
-    until("a worker behind a guard", lambda: any("sleep" in words for words in site.mark.processes().values()))
+    until("a worker under a guard", lambda: any("sleep" in words for words in site.mark.processes().values()))
     killed.kill()
     killed.wait()
     left = site.mark.left()
