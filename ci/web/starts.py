@@ -27,7 +27,8 @@ def signals_are_words(site: Site) -> None:
         is_own = sent.returncode == 0 and block.startswith(f"word {word}\n") and block.count("word ") == 1
         site.check(f"{word}, beside others: {sent.returncode}, {block}{faults}", is_own)
     sent = site.sent("HUPP")
-    site.check("a line that is no control word", "unread W1" in sent.communicate(timeout=SECONDS)[0] and sent.returncode == 2)
+    said = sent.communicate(timeout=SECONDS)[0]
+    site.check("a line that is no control word", "unread W1" in said and sent.returncode == 2)
     site.end("1")
     site.certify()
 
