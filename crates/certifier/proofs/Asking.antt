@@ -6,23 +6,23 @@ use Rattle.vocabulary.specs.declared.reports.Outcome.TheVariants as outcome
 use Rattle.vocabulary.specs.declared.plans.End.TheVariants.{Done, RolledBack, ShortOld, ShortTarget}
 use Rattle.vocabulary.specs.declared.plans.PidNote.{PidNote}
 use Rattle.definitions.specs.Tree.{Tree, Ends, Does}
-use Rattle.definitions.specs.Path.{Entry, Report, Sides, Trail, Asks, rest_after, IsOver, IsOutcome, Reports}
+use Rattle.definitions.specs.Path.{Entry, Report, Sides, Trail, Asks, rest_after, IsOver, IsOutcome, Reports, Lack}
 
 -- an entry that is asked for as another is, is the same call by the same master
-pub asked-same : (rest : Option Tree) (lacking : List ℕ) (x e : Entry) → Asks rest lacking x → Asks rest lacking e → (x.by ≡ e.by) × (x.call ≡ e.call)
-asked-same None lacking x e one other = absurd one
-asked-same (Some (Ends end)) lacking x e one other = absurd one
-asked-same (Some (Does by order set branches)) lacking x e one other = (one.0 ∙ sym other.0, one.1 ∙ sym other.1)
+pub asked-same : (rest : Option Tree) (lacked : List Lack) (x e : Entry) → Asks rest lacked x → Asks rest lacked e → (x.by ≡ e.by) × (x.call ≡ e.call)
+asked-same None lacked x e one other = absurd one
+asked-same (Some (Ends end)) lacked x e one other = absurd one
+asked-same (Some (Does by order set branches)) lacked x e one other = (one.0 ∙ sym other.0, one.1 ∙ sym other.1)
 
-pub asked-too : (rest : Option Tree) (lacking : List ℕ) (x e : Entry) → Asks rest lacking x → x.by ≡ e.by → x.call ≡ e.call → Asks rest lacking e
-asked-too None lacking x e one by call = one
-asked-too (Some (Ends end)) lacking x e one by call = one
-asked-too (Some (Does by order set branches)) lacking x e one same call = (sym same ∙ one.0, sym call ∙ one.1)
+pub asked-too : (rest : Option Tree) (lacked : List Lack) (x e : Entry) → Asks rest lacked x → x.by ≡ e.by → x.call ≡ e.call → Asks rest lacked e
+asked-too None lacked x e one by call = one
+asked-too (Some (Ends end)) lacked x e one by call = one
+asked-too (Some (Does by order set branches)) lacked x e one same call = (sym same ∙ one.0, sym call ∙ one.1)
 
-pub asked-left : (rest : Option Tree) (lacking : List ℕ) (e : Entry) → Asks rest lacking e → IsOver rest → ⊥
-asked-left None lacking e asks over = asks
-asked-left (Some (Ends end)) lacking e asks over = asks
-asked-left (Some (Does by order set branches)) lacking e asks over = over
+pub asked-left : (rest : Option Tree) (lacked : List Lack) (e : Entry) → Asks rest lacked e → IsOver rest → ⊥
+asked-left None lacked e asks over = asks
+asked-left (Some (Ends end)) lacked e asks over = asks
+asked-left (Some (Does by order set branches)) lacked e asks over = over
 
 ---- Edges
 

@@ -12,7 +12,7 @@ use Rattle.definitions.specs.Exits.{after_exits}
 use Rattle.definitions.specs.Target.{text_handed, sides_of}
 use Rattle.definitions.specs.Plans.{plan_tree}
 use Rattle.definitions.specs.Tree.{Tree, Ends, Does, Branches, Nothing, Branch, among, branch, call_of, reply_of}
-use Rattle.definitions.specs.Path.{Entry, Report, Sides, Trail, advance, trail_after, IsOver, IsOutcome, Reports}
+use Rattle.definitions.specs.Path.{Entry, Report, Sides, Trail, advance, trail_after, IsOver, IsOutcome, Reports, lacked_by}
 use Rattle.definitions.specs.Run.{Progress, Ending, Lost, Ran, start_at, run_with, goes_with, noted, after_moment, after_call, answered, outcome_of}
 use Rattle.definitions.specs.Claims.{IsStart, HasDescriptors, Says, names_any, executing_at, executing_after, refused_among, heirs_of, run_of}
 use Rattle.plan_executor.specs.Lawful.{trail_at, ending_of}
@@ -43,17 +43,17 @@ module _ (text heirs : List ℕ) (fates : ℕ → Option Fate) where
   -- one step, and the walk behind it
   step-walks : (by : ℕ) (order : Order) (set : List ℕ) (branches : Branches) (p : Progress) (executing : List ℕ) →
       let s = answered text by order (fates (p.calls + 1)) (after_moment [] p) in
-      let q = after_call order set s (after_moment [] p) in
+      let q = after_call by order set s (after_moment [] p) in
       is_some (branch branches (reply_of set s.answer)) ≡ true →
-      Walks text heirs (executing_after (call_of order p.lacking) executing heirs) (behind (branch branches (reply_of set s.answer)) q) q.table (goes_with text branches (reply_of set s.answer) (faults_alone fates) q) →
+      Walks text heirs (executing_after (call_of order (lacked_by by p.lacked)) executing heirs) (behind (branch branches (reply_of set s.answer)) q) q.table (goes_with text branches (reply_of set s.answer) (faults_alone fates) q) →
       Walks text heirs executing (trail_at (Some (Does by order set branches)) p) p.table (run_with text (Does by order set branches) (faults_alone fates) p)
   step-walks by order set branches p executing edge walks =
-      let call = call_of order p.lacking in
+      let call = call_of order (lacked_by by p.lacked) in
       let s = step_with text by call (fates (p.calls + 1)) p.table in
       let e : Entry = record { by = by; call = call; answer = s.answer } in
       let start = trail_at (Some (Does by order set branches)) p in
       let given = answered text by order (fates (p.calls + 1)) (after_moment [] p) in
-      let behind_it = goes_with text branches (reply_of set given.answer) (faults_alone fates) (after_call order set given (after_moment [] p)) in
+      let behind_it = goes_with text branches (reply_of set given.answer) (faults_alone fates) (after_call by order set given (after_moment [] p)) in
       let m = moment_shown text p.table e in
       let shown = shown-again text by call (fates (p.calls + 1)) p.table in
       let stepped : stepped_at text p.table m e ≡ s = (λ i. step_with text by call m.fate (after_exits (shown.nobody i) p.table)) ∙ shown.again in
@@ -84,8 +84,8 @@ module _ (text heirs : List ℕ) (fates : ℕ → Option Fate) where
     tree-walks (Ends end) p executing not_lost = record { next = tt; rest = Some (Ends end); trail = refl; over = tt; ending = refl }
     tree-walks (Does by order set branches) p executing not_lost =
         let s = answered text by order (fates (p.calls + 1)) (after_moment [] p) in
-        let q = after_call order set s (after_moment [] p) in
-        let behind-it = edges-walk branches (reply_of set s.answer) q (executing_after (call_of order p.lacking) executing heirs) not_lost in
+        let q = after_call by order set s (after_moment [] p) in
+        let behind-it = edges-walk branches (reply_of set s.answer) q (executing_after (call_of order (lacked_by by p.lacked)) executing heirs) not_lost in
         step-walks by order set branches p executing behind-it.0 behind-it.1
 
     edges-walk : (bs : Branches) (r : Reply) (q : Progress) (executing : List ℕ) → ((goes_with text bs r (faults_alone fates) q).ending ≡ Lost → ⊥) →

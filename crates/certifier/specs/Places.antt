@@ -23,7 +23,7 @@ pub record Place : Type 0 where
 -- The entry is the plan's next step, which has an edge for its answer; the kernel answers so under the moment that it shows, and
 -- no executing master exits in that.
 pub record IsNext (text heirs : List ℕ) (p : Place) (e : Entry) : Type 0 where
-  pub asks : Asks p.trail.rest p.trail.lacking e
+  pub asks : Asks p.trail.rest p.trail.lacked e
   pub edge : is_some (follow p.trail.rest e.answer) ≡ true
   pub gives : (stepped_at text p.table (moment_shown text p.table e) e).answer ≡ e.answer
   pub spares : names_any (executing_at e.call p.executing heirs) (moment_shown text p.table e).exits ≡ false

@@ -41,7 +41,7 @@ pub(crate) struct Certificate {
 
 /// Whether an entry is the plan's next step.
 fn asks(walk: &Walk<'_>, entry: &Entry) -> bool
-    ensures { IsTrue result ↔ Asks (trail_of walk.now).rest (trail_of walk.now).lacking entry.now }
+    ensures { IsTrue result ↔ Asks (trail_of walk.now).rest (trail_of walk.now).lacked entry.now }
 {
     match walk.due() {
         Some(due) => due.by == entry.by && is_same_call(&due.call, &entry.call),

@@ -1,5 +1,5 @@
 -- Paths of a plan's tree, and what a report says of one.
-use Rattle.std.specs.Prelude.{ℕ, ◌+◌, ◌≡◌, Bool, true, false, not, List, [], ◌∷◌, ◌++◌, Option, Some, None, unwrap_or}
+use Rattle.std.specs.Prelude.{ℕ, ◌+◌, ◌==◌, ◌≡◌, Bool, true, false, not, List, [], ◌∷◌, ◌++◌, Option, Some, None, unwrap_or, if◌then◌else◌}
 use Rattle.listener_set.specs.Numbers.{lacks}
 use Rattle.definitions.specs.Calls.{Call, Answer}
 use Rattle.vocabulary.specs.declared.calls.Answer.TheVariants as answer
@@ -9,6 +9,7 @@ pub use Rattle.vocabulary.specs.declared.reports.Report.{Report}
 pub use Rattle.vocabulary.specs.declared.reports.Outcome.{Outcome}
 use Rattle.vocabulary.specs.declared.reports.Outcome.TheVariants as outcome
 pub use Rattle.vocabulary.specs.declared.plans.Sides.{Sides}
+pub use Rattle.vocabulary.specs.declared.plans.Lack.{Lack}
 use Rattle.definitions.specs.Crew.{shortfalls_of}
 
 -- How far a path has come: the rest of the tree, or nothing where the last answer had no edge; the last count and what it
@@ -17,12 +18,14 @@ pub record Trail : Type 0 where
   pub rest : Option Tree
   pub ready : List ℕ
   pub lacking : List ℕ
+  -- what the last count of each master lacked
+  pub lacked : List Lack
   pub note : PidNote
   pub cause : Option ℕ
   pub made : ℕ
 
 abbrev pub begin : Tree → PidNote → Trail
-begin tree note = record { rest = Some tree; ready = []; lacking = []; note = note; cause = None; made = 0 }
+begin tree note = record { rest = Some tree; ready = []; lacking = []; lacked = []; note = note; cause = None; made = 0 }
 
 abbrev pub ready_after : Answer → List ℕ → List ℕ
 ready_after (answer.Counted ns) ready = ns
@@ -31,6 +34,22 @@ ready_after _ ready = ready
 abbrev pub lacking_after : List ℕ → Answer → List ℕ → List ℕ
 lacking_after set (answer.Counted ns) lacking = lacks set ns
 lacking_after set _ lacking = lacking
+
+-- what the last count of a master lacked
+abbrev pub lacked_by : ℕ → List Lack → List ℕ
+lacked_by by [] = []
+lacked_by by (lack ∷ lacked) = if lack.by == by then lack.numbers else lacked_by by lacked
+
+-- the newest of another master
+abbrev pub beside : ℕ → List Lack → List Lack
+beside by [] = []
+beside by (lack ∷ lacked) = if lack.by == by then beside by lacked else lack ∷ []
+
+-- What the last counts lack, after an answer to a master. A plan has two masters at most: their last counts are kept, the
+-- newest first.
+abbrev pub lacked_after : ℕ → List ℕ → Answer → List Lack → List Lack
+lacked_after by set (answer.Counted ns) lacked = record { by = by; numbers = lacks set ns } ∷ beside by lacked
+lacked_after by set _ lacked = lacked
 
 -- a call that is not answered plainly, or a census that lacks a number of its set
 abbrev pub went_wrong : Call → Reply → Bool
@@ -67,6 +86,7 @@ advance t e = record {
   rest = rest_after (follow t.rest e.answer);
   ready = ready_after e.answer t.ready;
   lacking = lacking_after (set_of t.rest) e.answer t.lacking;
+  lacked = lacked_after e.by (set_of t.rest) e.answer t.lacked;
   note = note_after (follow t.rest e.answer) t.note;
   cause = first_cause t.cause (went_wrong e.call (reply_of (set_of t.rest) e.answer)) (t.made + 1);
   made = t.made + 1;
@@ -79,15 +99,15 @@ trail_after t (e ∷ entries) = trail_after (advance t e) entries
 ---- Paths
 
 -- The entry is a call of the step that is next, by its master, with the worker that it names.
-abbrev pub Asks : Option Tree → List ℕ → Entry → Type 0
-Asks None lacking e = ⊥
-Asks (Some (Ends end)) lacking e = ⊥
-Asks (Some (Does by order set branches)) lacking e = (e.by ≡ by) × (e.call ≡ call_of order lacking)
+abbrev pub Asks : Option Tree → List Lack → Entry → Type 0
+Asks None lacked e = ⊥
+Asks (Some (Ends end)) lacked e = ⊥
+Asks (Some (Does by order set branches)) lacked e = (e.by ≡ by) × (e.call ≡ call_of order (lacked_by by lacked))
 
 -- Each entry is the next step's.
 abbrev pub Follows : Trail → List Entry → Type 0
 Follows t [] = Unit {0}
-Follows t (e ∷ entries) = Asks t.rest t.lacking e × Follows (advance t e) entries
+Follows t (e ∷ entries) = Asks t.rest t.lacked e × Follows (advance t e) entries
 
 -- No step is next: the path is at an end, or its last answer had no edge.
 abbrev pub IsOver : Option Tree → Type 0

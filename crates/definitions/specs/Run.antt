@@ -4,7 +4,7 @@ use Rattle.definitions.specs.Table.{Table}
 use Rattle.definitions.specs.Exits.{Name, after_exits, losses_of}
 use Rattle.definitions.specs.Calls.{Call, Ask, Answer, Fate, Stepped, step_with}
 use Rattle.definitions.specs.Tree.{Reply, among, reply_of, same_reply, plain_reply, End, PidNote, Order, call_of, Tree, Branches, Ends, Does, Nothing, Branch}
-use Rattle.definitions.specs.Path.{Report, Outcome, Sides, outcome_at, Entry, ready_after, lacking_after, went_wrong, first_cause}
+use Rattle.definitions.specs.Path.{Report, Outcome, Sides, outcome_at, Entry, ready_after, lacking_after, Lack, lacked_by, lacked_after, went_wrong, first_cause}
 use Rattle.vocabulary.specs.declared.calls.Answer.TheVariants as answer
 use Rattle.vocabulary.specs.declared.reports.Outcome.TheVariants as outcome
 
@@ -52,6 +52,7 @@ pub record Progress : Type 0 where
   pub calls : ℕ
   pub ready : List ℕ
   pub lacking : List ℕ
+  pub lacked : List Lack
   pub faults : ℕ
   pub losses : ℕ
   pub returns : List Return
@@ -59,21 +60,22 @@ pub record Progress : Type 0 where
   pub note : PidNote
 
 abbrev pub start_at : Table → PidNote → Progress
-start_at t note = record { table = t; calls = 0; ready = []; lacking = []; faults = 0; losses = 0; returns = []; cause = None; note = note }
+start_at t note = record { table = t; calls = 0; ready = []; lacking = []; lacked = []; faults = 0; losses = 0; returns = []; cause = None; note = note }
 
 -- the middle of a moment, after its exits
 abbrev pub after_moment : List Name → Progress → Progress
 after_moment es p = record p { table = after_exits es p.table; losses = p.losses + losses_of es p.table }
 
-abbrev pub after_call : Order → List ℕ → Stepped → Progress → Progress
-after_call order set s p = record p {
+abbrev pub after_call : ℕ → Order → List ℕ → Stepped → Progress → Progress
+after_call by order set s p = record p {
   table = s.table;
   calls = p.calls + 1;
   ready = ready_after s.answer p.ready;
   lacking = lacking_after set s.answer p.lacking;
-  faults = if is_fault (call_of order p.lacking) s.answer then p.faults + 1 else p.faults;
-  returns = returns_after (call_of order p.lacking) s.answer p.faults p.returns;
-  cause = first_cause p.cause (went_wrong (call_of order p.lacking) (reply_of set s.answer)) (p.calls + 1);
+  lacked = lacked_after by set s.answer p.lacked;
+  faults = if is_fault (call_of order (lacked_by by p.lacked)) s.answer then p.faults + 1 else p.faults;
+  returns = returns_after (call_of order (lacked_by by p.lacked)) s.answer p.faults p.returns;
+  cause = first_cause p.cause (went_wrong (call_of order (lacked_by by p.lacked)) (reply_of set s.answer)) (p.calls + 1);
 }
 
 abbrev pub noted : Option PidNote → Progress → Progress
@@ -82,7 +84,7 @@ noted (Some n) p = record p { note = n }
 
 -- what a step's call, which is handed a text, is answered after the exits of its moment
 abbrev pub answered : List ℕ → ℕ → Order → Option Fate → Progress → Stepped
-answered text by order f p = step_with text by (call_of order p.lacking) f p.table
+answered text by order f p = step_with text by (call_of order (lacked_by by p.lacked)) f p.table
 
 -- how a run ends: at an end of the plan, or where a step has no edge for the answer
 pub data Ending : Type 0 where
@@ -111,8 +113,8 @@ abbrev mutual
       let moment = pattern (p.calls + 1) in
       let middle = after_moment moment.exits p in
       let s = answered text by order moment.fate middle in
-      with_entry (record { by = by; call = call_of order middle.lacking; answer = s.answer }) p middle
-      (goes_with text branches (reply_of set s.answer) pattern (after_call order set s middle))
+      with_entry (record { by = by; call = call_of order (lacked_by by middle.lacked); answer = s.answer }) p middle
+      (goes_with text branches (reply_of set s.answer) pattern (after_call by order set s middle))
 
   pub goes_with : List ℕ → Branches → Reply → Pattern → Progress → Ran
   goes_with text Nothing r pattern p = ends_at Lost p

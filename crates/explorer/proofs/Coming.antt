@@ -11,7 +11,7 @@ use Rattle.definitions.specs.Record.{Record}
 use Rattle.definitions.specs.Calls.{Stepped, step_with}
 use Rattle.definitions.specs.Exits.{after_exits}
 use Rattle.definitions.specs.Tree.{Tree, Ends, Does, Branches, branch, reply_of, call_of}
-use Rattle.definitions.specs.Path.{advance, Asks, follow, rest_after}
+use Rattle.definitions.specs.Path.{advance, Asks, follow, rest_after, lacked_by}
 use Rattle.definitions.specs.Run.{Moment, Pattern, Progress, Ran, run_with, with_entry, after_moment, after_call, answered}
 use Rattle.definitions.specs.Target.{text_handed}
 use Rattle.plan_executor.specs.Lawful.{trail_at}
@@ -48,10 +48,10 @@ module _ (text : List ℕ) (by : ℕ) (order : Order) (set : List ℕ) (branches
   found m = branch branches (reply_of set (stepped m).answer)
 
   abbrev pub entry_in : Moment → Entry
-  entry_in m = record { by = by; call = call_of order p.lacking; answer = (stepped m).answer }
+  entry_in m = record { by = by; call = call_of order (lacked_by by p.lacked); answer = (stepped m).answer }
 
   abbrev pub further : Moment → Progress
-  further m = onward (found m) (after_call order set (stepped m) (after_moment m.exits p))
+  further m = onward (found m) (after_call by order set (stepped m) (after_moment m.exits p))
 
   pub runs-on : (q : Pattern) (m : Moment) → q (p.calls + 1) ≡ m →
       run_with text (Does by order set branches) q p ≡ with_entry (entry_in m) p (after_moment m.exits p) (rest_run text (rest_after (found m)) q (further m))
@@ -60,17 +60,17 @@ module _ (text : List ℕ) (by : ℕ) (order : Order) (set : List ℕ) (branches
       (let m = q (p.calls + 1) in
       let s = stepped m in
       let middle = after_moment m.exits p in
-      let onto = after_call order set s middle in
+      let onto = after_call by order set s middle in
       ap (with_entry (entry_in m) p middle) (goes-branch text branches (reply_of set s.answer) q onto ∙ rest-onward text (found m) q onto))
 
   pub further-calls : (m : Moment) → (further m).calls ≡ p.calls + 1
-  further-calls m = onward-calls (found m) (after_call order set (stepped m) (after_moment m.exits p))
+  further-calls m = onward-calls (found m) (after_call by order set (stepped m) (after_moment m.exits p))
 
-  pub further-table : (m : Moment) → (further m).table ≡ (step_with text by (call_of order p.lacking) m.fate (after_exits m.exits p.table)).table
-  further-table m = onward-table (found m) (after_call order set (stepped m) (after_moment m.exits p))
+  pub further-table : (m : Moment) → (further m).table ≡ (step_with text by (call_of order (lacked_by by p.lacked)) m.fate (after_exits m.exits p.table)).table
+  further-table m = onward-table (found m) (after_call by order set (stepped m) (after_moment m.exits p))
 
   pub trail-behind : (m : Moment) → advance (trail_at (Some (Does by order set branches)) p) (entry_in m) ≡ trail_at (rest_after (found m)) (further m)
-  trail-behind m = trail-onward (found m) (after_call order set (stepped m) (after_moment m.exits p))
+  trail-behind m = trail-onward (found m) (after_call by order set (stepped m) (after_moment m.exits p))
 
 -- what the calls meet from the next one on
 pub met-step : (text : List ℕ) (last : Option Event) (q : Pattern) (heirs : List ℕ) (n : ℕ) (t : Table) (e : Entry) (es : List Entry) (m : Moment) → q (n + 1) ≡ m →
@@ -94,7 +94,7 @@ weaker n p q same m le = same m (omega (arith, le))
 come-step : (r : Record) (target : Target) (t : Table) (pattern : Pattern) (n : ℕ) (heirs : List ℕ) (by : ℕ) (order : Order) (set : List ℕ) (branches : Branches) (p : Progress) (m : Moment) →
     let text = text_handed r target in
     HasCome r target t pattern n (Some (Does by order set branches)) heirs p → pattern (n + 1) ≡ m →
-    HasCome r target t pattern (n + 1) (rest_after (found text by order set branches p m)) (waiting (call_of order p.lacking) heirs) (further text by order set branches p m)
+    HasCome r target t pattern (n + 1) (rest_after (found text by order set branches p m)) (waiting (call_of order (lacked_by by p.lacked)) heirs) (further text by order set branches p m)
 come-step r target t pattern n heirs by order set branches p m come is =
     let text = text_handed r target in
     let moment : (q : Pattern) → IsSameUpTo (n + 1) pattern q → q (n + 1) ≡ m = λ q same. same (n + 1) (omega arith) ∙ is in
@@ -110,7 +110,7 @@ come-step r target t pattern n heirs by order set branches p m come is =
           come.meets q e (weaker n pattern q same) (omega (arith, before))
           ∙ ap (λ (ran : Ran). met text (Some e) q heirs n p.table ran.entries) (goes q same)
           ∙ passed text e q heirs n p.table (entry_in text by order set branches p m) _ m (moment q same) before
-          ∙ ap (λ (x : Table). met text (Some e) q (waiting (call_of order p.lacking) heirs) (n + 1) x (rest_run text (rest_after (found text by order set branches p m)) q (further text by order set branches p m)).entries) (sym (further-table text by order set branches p m));
+          ∙ ap (λ (x : Table). met text (Some e) q (waiting (call_of order (lacked_by by p.lacked)) heirs) (n + 1) x (rest_run text (rest_after (found text by order set branches p m)) q (further text by order set branches p m)).entries) (sym (further-table text by order set branches p m));
     }
 
 ---- Any rest of a plan
@@ -125,7 +125,7 @@ pub record Goes (r : Record) (target : Target) (rest : Option Tree) (p : Progres
   pub entries : (q : Pattern) → q (p.calls + 1) ≡ m →
       (rest_run (text_handed r target) rest q p).entries ≡ e ∷ (rest_run (text_handed r target) (rest_after (follow rest e.answer)) q (moved (text_handed r target) rest m p)).entries
 
-pub goes : (r : Record) (target : Target) (rest : Option Tree) (p : Progress) (m : Moment) (e : Entry) → Asks rest p.lacking e →
+pub goes : (r : Record) (target : Target) (rest : Option Tree) (p : Progress) (m : Moment) (e : Entry) → Asks rest p.lacked e →
     e.answer ≡ (step_with (text_handed r target) e.by e.call m.fate (after_exits m.exits p.table)).answer → Goes r target rest p m e
 goes r target None p m e asks answer = absurd asks
 goes r target (Some (Ends end)) p m e asks answer = absurd asks

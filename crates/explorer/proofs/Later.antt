@@ -45,7 +45,7 @@ later before due m walk kernel waits answer fit asks moment is =
     let stepped : (p : Progress) → IsAt before p → record { answer = answer; table = kernel.table } ≡ step_with text due.by due.call m.fate (after_exits m.exits p.table) =
     λ p at. is.step ∙ (λ i. step_with (at.text i) due.by due.call m.fate (after_exits m.exits (sym at.table i))) in
     let on : (p : Progress) → IsAt before p → Goes before.state.now before.target.now T.rest p m e =
-    λ p at. goes before.state.now before.target.now T.rest p m e (subst (λ ks. Asks T.rest ks e) (sym (ap (λ (t : Trail). t.lacking) at.trail)) (asks answer)) (ap (λ (s : Stepped). s.answer) (stepped p at)) in
+    λ p at. goes before.state.now before.target.now T.rest p m e (subst (λ ks. Asks T.rest ks e) (sym (ap (λ (t : Trail). t.lacked) at.trail)) (asks answer)) (ap (λ (s : Stepped). s.answer) (stepped p at)) in
     let trails : (p : Progress) → IsAt before p → trail_of walk ≡ advance (trail_at T.rest p) e =
     λ p at. is.trail ∙ ap (λ (t : Trail). advance t e) (sym at.trail) in
     record {

@@ -13,7 +13,7 @@ use Rattle.definitions.specs.Exits.{after_exits, losses_of}
 use Rattle.definitions.specs.Calls.{Call, Stepped, step_with}
 use Rattle.vocabulary.specs.declared.calls.Answer.TheVariants as answer
 use Rattle.definitions.specs.Tree.{Tree, Branches, Ends, Does, Nothing, Branch, Reply, among, branch, reply_of, call_of}
-use Rattle.definitions.specs.Path.{Trail, Sides, Asks, rest_after}
+use Rattle.definitions.specs.Path.{Trail, Sides, Asks, rest_after, Lack, lacked_by}
 use Rattle.definitions.specs.Run.{Moment, quiet, Pattern, Progress, Ran, run_with, goes_with, with_entry, answered, noted, after_moment, after_call, outcome_of, report_of}
 use Rattle.definitions.specs.Target.{sides_of, text_handed}
 use Rattle.definitions.specs.Claims.{run_of}
@@ -40,8 +40,8 @@ abbrev stepping : List ℕ → ℕ → Order → List ℕ → Branches → Progr
 stepping text by order set branches p pattern m =
     let middle = after_moment m.exits p in
     let s = answered text by order m.fate middle in
-    with_entry (record { by = by; call = call_of order middle.lacking; answer = s.answer }) p middle
-    (goes_with text branches (reply_of set s.answer) pattern (after_call order set s middle))
+    with_entry (record { by = by; call = call_of order (lacked_by by middle.lacked); answer = s.answer }) p middle
+    (goes_with text branches (reply_of set s.answer) pattern (after_call by order set s middle))
 
 noted-calls : (said : Option PidNote) (p : Progress) → (noted said p).calls ≡ p.calls
 noted-calls None p = refl
@@ -55,8 +55,8 @@ mutual
       let middle = after_moment m.exits p in
       let s = answered text by order m.fate middle in
       ap (stepping text by order set branches p a) (same (p.calls + 1) (omega arith))
-      ∙ ap (with_entry (record { by = by; call = call_of order middle.lacking; answer = s.answer }) p middle)
-      (same-goes text branches (reply_of set s.answer) a b (after_call order set s middle) (λ k lt. same k (omega (arith, lt))))
+      ∙ ap (with_entry (record { by = by; call = call_of order (lacked_by by middle.lacked); answer = s.answer }) p middle)
+      (same-goes text branches (reply_of set s.answer) a b (after_call by order set s middle) (λ k lt. same k (omega (arith, lt))))
 
   same-goes : (text : List ℕ) (bs : Branches) (r : Reply) (a b : Pattern) (p : Progress) → ((m : ℕ) → p.calls < m → a m ≡ b m) → goes_with text bs r a p ≡ goes_with text bs r b p
   same-goes text Nothing r a b p same = refl
@@ -109,26 +109,26 @@ module _ (text : List ℕ) (g : Generation) (k : ℕ) where
   leaving = with_exit worker quiet
 
   -- the exit before a call that passes the worker by, and behind it
-  module _ (by : ℕ) (order : Order) (set : List ℕ) (branches : Branches) (p : Progress) (passes : passes_by (call_of order p.lacking) worker ≡ true) where
+  module _ (by : ℕ) (order : Order) (set : List ℕ) (branches : Branches) (p : Progress) (passes : passes_by (call_of order (lacked_by by p.lacked)) worker ≡ true) where
     abbrev plain : Stepped
-    plain = step_with text by (call_of order p.lacking) None p.table
+    plain = step_with text by (call_of order (lacked_by by p.lacked)) None p.table
 
     step-same : stepped text by order set branches p leaving ≡ exited_step g k plain
-    step-same = (passed g k text by (call_of order p.lacking) p.table passes).same
+    step-same = (passed g k text by (call_of order (lacked_by by p.lacked)) p.table passes).same
 
     found-same : found text by order set branches p leaving ≡ found text by order set branches p quiet
     found-same = ap (λ (s : Stepped). branch branches (reply_of set s.answer)) step-same
 
     losses-same : p.losses + losses_of (worker ∷ []) p.table ≡ (p.losses + losses_of [] p.table) + losses_of (worker ∷ []) plain.table
-    losses-same = omega (arith, no-losses p.table, same-losses g k text by (call_of order p.lacking) p.table passes)
+    losses-same = omega (arith, no-losses p.table, same-losses g k text by (call_of order (lacked_by by p.lacked)) p.table passes)
 
     further-same : further text by order set branches p leaving ≡ after_moment (worker ∷ []) (further text by order set branches p quiet)
     further-same =
         let middle = after_moment (worker ∷ []) p in
-        let on = after_call order set (exited_step g k plain) middle in
-        ap (λ (s : Stepped). onward (branch branches (reply_of set s.answer)) (after_call order set s middle)) step-same
+        let on = after_call by order set (exited_step g k plain) middle in
+        ap (λ (s : Stepped). onward (branch branches (reply_of set s.answer)) (after_call by order set s middle)) step-same
         ∙ ap (λ n. onward (branch branches (reply_of set plain.answer)) (record on { losses = n })) losses-same
-        ∙ onward-exit (branch branches (reply_of set plain.answer)) (worker ∷ []) (after_call order set plain (after_moment [] p))
+        ∙ onward-exit (branch branches (reply_of set plain.answer)) (worker ∷ []) (after_call by order set plain (after_moment [] p))
 
   -- From there on the run in which it has exited is that in which it exits next.
   joined : (rest : Option Tree) (ls : List ℕ) (e : Entry) (x : Progress) (a b : Pattern) → Asks rest ls e → a (x.calls + 1) ≡ quiet → b (x.calls + 1) ≡ leaving →
@@ -141,7 +141,7 @@ module _ (text : List ℕ) (g : Generation) (k : ℕ) where
       let rest = rest_after (found text by order set branches x leaving) in
       let on = further text by order set branches x leaving in
       let same : further text by order set branches y quiet ≡ on =
-      ap (λ (z : Progress). onward (found text by order set branches x leaving) (after_call order set (stepped text by order set branches x leaving) z)) (no-exit y) in
+      ap (λ (z : Progress). onward (found text by order set branches x leaving) (after_call by order set (stepped text by order set branches x leaving) z)) (no-exit y) in
       let calls = further-calls text by order set branches x leaving in
       let one = behind-entry _ _ _ (run_with text tree a y) (rest_run text rest a (further text by order set branches y quiet)) (runs-on text by order set branches y a quiet here) in
       let two = behind-entry _ _ _ (run_with text tree b x) (rest_run text rest b on) (runs-on text by order set branches x b leaving there) in
@@ -155,8 +155,8 @@ quiet-but : (e : Event) (m : ℕ) → m ≢ e.number → pattern_of (One e) m �
 quiet-but e m not = other e (λ _. quiet) m not
 
 -- The run in which a worker exits before a call that passes it by is that in which it exits before the next call.
-later-exit : (r : Record) (to : Target) (t : Table) (n : ℕ) (heirs : List ℕ) (rest : Option Tree) (p : Progress) (e : Entry) (ls : List ℕ) (next : Entry) (g : Generation) (k q : ℕ) →
-    HasCome r to t (pattern_of NothingTried) n rest heirs p → Asks rest p.lacking e → passes_by e.call (name.Worker g k) ≡ true → Asks (rest_moved (text_handed r to) rest quiet p) ls next →
+later-exit : (r : Record) (to : Target) (t : Table) (n : ℕ) (heirs : List ℕ) (rest : Option Tree) (p : Progress) (e : Entry) (ls : List Lack) (next : Entry) (g : Generation) (k q : ℕ) →
+    HasCome r to t (pattern_of NothingTried) n rest heirs p → Asks rest p.lacked e → passes_by e.call (name.Worker g k) ≡ true → Asks (rest_moved (text_handed r to) rest quiet p) ls next →
     report_under r to t (One (event_at (n + 1) (Exit (name.Worker g k) q))) ≡ report_under r to t (One (event_at (n + 1 + 1) (Exit (name.Worker g k) q)))
 later-exit r to t n heirs None p e ls next g k q come asks passes more = absurd asks
 later-exit r to t n heirs (Some (Ends end)) p e ls next g k q come asks passes more = absurd asks
@@ -169,7 +169,7 @@ later-exit r to t n heirs (Some (Does by order set branches)) p e ls next g k q 
     let b = pattern_of (One second) in
     let x = further text by order set branches p quiet in
     let rest = rest_after (found text by order set branches p quiet) in
-    let passes' : passes_by (call_of order p.lacking) (name.Worker g k) ≡ true = ap (λ (c : Call). passes_by c (name.Worker g k)) (sym asks.1) ∙ passes in
+    let passes' : passes_by (call_of order (lacked_by by p.lacked)) (name.Worker g k) ≡ true = ap (λ (c : Call). passes_by c (name.Worker g k)) (sym asks.1) ∙ passes in
     let calls = further-calls text by order set branches p quiet in
     let at-first : a (p.calls + 1) ≡ leaving text g k = at-event first (λ _. quiet) (p.calls + 1) (omega (arith, come.calls)) in
     let before : b (p.calls + 1) ≡ quiet = quiet-but second (p.calls + 1) (omega (arith, come.calls)) in
@@ -192,9 +192,9 @@ known-later run due after p by call (name.Worker g k) q at asks tried is next pa
     let to = run.target.now in
     let T = trail_of run.walk in
     let e : Entry = record { by = due.by; call = due.call; answer = answer.Fine } in
-    let here : Asks T.rest p.lacking e = subst (λ ks. Asks T.rest ks e) (sym (ap (λ (t : Trail). t.lacking) at.trail)) (asks answer.Fine) in
-    let there : Asks (rest_moved (text_handed r to) T.rest quiet p) (trail_of after.walk).lacking (record { by = by; call = call; answer = answer.Fine }) =
-    subst (λ rest. Asks rest (trail_of after.walk).lacking (record { by = by; call = call; answer = answer.Fine })) (is.rest p at) (next answer.Fine) in
+    let here : Asks T.rest p.lacked e = subst (λ ks. Asks T.rest ks e) (sym (ap (λ (t : Trail). t.lacked) at.trail)) (asks answer.Fine) in
+    let there : Asks (rest_moved (text_handed r to) T.rest quiet p) (trail_of after.walk).lacked (record { by = by; call = call; answer = answer.Fine }) =
+    subst (λ rest. Asks rest (trail_of after.walk).lacked (record { by = by; call = call; answer = answer.Fine })) (is.rest p at) (next answer.Fine) in
     let come = subst (λ (x : Tried). HasCome r to run.first.now.table (pattern_of x) run.made T.rest (listed run.heir) p) tried at.come in
     later-exit r to run.first.now.table run.made (listed run.heir) T.rest p e _ _ g k q come here passes there
     ∙ (λ i. report_under (sym is.state i) (sym is.target i) (sym is.first i).table (One (event_at (sym is.made i + 1) (Exit (name.Worker g k) q))))

@@ -85,7 +85,7 @@ moved text (Some (Ends end)) moment p = p
 moved text (Some (Does by order set branches)) moment p =
     let middle = after_moment moment.exits p in
     let s = answered text by order moment.fate middle in
-    onward (branch branches (reply_of set s.answer)) (after_call order set s middle)
+    onward (branch branches (reply_of set s.answer)) (after_call by order set s middle)
 
 -- what is left of the plan then
 abbrev pub rest_moved : List ℕ → Option Tree → Moment → Progress → Option Tree

@@ -8,7 +8,7 @@ use Rattle.vocabulary.specs.declared.plans.Order.{Order}
 use Rattle.definitions.specs.Calls.{Stepped, step_with}
 use Rattle.definitions.specs.Exits.{after_exits}
 use Rattle.definitions.specs.Tree.{Tree, Ends, Does, Branches, Nothing, Branch, among, reply_of, call_of, branch}
-use Rattle.definitions.specs.Path.{Trail, advance, trail_after, Follows, IsOver, rest_after, note_after}
+use Rattle.definitions.specs.Path.{Trail, advance, trail_after, Follows, IsOver, rest_after, note_after, lacked_by}
 use Rattle.definitions.specs.Run.{Pattern, Progress, Lost, Ran, ends_at, run_with, goes_with, noted, after_moment, after_call, answered, with_entry, Replays}
 use Rattle.plan_executor.specs.Lawful.{trail_at, IsRun}
 
@@ -39,7 +39,7 @@ RunsAll text entries =
 
 -- the trail behind an edge, or where there is none
 abbrev pub behind : Option (Option PidNote × Tree) → Progress → Trail
-behind found q = record { rest = rest_after found; ready = q.ready; lacking = q.lacking; note = note_after found q.note; cause = q.cause; made = q.calls }
+behind found q = record { rest = rest_after found; ready = q.ready; lacking = q.lacking; lacked = q.lacked; note = note_after found q.note; cause = q.cause; made = q.calls }
 
 runs-behind : (text : List ℕ) (found : Option (Option PidNote × Tree)) (entries : List Entry) (pattern : Pattern) (q : Progress) (last : Table) → RunsAll text entries → Follows (behind found q) entries → IsOver (trail_after (behind found q) entries).rest → Replays text pattern q.calls q.table entries last → IsRun entries last (trail_after (behind found q) entries) (run_on text found pattern q)
 runs-behind text None [] pattern q last all follows over replays = record { entries_are = refl; table = replays; ending = refl; trail = refl }
@@ -51,7 +51,7 @@ runs-behind text (Some (Some n, rest)) entries pattern q last all follows over r
 abbrev pub first_entry : List ℕ → ℕ → Order → Pattern → Progress → Entry
 first_entry text by order pattern p =
     let moment = pattern (p.calls + 1) in
-    record { by = by; call = call_of order p.lacking; answer = (answered text by order moment.fate (after_moment moment.exits p)).answer }
+    record { by = by; call = call_of order (lacked_by by p.lacked); answer = (answered text by order moment.fate (after_moment moment.exits p)).answer }
 
 runs-step : (text : List ℕ) (entries : List Entry) (by : ℕ) (order : Order) (set : List ℕ) (branches : Branches) (pattern : Pattern) (p : Progress) (last : Table) → RunsAll text entries →
     let moment = pattern (p.calls + 1) in
@@ -63,7 +63,7 @@ runs-step text entries by order set branches pattern p last all follows over rep
     let moment = pattern (p.calls + 1) in
     let middle = after_moment moment.exits p in
     let s = answered text by order moment.fate middle in
-    let q = after_call order set s middle in
+    let q = after_call by order set s middle in
     let e = first_entry text by order pattern p in
     let found = branch branches (reply_of set s.answer) in
     with-entry e p middle entries last (trail_after (behind found q) entries) _

@@ -16,7 +16,7 @@ use Rattle.vocabulary.specs.declared.plans.Order.{Order}
 use Rattle.vocabulary.specs.declared.plans.Order.TheVariants.{Make, ForkLacking, AwaitLacking, KillLacking}
 use Rattle.vocabulary.specs.declared.reports.Entry.{Entry}
 use Rattle.definitions.specs.Tree.{Tree, Ends, Does, Branches, Nothing, Branch, branch, among, same_reply, reply_of, full_or_short, replies_to, is_listed, height, highest, is_fit, are_fit, short_after, order_replies, call_of}
-use Rattle.definitions.specs.Path.{Trail, advance, Asks, follow, ready_after, lacking_after, first_cause, went_wrong}
+use Rattle.definitions.specs.Path.{Trail, advance, Asks, follow, ready_after, lacking_after, Lack, lacked_by, lacked_after, first_cause, went_wrong}
 use Rattle.rollback_plan.specs.Bounds.{is_short}
 use Rattle.plan_walk.specs.Fit.{is_fit_next}
 
@@ -37,9 +37,14 @@ SetIs (Ends end) set = ⊥
 SetIs (Does by order own branches) set = set ≡ own
 
 -- the tree begins with a step that asks for this call
-abbrev pub AsksOne : Tree → List ℕ → ℕ → Call → Type 0
-AsksOne (Ends end) lacking by call = ⊥
-AsksOne (Does own order set branches) lacking by call = (by ≡ own) × (call ≡ call_of order lacking)
+abbrev pub AsksOne : Tree → List Lack → ℕ → Call → Type 0
+AsksOne (Ends end) lacked by call = ⊥
+AsksOne (Does own order set branches) lacked by call = (by ≡ own) × (call ≡ call_of order (lacked_by own lacked))
+
+-- the tree begins with a step of this master
+abbrev pub ByIs : Tree → ℕ → Type 0
+ByIs (Ends end) by = ⊥
+ByIs (Does own order set branches) by = by ≡ own
 
 ---- Branches
 
@@ -173,36 +178,42 @@ lower_after (Ends end) a found e = cc
 lower_after (Does by order set branches) a found e = omega (arith, height_branch branches (reply_of set a) found e)
 
 -- an answer that no edge takes is that the master is gone
-pub lost_after : (t : Tree) (lacking : List ℕ) (by : ℕ) (c : Call) (a : Answer) (short : Bool) → AsksOne t lacking by c → is_fit short t ≡ true → is_listed c a ≡ true → follow (Some t) a ≡ None → a ≡ answer.MasterGone
-lost_after (Ends end) lacking by c a short h fit listed e = absurd h
-lost_after (Does own order set branches) lacking by c a short h fit listed e =
+pub lost_after : (t : Tree) (lacked : List Lack) (by : ℕ) (c : Call) (a : Answer) (short : Bool) → AsksOne t lacked by c → is_fit short t ≡ true → is_listed c a ≡ true → follow (Some t) a ≡ None → a ≡ answer.MasterGone
+lost_after (Ends end) lacked by c a short h fit listed e = absurd h
+lost_after (Does own order set branches) lacked by c a short h fit listed e =
     elim (listed_reply c set a listed) [
       | inl gone ↦ gone
       | inr reply ↦
-          let of_order = subst (λ (replies : List Reply). among replies (reply_of set a) ≡ true) (ap replies_to h.1 ∙ replies_of_order lacking order) reply in
+          let of_order = subst (λ (replies : List Reply). among replies (reply_of set a) ≡ true) (ap replies_to h.1 ∙ replies_of_order (lacked_by own lacked) order) reply in
           let has = among_has (λ r. is_some (branch branches r)) (order_replies order) (reply_of set a) of_order (and_left _ (are_fit short branches) (and_right _ _ fit)) in
           absurd (true≢false (sym has ∙ ap is_some e))
     ]
 
-abbrev pub trail_at : Option Tree → List ℕ → List ℕ → PidNote → Option ℕ → ℕ → Trail
-trail_at rest ready lacking note cause made = record { rest = rest; ready = ready; lacking = lacking; note = note; cause = cause; made = made }
+abbrev pub trail_at : Option Tree → List ℕ → List ℕ → List Lack → PidNote → Option ℕ → ℕ → Trail
+trail_at rest ready lacking lacked note cause made = record { rest = rest; ready = ready; lacking = lacking; lacked = lacked; note = note; cause = cause; made = made }
 
 -- what an entry makes of a trail, where no edge takes its answer
-pub advanced_lost : (rest : Option Tree) (t : Tree) (set ready lacking ready' lacking' : List ℕ) (note : PidNote) (cause first : Option ℕ) (made : ℕ) (e : Entry) → rest ≡ Some t → SetIs t set → ready' ≡ ready_after e.answer ready → lacking' ≡ lacking_after set e.answer lacking → first ≡ first_cause cause (went_wrong e.call (reply_of set e.answer)) (made + 1) → follow (Some t) e.answer ≡ None → trail_at None ready' lacking' note first (made + 1) ≡ advance (trail_at rest ready lacking note cause made) e
-advanced_lost rest (Ends end) set ready lacking ready' lacking' note cause first made e is s readies lacks causes none = absurd s
-advanced_lost rest (Does by order own branches) set ready lacking ready' lacking' note cause first made e is s readies lacks causes none =
-    rw (is, readies, lacks, causes, s, none) refl
+pub advanced_lost : (rest : Option Tree) (t : Tree) (set ready lacking ready' lacking' : List ℕ) (lacked lacked' : List Lack) (note : PidNote) (cause first : Option ℕ) (made : ℕ) (e : Entry) → rest ≡ Some t → SetIs t set → ready' ≡ ready_after e.answer ready → lacking' ≡ lacking_after set e.answer lacking → lacked' ≡ lacked_after e.by set e.answer lacked → first ≡ first_cause cause (went_wrong e.call (reply_of set e.answer)) (made + 1) → follow (Some t) e.answer ≡ None → trail_at None ready' lacking' lacked' note first (made + 1) ≡ advance (trail_at rest ready lacking lacked note cause made) e
+advanced_lost rest (Ends end) set ready lacking ready' lacking' lacked lacked' note cause first made e is s readies lacks all causes none = absurd s
+advanced_lost rest (Does by order own branches) set ready lacking ready' lacking' lacked lacked' note cause first made e is s readies lacks all causes none =
+    rw (is, readies, lacks, all, causes, s, none) refl
 
 -- and where one does
-pub advanced_on : (rest : Option Tree) (t : Tree) (set ready lacking ready' lacking' : List ℕ) (note said : PidNote) (cause first : Option ℕ) (made : ℕ) (e : Entry) (found : Option PidNote × Tree) → rest ≡ Some t → SetIs t set → ready' ≡ ready_after e.answer ready → lacking' ≡ lacking_after set e.answer lacking → first ≡ first_cause cause (went_wrong e.call (reply_of set e.answer)) (made + 1) → follow (Some t) e.answer ≡ Some found → said ≡ unwrap_or found.0 note → trail_at (Some found.1) ready' lacking' said first (made + 1) ≡ advance (trail_at rest ready lacking note cause made) e
-advanced_on rest (Ends end) set ready lacking ready' lacking' note said cause first made e found is s readies lacks causes on notes = absurd s
-advanced_on rest (Does by order own branches) set ready lacking ready' lacking' note said cause first made e found is s readies lacks causes on notes =
-    rw (is, readies, lacks, causes, s, on, notes) refl
+pub advanced_on : (rest : Option Tree) (t : Tree) (set ready lacking ready' lacking' : List ℕ) (lacked lacked' : List Lack) (note said : PidNote) (cause first : Option ℕ) (made : ℕ) (e : Entry) (found : Option PidNote × Tree) → rest ≡ Some t → SetIs t set → ready' ≡ ready_after e.answer ready → lacking' ≡ lacking_after set e.answer lacking → lacked' ≡ lacked_after e.by set e.answer lacked → first ≡ first_cause cause (went_wrong e.call (reply_of set e.answer)) (made + 1) → follow (Some t) e.answer ≡ Some found → said ≡ unwrap_or found.0 note → trail_at (Some found.1) ready' lacking' lacked' said first (made + 1) ≡ advance (trail_at rest ready lacking lacked note cause made) e
+advanced_on rest (Ends end) set ready lacking ready' lacking' lacked lacked' note said cause first made e found is s readies lacks all causes on notes = absurd s
+advanced_on rest (Does by order own branches) set ready lacking ready' lacking' lacked lacked' note said cause first made e found is s readies lacks all causes on notes =
+    rw (is, readies, lacks, all, causes, s, on, notes) refl
 
-pub asks_one : (rest : Option Tree) (t : Tree) (lacking : List ℕ) (e : Entry) → rest ≡ Some t → Asks rest lacking e → AsksOne t lacking e.by e.call
-asks_one None t lacking e is asks = absurd asks
-asks_one (Some (Ends end)) t lacking e is asks = absurd asks
-asks_one (Some (Does by order set branches)) t lacking e is asks = subst (λ (x : Tree). AsksOne x lacking e.by e.call) (some_one is) asks
+-- the entry that is asked for is the next step's master's
+pub asked_by : (rest : Option Tree) (t : Tree) (lacked : List Lack) (e : Entry) → rest ≡ Some t → Asks rest lacked e → ByIs t e.by
+asked_by None t lacked e is asks = absurd asks
+asked_by (Some (Ends end)) t lacked e is asks = absurd asks
+asked_by (Some (Does by order set branches)) t lacked e is asks = subst (λ (x : Tree). ByIs x e.by) (some_one is) asks.0
+
+pub asks_one : (rest : Option Tree) (t : Tree) (lacked : List Lack) (e : Entry) → rest ≡ Some t → Asks rest lacked e → AsksOne t lacked e.by e.call
+asks_one None t lacked e is asks = absurd asks
+asks_one (Some (Ends end)) t lacked e is asks = absurd asks
+asks_one (Some (Does by order set branches)) t lacked e is asks = subst (λ (x : Tree). AsksOne x lacked e.by e.call) (some_one is) asks
 
 pub fit_one : (short : Bool) (rest : Option Tree) (t : Tree) → rest ≡ Some t → is_fit_next short rest ≡ true → is_fit short t ≡ true
 fit_one short rest t is fit = subst (λ (x : Option Tree). is_fit_next short x ≡ true) is fit

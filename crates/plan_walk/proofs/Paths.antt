@@ -2,19 +2,19 @@
 use Rattle.std.proofs.Common.{◌≡◌, ℕ, ◌≤◌, List, [], ◌∷◌, ◌++◌, refl, arith, Option, Some, None}
 use Rattle.definitions.specs.Tree.{Tree, Ends, Does}
 use Rattle.vocabulary.specs.declared.reports.Entry.{Entry}
-use Rattle.definitions.specs.Path.{Trail, advance, trail_after, Asks, Follows}
+use Rattle.definitions.specs.Path.{Trail, advance, trail_after, Asks, Follows, Lack}
 use Rattle.plan_walk.specs.Fit.{height_next}
 
 pub after-push : (t : Trail) (entries : List Entry) (e : Entry) → trail_after t (entries ++ e ∷ []) ≡ advance (trail_after t entries) e
 after-push t [] e = refl
 after-push t (x ∷ entries) e = after-push (advance t x) entries e
 
-pub Follows-push : (t : Trail) (entries : List Entry) (e : Entry) → Follows t entries → Asks (trail_after t entries).rest (trail_after t entries).lacking e → Follows t (entries ++ e ∷ [])
+pub Follows-push : (t : Trail) (entries : List Entry) (e : Entry) → Follows t entries → Asks (trail_after t entries).rest (trail_after t entries).lacked e → Follows t (entries ++ e ∷ [])
 Follows-push t [] e h asks = (asks, tt)
 Follows-push t (x ∷ entries) e h asks = (h.0, Follows-push (advance t x) entries e h.1 asks)
 
 -- where a call is asked for, a step is left
-pub asks_height : (rest : Option Tree) (lacking : List ℕ) (e : Entry) → Asks rest lacking e → 1 ≤ height_next rest
-asks_height None lacking e h = absurd h
-asks_height (Some (Ends end)) lacking e h = absurd h
-asks_height (Some (Does by order set branches)) lacking e h = omega arith
+pub asks_height : (rest : Option Tree) (lacked : List Lack) (e : Entry) → Asks rest lacked e → 1 ≤ height_next rest
+asks_height None lacked e h = absurd h
+asks_height (Some (Ends end)) lacked e h = absurd h
+asks_height (Some (Does by order set branches)) lacked e h = omega arith

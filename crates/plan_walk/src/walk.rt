@@ -4,7 +4,7 @@ ghost use Rattle.std.specs.Option.{option_map};
 ghost use Rattle.vocabulary.specs.declared.calls.Answer.TheVariants.{MasterGone};
 ghost use Rattle.definitions.specs.Crew.{shortfalls_of};
 ghost use Rattle.definitions.specs.Path.{first_cause};
-ghost use Rattle.rollback_plan.specs.Bounds.{is_short};
+ghost use Rattle.rollback_plan.specs.Bounds.{is_short, lacking_in};
 ghost use Rattle.rollback_plan.specs.Cursors.{rest_of};
 ghost use Rattle.rollback_plan.specs.Plans.{tree_of, note_of, sides_told};
 ghost use Rattle.plan_walk.specs.Fit.{is_fit_next, height_next};
@@ -31,7 +31,7 @@ pub struct Walk<'a> {
     cause: Option<u32>,
     made: u32,
     sides: &'a Sides,
-    ghost fit: { IsTrue (is_fit_next (is_short bound.lacking) (option_map rest_of rest)) },
+    ghost fit: { IsTrue (is_fit_next (is_short (lacking_in bound)) (option_map rest_of rest)) },
     ghost countable: { made + height_next (option_map rest_of rest) < 2 ^ 32 },
 }
 
@@ -69,7 +69,7 @@ impl<'a> Walk<'a> {
 
     /// The walk after a call and its answer.
     pub fn after(&self, entry: &Entry) -> Walk<'a>
-        requires asks { Asks (trail_of self.now).rest (trail_of self.now).lacking entry.now }
+        requires asks { Asks (trail_of self.now).rest (trail_of self.now).lacked entry.now }
         requires listed { IsTrue (is_listed entry.now.call entry.now.answer) }
         ensures trail { trail_of result ≡ advance (trail_of self.now) entry.now }
         ensures sides { sides_in result ≡ sides_in self.now }
@@ -149,7 +149,7 @@ impl<'a> Walk<'a> {
     {
         Outcome::Degraded {
             side,
-            shortfalls: Shortfalls::of(groups, self.bound.lacking()),
+            shortfalls: Shortfalls::of(groups, &self.bound.lacking()),
         }
     }
 }

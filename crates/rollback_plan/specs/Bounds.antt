@@ -1,13 +1,26 @@
 -- What a contract sees of what is bound.
-use Rattle.std.specs.Prelude.{ℕ, Bool, true, false, ◌||◌, not, List, [], ◌∷◌}
-use Rattle.vocabulary.specs.declared.plans.Order.{Order}
-use Rattle.definitions.specs.Tree.{names_lacking}
+use Rattle.std.specs.Prelude.{ℕ, Bool, true, false, List, [], ◌∷◌, Option, None, Some}
+use Rattle.vocabulary.specs.declared.plans.Lack.{Lack}
+use Rattle.rollback_plan.specs.declared.bound.Bound.{Bound}
 
 -- some number is lacking
 abbrev pub is_short : List ℕ → Bool
 is_short [] = false
 is_short (k ∷ ks) = true
 
--- an order can be named, where these numbers are lacking
-abbrev pub can_name : List ℕ → Order → Bool
-can_name lacking order = not (names_lacking order) || is_short lacking
+-- a census, where there was one, before older ones
+abbrev pub newest_of : Option Lack → List Lack → List Lack
+newest_of None lacked = lacked
+newest_of (Some lack) lacked = lack ∷ lacked
+
+-- what the last census of each master lacked, the newest first
+abbrev pub lacked_in : Bound → List Lack
+lacked_in b = newest_of b.newest (newest_of b.older [])
+
+abbrev pub numbers_of : Option Lack → List ℕ
+numbers_of None = []
+numbers_of (Some lack) = lack.numbers
+
+-- what the last census of all lacked
+abbrev pub lacking_in : Bound → List ℕ
+lacking_in b = numbers_of b.newest

@@ -12,7 +12,7 @@ mutual
       let moment = pattern (p.calls + 1) in
       let middle = after_moment moment.exits p in
       let s = answered text by order moment.fate middle in
-      omega (arith, calls-behind text branches (reply_of set s.answer) pattern (after_call order set s middle))
+      omega (arith, calls-behind text branches (reply_of set s.answer) pattern (after_call by order set s middle))
 
   pub calls-behind : (text : List ℕ) (bs : Branches) (r : Reply) (pattern : Pattern) (p : Progress) → length (goes_with text bs r pattern p).entries ≤ highest bs
   calls-behind text Nothing r pattern p = omega arith

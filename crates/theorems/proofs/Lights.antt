@@ -16,7 +16,8 @@ use Rattle.vocabulary.specs.declared.plans.Order.TheVariants.{Make, ForkLacking,
 use Rattle.definitions.specs.Table.{Table, Caller, live_master}
 use Rattle.definitions.specs.Exits.{after_exits}
 use Rattle.definitions.specs.Calls.{gives, each_row, drop_where, is_exited_of, census_of, step_by, step_with}
-use Rattle.definitions.specs.Path.{lacking_after, went_wrong, first_cause}
+use Rattle.theorems.proofs.Views.{eqb-refl}
+use Rattle.definitions.specs.Path.{Lack, lacked_by, lacked_after, went_wrong, first_cause}
 use Rattle.definitions.specs.Tree.{Tree, Branches, Ends, Does, Nothing, Branch, among, reply_of, full_or_short, call_of, lowest}
 use Rattle.definitions.specs.Plans.{settle, round, full_end, short_end, fork_edges, await_any_edges, then_edge, census_edges, census}
 use Rattle.definitions.specs.Manner.{is_leave_call}
@@ -61,6 +62,10 @@ first-lacks S cs x xs e =
 abbrev pub no_claim : Progress → Type 0
 no_claim q = ⊤
 
+-- what a master's own count lacked
+own-count : (image : ℕ) (set ns : List ℕ) (lacked : List Lack) → lacked_by image (lacked_after image set (answer.Counted ns) lacked) ≡ lacks set ns
+own-count image set ns lacked = rw (eqb-refl image image refl) refl
+
 -- nothing is asked of the end
 abbrev pub any_end : Ending → Progress → Type 0
 any_end e q = ⊤
@@ -73,7 +78,7 @@ module _ (image : ℕ) (mild : Exiting) (due : Asked) (light : Light image mild 
   Edges bs r p = Behind no_claim post mild due co bs r p
 
   -- A step, from what it does after the exits of its moment.
-  pub light-step : (order : Order) (set : List ℕ) (bs : Branches) (p : Progress) (Q : Table → Type 0) → is_leave order ≡ false → ((es : List Name) → Spares image es → mild es p.table.rows → Q p.table → Q (after_exits es p.table)) → Q p.table → ((q : Progress) → Q q.table → q.lacking ≡ p.lacking → due (call_of order q.lacking) q.table) → ((q : Progress) (fate : Option Fate) → Q q.table → q.lacking ≡ p.lacking → Edges bs (reply_of set (step_with co.text image (call_of order q.lacking) fate q.table).answer) (after_call order set (step_with co.text image (call_of order q.lacking) fate q.table) q)) → Goes (Does image order set bs) p
+  pub light-step : (order : Order) (set : List ℕ) (bs : Branches) (p : Progress) (Q : Table → Type 0) → is_leave order ≡ false → ((es : List Name) → Spares image es → mild es p.table.rows → Q p.table → Q (after_exits es p.table)) → Q p.table → ((q : Progress) → Q q.table → lacked_by image q.lacked ≡ lacked_by image p.lacked → due (call_of order (lacked_by image q.lacked)) q.table) → ((q : Progress) (fate : Option Fate) → Q q.table → lacked_by image q.lacked ≡ lacked_by image p.lacked → Edges bs (reply_of set (step_with co.text image (call_of order (lacked_by image q.lacked)) fate q.table).answer) (after_call image order set (step_with co.text image (call_of order (lacked_by image q.lacked)) fate q.table) q)) → Goes (Does image order set bs) p
   light-step order set bs p Q stays exits holds is_due next spared calm =
       let moment = co.pattern (p.calls + 1) in
       let middle = after_moment moment.exits p in
@@ -84,7 +89,7 @@ module _ (image : ℕ) (mild : Exiting) (due : Asked) (light : Light image mild 
         tt,
         tt,
         is_due middle kept refl,
-        subst (λ (x : Course). Behind no_claim post mild due x bs (reply_of set (answered co.text image order moment.fate middle).answer) (after_call order set (answered co.text image order moment.fate middle) middle)) (sym after) (next middle moment.fate kept refl),
+        subst (λ (x : Course). Behind no_claim post mild due x bs (reply_of set (answered co.text image order moment.fate middle).answer) (after_call image order set (answered co.text image order moment.fate middle) middle)) (sym after) (next middle moment.fate kept refl),
       )
     where
       go : (b : Bool) → b ≡ false → record { text = co.text; pattern = co.pattern; executing = if b then co.heirs else co.executing; heirs = co.heirs } ≡ co
@@ -117,54 +122,54 @@ module _ (image : ℕ) (mild : Exiting) (due : Asked) (light : Light image mild 
   both-exits : (g : Generation) (x : ℕ) (t : Table) (es : List Name) → Spares image es → mild es t.rows → Both g x t → Both g x (after_exits es t)
   both-exits g x t es sp calm b = (light.exits es t sp calm b.0, light.may_exits es t g x sp calm b.0 b.1)
 
-  fork-lacking : (g : Generation) (x : ℕ) (fds : Option (List ℕ)) (fate : Option Fate) (t : Table) (o : Option Caller) (l : List ℕ) → lacking_after [] (step_by co.text image o (Fork g x fds) fate t).answer l ≡ l
+  fork-lacking : (g : Generation) (x : ℕ) (fds : Option (List ℕ)) (fate : Option Fate) (t : Table) (o : Option Caller) (l : List Lack) → lacked_by image (lacked_after image [] (step_by co.text image o (Fork g x fds) fate t).answer l) ≡ lacked_by image l
   fork-lacking g x fds fate t None l = refl
-  fork-lacking g x fds fate t (Some c) l = fork-cases co.text image c g x fds fate t (λ st. lacking_after [] st.answer l ≡ l) refl refl (λ off. refl)
+  fork-lacking g x fds fate t (Some c) l = fork-cases co.text image c g x fds fate t (λ st. lacked_by image (lacked_after image [] st.answer l) ≡ lacked_by image l) refl refl (λ off. refl)
 
-  wait-lacking : (g : Generation) (x : ℕ) (fate : Option Fate) (t : Table) (o : Option Caller) (l : List ℕ) → lacking_after [] (step_by co.text image o (AwaitReady g x) fate t).answer l ≡ l
+  wait-lacking : (g : Generation) (x : ℕ) (fate : Option Fate) (t : Table) (o : Option Caller) (l : List Lack) → lacked_by image (lacked_after image [] (step_by co.text image o (AwaitReady g x) fate t).answer l) ≡ lacked_by image l
   wait-lacking g x fate t None l = refl
-  wait-lacking g x fate t (Some c) l = await-cases co.text image c g x fate t (λ st. lacking_after [] st.answer l ≡ l) refl (λ on. refl) (λ off. refl)
+  wait-lacking g x fate t (Some c) l = await-cases co.text image c g x fate t (λ st. lacked_by image (lacked_after image [] st.answer l) ≡ lacked_by image l) refl (λ on. refl) (λ off. refl)
 
-  round-along : (rest : Tree) (crew : Crew) (x : ℕ) (xs : List ℕ) (p : Progress) → ((q : Progress) → light.Holds q.table → Goes rest q) → Both crew.generation x p.table → p.lacking ≡ x ∷ xs → Goes (round image crew rest) p
+  round-along : (rest : Tree) (crew : Crew) (x : ℕ) (xs : List ℕ) (p : Progress) → ((q : Progress) → light.Holds q.table → Goes rest q) → Both crew.generation x p.table → lacked_by image p.lacked ≡ x ∷ xs → Goes (round image crew rest) p
   round-along rest crew x xs p next both is =
       let killed = Does image (KillLacking crew.generation) [] (then_edge rest) in
       let wait = Does image (AwaitLacking crew.generation) [] (await_any_edges rest killed) in
       light-step (ForkLacking crew) [] (fork_edges wait rest) p (Both crew.generation x) refl (both-exits crew.generation x p.table) both
-      (λ q b e. light.idles (fork_of crew (lowest q.lacking)) q.table (light.forks crew.generation (lowest q.lacking) (fds_of crew.posts (lowest q.lacking))) b.0)
+      (λ q b e. light.idles (fork_of crew (lowest (lacked_by image q.lacked))) q.table (light.forks crew.generation (lowest (lacked_by image q.lacked)) (fds_of crew.posts (lowest (lacked_by image q.lacked)))) b.0)
       (λ q fate b e.
-      let call = fork_of crew (lowest q.lacking) in
+      let call = fork_of crew (lowest (lacked_by image q.lacked)) in
       let st = step_with co.text image call fate q.table in
-      let p' = after_call (ForkLacking crew) [] st q in
-      let h = light.steps co.text call fate q.table (light.forks crew.generation (lowest q.lacking) (fds_of crew.posts (lowest q.lacking))) b.0 in
-      let m = light.may_steps co.text call fate q.table crew.generation x (light.forks crew.generation (lowest q.lacking) (fds_of crew.posts (lowest q.lacking))) b.0 b.1 in
-      let is' : p'.lacking ≡ x ∷ xs = fork-lacking crew.generation (lowest q.lacking) (fds_of crew.posts (lowest q.lacking)) fate q.table (live_master image q.table.rows) q.lacking ∙ e ∙ is in
+      let p' = after_call image (ForkLacking crew) [] st q in
+      let h = light.steps co.text call fate q.table (light.forks crew.generation (lowest (lacked_by image q.lacked)) (fds_of crew.posts (lowest (lacked_by image q.lacked)))) b.0 in
+      let m = light.may_steps co.text call fate q.table crew.generation x (light.forks crew.generation (lowest (lacked_by image q.lacked)) (fds_of crew.posts (lowest (lacked_by image q.lacked)))) b.0 b.1 in
+      let is' : lacked_by image p'.lacked ≡ x ∷ xs = fork-lacking crew.generation (lowest (lacked_by image q.lacked)) (fds_of crew.posts (lowest (lacked_by image q.lacked))) fate q.table (live_master image q.table.rows) q.lacked ∙ e ∙ is in
       all-go (fork_edges wait rest) (reply_of [] st.answer) p' h (wait-along p' (h, m) is', (next p' h, tt)))
     where
-      kill-along : (p : Progress) → Both crew.generation x p.table → p.lacking ≡ x ∷ xs → Goes (Does image (KillLacking crew.generation) [] (then_edge rest)) p
+      kill-along : (p : Progress) → Both crew.generation x p.table → lacked_by image p.lacked ≡ x ∷ xs → Goes (Does image (KillLacking crew.generation) [] (then_edge rest)) p
       kill-along p both is =
           light-step (KillLacking crew.generation) [] (then_edge rest) p (Both crew.generation x) refl (both-exits crew.generation x p.table) both
           (λ q b e. subst (λ (l : List ℕ). due (Kill crew.generation (lowest l)) q.table) (sym (e ∙ is)) (light.kill_due crew.generation x q.table b.0 b.1))
           (λ q fate b e.
           let h = subst (λ (l : List ℕ). light.Holds (step_with co.text image (Kill crew.generation (lowest l)) fate q.table).table) (sym (e ∙ is)) (light.kills co.text crew.generation x fate q.table b.0 b.1) in
-          let st = step_with co.text image (Kill crew.generation (lowest q.lacking)) fate q.table in
-          let p' = after_call (KillLacking crew.generation) [] st q in
+          let st = step_with co.text image (Kill crew.generation (lowest (lacked_by image q.lacked))) fate q.table in
+          let p' = after_call image (KillLacking crew.generation) [] st q in
           all-go (then_edge rest) (reply_of [] st.answer) p' h (next p' h, tt))
 
-      wait-along : (p : Progress) → Both crew.generation x p.table → p.lacking ≡ x ∷ xs → Goes (Does image (AwaitLacking crew.generation) [] (await_any_edges rest (Does image (KillLacking crew.generation) [] (then_edge rest)))) p
+      wait-along : (p : Progress) → Both crew.generation x p.table → lacked_by image p.lacked ≡ x ∷ xs → Goes (Does image (AwaitLacking crew.generation) [] (await_any_edges rest (Does image (KillLacking crew.generation) [] (then_edge rest)))) p
       wait-along p both is =
           light-step (AwaitLacking crew.generation) [] (await_any_edges rest (Does image (KillLacking crew.generation) [] (then_edge rest))) p (Both crew.generation x) refl (both-exits crew.generation x p.table) both
-          (λ q b e. light.idles (AwaitReady crew.generation (lowest q.lacking)) q.table (light.waits crew.generation (lowest q.lacking)) b.0)
+          (λ q b e. light.idles (AwaitReady crew.generation (lowest (lacked_by image q.lacked))) q.table (light.waits crew.generation (lowest (lacked_by image q.lacked))) b.0)
           (λ q fate b e.
-          let call = AwaitReady crew.generation (lowest q.lacking) in
+          let call = AwaitReady crew.generation (lowest (lacked_by image q.lacked)) in
           let st = step_with co.text image call fate q.table in
-          let p' = after_call (AwaitLacking crew.generation) [] st q in
-          let h = light.steps co.text call fate q.table (light.waits crew.generation (lowest q.lacking)) b.0 in
-          let m = light.may_steps co.text call fate q.table crew.generation x (light.waits crew.generation (lowest q.lacking)) b.0 b.1 in
-          let is' : p'.lacking ≡ x ∷ xs = wait-lacking crew.generation (lowest q.lacking) fate q.table (live_master image q.table.rows) q.lacking ∙ e ∙ is in
+          let p' = after_call image (AwaitLacking crew.generation) [] st q in
+          let h = light.steps co.text call fate q.table (light.waits crew.generation (lowest (lacked_by image q.lacked))) b.0 in
+          let m = light.may_steps co.text call fate q.table crew.generation x (light.waits crew.generation (lowest (lacked_by image q.lacked))) b.0 b.1 in
+          let is' : lacked_by image p'.lacked ≡ x ∷ xs = wait-lacking crew.generation (lowest (lacked_by image q.lacked)) fate q.table (live_master image q.table.rows) q.lacked ∙ e ∙ is in
           all-go (await_any_edges rest (Does image (KillLacking crew.generation) [] (then_edge rest))) (reply_of [] st.answer) p' h (next p' h, (kill-along p' (h, m) is', tt)))
 
   -- A census, and what follows where it is full or short.
-  census-along : (ok short : Tree) (g : Generation) (S : List ℕ) (p : Progress) → light.Fits g S → light.Holds p.table → ((q : Progress) → light.Holds q.table → Goes ok q) → ((x : ℕ) (xs : List ℕ) (q : Progress) → Both g x q.table → q.lacking ≡ x ∷ xs → Goes short q) → Goes (census image g S (census_edges ok short)) p
+  census-along : (ok short : Tree) (g : Generation) (S : List ℕ) (p : Progress) → light.Fits g S → light.Holds p.table → ((q : Progress) → light.Holds q.table → Goes ok q) → ((x : ℕ) (xs : List ℕ) (q : Progress) → Both g x q.table → lacked_by image q.lacked ≡ x ∷ xs → Goes short q) → Goes (census image g S (census_edges ok short)) p
   census-along ok short g S p fits holds on_full on_short =
       light-step (Make (Census g)) S (census_edges ok short) p light.Holds refl (λ es sp calm h. light.exits es p.table sp calm h) holds
       (λ q h e. light.idles (Census g) q.table (light.censuses g) h)
@@ -174,13 +179,13 @@ module _ (image : ℕ) (mild : Exiting) (due : Asked) (light : Light image mild 
       let st = gives (answer.Counted cs) t' in
       let is = light.counted co.text g fate q.table h in
       let h' : light.Holds t' = subst (λ s. light.Holds s.table) is (light.steps co.text (Census g) fate q.table (light.censuses g) h) in
-      let after : List ℕ → Progress = λ l. record { table = t'; calls = q.calls + 1; ready = cs; lacking = lacks S cs; faults = q.faults; losses = q.losses; returns = q.returns; cause = first_cause q.cause (went_wrong (Census g) (full_or_short l)) (q.calls + 1); note = q.note } in
-      subst (λ s. Edges (census_edges ok short) (reply_of S s.answer) (after_call (Make (Census g)) S s q)) (sym is)
+      let after : List ℕ → Progress = λ l. record { table = t'; calls = q.calls + 1; ready = cs; lacking = lacks S cs; lacked = lacked_after image S (answer.Counted cs) q.lacked; faults = q.faults; losses = q.losses; returns = q.returns; cause = first_cause q.cause (went_wrong (Census g) (full_or_short l)) (q.calls + 1); note = q.note } in
+      subst (λ s. Edges (census_edges ok short) (reply_of S s.answer) (after_call image (Make (Census g)) S s q)) (sym is)
       (elim (lacks S cs) as (λ l. lacks S cs ≡ l → Edges (census_edges ok short) (full_or_short l) (after l)) [
         | [] ↦ λ e'. on_full (after []) h'
         | x ∷ xs ↦ λ e'.
             let out = first-lacks S cs x xs e' in
-            on_short x xs (after (x ∷ xs)) (h', light.lacking g S q.table x fits h out.0 out.1) e'
+            on_short x xs (after (x ∷ xs)) (h', light.lacking g S q.table x fits h out.0 out.1) (own-count image S cs q.lacked ∙ e')
       ] refl))
 
   pub settle-along : (side : Side) (crew : Crew) (S : List ℕ) (rounds : ℕ) (p : Progress) → light.Fits crew.generation S → light.Holds p.table → Goes (settle image crew S side rounds) p
@@ -216,7 +221,7 @@ module _ (image : ℕ) (mild : Exiting) (due : Asked) (light : Light image mild 
       subst (λ (i : ℕ). Goes (Does i (Make call) set bs) p) (sym same)
       (light-step (Make call) set bs p light.Holds gentle.1 (λ es sp calm h. light.exits es p.table sp calm h) holds
       (λ q h e. light.idles call q.table gentle.0 h)
-      (λ q fate h e. behind (reply_of set (step_with co.text image call fate q.table).answer) (after_call (Make call) set (step_with co.text image call fate q.table) q) (light.steps co.text call fate q.table gentle.0 h)))
+      (λ q fate h e. behind (reply_of set (step_with co.text image call fate q.table).answer) (after_call image (Make call) set (step_with co.text image call fate q.table) q) (light.steps co.text call fate q.table gentle.0 h)))
   calm-does by (ForkLacking crew) set bs same gentle behind p holds = absurd gentle
   calm-does by (AwaitLacking g) set bs same gentle behind p holds = absurd gentle
   calm-does by (KillLacking g) set bs same gentle behind p holds = absurd gentle

@@ -20,6 +20,7 @@ use Rattle.definitions.specs.Claims.{names_any, refused_among}
 use Rattle.theorems.proofs.Refusals.{acting_at, acting_after, refused_from, refused_behind, refused-is}
 use Rattle.vocabulary.specs.declared.names.Name.{Name}
 use Rattle.definitions.specs.Run.{Pattern, Progress, Ran, after_moment, after_call, noted, answered, Ending, At, Lost, run_with, goes_with}
+use Rattle.definitions.specs.Path.{lacked_by}
 use Rattle.theorems.proofs.Rows.{pick}
 use Rattle.vocabulary.specs.declared.calls.Fate.TheVariants as fate
 
@@ -53,7 +54,7 @@ abbrev mutual
       let middle = after_moment moment.exits p in
       let s = answered co.text by order moment.fate middle in
       names_any (acting_at order co.executing co.heirs) moment.exits ≡ false → mild moment.exits p.table.rows →
-      inv p × inv middle × due (call_of order middle.lacking) middle.table × Behind inv post mild due (course_after order co) branches (reply_of set s.answer) (after_call order set s middle)
+      inv p × inv middle × due (call_of order (lacked_by by middle.lacked)) middle.table × Behind inv post mild due (course_after order co) branches (reply_of set s.answer) (after_call by order set s middle)
 
   pub Behind : (Progress → Type 0) → (Ending → Progress → Type 0) → Exiting → Asked → Course → Branches → Reply → Progress → Type 0
   Behind inv post mild due co Nothing r p = inv p × post Lost p
@@ -71,7 +72,7 @@ abbrev mutual
       let moment = co.pattern (p.calls + 1) in
       let middle = after_moment moment.exits p in
       let s = answered co.text by order moment.fate middle in
-      mild moment.exits p.table.rows × AreMildBehind mild (course_after order co) branches (reply_of set s.answer) (after_call order set s middle)
+      mild moment.exits p.table.rows × AreMildBehind mild (course_after order co) branches (reply_of set s.answer) (after_call by order set s middle)
 
   pub AreMildBehind : Exiting → Course → Branches → Reply → Progress → Type 0
   AreMildBehind mild co Nothing r p = ⊤
@@ -112,10 +113,10 @@ mutual
       let moment = co.pattern (p.calls + 1) in
       let middle = after_moment moment.exits p in
       let st = answered co.text by order moment.fate middle in
-      let next = after_call order set st middle in
+      let next = after_call by order set st middle in
       let r = reply_of set st.answer in
       elim (names_any (acting_at order co.executing co.heirs) moment.exits) as (λ b.
-      (b ≡ false → mild moment.exits p.table.rows → inv p × inv middle × due (call_of order middle.lacking) middle.table × Behind inv post mild due (course_after order co) branches r next) →
+      (b ≡ false → mild moment.exits p.table.rows → inv p × inv middle × due (call_of order (lacked_by by middle.lacked)) middle.table × Behind inv post mild due (course_after order co) branches r next) →
       elim b as (λ c. Option ℕ) [ true ↦ Some (p.calls + 1) | false ↦ refused_behind co.text (acting_after order co.executing co.heirs) co.heirs branches r co.pattern next ] ≡ None →
       Holding inv post due (run_in co (Does by order set branches) p)) [
         | true ↦ λ a e. absurd (cc)
@@ -156,7 +157,7 @@ mutual
       let moment = co.pattern (p.calls + 1) in
       let middle = after_moment moment.exits p in
       let s = answered co.text by order moment.fate middle in
-      (tt, are-mild-behind (course_after order co) branches (reply_of set s.answer) (after_call order set s middle))
+      (tt, are-mild-behind (course_after order co) branches (reply_of set s.answer) (after_call by order set s middle))
 
   are-mild-behind : (co : Course) (bs : Branches) (r : Reply) (p : Progress) → AreMildBehind Anyhow co bs r p
   are-mild-behind co Nothing r p = tt

@@ -27,7 +27,7 @@ mutual
       let moment = co.pattern (p.calls + 1) in
       let middle = after_moment moment.exits p in
       let s = answered co.text by order moment.fate middle in
-      let next = after_call order set s middle in
+      let next = after_call by order set s middle in
       let lost = or-false (has_active p.table n && not (has_active middle.table n)) (is_lost n (goes_with co.text bs (reply_of set s.answer) co.pattern next).passed) e in
       ((λ on. still (has_active p.table n) (has_active middle.table n) on lost.0), unlost-behind n (course_after order co) bs (reply_of set s.answer) next lost.1)
     where
@@ -71,7 +71,7 @@ mutual
       let moment = pattern (p.calls + 1) in
       let middle = after_moment moment.exits p in
       let s = answered text by order moment.fate middle in
-      (tt, paired-behind text bs (reply_of set s.answer) pattern (after_call order set s middle))
+      (tt, paired-behind text bs (reply_of set s.answer) pattern (after_call by order set s middle))
 
   paired-behind : (text : List ℕ) (bs : Branches) (r : Reply) (pattern : Pattern) (p : Progress) → AllDue Unasked (goes_with text bs r pattern p).entries (goes_with text bs r pattern p).passed
   paired-behind text Nothing r pattern p = tt

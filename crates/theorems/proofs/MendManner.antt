@@ -155,7 +155,7 @@ module _ (t : Table) (r : Record) (overdue : List ℕ) (pattern : Pattern) (s : 
       (λ q' h is. tt)
       (λ q' fate h is.
       let st = step_with co.text g.image (Kill g x) fate q'.table in
-      let next = after_call (Make (Kill g x)) [] st q' in
+      let next = after_call r.generation.image (Make (Kill g x)) [] st q' in
       ⊎_elim
       (λ same.
       let gone_now : Fact r.pid g.image p (IsOther p) st.table = subst (λ z. Fact r.pid g.image p (IsOther p) (step_with co.text g.image (Kill g z) fate q'.table).table) (sym same) (killed-gone co.text fate q'.table h) in

@@ -17,6 +17,7 @@ use Rattle.vocabulary.specs.declared.calls.Reply.TheVariants as reply
 use Rattle.vocabulary.specs.declared.reports.Entry.{Entry}
 use Rattle.definitions.specs.Tree.{Tree, Branches, Ends, Does, Nothing, Branch, among, reply_of, full_or_short, call_of}
 use Rattle.definitions.specs.Run.{Pattern, Progress, Ran, run_with, goes_with, noted, after_call, after_moment, answered}
+use Rattle.definitions.specs.Path.{lacked_by}
 use Rattle.definitions.specs.Table.{FilePath}
 use Rattle.definitions.specs.Claims.{is_failed_removal}
 
@@ -106,8 +107,8 @@ module _ (paths : List FilePath) where
         let middle = after_moment moment.exits p in
         let s = answered text by order moment.fate middle in
         ⊎_elim (λ a. inl a)
-        (λ a. inr (⊎_elim (λ b. here (is_failed_removal paths (call_of order middle.lacking) s.answer) _ b) (λ b. there (is_failed_removal paths (call_of order middle.lacking) s.answer) _ b) a))
-        (left-behind text branches order middle.lacking set s.answer pattern (after_call order set s middle) h e)
+        (λ a. inr (⊎_elim (λ b. here (is_failed_removal paths (call_of order (lacked_by by middle.lacked)) s.answer) _ b) (λ b. there (is_failed_removal paths (call_of order (lacked_by by middle.lacked)) s.answer) _ b) a))
+        (left-behind text branches order (lacked_by by middle.lacked) set s.answer pattern (after_call by order set s middle) h e)
 
     left-behind : (text : List ℕ) (bs : Branches) (order : Order) (lacking set : List ℕ) (a : Answer) (pattern : Pattern) (p : Progress) → LeftBehind (is_removal order) bs → (goes_with text bs (reply_of set a) pattern p).last.note ≡ Left → (p.note ≡ Left) ⊎ ((is_failed_removal paths (call_of order lacking) a ≡ true) ⊎ (any_failed (goes_with text bs (reply_of set a) pattern p).entries ≡ true))
     left-behind text Nothing order lacking set a pattern p h e = inl e

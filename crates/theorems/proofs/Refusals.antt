@@ -9,6 +9,7 @@ use Rattle.vocabulary.specs.declared.reports.Entry.{Entry}
 use Rattle.definitions.specs.Tree.{Tree, Ends, Does, Branches, Nothing, Branch, among, reply_of, call_of}
 use Rattle.definitions.specs.Manner.{is_leave_call}
 use Rattle.definitions.specs.Run.{Pattern, Progress, Ran, run_with, goes_with, noted, after_moment, after_call, answered}
+use Rattle.definitions.specs.Path.{lacked_by}
 use Rattle.definitions.specs.Claims.{names_any, refused_among}
 
 abbrev pub is_leave : Order → Bool
@@ -33,7 +34,7 @@ abbrev mutual
       let s = answered text by order moment.fate middle in
       elim (names_any (acting_at order executing heirs) moment.exits) as (λ b. Option ℕ) [
         | true ↦ Some (p.calls + 1)
-        | false ↦ refused_behind text (acting_after order executing heirs) heirs branches (reply_of set s.answer) pattern (after_call order set s middle)
+        | false ↦ refused_behind text (acting_after order executing heirs) heirs branches (reply_of set s.answer) pattern (after_call by order set s middle)
       ]
 
   pub refused_behind : List ℕ → List ℕ → List ℕ → Branches → Reply → Pattern → Progress → Option ℕ
@@ -79,16 +80,16 @@ mutual
       let moment = pattern (p.calls + 1) in
       let middle = after_moment moment.exits p in
       let s = answered text by order moment.fate middle in
-      let q = after_call order set s middle in
+      let q = after_call by order set s middle in
       let entries = (goes_with text branches (reply_of set s.answer) pattern q).entries in
-      let leaves = sym (leave-is order middle.lacking) in
-      let named : names_any (acting_at order executing heirs) moment.exits ≡ names_any (cond (is_leave_call (call_of order middle.lacking)) (executing ++ heirs) executing) moment.exits =
+      let leaves = sym (leave-is order (lacked_by by middle.lacked)) in
+      let named : names_any (acting_at order executing heirs) moment.exits ≡ names_any (cond (is_leave_call (call_of order (lacked_by by middle.lacked))) (executing ++ heirs) executing) moment.exits =
       ap (λ b. names_any (cond b (executing ++ heirs) executing) moment.exits) leaves in
       let rest : refused_behind text (acting_after order executing heirs) heirs branches (reply_of set s.answer) pattern q
-      ≡ Behind executing heirs pattern (p.calls + 1) entries (is_leave_call (call_of order middle.lacking)) =
+      ≡ Behind executing heirs pattern (p.calls + 1) entries (is_leave_call (call_of order (lacked_by by middle.lacked))) =
       behind-is text (acting_after order executing heirs) heirs branches (reply_of set s.answer) pattern q ∙ ap (Behind executing heirs pattern (p.calls + 1) entries) leaves in
       ap (λ b. by_reply_refused b (Some (p.calls + 1)) (refused_behind text (acting_after order executing heirs) heirs branches (reply_of set s.answer) pattern q)) named
-      ∙ (by-test (names_any (cond (is_leave_call (call_of order middle.lacking)) (executing ++ heirs) executing) moment.exits) (Some (p.calls + 1)) rest)
+      ∙ (by-test (names_any (cond (is_leave_call (call_of order (lacked_by by middle.lacked))) (executing ++ heirs) executing) moment.exits) (Some (p.calls + 1)) rest)
 
   behind-is : (text executing heirs : List ℕ) (branches : Branches) (r : Reply) (pattern : Pattern) (p : Progress) →
       refused_behind text executing heirs branches r pattern p ≡ refused_among executing heirs pattern p.calls (goes_with text branches r pattern p).entries

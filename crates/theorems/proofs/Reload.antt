@@ -346,18 +346,18 @@ module _ (t : Table) (rec : Record) (st : Settings) (pattern : Pattern) (s : IsS
   within-old : (r : Names) (q : Progress) → Only g R r → Looks (view (both H0) none r) q.table.rows → Exactly g q → (k : ℕ) → is_in q.ready k ≡ true → k < rec.wanted
   within-old r q only looks exact k e = every-is_in (λ j. j < rec.wanted) R s.record_in_range.ready k (census-within (both H0) (λ n. refl) g R r q.table.rows q.ready only looks exact k e)
 
-  old-full : (r : Names) (q : Progress) (c : ℕ) (w : Bool) → (true ≡ true → w ≡ true) → Only g R r → Band (both H0) sc0 none r (named g (is_in R)) (length R) c w [] q → Counted rec.pid g R q.lacking q.table.rows → Exactly g q → post (At RolledBack) q
-  old-full r q c w up only b saw exact = (
-    λ a. service-of (both H0) (λ n. refl) g R (addresses_of rec) (layout_of rec) listens-old (first-keys t rec s) r q.table q.lacking only b.looks b.lacking saw a ∙ sym (first-service t rec s a),
+  old-full : (r : Names) (q : Progress) (c : ℕ) (w : Bool) → (true ≡ true → w ≡ true) → Only g R r → Band (both H0) sc0 none r (named g (is_in R)) (length R) c w [] q → q.lacking ≡ [] → Counted rec.pid g R q.lacking q.table.rows → Exactly g q → post (At RolledBack) q
+  old-full r q c w up only b is saw exact = (
+    λ a. service-of (both H0) (λ n. refl) g R (addresses_of rec) (layout_of rec) listens-old (first-keys t rec s) r q.table q.lacking only b.looks is saw a ∙ sym (first-service t rec s a),
     tt,
     b.marks.caused (up refl),
     kept-after rec (Reload st) (report_at sides (At RolledBack) q) q.table rec.wanted refl s.record_in_range s.record_in_range.wanted (within-old r q only b.looks exact) (agrees-old r q only b.looks exact b.still (At RolledBack)),
   )
 
-  old-short : (r : Names) (q : Progress) (x : ℕ) (xs : List ℕ) → Only g R r → Band (both H0) sc0 none r (named g (is_in R)) (length R) rec.retries true (x ∷ xs) q → Counted rec.pid g R q.lacking q.table.rows → Exactly g q → post (At ShortOld) q
-  old-short r q x xs only b saw exact =
+  old-short : (r : Names) (q : Progress) (x : ℕ) (xs : List ℕ) → Only g R r → Band (both H0) sc0 none r (named g (is_in R)) (length R) rec.retries true (x ∷ xs) q → q.lacking ≡ x ∷ xs → Counted rec.pid g R q.lacking q.table.rows → Exactly g q → post (At ShortOld) q
+  old-short r q x xs only b is saw exact =
       let some = s.record_in_range.groups.some in
-      let less = service-short (both H0) (λ n. refl) g R (addresses_of rec) (layout_of rec) listens-old (first-keys t rec s) r q.table q.lacking only b.looks some (omega (arith, ap length b.lacking)) saw in (
+      let less = service-short (both H0) (λ n. refl) g R (addresses_of rec) (layout_of rec) listens-old (first-keys t rec s) r q.table q.lacking only b.looks some (omega (arith, ap length is)) saw in (
         (less.0, less.1, fewer-same (short_at (layout_of rec) (shortfalls_of rec.posts.groups q.lacking)) _ _ _ _ (λ a. sym (first-service t rec s a)) (λ a. refl) less.2),
         omega (arith, b.budget, counted-all rec.pid g R q.lacking q.table.rows saw, shortfalls-sum rec.posts.groups q.lacking some),
         b.marks.caused refl,
@@ -393,17 +393,17 @@ module _ (t : Table) (rec : Record) (st : Settings) (pattern : Pattern) (s : IsS
   listens-new : (hs : List Hold) → Left hs → ListensBy (same hs) new layout
   listens-new hs left k a on = left.laid k a (sym (left.keys a) ∙ on) ∙ ap (λ b. b && new_at a k) on
 
-  new-full : (hs : List Hold) → Left hs → (r : Names) (q : Progress) (c : ℕ) (w : Bool) → (false ≡ true → w ≡ true) → Only new S r → Band (same hs) sc1 none r (named new (is_in S)) (length S) c w [] q → Counted rec.pid new S q.lacking q.table.rows → Exactly new q → post (At Done) q
-  new-full hs left r q c w up only b saw exact = (
-    service-of (same hs) (λ n. refl) new S wanted layout (listens-new hs left) left.keys r q.table q.lacking only b.looks b.lacking saw,
+  new-full : (hs : List Hold) → Left hs → (r : Names) (q : Progress) (c : ℕ) (w : Bool) → (false ≡ true → w ≡ true) → Only new S r → Band (same hs) sc1 none r (named new (is_in S)) (length S) c w [] q → q.lacking ≡ [] → Counted rec.pid new S q.lacking q.table.rows → Exactly new q → post (At Done) q
+  new-full hs left r q c w up only b is saw exact = (
+    service-of (same hs) (λ n. refl) new S wanted layout (listens-new hs left) left.keys r q.table q.lacking only b.looks is saw,
     tt,
     tt,
     moved-left hs left.keys (At Done) q (moved-is hs left.lists) (within-new hs r q only b.looks exact) (moved-agrees hs r q only b.looks exact b.still (At Done)),
   )
 
-  new-short : (hs : List Hold) → Left hs → (r : Names) (q : Progress) (x : ℕ) (xs : List ℕ) → Only new S r → Band (same hs) sc1 none r (named new (is_in S)) (length S) rec.retries true (x ∷ xs) q → Counted rec.pid new S q.lacking q.table.rows → Exactly new q → post (At ShortTarget) q
-  new-short hs left r q x xs only b saw exact = (
-    service-short (same hs) (λ n. refl) new S wanted layout (listens-new hs left) left.keys r q.table q.lacking only b.looks range.groups.some (omega (arith, ap length b.lacking)) saw,
+  new-short : (hs : List Hold) → Left hs → (r : Names) (q : Progress) (x : ℕ) (xs : List ℕ) → Only new S r → Band (same hs) sc1 none r (named new (is_in S)) (length S) rec.retries true (x ∷ xs) q → q.lacking ≡ x ∷ xs → Counted rec.pid new S q.lacking q.table.rows → Exactly new q → post (At ShortTarget) q
+  new-short hs left r q x xs only b is saw exact = (
+    service-short (same hs) (λ n. refl) new S wanted layout (listens-new hs left) left.keys r q.table q.lacking only b.looks range.groups.some (omega (arith, ap length is)) saw,
     omega (arith, b.budget, counted-all rec.pid new S q.lacking q.table.rows saw, shortfalls-sum st.groups q.lacking range.groups.some),
     b.marks.caused refl,
     moved-left hs left.keys (At ShortTarget) q (moved-is hs left.lists) (within-new hs r q only b.looks exact) (moved-agrees hs r q only b.looks exact b.still (At ShortTarget)),
@@ -556,10 +556,10 @@ module _ (t : Table) (rec : Record) (st : Settings) (pattern : Pattern) (s : IsS
       rule-count (both hs) sc (on-both hs laid common) way_on (reload_back g.image old_crew new_crew R rec.retries l (reverse S)) new S r names count c false [] q (below-distinct n) (λ k e. omega (arith, below-of n k e))
       (λ k e. ⊎_elim (λ a. low-R k a.1) (λ a. omega (arith, st.started k a.1)) (st.only new k e))
       (new-part hs done r names count st)
-      (λ cs q' e b' saw exact.
+      (λ cs q' e b' is saw exact.
       let b1 = band-part (both hs) sc (on-both hs laid common) none (seen r new cs) names (named new (is_in S)) count (length S) c false [] q' (λ rows looks. new-part hs done r names count st rows (widen cs rows looks)) (enough-new serves new-serve) b' in
       on hs lists has_it laid common done r (seen r new cs) names count c q' st (λ h k e'. and-left (r h k) _ e') b1)
-      (λ cs x xs q' e b' saw exact.
+      (λ cs x xs q' e b' is saw exact.
       let b1 : Band (both hs) sc none r names count c true (x ∷ xs) q' = record { looks = widen cs q'.table.rows b'.looks; enough = b'.enough; secured = b'.secured; budget = b'.budget; lacking = b'.lacking; still = b'.still; marks = b'.marks; beside = tt } in
       back l hs o laid common [] done (reverse S) none r names count c (x ∷ xs) q' st (λ k e'. in-reverse S k ∙ below-on n k (st.started k e')) (λ h k e'. absurd (cc)) b1)
       b

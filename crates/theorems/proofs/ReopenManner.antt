@@ -85,7 +85,7 @@ told by g (x ∷ ks) rest pattern p h =
     let moment = pattern (p.calls + 1) in
     let middle = after_moment moment.exits p in
     let st = answered [] by order moment.fate middle in
-    let next = after_call order [] st middle in
+    let next = after_call by order [] st middle in
     let more = usr1s by g ks rest in
     elim (among (reply.Fine ∷ []) (reply_of [] st.answer)) as (λ b.
     let later : Ran = elim b as (λ c. Ran) [ true ↦ run_with [] more pattern (noted None next) | false ↦ goes_with [] Nothing (reply_of [] st.answer) pattern next ] in

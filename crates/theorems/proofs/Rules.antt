@@ -1,5 +1,5 @@
 -- A rule for each piece of a plan of one master.
-use Rattle.std.proofs.Common.{◌≡◌, ℕ, zero, suc, ◌+◌, ◌<◌, ◌≤◌, Bool, true, false, cond, not, List, [], ◌∷◌, ◌++◌, length, Option, Some, None, refl, sym, ap, ◌∙◌, subst, arith, ◌⊎◌, inl, inr, ⊎_elim, nat_lt}
+use Rattle.std.proofs.Common.{◌≡◌, ◌≢◌, ℕ, zero, suc, ◌+◌, ◌<◌, ◌≤◌, Bool, true, false, cond, not, List, [], ◌∷◌, ◌++◌, length, Option, Some, None, refl, sym, ap, ◌∙◌, subst, arith, ◌⊎◌, inl, inr, ⊎_elim, nat_lt}
 use Rattle.std.specs.List.{filter_map, list_any}
 use Rattle.std.specs.Prelude.{if◌then◌else◌, count_by, filter, ◌&&◌, ◌||◌, ◌==◌, ⊤, is_some}
 use Rattle.vocabulary.specs.declared.table.Limits.{Limits}
@@ -12,7 +12,7 @@ use Rattle.vocabulary.specs.declared.names.Name.{Name}
 use Rattle.definitions.specs.Exits.{is_active_worker, change, losses_of, all_exited, after_exits}
 use Rattle.vocabulary.specs.declared.calls.Call.{Call}
 use Rattle.vocabulary.specs.declared.calls.Call.TheVariants.{AwaitGone, Fork, AwaitReady, Quit, Kill, Census, CloseAt, OpenAt, Usr1}
-use Rattle.vocabulary.specs.declared.calls.Answer.TheVariants.{IsReady, Gone, Opened}
+use Rattle.vocabulary.specs.declared.calls.Answer.TheVariants.{IsReady, Gone, Opened, Counted as Told}
 use Rattle.definitions.specs.Tree.{Tree, Branches, Ends, Does, full_or_short, lowest, call_of, reply_of}
 use Rattle.listener_set.specs.Numbers.{is_in, lacks}
 use Rattle.definitions.specs.Plans.{awaits_gone, gone_edges, usr1s, open_edges, fork_any_edges, kills, forks_any, awaits_any, fork_edges, await_edges, then_edge, census_edges, does, census, forks, awaits, starts, quits, settle, round, full_end, short_end, await_any_edges}
@@ -26,9 +26,9 @@ use Rattle.definitions.specs.Crew.{Crew, fds_of, fork_of}
 use Rattle.theorems.proofs.Refusals.{is_leave}
 use Rattle.vocabulary.specs.declared.calls.Reply.TheVariants as reply
 use Rattle.definitions.specs.Run.{Progress, Return, after_moment, after_call, Ending, At, answered}
-use Rattle.definitions.specs.Path.{went_wrong, first_cause}
+use Rattle.definitions.specs.Path.{went_wrong, first_cause, Lack, lacked_by, beside, lacked_after}
 use Rattle.theorems.proofs.Rows.{one, weigh, weigh-le-all, count-weigh, and-left, and-right, both-true, or-left, or-right}
-use Rattle.theorems.proofs.Views.{HoldsShare, Names, named, View, Once, Looks, live_any, ready_in, finds, eqb-is}
+use Rattle.theorems.proofs.Views.{HoldsShare, Names, named, View, Once, Looks, live_any, ready_in, finds, eqb-is, eqb-refl, eqb-off}
 use Rattle.theorems.proofs.Exits.{Spares, spares-each, shrinks}
 use Rattle.theorems.proofs.Effects.{same-is, Allows, Mine, mine-worker, mine-exited, StaysOther, ready-stays, draining-stays, none, looks-allows, fork-looks, fork-weigh, await-looks, await-gains, gone-looks, gone-weigh, kill-looks, kill-weigh, quit-looks, quit-weigh, bears-is, bears-refl, same-refl, cut-weigh, after_close, cut-looks, after_open, close-weigh, close-looks, mine-of, holds-stay, open-weigh, unheld, open-looks, mine-row}
 use Rattle.theorems.proofs.Counts.{census-looks, census-weigh, census-in, Counted, counted, counted-all, Distinct, filter-distinct}
@@ -85,6 +85,28 @@ Less g r ks r' = (h : Generation) (k : ℕ) → r' h k ≡ true → (r h k ≡ t
 -- the names of t, and one more
 abbrev pub also : Generation → ℕ → Names → Names
 also g x t h k = t h k || bears g x h k
+
+-- what a master's own count lacked
+pub own-lacked : (image : ℕ) (set ns : List ℕ) (lacked : List Lack) → lacked_by image (lacked_after image set (Told ns) lacked) ≡ lacks set ns
+own-lacked image set ns lacked = rw (eqb-refl image image refl) refl
+
+beside-none : (image other : ℕ) (lacked : List Lack) → other ≢ image → lacked_by image lacked ≡ [] → lacked_by image (beside other lacked) ≡ []
+beside-none image other [] ne h = refl
+beside-none image other (lack ∷ lacked) ne h =
+    elim (lack.by == other) as (λ b. lack.by == other ≡ b → lacked_by image (if b then beside other lacked else lack ∷ []) ≡ []) [
+      | true ↦ λ same.
+          let off : (lack.by == image) ≡ false = eqb-off lack.by image (λ e. ne (sym (eqb-is lack.by other same) ∙ e)) in
+          beside-none image other lacked ne (subst (λ (b : Bool). (if b then lack.numbers else lacked_by image lacked) ≡ []) off h)
+      | false ↦ λ off.
+          elim (lack.by == image) as (λ b. (if b then lack.numbers else lacked_by image lacked) ≡ [] → (if b then lack.numbers else []) ≡ []) [
+            | true ↦ λ e. e
+            | false ↦ λ e. refl
+          ] h
+    ] refl
+
+-- a master whose last count lacked nothing lacks nothing after another's count
+pub other-lacked : (image other : ℕ) (set ns : List ℕ) (lacked : List Lack) → image ≢ other → lacked_by image lacked ≡ [] → lacked_by image (lacked_after other set (Told ns) lacked) ≡ []
+other-lacked image other set ns lacked ne none = rw (eqb-off other image (λ e. ne (sym e))) (beside-none image other lacked (λ e. ne (sym e)) none)
 
 ---- The floor
 
@@ -217,7 +239,8 @@ pub record Band (u : View) (sc : Scene u.number u.image) (s r t : Names) (n c : 
   -- asked only where there is a floor
   pub secured : (a : Address) → 1 ≤ sc.floor a → n ≤ ready_of u t p + p.losses + sc.excused
   pub budget : n + c ≤ ready_of u t p + p.losses + p.faults
-  pub lacking : p.lacking ≡ ls
+  -- what its last count lacked
+  pub lacking : lacked_by u.image p.lacked ≡ ls
   pub marks : Marks w sc.returns p.faults p.losses p.returns p.cause
   pub still : Still sc.files sc.note sc.limits p.table.files p.note p.table.limits
   pub beside : sc.Holds p.table.rows p.losses p.faults
@@ -299,10 +322,10 @@ module _ (u : View) (sc : Scene u.number u.image) (gr : Ground u sc) where
 
   -- what a step does with its answer
   abbrev pub Answers : Order → List ℕ → Branches → Progress → Stepped → Type 0
-  Answers order set bs q st = Edge bs (reply_of set st.answer) (after_call order set st q)
+  Answers order set bs q st = Edge bs (reply_of set st.answer) (after_call u.image order set st q)
 
   -- a step, from what it does after the exits
-  pub rule-step-at : (order : Order) (set : List ℕ) (bs : Branches) (s r t : Names) (n c : ℕ) (w : Bool) (ls : List ℕ) (p : Progress) → is_leave order ≡ false → Band u sc s r t n c w ls p → ((es : List Name) → Band u sc s r t n c w ls (after_moment es p) → (fate : Option Fate) → Answers order set bs (after_moment es p) (step_by co.text u.image (Some me) (call_of order p.lacking) fate (after_exits es p.table))) → Runs (Does u.image order set bs) p
+  pub rule-step-at : (order : Order) (set : List ℕ) (bs : Branches) (s r t : Names) (n c : ℕ) (w : Bool) (ls : List ℕ) (p : Progress) → is_leave order ≡ false → Band u sc s r t n c w ls p → ((es : List Name) → Band u sc s r t n c w ls (after_moment es p) → (fate : Option Fate) → Answers order set bs (after_moment es p) (step_by co.text u.image (Some me) (call_of order (lacked_by u.image p.lacked)) fate (after_exits es p.table))) → Runs (Does u.image order set bs) p
   rule-step-at order set bs s r t n c w ls p stays b h =
       let moment = co.pattern (p.calls + 1) in
       let middle = after_moment moment.exits p in
@@ -314,15 +337,15 @@ module _ (u : View) (sc : Scene u.number u.image) (gr : Ground u sc) where
         band-inv s r t n c w ls p b,
         band-inv s r t n c w ls middle b',
         tt,
-        subst (λ (x : Course). Behind inv post sc.Mild Unasked x bs (reply_of set (answered co.text u.image order moment.fate middle).answer) (after_call order set (answered co.text u.image order moment.fate middle) middle)) (sym after)
-            (subst (λ (o : Option Caller). Answers order set bs middle (step_by co.text u.image o (call_of order middle.lacking) moment.fate middle.table)) (sym (finds (view u s r) middle.table.rows b'.looks)) (h moment.exits b' moment.fate)),
+        subst (λ (x : Course). Behind inv post sc.Mild Unasked x bs (reply_of set (answered co.text u.image order moment.fate middle).answer) (after_call u.image order set (answered co.text u.image order moment.fate middle) middle)) (sym after)
+            (subst (λ (o : Option Caller). Answers order set bs middle (step_by co.text u.image o (call_of order (lacked_by u.image middle.lacked)) moment.fate middle.table)) (sym (finds (view u s r) middle.table.rows b'.looks)) (h moment.exits b' moment.fate)),
       )
     where
       go : (b : Bool) → b ≡ false → record { text = co.text; pattern = co.pattern; executing = if b then co.heirs else co.executing; heirs = co.heirs } ≡ co
       go true e = absurd (cc)
       go false e = refl
 
-  pub rule-step : (order : Order) (set : List ℕ) (bs : Branches) (s r t : Names) (n c : ℕ) (w : Bool) (ls : List ℕ) (p : Progress) → is_leave order ≡ false → Band u sc s r t n c w ls p → ((q : Progress) → Band u sc s r t n c w ls q → (fate : Option Fate) → Answers order set bs q (step_by co.text u.image (Some me) (call_of order q.lacking) fate q.table)) → Runs (Does u.image order set bs) p
+  pub rule-step : (order : Order) (set : List ℕ) (bs : Branches) (s r t : Names) (n c : ℕ) (w : Bool) (ls : List ℕ) (p : Progress) → is_leave order ≡ false → Band u sc s r t n c w ls p → ((q : Progress) → Band u sc s r t n c w ls q → (fate : Option Fate) → Answers order set bs q (step_by co.text u.image (Some me) (call_of order (lacked_by u.image q.lacked)) fate q.table)) → Runs (Does u.image order set bs) p
   rule-step order set bs s r t n c w ls p stays b h = rule-step-at order set bs s r t n c w ls p stays b (λ es b'. h (after_moment es p) b')
 
   -- A call failed, and all is as it was.
@@ -417,7 +440,7 @@ module _ (u : View) (sc : Scene u.number u.image) (gr : Ground u sc) where
       (λ live.
       let gain = await-gains (view u s r) g t' x q.table.rows j.has off live b'.looks in
       let sub = weigh-sub u.number t t' j.sub q.table.rows in
-      on_ok (after_call order [] (gives IsReady (each_row (change (is_worker is_starting u.number g x) made_ready) q.table)) q) (record {
+      on_ok (after_call u.image order [] (gives IsReady (each_row (change (is_worker is_starting u.number g x) made_ready) q.table)) q) (record {
         looks = await-looks (view u s r) g x q.table.rows b'.looks;
         enough = j.enough;
         secured = λ a e. omega (arith, b'.secured a e, gain, sub, j.more);
@@ -429,7 +452,7 @@ module _ (u : View) (sc : Scene u.number u.image) (gr : Ground u sc) where
       }))
       (λ gone.
       let same = gone-weigh u.number g x t q.table.rows in
-      on_bad (after_call order [] (gives Gone (each_row (drop_where (is_worker is_exited u.number g x)) q.table)) q) (record {
+      on_bad (after_call u.image order [] (gives Gone (each_row (drop_where (is_worker is_exited u.number g x)) q.table)) q) (record {
         looks = gone-looks (view u s r) g x q.table.rows gone b'.looks;
         enough = b'.enough;
         secured = λ a e. omega (arith, b'.secured a e, same);
@@ -462,7 +485,7 @@ module _ (u : View) (sc : Scene u.number u.image) (gr : Ground u sc) where
       (λ off room.
       let h : Hold = record { fd = lowest_free u.holds; socket = q.table.next_socket; address = a } in
       let same = open-weigh u.number t h q.table.rows in
-      on_ok h (after_call order [] (gives (Opened (lowest_free u.holds)) (with_new_socket q.table u.number h)) q) refl refl (ap (λ (l : Limits). nat_lt (length u.holds) l.descriptors) (sym b'.still.limits_stay) ∙ room) (unheld (view u none r) a q.table.rows off b'.looks.fine (omega (arith, b'.looks.alone))) (band-moved (after_open h u) none none r r t n c w ls (with_new_socket q.table u.number h) q (open-looks (view u none r) h q.table.rows b'.looks) same b'.still
+      on_ok h (after_call u.image order [] (gives (Opened (lowest_free u.holds)) (with_new_socket q.table u.number h)) q) refl refl (ap (λ (l : Limits). nat_lt (length u.holds) l.descriptors) (sym b'.still.limits_stay) ∙ room) (unheld (view u none r) a q.table.rows off b'.looks.fine (omega (arith, b'.looks.alone))) (band-moved (after_open h u) none none r r t n c w ls (with_new_socket q.table u.number h) q (open-looks (view u none r) h q.table.rows b'.looks) same b'.still
       (sc.changes (is_row u.number) (with_holds (put_hold h)) q.table.rows q.losses q.faults (mine-row u.number, λ z zs. refl) (holds-stay (put_hold h)) b'.beside) b')))
 
   pub rule-close : (rest : Tree) (a : Address) (r t : Names) (n c : ℕ) (w : Bool) (ls : List ℕ) (p : Progress) → ((q : Progress) → Band (after_close a u) sc none r t n c w ls q → Runs rest q) → Band u sc none r t n c w ls p → Runs (does u.image (CloseAt a) (then_edge rest)) p
@@ -487,7 +510,7 @@ module _ (u : View) (sc : Scene u.number u.image) (gr : Ground u sc) where
   abbrev pub Part : View → Names → ℕ → Generation → List ℕ → Type 0
   Part v t n g T = (rows : List Process) → Looks v rows → weigh (ready_in u.number t) rows + length T ≤ weigh (ready_in u.number (named g (is_in T))) rows + n
 
-  pub rule-count : (ok short : Tree) (g : Generation) (T : List ℕ) (r t : Names) (n c : ℕ) (w : Bool) (ls : List ℕ) (p : Progress) → Distinct T → ((k : ℕ) → is_in T k ≡ true → k < 1024) → ((k : ℕ) → r g k ≡ true → k < 1024) → Part (view u none r) t n g T → ((cs : List ℕ) (q : Progress) → lacks T cs ≡ [] → Band u sc none (seen r g cs) t n c w [] q → Saw g T q → Exact g q → Runs ok q) → ((cs : List ℕ) (x : ℕ) (xs : List ℕ) (q : Progress) → lacks T cs ≡ x ∷ xs → Band u sc none (seen r g cs) t n c true (x ∷ xs) q → Saw g T q → Exact g q → Runs short q) → Band u sc none r t n c w ls p → Runs (census u.image g T (census_edges ok short)) p
+  pub rule-count : (ok short : Tree) (g : Generation) (T : List ℕ) (r t : Names) (n c : ℕ) (w : Bool) (ls : List ℕ) (p : Progress) → Distinct T → ((k : ℕ) → is_in T k ≡ true → k < 1024) → ((k : ℕ) → r g k ≡ true → k < 1024) → Part (view u none r) t n g T → ((cs : List ℕ) (q : Progress) → lacks T cs ≡ [] → Band u sc none (seen r g cs) t n c w [] q → q.lacking ≡ [] → Saw g T q → Exact g q → Runs ok q) → ((cs : List ℕ) (x : ℕ) (xs : List ℕ) (q : Progress) → lacks T cs ≡ x ∷ xs → Band u sc none (seen r g cs) t n c true (x ∷ xs) q → q.lacking ≡ x ∷ xs → Saw g T q → Exact g q → Runs short q) → Band u sc none r t n c w ls p → Runs (census u.image g T (census_edges ok short)) p
   rule-count ok short g T r t n c w ls p dT below_T below_r part on_full on_short b =
       let order = Make (Census g) in
       let bs = census_edges ok short in
@@ -501,11 +524,11 @@ module _ (u : View) (sc : Scene u.number u.image) (gr : Ground u sc) where
       let exact : (k : ℕ) → list_any (is_worker is_ready u.number g k) rows' ≡ is_in cs k = census-exact (view u none r) g q.table.rows below_r b'.looks in
       let lost = part q.table.rows b'.looks in
       let before : (l : List ℕ) → lacks T cs ≡ l → length l ≤ q.faults + q.losses = λ l e. omega (arith, lost, b'.budget, counted-all u.number g T (lacks T cs) q.table.rows seen_now, ap length e) in
-      let after : List ℕ → Progress = λ l. record { table = with_rows q.table rows'; calls = q.calls + 1; ready = cs; lacking = lacks T cs; faults = q.faults; losses = q.losses; returns = q.returns; cause = first_cause q.cause (went_wrong (Census g) (full_or_short l)) (q.calls + 1); note = q.note } in
+      let after : List ℕ → Progress = λ l. record { table = with_rows q.table rows'; calls = q.calls + 1; ready = cs; lacking = lacks T cs; lacked = lacked_after u.image T (Told cs) q.lacked; faults = q.faults; losses = q.losses; returns = q.returns; cause = first_cause q.cause (went_wrong (Census g) (full_or_short l)) (q.calls + 1); note = q.note } in
       subst (λ st. Answers order T bs q st) (sym (unfailing co.text u.image me (Census g) fate q.table tt))
       (elim (lacks T cs) as (λ l. lacks T cs ≡ l → Edge bs (full_or_short l) (after l)) [
-        | [] ↦ λ e. on_full cs (after []) e (record { looks = looks'; enough = b'.enough; secured = λ a e. omega (arith, b'.secured a e, same); budget = omega (arith, b'.budget, same); lacking = e; still = b'.still; marks = marks-plain w q.faults q.losses (q.calls + 1) q.cause b'.marks; beside = sc.drops (is_exited_of u.number) q.table.rows q.losses q.faults (mine-exited u.number, λ z zs. refl) b'.beside }) saw exact
-        | x ∷ xs ↦ λ e. on_short cs x xs (after (x ∷ xs)) e (record { looks = looks'; enough = b'.enough; secured = λ a e. omega (arith, b'.secured a e, same); budget = omega (arith, b'.budget, same); lacking = e; still = b'.still; marks = marks-wrong w q.faults q.faults q.losses (q.calls + 1) q.cause (omega (arith, before (x ∷ xs) e)) b'.marks; beside = sc.drops (is_exited_of u.number) q.table.rows q.losses q.faults (mine-exited u.number, λ z zs. refl) b'.beside }) saw exact
+        | [] ↦ λ e. on_full cs (after []) e (record { looks = looks'; enough = b'.enough; secured = λ a e. omega (arith, b'.secured a e, same); budget = omega (arith, b'.budget, same); lacking = own-lacked u.image T cs q.lacked ∙ e; still = b'.still; marks = marks-plain w q.faults q.losses (q.calls + 1) q.cause b'.marks; beside = sc.drops (is_exited_of u.number) q.table.rows q.losses q.faults (mine-exited u.number, λ z zs. refl) b'.beside }) e saw exact
+        | x ∷ xs ↦ λ e. on_short cs x xs (after (x ∷ xs)) e (record { looks = looks'; enough = b'.enough; secured = λ a e. omega (arith, b'.secured a e, same); budget = omega (arith, b'.budget, same); lacking = own-lacked u.image T cs q.lacked ∙ e; still = b'.still; marks = marks-wrong w q.faults q.faults q.losses (q.calls + 1) q.cause (omega (arith, before (x ∷ xs) e)) b'.marks; beside = sc.drops (is_exited_of u.number) q.table.rows q.losses q.faults (mine-exited u.number, λ z zs. refl) b'.beside }) e saw exact
       ] refl))
 
   ---- Settle
@@ -541,13 +564,13 @@ module _ (u : View) (sc : Scene u.number u.image) (gr : Ground u sc) where
   only-seen g S cs r only h k e = only h k (and-left (r h k) _ e)
 
   -- a step that names its worker when it runs
-  to-fork : (crew : Crew) (bs : Branches) (q : Progress) (x : ℕ) (xs : List ℕ) → q.lacking ≡ x ∷ xs → Runs (does u.image (fork_of crew x) bs) q → Runs (Does u.image (ForkLacking crew) [] bs) q
+  to-fork : (crew : Crew) (bs : Branches) (q : Progress) (x : ℕ) (xs : List ℕ) → lacked_by u.image q.lacked ≡ x ∷ xs → Runs (does u.image (fork_of crew x) bs) q → Runs (Does u.image (ForkLacking crew) [] bs) q
   to-fork crew bs q x xs e h = subst (λ (l : List ℕ). Runs (does u.image (fork_of crew (lowest l)) bs) q) (sym e) h
 
-  to-await : (g : Generation) (bs : Branches) (q : Progress) (x : ℕ) (xs : List ℕ) → q.lacking ≡ x ∷ xs → Runs (does u.image (AwaitReady g x) bs) q → Runs (Does u.image (AwaitLacking g) [] bs) q
+  to-await : (g : Generation) (bs : Branches) (q : Progress) (x : ℕ) (xs : List ℕ) → lacked_by u.image q.lacked ≡ x ∷ xs → Runs (does u.image (AwaitReady g x) bs) q → Runs (Does u.image (AwaitLacking g) [] bs) q
   to-await g bs q x xs e h = subst (λ (l : List ℕ). Runs (does u.image (AwaitReady g (lowest l)) bs) q) (sym e) h
 
-  to-kill : (g : Generation) (bs : Branches) (q : Progress) (x : ℕ) (xs : List ℕ) → q.lacking ≡ x ∷ xs → Runs (does u.image (Kill g x) bs) q → Runs (Does u.image (KillLacking g) [] bs) q
+  to-kill : (g : Generation) (bs : Branches) (q : Progress) (x : ℕ) (xs : List ℕ) → lacked_by u.image q.lacked ≡ x ∷ xs → Runs (does u.image (Kill g x) bs) q → Runs (Does u.image (KillLacking g) [] bs) q
   to-kill g bs q x xs e h = subst (λ (l : List ℕ). Runs (does u.image (Kill g (lowest l)) bs) q) (sym e) h
 
   -- no name is Starting once the one that was forked is left out
@@ -574,19 +597,19 @@ module _ (u : View) (sc : Scene u.number u.image) (gr : Ground u sc) where
       bad b'))
       (λ q b'. next r q only b') b)
 
-  pub rule-settle : (side : Side) (crew : Crew) (S : List ℕ) → HoldsShare u crew → Distinct S → ((k : ℕ) → is_in S k ≡ true → k < 1024) → (d : ℕ) (w : Bool) → ((r : Names) (q : Progress) (c : ℕ) (w' : Bool) → (w ≡ true → w' ≡ true) → Only crew.generation S r → Band u sc none r (named crew.generation (is_in S)) (length S) c w' [] q → Saw crew.generation S q → Exact crew.generation q → post (At (full_end side)) q) → ((r : Names) (q : Progress) (x : ℕ) (xs : List ℕ) → Only crew.generation S r → Band u sc none r (named crew.generation (is_in S)) (length S) d true (x ∷ xs) q → Saw crew.generation S q → Exact crew.generation q → post (At (short_end side)) q) → (rounds c : ℕ) → c + rounds ≡ d → (w' : Bool) → (w ≡ true → w' ≡ true) → (r : Names) (ls : List ℕ) (p : Progress) → Only crew.generation S r → Band u sc none r (named crew.generation (is_in S)) (length S) c w' ls p → Runs (settle u.image crew S side rounds) p
+  pub rule-settle : (side : Side) (crew : Crew) (S : List ℕ) → HoldsShare u crew → Distinct S → ((k : ℕ) → is_in S k ≡ true → k < 1024) → (d : ℕ) (w : Bool) → ((r : Names) (q : Progress) (c : ℕ) (w' : Bool) → (w ≡ true → w' ≡ true) → Only crew.generation S r → Band u sc none r (named crew.generation (is_in S)) (length S) c w' [] q → q.lacking ≡ [] → Saw crew.generation S q → Exact crew.generation q → post (At (full_end side)) q) → ((r : Names) (q : Progress) (x : ℕ) (xs : List ℕ) → Only crew.generation S r → Band u sc none r (named crew.generation (is_in S)) (length S) d true (x ∷ xs) q → q.lacking ≡ x ∷ xs → Saw crew.generation S q → Exact crew.generation q → post (At (short_end side)) q) → (rounds c : ℕ) → c + rounds ≡ d → (w' : Bool) → (w ≡ true → w' ≡ true) → (r : Names) (ls : List ℕ) (p : Progress) → Only crew.generation S r → Band u sc none r (named crew.generation (is_in S)) (length S) c w' ls p → Runs (settle u.image crew S side rounds) p
   rule-settle side crew S same dS below_S d w full short zero c sum w' up r ls p only b =
       rule-count (Ends (full_end side)) (Ends (short_end side)) crew.generation S r (named crew.generation (is_in S)) (length S) c w' ls p dS below_S (λ k e. below_S k (only crew.generation k e).1) (λ rows looks. omega arith)
-      (λ cs q e b' saw exact. (band-inv none (seen r crew.generation cs) (named crew.generation (is_in S)) (length S) c w' [] q b', full (seen r crew.generation cs) q c w' up (only-seen crew.generation S cs r only) b' saw exact))
-      (λ cs x xs q e b' saw exact. (band-inv none (seen r crew.generation cs) (named crew.generation (is_in S)) (length S) c true (x ∷ xs) q b', short (seen r crew.generation cs) q x xs (only-seen crew.generation S cs r only) (recount (omega arith) b') saw exact))
+      (λ cs q e b' is saw exact. (band-inv none (seen r crew.generation cs) (named crew.generation (is_in S)) (length S) c w' [] q b', full (seen r crew.generation cs) q c w' up (only-seen crew.generation S cs r only) b' is saw exact))
+      (λ cs x xs q e b' is saw exact. (band-inv none (seen r crew.generation cs) (named crew.generation (is_in S)) (length S) c true (x ∷ xs) q b', short (seen r crew.generation cs) q x xs (only-seen crew.generation S cs r only) (recount (omega arith) b') is saw exact))
       b
     where
       recount : {r : Names} {ls : List ℕ} {q : Progress} → c ≡ d → Band u sc none r (named crew.generation (is_in S)) (length S) c true ls q → Band u sc none r (named crew.generation (is_in S)) (length S) d true ls q
       recount e b = record { looks = b.looks; enough = b.enough; secured = b.secured; budget = omega (arith, b.budget); lacking = b.lacking; still = b.still; marks = b.marks; beside = b.beside }
   rule-settle side crew S same dS below_S d w full short (suc rounds) c sum w' up r ls p only b =
       rule-count (Ends (full_end side)) (round u.image crew (settle u.image crew S side rounds)) crew.generation S r (named crew.generation (is_in S)) (length S) c w' ls p dS below_S (λ k e. below_S k (only crew.generation k e).1) (λ rows looks. omega arith)
-      (λ cs q e b' saw exact. (band-inv none (seen r crew.generation cs) (named crew.generation (is_in S)) (length S) c w' [] q b', full (seen r crew.generation cs) q c w' up (only-seen crew.generation S cs r only) b' saw exact))
-      (λ cs x xs q e b' saw exact.
+      (λ cs q e b' is saw exact. (band-inv none (seen r crew.generation cs) (named crew.generation (is_in S)) (length S) c w' [] q b', full (seen r crew.generation cs) q c w' up (only-seen crew.generation S cs r only) b' is saw exact))
+      (λ cs x xs q e b' is saw exact.
       let lack = in-filter (λ k. not (is_in cs k)) S x xs e in
       let off : seen r crew.generation cs crew.generation x ≡ false = unseen (r crew.generation x) (is_in cs x) (same_generation crew.generation crew.generation) (not-true (is_in cs x) lack.1) (same-refl crew.generation) in
       rule-round (settle u.image crew S side rounds) crew x xs (seen r crew.generation cs) S (length S) c q same off lack.0 (only-seen crew.generation S cs r only)

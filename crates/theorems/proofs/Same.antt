@@ -124,18 +124,18 @@ module _ (t : Table) (rec : Record) (target : Target) (pattern : Pattern) (s : I
   within-old : (r : Names) (q : Progress) → Only g R r → Looks (view first none r) q.table.rows → Exactly q → (k : ℕ) → is_in q.ready k ≡ true → k < rec.wanted
   within-old r q only looks exact k e = every-is_in (λ j. j < rec.wanted) R s.record_in_range.ready k (census-within first (λ n. refl) g R r q.table.rows q.ready only looks exact k e)
 
-  pub old-full : (r : Names) (q : Progress) (c : ℕ) (w : Bool) → (true ≡ true → w ≡ true) → Only g R r → Band first scene none r (named g (is_in R)) (length R) c w [] q → Counted rec.pid g R q.lacking q.table.rows → Exactly q → post (At RolledBack) q
-  old-full r q c w up only b saw exact = (
-    λ a. service-of first (λ n. refl) g R (addresses_of rec) layout listens (first-keys t rec s) r q.table q.lacking only b.looks b.lacking saw a ∙ sym (first-service t rec s a),
+  pub old-full : (r : Names) (q : Progress) (c : ℕ) (w : Bool) → (true ≡ true → w ≡ true) → Only g R r → Band first scene none r (named g (is_in R)) (length R) c w [] q → q.lacking ≡ [] → Counted rec.pid g R q.lacking q.table.rows → Exactly q → post (At RolledBack) q
+  old-full r q c w up only b is saw exact = (
+    λ a. service-of first (λ n. refl) g R (addresses_of rec) layout listens (first-keys t rec s) r q.table q.lacking only b.looks is saw a ∙ sym (first-service t rec s a),
     tt,
     b.marks.caused (up refl),
     kept-after rec target (report_at sides (At RolledBack) q) q.table rec.wanted like.rolled_back s.record_in_range s.record_in_range.wanted (within-old r q only b.looks exact) (agrees-then R r q rec.wanted only b.looks exact b.still (At RolledBack)),
   )
 
-  pub old-short : (r : Names) (q : Progress) (x : ℕ) (xs : List ℕ) → Only g R r → Band first scene none r (named g (is_in R)) (length R) rec.retries true (x ∷ xs) q → Counted rec.pid g R q.lacking q.table.rows → Exactly q → post (At ShortOld) q
-  old-short r q x xs only b saw exact = (
+  pub old-short : (r : Names) (q : Progress) (x : ℕ) (xs : List ℕ) → Only g R r → Band first scene none r (named g (is_in R)) (length R) rec.retries true (x ∷ xs) q → q.lacking ≡ x ∷ xs → Counted rec.pid g R q.lacking q.table.rows → Exactly q → post (At ShortOld) q
+  old-short r q x xs only b is saw exact = (
     falls-same layout (shortfalls_of rec.posts.groups q.lacking) _ _ _ (λ a. sym (first-service t rec s a))
-        (service-short first (λ n. refl) g R (addresses_of rec) layout listens (first-keys t rec s) r q.table q.lacking only b.looks some (omega (arith, ap length b.lacking)) saw),
+        (service-short first (λ n. refl) g R (addresses_of rec) layout listens (first-keys t rec s) r q.table q.lacking only b.looks some (omega (arith, ap length is)) saw),
     omega (arith, b.budget, counted-all rec.pid g R q.lacking q.table.rows saw, shortfalls-sum rec.posts.groups q.lacking some),
     b.marks.caused refl,
     kept-after rec target (report_at sides (At ShortOld) q) q.table rec.wanted (like.short_old (shortfalls_of rec.posts.groups q.lacking)) s.record_in_range s.record_in_range.wanted (within-old r q only b.looks exact) (agrees-then R r q rec.wanted only b.looks exact b.still (At ShortOld)),
@@ -144,19 +144,19 @@ module _ (t : Table) (rec : Record) (target : Target) (pattern : Pattern) (s : I
   within-new : (r : Names) (q : Progress) → Only g like.set r → Looks (view first none r) q.table.rows → Exactly q → (k : ℕ) → is_in q.ready k ≡ true → k < like.wanted
   within-new r q only looks exact k e = like.below k (census-within first (λ n. refl) g like.set r q.table.rows q.ready only looks exact k e)
 
-  pub new-full : (v : Bool) (r : Names) (q : Progress) (c : ℕ) (w : Bool) → (v ≡ true → w ≡ true) → Only g like.set r → Band first scene none r (named g (is_in like.set)) (length like.set) c w [] q → Counted rec.pid g like.set q.lacking q.table.rows → Exactly q → post (At Done) q
-  new-full v r q c w up only b saw exact = (
-    λ a. service-of first (λ n. refl) g like.set (addresses_of rec) layout listens (first-keys t rec s) r q.table q.lacking only b.looks b.lacking saw a ∙ ap (λ (f : Service). f a) (sym like.wants),
+  pub new-full : (v : Bool) (r : Names) (q : Progress) (c : ℕ) (w : Bool) → (v ≡ true → w ≡ true) → Only g like.set r → Band first scene none r (named g (is_in like.set)) (length like.set) c w [] q → q.lacking ≡ [] → Counted rec.pid g like.set q.lacking q.table.rows → Exactly q → post (At Done) q
+  new-full v r q c w up only b is saw exact = (
+    λ a. service-of first (λ n. refl) g like.set (addresses_of rec) layout listens (first-keys t rec s) r q.table q.lacking only b.looks is saw a ∙ ap (λ (f : Service). f a) (sym like.wants),
     tt,
     tt,
     kept-after rec target (report_at sides (At Done) q) q.table like.wanted like.done s.record_in_range like.most (within-new r q only b.looks exact) (agrees-then like.set r q like.wanted only b.looks exact b.still (At Done)),
   )
 
-  pub new-short : (r : Names) (q : Progress) (x : ℕ) (xs : List ℕ) → Only g like.set r → Band first scene none r (named g (is_in like.set)) (length like.set) rec.retries true (x ∷ xs) q → Counted rec.pid g like.set q.lacking q.table.rows → Exactly q → post (At ShortTarget) q
-  new-short r q x xs only b saw exact = (
+  pub new-short : (r : Names) (q : Progress) (x : ℕ) (xs : List ℕ) → Only g like.set r → Band first scene none r (named g (is_in like.set)) (length like.set) rec.retries true (x ∷ xs) q → q.lacking ≡ x ∷ xs → Counted rec.pid g like.set q.lacking q.table.rows → Exactly q → post (At ShortTarget) q
+  new-short r q x xs only b is saw exact = (
     subst (λ (l : Layout). FallsShort l (shortfalls_of l.groups q.lacking) (want rec target) (service q.table)) (sym like.layout)
         (falls-same layout (shortfalls_of rec.posts.groups q.lacking) _ _ _ (λ a. ap (λ (f : Service). f a) (sym like.wants))
-        (service-short first (λ n. refl) g like.set (addresses_of rec) layout listens (first-keys t rec s) r q.table q.lacking only b.looks some (omega (arith, ap length b.lacking)) saw)),
+        (service-short first (λ n. refl) g like.set (addresses_of rec) layout listens (first-keys t rec s) r q.table q.lacking only b.looks some (omega (arith, ap length is)) saw)),
     omega (arith, b.budget, counted-all rec.pid g like.set q.lacking q.table.rows saw, shortfalls-sum rec.posts.groups q.lacking some, ap (λ (l : Layout). sum (shortfalls_of l.groups q.lacking)) like.layout),
     b.marks.caused refl,
     kept-after rec target (report_at sides (At ShortTarget) q) q.table like.wanted (like.short (shortfalls_of sides.target q.lacking)) s.record_in_range like.most (within-new r q only b.looks exact) (agrees-then like.set r q like.wanted only b.looks exact b.still (At ShortTarget)),

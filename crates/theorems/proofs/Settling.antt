@@ -23,7 +23,7 @@ use Rattle.vocabulary.specs.declared.calls.Answer.{Answer}
 use Rattle.vocabulary.specs.declared.calls.Answer.TheVariants as answer
 use Rattle.definitions.specs.Plans.{settle, round, census, quits, closes, census_edges, fork_edges, await_any_edges, then_edge, full_end, short_end}
 use Rattle.definitions.specs.Run.{Pattern, Progress, Ending, At, Ran, run_with, goes_with, noted, after_call, after_moment, answered, Return, is_fault, returns_after}
-use Rattle.definitions.specs.Path.{first_cause, went_wrong}
+use Rattle.definitions.specs.Path.{first_cause, went_wrong, lacked_by}
 use Rattle.definitions.specs.Claims.{refused_among}
 use Rattle.definitions.specs.Settling.{PlansGoBack, IsOnly, HasSide, missing, Settles, SettlesAlways, IsReturning, back, without, ReturnsAlways}
 use Rattle.theorems.proofs.Rows.{one, weigh, every-more, every-both, count-weigh, and-left, and-right, both-true, or-left, or-right}
@@ -112,7 +112,7 @@ ours image c b (Foreign n hs ∷ rows) next asc e only =
 ---- A run with other faults and another cause makes the same calls
 
 abbrev recounted : Progress → ℕ → List Return → Option ℕ → Progress
-recounted p faults returns cause = record { table = p.table; calls = p.calls; ready = p.ready; lacking = p.lacking; faults = faults; losses = p.losses; returns = returns; cause = cause; note = p.note }
+recounted p faults returns cause = record { table = p.table; calls = p.calls; ready = p.ready; lacking = p.lacking; lacked = p.lacked; faults = faults; losses = p.losses; returns = returns; cause = cause; note = p.note }
 
 noted-recounted : (said : Option PidNote) (p : Progress) (f : ℕ) (rs : List Return) (c : Option ℕ) → noted said (recounted p f rs c) ≡ recounted (noted said p) f rs c
 noted-recounted None p f rs c = refl
@@ -137,9 +137,9 @@ mutual
       let moment = pattern (p.calls + 1) in
       let middle = after_moment moment.exits p in
       let s = answered text by order moment.fate middle in
-      let b = is_fault (call_of order p.lacking) s.answer in
-      let rest = twins-behind d text branches (reply_of set s.answer) pattern (after_call order set s middle) (if b then f + 1 else f) (returns_after (call_of order p.lacking) s.answer f rs) (first_cause c (went_wrong (call_of order p.lacking) (reply_of set s.answer)) (p.calls + 1)) (fault-more b f p.faults d e) in
-      let entry : Entry = record { by = by; call = call_of order middle.lacking; answer = s.answer } in
+      let b = is_fault (call_of order (lacked_by by p.lacked)) s.answer in
+      let rest = twins-behind d text branches (reply_of set s.answer) pattern (after_call by order set s middle) (if b then f + 1 else f) (returns_after (call_of order (lacked_by by p.lacked)) s.answer f rs) (first_cause c (went_wrong (call_of order (lacked_by by p.lacked)) (reply_of set s.answer)) (p.calls + 1)) (fault-more b f p.faults d e) in
+      let entry : Entry = record { by = by; call = call_of order (lacked_by by middle.lacked); answer = s.answer } in
       (rest.0, rest.1, rest.2, rest.3, rest.4, rest.5, ap (λ es. entry ∷ es) rest.6)
 
   twins-behind : (d : ℕ) (text : List ℕ) (bs : Branches) (r : Reply) (pattern : Pattern) (p : Progress) (f : ℕ) (rs : List Return) (c : Option ℕ) → f ≡ p.faults + d → Twin d (goes_with text bs r pattern p) (goes_with text bs r pattern (recounted p f rs c))
@@ -209,7 +209,7 @@ module _ (text : List ℕ) (pattern : Pattern) (set : List ℕ) where
       let moment = pattern (q.calls + 1) in
       let middle = after_moment moment.exits q in
       let st = answered text by order moment.fate middle in
-      branches-named bs all (reply_of s st.answer) (after_call order s st middle)
+      branches-named bs all (reply_of s st.answer) (after_call by order s st middle)
 
   -- behind a count
   abbrev NamedThen : Tree → Type 0
@@ -225,9 +225,9 @@ module _ (text : List ℕ) (pattern : Pattern) (set : List ℕ) where
       let st = answered text by (Make (Census g)) moment.fate middle in
       go st.answer st.table middle
     where
-      go : (a : Answer) (t : Table) (middle : Progress) → Named (goes_with text (census_edges full short) (reply_of set a) pattern (after_call (Make (Census g)) set (gives a t) middle))
+      go : (a : Answer) (t : Table) (middle : Progress) → Named (goes_with text (census_edges full short) (reply_of set a) pattern (after_call by (Make (Census g)) set (gives a t) middle))
       go (answer.Counted ns) t middle =
-          let q1 = after_call (Make (Census g)) set (gives (answer.Counted ns) t) middle in
+          let q1 = after_call by (Make (Census g)) set (gives (answer.Counted ns) t) middle in
           elim (lacks set ns) as (λ l. Named (goes_with text (census_edges full short) (full_or_short l) pattern q1)) [
             | [] ↦ on_full q1 refl
             | x ∷ xs ↦ on_short q1 refl
@@ -381,14 +381,14 @@ module _ (image pid : ℕ) (holds : List Hold) (crew : Crew) (S : List ℕ) wher
     count-of : (r : Names) (q : Progress) → Looks (view u none r) q.table.rows → Exactly q → weigh (ready_in pid (named g (is_in S))) q.table.rows + length (missing pid g S q.table) ≡ length S
     count-of r q looks exact = missing-count (view u none r) g q.table S q.ready looks dS (every-in (λ k. list_any (is_worker is_ready pid g k) q.table.rows ≡ is_in q.ready k) S (λ k e. exact k))
 
-    full : (r : Names) (q : Progress) (c : ℕ) (w : Bool) → (false ≡ true → w ≡ true) → Only g S r → Band u sc none r (named g (is_in S)) (length S) c w [] q → Counted pid g S q.lacking q.table.rows → Exactly q → post (At (full_end side)) q
-    full r q c w up only b saw exact =
-        let none_missing = no-length (missing pid g S q.table) (omega (arith, counted-all pid g S q.lacking q.table.rows saw, ap length b.lacking, count-of r q b.looks exact)) in
+    full : (r : Names) (q : Progress) (c : ℕ) (w : Bool) → (false ≡ true → w ≡ true) → Only g S r → Band u sc none r (named g (is_in S)) (length S) c w [] q → q.lacking ≡ [] → Counted pid g S q.lacking q.table.rows → Exactly q → post (At (full_end side)) q
+    full r q c w up only b is saw exact =
+        let none_missing = no-length (missing pid g S q.table) (omega (arith, counted-all pid g S q.lacking q.table.rows saw, ap length is, count-of r q b.looks exact)) in
         (inl (refl, none_missing), exact, side-of r q.table only b.looks, b.still.files_stay, b.still.note_stays)
 
-    short : (r : Names) (q : Progress) (x : ℕ) (xs : List ℕ) → Only g S r → Band u sc none r (named g (is_in S)) (length S) (owed + rounds) true (x ∷ xs) q → Counted pid g S q.lacking q.table.rows → Exactly q → post (At (short_end side)) q
-    short r q x xs only b saw exact =
-        let some : 1 ≤ length q.lacking = omega (arith, ap length b.lacking) in
+    short : (r : Names) (q : Progress) (x : ℕ) (xs : List ℕ) → Only g S r → Band u sc none r (named g (is_in S)) (length S) (owed + rounds) true (x ∷ xs) q → q.lacking ≡ x ∷ xs → Counted pid g S q.lacking q.table.rows → Exactly q → post (At (short_end side)) q
+    short r q x xs only b is saw exact =
+        let some : 1 ≤ length q.lacking = omega (arith, ap length is) in
         let paid : length q.lacking + rounds + (p.faults + p.losses) + 1 ≤ q.faults + q.losses = omega (arith, b.budget, counted-all pid g S q.lacking q.table.rows saw) in
         (inr (refl, some, paid), exact, side-of r q.table only b.looks, b.still.files_stay, b.still.note_stays)
 
@@ -399,7 +399,7 @@ module _ (image pid : ℕ) (holds : List Hold) (crew : Crew) (S : List ℕ) wher
     begun = recounted p (p.faults + more) [] (Some 0)
 
     -- however the workers are seen that are no part of the set
-    begun-band : (v : View) (s r : Names) → Looks (view (seen_as u v) s r) p.table.rows → Band (seen_as u v) sc s r (named g (is_in S)) (length S) owed false p.lacking begun
+    begun-band : (v : View) (s r : Names) → Looks (view (seen_as u v) s r) p.table.rows → Band (seen_as u v) sc s r (named g (is_in S)) (length S) owed false (lacked_by image p.lacked) begun
     begun-band v s r looks =
         let count = missing-count (view (seen_as u v) s r) g p.table S _ looks dS (ready-among pid g p.table.rows S) in
         record {
@@ -413,7 +413,7 @@ module _ (image pid : ℕ) (holds : List Hold) (crew : Crew) (S : List ℕ) wher
           beside = tt;
         }
 
-    first-band : Looks u p.table.rows → Band u sc none (named g (is_in S)) (named g (is_in S)) (length S) owed false p.lacking begun
+    first-band : Looks u p.table.rows → Band u sc none (named g (is_in S)) (named g (is_in S)) (length S) owed false (lacked_by image p.lacked) begun
     first-band looks = begun-band u none (named g (is_in S)) looks
 
     abbrev Goes : Tree → Progress → Type 0
@@ -450,7 +450,7 @@ settles_always text image pid holds crew set side rounds pattern first formed ha
     let below_set = every-is_in (λ k. k < 1024) set below in
     let looks = first-looks image pid holds crew set first.table formed has in
     settles-by image pid holds crew set text side rounds pattern first dS (settle image crew set side rounds) (settle-named text pattern set image crew side rounds)
-    (settle-goes image pid holds crew set text side rounds pattern first dS below_set (named crew.generation (is_in set)) false first.lacking (begun image pid holds crew set text side rounds pattern first dS)
+    (settle-goes image pid holds crew set text side rounds pattern first dS below_set (named crew.generation (is_in set)) false (lacked_by image first.lacked) (begun image pid holds crew set text side rounds pattern first dS)
     (λ h k e. (same-is h crew.generation (and-left _ _ e), and-right (same_generation h crew.generation) _ e)) (first-band image pid holds crew set text side rounds pattern first dS looks)) spared
 
 ---- The way back
@@ -594,8 +594,8 @@ module _ (image pid : ℕ) (holds : List Hold) (opened : List Address) (crew : C
         let q0 = begun image pid kept crew S text Old rounds pattern p dS in
         let rest = closes image opened (settle image crew S Old rounds) in
         let gone : AllByRecursion (λ a. has_address a kept ≡ false) opened = every-more (λ a. has opened a ≡ true) (λ a. has_address a kept ≡ false) (λ a e. without-off opened a holds e) opened (all-has opened opened (λ a e. e)) in
-        rule-quits wide sc' (grounded inv' post' co' acts' (λ t n w q a b c d e. tt)) rest new forked (named new (is_in forked)) either t (length S) paid false p.lacking q0 off-old
-        (λ s' r' q less_s less b. close-all opened holds (all-closed-is opened holds) gone r' p.lacking q (left-over r' less) (band-holds wide (narrow holds) sc' s' r' t (length S) paid false p.lacking q refl (none-starts s' less_s) (λ h k e. let o = left-over r' less h k e in held-old h k (named-on old S h k o.0 o.1)) b))
+        rule-quits wide sc' (grounded inv' post' co' acts' (λ t n w q a b c d e. tt)) rest new forked (named new (is_in forked)) either t (length S) paid false (lacked_by image p.lacked) q0 off-old
+        (λ s' r' q less_s less b. close-all opened holds (all-closed-is opened holds) gone r' (lacked_by image p.lacked) q (left-over r' less) (band-holds wide (narrow holds) sc' s' r' t (length S) paid false (lacked_by image p.lacked) q refl (none-starts s' less_s) (λ h k e. let o = left-over r' less h k e in held-old h k (named-on old S h k o.0 o.1)) b))
         (begun-band image pid kept crew S text Old rounds pattern p dS wide (named new (is_in forked)) either looks)
 
 pub returns_always : ReturnsAlways

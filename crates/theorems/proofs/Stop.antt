@@ -175,11 +175,11 @@ module _ (t : Table) (rec : Record) (quick : Bool) (pattern : Pattern) (s : IsSt
       let bs = note_edges fine fault rest in
       rule-step u (sc files note) (ground files note) order [] bs any any none 0 0 false [] q refl b (λ p b' fate.
       remove-cases co.text g.image (record { number = rec.pid; holds = s.agrees.holds }) path fate p.table (λ st. Answers u (sc files note) (ground files note) order [] bs p st)
-      (on_fault (noted fault (after_call order [] (gives answer.IoFault p.table) p)) (forget files (unwrap_or fault note) true _
-      (said-so fault files note true (after_call order [] (gives answer.IoFault p.table) p)
+      (on_fault (noted fault (after_call rec.generation.image order [] (gives answer.IoFault p.table) p)) (forget files (unwrap_or fault note) true _
+      (said-so fault files note true (after_call rec.generation.image order [] (gives answer.IoFault p.table) p)
       (record { looks = b'.looks; enough = b'.enough; secured = λ a e. absurd (omega (arith, e)); budget = omega arith; lacking = b'.lacking; still = b'.still; marks = marks-wrong false p.faults (p.faults + 1) p.losses (p.calls + 1) p.cause (omega arith) b'.marks; beside = tt }))))
-      (on_fine (noted fine (after_call order [] (gives answer.Fine (with_files (without_file path p.table.files) p.table)) p))
-      (said-so fine (without_file path files) note false (after_call order [] (gives answer.Fine (with_files (without_file path p.table.files) p.table)) p)
+      (on_fine (noted fine (after_call rec.generation.image order [] (gives answer.Fine (with_files (without_file path p.table.files) p.table)) p))
+      (said-so fine (without_file path files) note false (after_call rec.generation.image order [] (gives answer.Fine (with_files (without_file path p.table.files) p.table)) p)
       (record {
         looks = b'.looks;
         enough = b'.enough;
@@ -203,7 +203,7 @@ module _ (t : Table) (rec : Record) (quick : Bool) (pattern : Pattern) (s : IsSt
       let me : Caller = record { number = rec.pid; holds = s.agrees.holds } in
       let is : answered [] g.image order moment.fate middle ≡ gives answer.Fine (each_row (without_master rec.pid) middle.table) =
       ap (λ (o : Option Caller). step_by [] g.image o Leave moment.fate middle.table) (finds (view u any any) middle.table.rows b'.looks) ∙ unfailing [] g.image me Leave moment.fate middle.table tt in
-      let gone = after_call order [] (gives answer.Fine (each_row (without_master rec.pid) middle.table)) middle in
+      let gone = after_call rec.generation.image order [] (gives answer.Fine (each_row (without_master rec.pid) middle.table)) middle in
       let marks = marks-plain false middle.faults middle.losses (middle.calls + 1) middle.cause b'.marks in
       let fine = sole-fine (view u any any) (λ n. refl) middle.table.rows b'.looks.fine in
       let kept : inv gone = (λ a socket common on. absurd (cc (common.1)), (marks.clean, marks.blamed)) in
@@ -212,7 +212,7 @@ module _ (t : Table) (rec : Record) (quick : Bool) (pattern : Pattern) (s : IsSt
         band-inv u (sc files note) (ground files note) any any none 0 0 false [] q b,
         band-inv u (sc files note) (ground files note) any any none 0 0 false [] middle b',
         tt,
-        subst (λ (st : Stepped). Behind inv post Anyhow Unasked (course_after order co) (then_edge (Ends Done)) (reply_of [] st.answer) (after_call order [] st middle)) (sym is) (kept, (empty, none-own (view u any any) middle.table.rows fine, files_then)),
+        subst (λ (st : Stepped). Behind inv post Anyhow Unasked (course_after order co) (then_edge (Ends Done)) (reply_of [] st.answer) (after_call rec.generation.image order [] st middle)) (sym is) (kept, (empty, none-own (view u any any) middle.table.rows fine, files_then)),
       )
 
   -- the rest of the plan, from what the files and the note are

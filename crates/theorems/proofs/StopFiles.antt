@@ -86,7 +86,7 @@ module _ (path : FilePath) (owner : Option ℕ) (co : Course) where
       (λ past q fate k h.
       let st = step_with co.text by call fate q.table in
       let e = entry_of by call st.answer in
-      all-good due Removed Anyhow co not-lost (F o) (K b) bs all (past ++ e ∷ []) (reply_of [] st.answer) (after_call (Make call) [] st q)
+      all-good due Removed Anyhow co not-lost (F o) (K b) bs all (past ++ e ∷ []) (reply_of [] st.answer) (after_call by (Make call) [] st q)
       (any-off (λ x. is_failed_removal paths x.call x.answer) past e (calm.0 st.answer) ∙ k) (calm.1 by (live_master by q.table.rows) fate q.table ∙ h))
 
   ---- Calls that leave the file alone
@@ -132,13 +132,13 @@ module _ (path : FilePath) (owner : Option ℕ) (co : Course) where
       let on : has paths path ≡ true = rw (address-refl path) refl in
       good-step due Removed Anyhow co not-lost (F owner) (K false) by call [] bs refl (exits-keep owner) (λ past t k h. tt)
       (λ past q fate k h.
-      let P : Stepped → Type 0 = λ st. TracedBehind due Removed Anyhow co (past ++ entry_of by call st.answer ∷ []) bs (reply_of [] st.answer) (after_call (Make call) [] st q) in
+      let P : Stepped → Type 0 = λ st. TracedBehind due Removed Anyhow co (past ++ entry_of by call st.answer ∷ []) bs (reply_of [] st.answer) (after_call by (Make call) [] st q) in
       elim (live_master by q.table.rows) as (λ o. P (step_by co.text by o call fate q.table)) [
         | None ↦ tt
         | Some c ↦ remove-cases co.text by c path fate q.table P
-            (all-good due Removed Anyhow co not-lost (F (left_if true)) (K true) bs (good true, (good true, tt)) (past ++ entry_of by call answer.IoFault ∷ []) (reply_of [] answer.IoFault) (after_call (Make call) [] (gives answer.IoFault q.table) q)
+            (all-good due Removed Anyhow co not-lost (F (left_if true)) (K true) bs (good true, (good true, tt)) (past ++ entry_of by call answer.IoFault ∷ []) (reply_of [] answer.IoFault) (after_call by (Make call) [] (gives answer.IoFault q.table) q)
             (any-on (λ x. is_failed_removal paths x.call x.answer) past (entry_of by call answer.IoFault) on) h)
-            (all-good due Removed Anyhow co not-lost (F (left_if false)) (K false) bs (good false, (good false, tt)) (past ++ entry_of by call answer.Fine ∷ []) (reply_of [] answer.Fine) (after_call (Make call) [] (gives answer.Fine (with_files (without_file path q.table.files) q.table)) q)
+            (all-good due Removed Anyhow co not-lost (F (left_if false)) (K false) bs (good false, (good false, tt)) (past ++ entry_of by call answer.Fine ∷ []) (reply_of [] answer.Fine) (after_call by (Make call) [] (gives answer.Fine (with_files (without_file path q.table.files) q.table)) q)
             (any-off (λ x. is_failed_removal paths x.call x.answer) past (entry_of by call answer.Fine) refl ∙ k) (gone-file path q.table.files))
       ])
 
@@ -150,7 +150,7 @@ module _ (path : FilePath) (owner : Option ℕ) (co : Course) where
       let st = answered co.text by order moment.fate middle in
       let e = entry_of by Leave st.answer in (
         tt,
-        all-good due Removed Anyhow (course_after order co) not-lost (F (left_if b)) (K b) (then_edge (Ends Done)) ((λ past p k h. h ∙ ap left_if (sym k)), tt) (past ++ e ∷ []) (reply_of [] st.answer) (after_call order [] st middle)
+        all-good due Removed Anyhow (course_after order co) not-lost (F (left_if b)) (K b) (then_edge (Ends Done)) ((λ past p k h. h ∙ ap left_if (sym k)), tt) (past ++ e ∷ []) (reply_of [] st.answer) (after_call by order [] st middle)
             (any-off (λ x. is_failed_removal paths x.call x.answer) past e refl ∙ k) (leave-files by (live_master by middle.table.rows) moment.fate middle.table ∙ h),
       )
 

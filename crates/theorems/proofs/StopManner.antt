@@ -52,7 +52,7 @@ mutual
       let moment = pattern (p.calls + 1) in
       let middle = after_moment moment.exits p in
       let s = answered text by (Make call) moment.fate middle in
-      rw h.0 (never-behind test text bs (reply_of set s.answer) pattern (after_call (Make call) set s middle) h.1)
+      rw h.0 (never-behind test text bs (reply_of set s.answer) pattern (after_call by (Make call) set s middle) h.1)
   never-called test text (Does by (ForkLacking g) set bs) pattern p h = absurd h
   never-called test text (Does by (AwaitLacking g) set bs) pattern p h = absurd h
   never-called test text (Does by (KillLacking g) set bs) pattern p h = absurd h
@@ -125,7 +125,7 @@ module _ (r : Record) (pattern : Pattern) where
       let middle = after_moment moment.exits p in
       let st = answered co.text by order moment.fate middle in
       let e = entry_of by Leave st.answer in
-      (waited, all-good due anyway Anyhow (course_after order co) not-lost Any (AllWaited g r.ready) (then_edge (Ends Done)) ((λ past p k h. tt), tt) (past ++ e ∷ []) (reply_of [] st.answer) (after_call order [] st middle) (all-waited-on g r.ready past e waited) tt)
+      (waited, all-good due anyway Anyhow (course_after order co) not-lost Any (AllWaited g r.ready) (then_edge (Ends Done)) ((λ past p k h. tt), tt) (past ++ e ∷ []) (reply_of [] st.answer) (after_call by order [] st middle) (all-waited-on g r.ready past e waited) tt)
 
   removal-good : (path : FilePath) (bs : Branches) → AllGood due anyway Anyhow co not-lost Any (AllWaited g r.ready) bs → IsGood (Does by (Make (RemovePid path)) [] bs)
   removal-good path bs all = good-call due anyway Anyhow co not-lost Any (AllWaited g r.ready) by (RemovePid path) [] bs refl exits-any (all-waited-on g r.ready) (λ past t k h. tt) (λ text fate t h. tt) all

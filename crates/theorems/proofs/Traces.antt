@@ -16,6 +16,7 @@ use Rattle.definitions.specs.Calls.{step_with}
 use Rattle.definitions.specs.Manner.{is_leave_call, one_then}
 use Rattle.definitions.specs.Tree.{Tree, Branches, Ends, Does, Nothing, Branch, among, reply_of, call_of}
 use Rattle.definitions.specs.Run.{Progress, Ran, Ending, At, Lost, noted, after_call, after_moment, answered, goes_with}
+use Rattle.definitions.specs.Path.{lacked_by}
 use Rattle.definitions.specs.Claims.{names_any}
 use Rattle.theorems.proofs.Refusals.{acting_at, acting_after, refused_behind, refused-is, is_leave}
 use Rattle.theorems.proofs.Logic.{Exiting, Asked, Course, course_after, Along, Behind, AreMild, AreMildBehind, refused_in, refused_by, run_in}
@@ -40,7 +41,7 @@ abbrev mutual
       let middle = after_moment moment.exits p in
       let s = answered co.text by order moment.fate middle in
       names_any (acting_at order co.executing co.heirs) moment.exits ≡ false → mild moment.exits p.table.rows →
-      due past (call_of order middle.lacking) middle.table × TracedBehind due post mild (course_after order co) (past ++ entry_of by (call_of order middle.lacking) s.answer ∷ []) branches (reply_of set s.answer) (after_call order set s middle)
+      due past (call_of order (lacked_by by middle.lacked)) middle.table × TracedBehind due post mild (course_after order co) (past ++ entry_of by (call_of order (lacked_by by middle.lacked)) s.answer ∷ []) branches (reply_of set s.answer) (after_call by order set s middle)
 
   pub TracedBehind : Asking → Finally → Exiting → Course → List Entry → Branches → Reply → Progress → Type 0
   TracedBehind due post mild co past Nothing r p = post past Lost p
@@ -72,11 +73,11 @@ mutual
       let moment = co.pattern (p.calls + 1) in
       let middle = after_moment moment.exits p in
       let st = answered co.text by order moment.fate middle in
-      let next = after_call order set st middle in
+      let next = after_call by order set st middle in
       let r = reply_of set st.answer in
-      let here = entry_of by (call_of order middle.lacking) st.answer in
+      let here = entry_of by (call_of order (lacked_by by middle.lacked)) st.answer in
       elim (names_any (acting_at order co.executing co.heirs) moment.exits) as (λ b.
-      (b ≡ false → mild moment.exits p.table.rows → due past (call_of order middle.lacking) middle.table × TracedBehind due post mild (course_after order co) (past ++ here ∷ []) branches r next) →
+      (b ≡ false → mild moment.exits p.table.rows → due past (call_of order (lacked_by by middle.lacked)) middle.table × TracedBehind due post mild (course_after order co) (past ++ here ∷ []) branches r next) →
       elim b as (λ c. Option ℕ) [ true ↦ Some (p.calls + 1) | false ↦ refused_behind co.text (acting_after order co.executing co.heirs) co.heirs branches r co.pattern next ] ≡ None →
       Tracing due post past (run_in co (Does by order set branches) p)) [
         | true ↦ λ a e. absurd (cc)
@@ -142,7 +143,7 @@ module _ (due : Asking) (post : Finally) (mild : Exiting) (F : Table → Type 0)
         let middle = after_moment moment.exits p in
         let s = answered co.text by order moment.fate middle in
         let h' = exits moment.exits p.table h in
-        (asks past (call_of order middle.lacking) middle.table k h', robust-behind (course_after order co) bs (past ++ entry_of by (call_of order middle.lacking) s.answer ∷ []) (reply_of set s.answer) (after_call order set s middle) (grows past (entry_of by (call_of order middle.lacking) s.answer) k) (steps co.text by (call_of order middle.lacking) moment.fate middle.table h'))
+        (asks past (call_of order (lacked_by by middle.lacked)) middle.table k h', robust-behind (course_after order co) bs (past ++ entry_of by (call_of order (lacked_by by middle.lacked)) s.answer ∷ []) (reply_of set s.answer) (after_call by order set s middle) (grows past (entry_of by (call_of order (lacked_by by middle.lacked)) s.answer) k) (steps co.text by (call_of order (lacked_by by middle.lacked)) moment.fate middle.table h'))
 
     pub robust-behind : (co : Course) (bs : Branches) (past : List Entry) (r : Reply) (p : Progress) → K past → F p.table → TracedBehind due post mild co past bs r p
     robust-behind co Nothing past r p k h = ends past Lost p k h
@@ -176,7 +177,7 @@ module _ (due : Asking) (post : Finally) (mild : Exiting) (co : Course) (lost : 
       ]
 
   -- A step, from what it does after the exits of its moment.
-  pub good-step : (F : Table → Type 0) (K : List Entry → Type 0) (by : ℕ) (call : Call) (set : List ℕ) (bs : Branches) → is_leave_call call ≡ false → ((es : List Name) (t : Table) → names_any co.executing es ≡ false → mild es t.rows → F t → F (after_exits es t)) → ((past : List Entry) (t : Table) → K past → F t → due past call t) → ((past : List Entry) (q : Progress) (fate : Option Fate) → K past → F q.table → let st = step_with co.text by call fate q.table in TracedBehind due post mild co (past ++ entry_of by call st.answer ∷ []) bs (reply_of set st.answer) (after_call (Make call) set st q)) → Good F K (Does by (Make call) set bs)
+  pub good-step : (F : Table → Type 0) (K : List Entry → Type 0) (by : ℕ) (call : Call) (set : List ℕ) (bs : Branches) → is_leave_call call ≡ false → ((es : List Name) (t : Table) → names_any co.executing es ≡ false → mild es t.rows → F t → F (after_exits es t)) → ((past : List Entry) (t : Table) → K past → F t → due past call t) → ((past : List Entry) (q : Progress) (fate : Option Fate) → K past → F q.table → let st = step_with co.text by call fate q.table in TracedBehind due post mild co (past ++ entry_of by call st.answer ∷ []) bs (reply_of set st.answer) (after_call by (Make call) set st q)) → Good F K (Does by (Make call) set bs)
   good-step F K by call set bs stays exits asks next past p k h = λ spared calm.
       let order = Make call in
       let moment = co.pattern (p.calls + 1) in
@@ -185,7 +186,7 @@ module _ (due : Asking) (post : Finally) (mild : Exiting) (co : Course) (lost : 
       let at : (if is_leave order then co.executing ++ co.heirs else co.executing) ≡ co.executing = rw stays in
       let after : course_after order co ≡ co = go (is_leave order) stays in
       let h' = exits moment.exits p.table (subst (λ images. names_any images moment.exits ≡ false) at spared) calm h in
-      (asks past middle.table k h', subst (λ (x : Course). TracedBehind due post mild x (past ++ entry_of by call s.answer ∷ []) bs (reply_of set s.answer) (after_call order set s middle)) (sym after) (next past middle moment.fate k h'))
+      (asks past middle.table k h', subst (λ (x : Course). TracedBehind due post mild x (past ++ entry_of by call s.answer ∷ []) bs (reply_of set s.answer) (after_call by order set s middle)) (sym after) (next past middle moment.fate k h'))
     where
       go : (b : Bool) → b ≡ false → record { text = co.text; pattern = co.pattern; executing = if b then co.heirs else co.executing; heirs = co.heirs } ≡ co
       go true e = absurd (cc)
@@ -195,7 +196,7 @@ module _ (due : Asking) (post : Finally) (mild : Exiting) (co : Course) (lost : 
   pub good-call : (F : Table → Type 0) (K : List Entry → Type 0) (by : ℕ) (call : Call) (set : List ℕ) (bs : Branches) → is_leave_call call ≡ false → ((es : List Name) (t : Table) → names_any co.executing es ≡ false → mild es t.rows → F t → F (after_exits es t)) → Growing K → ((past : List Entry) (t : Table) → K past → F t → due past call t) → ((text : List ℕ) (fate : Option Fate) (t : Table) → F t → F (step_with text by call fate t).table) → AllGood F K bs → Good F K (Does by (Make call) set bs)
   good-call F K by call set bs stays exits grows asks keeps all =
       good-step F K by call set bs stays exits asks
-      (λ past q fate k h. let st = step_with co.text by call fate q.table in all-good F K bs all (past ++ entry_of by call st.answer ∷ []) (reply_of set st.answer) (after_call (Make call) set st q) (grows past (entry_of by call st.answer) k) (keeps co.text fate q.table h))
+      (λ past q fate k h. let st = step_with co.text by call fate q.table in all-good F K bs all (past ++ entry_of by call st.answer ∷ []) (reply_of set st.answer) (after_call by (Make call) set st q) (grows past (entry_of by call st.answer) k) (keeps co.text fate q.table h))
 
 ---- Entries one after another
 

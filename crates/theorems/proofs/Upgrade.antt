@@ -84,7 +84,7 @@ module _ (c : Given) where
       let ne : m ≢ c.rec.pid = λ e. absurd (omega (arith, e, next, above)) in
       let t' = with_new_row p.table (λ k. Master k c.rec.pid image true (H0 c)) in
       let two = spawned-looks (view (u c) none r) (w c m (H0 c) none none) c.rec.pid p.table.rows (λ k. refl) (λ e. ne (sym e)) (eqb-refl c.rec.pid c.rec.pid refl) (λ e. absurd (omega (arith, e))) b'.looks in
-      new-goes c m ne r only rest files (after_call order [] (gives answer.Spawned t') p) aside
+      new-goes c m ne r only rest files (after_call c.rec.generation.image order [] (gives answer.Spawned t') p) aside
       (λ hs r' files' q' lists keys laid common aside' written only' b''. relieves c m ne (omega (arith, next, above, c.start.record_in_range.pid)) r only hs r' only' lists keys laid common files' q' aside' written b'')
       (record {
         looks = two.old.looks;
@@ -112,7 +112,7 @@ module _ (c : Given) where
       (λ owner found.
       let files' = with_file (oldbin path) owner (without_file path p.table.files) in
       let same : Some owner ≡ Some c.rec.pid = sym found ∙ ap (owner_at path) b'.still.files_stay ∙ there in
-      spawns r files' (after_call order [] (gives answer.Fine (with_files files' p.table)) p) only
+      spawns r files' (after_call c.rec.generation.image order [] (gives answer.Fine (with_files files' p.table)) p) only
       (subst (λ o. Aside c o files') is (written-file (oldbin path) owner (without_file path p.table.files) ∙ same)) next
       (record {
         looks = b'.looks;

@@ -85,8 +85,8 @@ module _ (c : Given) (returns : List Return) (fits : Fits c returns) where
     pub settle-old : (files : List File) (note : PidNote) (r : Names) (k : ℕ) (ls : List ℕ) (q : Progress) → FilesAre note c.rec.pid_path c.rec.pid files → Only (g c) (R c) r → Band (u c) (sc files note) none r (named (g c) (is_in (R c))) (length (R c)) k true ls q → Goes c (co c) (settle c.rec.generation.image (old_crew c) (R c) Old c.rec.retries) q
     settle-old files note r k ls q are only b =
         rule-settle (u c) (sc files note) (grounded I P (co c) (acts c) (good files note)) Old (old_crew c) (R c) (λ k. refl) (dR c) (low-R c) c.rec.retries true
-        (λ r' q' k' w' up only' b' saw exact. old-full c files note are r' q' only' b'.looks b'.lacking (b'.marks.caused (up refl)) b'.still saw exact)
-        (λ r' q' x xs only' b' saw exact. old-short c files note are r' q' x xs only' b'.looks b'.lacking (b'.marks.caused refl) b'.still b'.budget saw exact)
+        (λ r' q' k' w' up only' b' is saw exact. old-full c files note are r' q' only' b'.looks is (b'.marks.caused (up refl)) b'.still saw exact)
+        (λ r' q' x xs only' b' is saw exact. old-short c files note are r' q' x xs only' b'.looks is (b'.marks.caused refl) b'.still b'.budget saw exact)
         c.rec.retries 0 (omega arith) true (λ e. refl) r ls q only
         (band-anew (u c) (sc files note) (grounded I P (co c) (acts c) (good files note)) none r (named (g c) (is_in (R c))) (length (R c)) k true ls q b)
 
@@ -104,7 +104,7 @@ module _ (c : Given) (returns : List Return) (fits : Fits c returns) where
         (λ owner there.
         let files' = with_file path owner (without_file (oldbin path) p.table.files) in
         let same : Some owner ≡ Some c.rec.pid = sym there ∙ ap (owner_at (oldbin path)) b'.still.files_stay ∙ aside in
-        next files' InPlace k (noted (Some InPlace) (after_call order [] (gives answer.Fine (with_files files' p.table)) p))
+        next files' InPlace k (noted (Some InPlace) (after_call c.rec.generation.image order [] (gives answer.Fine (with_files files' p.table)) p))
         (written-file path owner (without_file (oldbin path) p.table.files) ∙ same, other-written path (oldbin path) owner (without_file (oldbin path) p.table.files) (other-oldbin path) ∙ gone-file (oldbin path) p.table.files)
         (record { looks = b'.looks; enough = b'.enough; secured = b'.secured; budget = b'.budget; lacking = b'.lacking; marks = marks-plain true p.faults p.losses (p.calls + 1) p.cause b'.marks; still = record { files_stay = refl; note_stays = refl; limits_stay = b'.still.limits_stay }; beside = b'.beside })))
 
@@ -134,7 +134,7 @@ module _ (c : Given) (returns : List Return) (fits : Fits c returns) where
         let one : OneOther (view v none r0) m = ((λ e. ne (sym e)), λ j e. eqb-is j m e) in
         let alone = alone-terminated (view v none r0) (w c m hs s r) p.table.rows one (λ e. absurd (omega (arith, e))) b'.beside.0 b'.looks in
         subst (λ st. Answers v (two files) (grounded I P (co c) (acts c) (good-two files)) order [] bs p st) (sym (unfailing (co c).text c.rec.generation.image me (TermMaster (new c).image) fate p.table tt))
-        (next (after_call order [] (own_step (co c).text c.rec.generation.image me (TermMaster (new c).image) p.table) p) (record {
+        (next (after_call c.rec.generation.image order [] (own_step (co c).text c.rec.generation.image me (TermMaster (new c).image) p.table) p) (record {
           looks = alone.looks;
           enough = b'.enough;
           secured = λ a e. omega (arith, b'.secured a e, alone.same t);

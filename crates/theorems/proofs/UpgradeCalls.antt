@@ -15,7 +15,8 @@ use Rattle.definitions.specs.Record.{FilesAre, oldbin, listener_of}
 use Rattle.definitions.specs.Target.{only_in}
 use Rattle.definitions.specs.Tree.{Tree, full_or_short}
 use Rattle.definitions.specs.Plans.{tries, tries_all, pid_calls, new_calls}
-use Rattle.definitions.specs.Path.{first_cause, went_wrong}
+use Rattle.vocabulary.specs.declared.calls.Answer.TheVariants as answer
+use Rattle.definitions.specs.Path.{first_cause, went_wrong, lacked_by, lacked_after}
 use Rattle.definitions.specs.Run.{Progress}
 use Rattle.definitions.specs.After.{all_opened, still_wanted, upgraded}
 use Rattle.theorems.proofs.Rows.{and-left, and-right, both-true}
@@ -29,7 +30,7 @@ use Rattle.theorems.proofs.Listeners.{fds, fds-listed, opens-on, all_closed, clo
 use Rattle.theorems.proofs.Files.{written-file, other-written, other-oldbin}
 use Rattle.theorems.proofs.Ends.{first-keys}
 use Rattle.theorems.proofs.Logic.{Unasked, Anyhow, Behind, unfailing}
-use Rattle.theorems.proofs.Rules.{view, minus, plus, seen, Only, marks-wrong, weigh-sub}
+use Rattle.theorems.proofs.Rules.{view, minus, plus, seen, Only, marks-wrong, weigh-sub, other-lacked}
 use Rattle.theorems.proofs.Duo.{framed-drop}
 use Rattle.theorems.proofs.UpgradeStage.{post, inv, Second, Given, g, new, new_crew, R, H0, A0, f, n, low, wanted, wanted-of, co, Goes, w, Common, common0, Lists, Laid, laid-first}
 use Rattle.theorems.proofs.UpgradeBack.{Aside}
@@ -196,16 +197,17 @@ module _ (c : Given) (m : ℕ) (ne : m ≢ c.rec.pid) (r0 : Names) (only0 : Only
       let same = census-weigh m m T rows in
       let bound : (k : ℕ) → T (new c) k ≡ true → k < 1024 = λ k e. omega (arith, below-of (n c) k (and-right (same_generation (new c) (new c)) _ e), low c) in
       let second : Second c (w c m hs none (seen T (new c) cs)) T (n c) t'.rows q'.losses = (inl (census-looks (w c m hs none T) (new c) rows bound looks), omega (arith, b'.beside.1, same)) in
-      let after : List ℕ → Progress = λ l. record { table = t'; calls = q'.calls + 1; ready = cs; lacking = lacks S cs; faults = q'.faults; losses = q'.losses; returns = q'.returns; cause = first_cause q'.cause (went_wrong call (full_or_short l)) (q'.calls + 1); note = q'.note } in
+      let kept : lacked_by c.rec.generation.image (lacked_after image S (answer.Counted cs) q'.lacked) ≡ [] = other-lacked c.rec.generation.image image S cs q'.lacked (λ e. absurd (omega (arith, e))) b'.lacking in
+      let after : List ℕ → Progress = λ l. record { table = t'; calls = q'.calls + 1; ready = cs; lacking = lacks S cs; lacked = lacked_after image S (answer.Counted cs) q'.lacked; faults = q'.faults; losses = q'.losses; returns = q'.returns; cause = first_cause q'.cause (went_wrong call (full_or_short l)) (q'.calls + 1); note = q'.note } in
       subst (λ st. Edge c m ne r0 only0 call rest S q' st) (sym (unfailing (co c).text image (me c m ne r0 only0 x) call fate q'.table tt))
       (elim (lacks S cs) as (λ l. lacks S cs ≡ l → Behind (inv c) (post c) Anyhow Unasked (co c) (edges c m ne r0 only0 call rest) (full_or_short l) (after l)) [
-        | [] ↦ λ e. next (seen T (new c) cs) (after []) (only-seen cs) (held-plain c m ne r0 only0 x (counted hs (seen T (new c) cs) files) t' cs (lacks S cs) q' b' b'.still.files_stay refl e framed second)
-        | k ∷ ks ↦ λ e. goes-back c m ne r0 only0 (counted hs (seen T (new c) cs) files) 0 (k ∷ ks) (after (k ∷ ks)) aside (record {
+        | [] ↦ λ e. next (seen T (new c) cs) (after []) (only-seen cs) (held-plain c m ne r0 only0 x (counted hs (seen T (new c) cs) files) t' cs (lacks S cs) (lacked_after image S (answer.Counted cs) q'.lacked) q' b' b'.still.files_stay refl kept framed second)
+        | k ∷ ks ↦ λ e. goes-back c m ne r0 only0 (counted hs (seen T (new c) cs) files) 0 [] (after (k ∷ ks)) aside (record {
           looks = framed.looks;
           enough = b'.enough;
           secured = λ a e'. omega (arith, b'.secured a e', framed.same (named (g c) (is_in (R c))));
           budget = omega (arith, b'.budget, framed.same (named (g c) (is_in (R c))));
-          lacking = e;
+          lacking = kept;
           marks = marks-wrong false q'.faults q'.faults q'.losses (q'.calls + 1) q'.cause (omega (arith, b'.beside.1, count, below-length (n c), ap length e)) b'.marks;
           still = record { files_stay = b'.still.files_stay; note_stays = b'.still.note_stays; limits_stay = b'.still.limits_stay };
           beside = second;

@@ -91,7 +91,7 @@ module _ (c : Given) (p k : ℕ) (on : has_ready c.t p k ≡ true) where
       (λ past q' fate known h.
       let st = step_with (co c).text c.rec.generation.image (AwaitGone (g c) x) fate q'.table in
       robust-behind no_asking stays (Unlost p) (λ t. ⊤) Waits (λ es t h. tt) (λ text by call fate t h. tt) (λ past e w. any-more (λ e. is_wait_call e.call) past e w) (λ past call t w h. tt) (λ past e q w h old none. absurd (cc (w, none))) (co c) (edges xs rest x)
-      (past ++ entry_of c.rec.generation.image (AwaitGone (g c) x) st.answer ∷ []) (reply_of [] st.answer) (after_call (Make (AwaitGone (g c) x)) [] st q')
+      (past ++ entry_of c.rec.generation.image (AwaitGone (g c) x) st.answer ∷ []) (reply_of [] st.answer) (after_call c.rec.generation.image (Make (AwaitGone (g c) x)) [] st q')
       (any-last (λ e. is_wait_call e.call) past (entry_of c.rec.generation.image (AwaitGone (g c) x) st.answer) refl) tt) past q tt tt)
 
   first-of : (l : List ℕ) → is_in l k ≡ true → (x : ℕ) × (xs : List ℕ) × (l ≡ x ∷ xs)
@@ -198,7 +198,7 @@ module _ (c : Given) (p k : ℕ) (on : has_ready c.t p k ≡ true) where
       good-step LateFirst anyway Anyhow (co c) not-lost Loose (λ l. (j : ℕ) → is_in (x ∷ ks) j ≡ true → Told (g c) j l) by (AwaitGone (g c) x) [] bs refl exits-loose (λ past t k h. tt)
       (λ past q' fate told' h'.
       let (hs, found) = one-found c.rec.pid by q'.table.rows h'.one.all h'.one.some in
-      let P : Stepped → Type 0 = λ st. TracedBehind LateFirst anyway Anyhow (co c) (past ++ entry_of by (AwaitGone (g c) x) st.answer ∷ []) bs (reply_of [] st.answer) (after_call (Make (AwaitGone (g c) x)) [] st q') in
+      let P : Stepped → Type 0 = λ st. TracedBehind LateFirst anyway Anyhow (co c) (past ++ entry_of by (AwaitGone (g c) x) st.answer ∷ []) bs (reply_of [] st.answer) (after_call c.rec.generation.image (Make (AwaitGone (g c) x)) [] st q') in
       subst (λ (o : Option Caller). P (step_by (co c).text by o (AwaitGone (g c) x) fate q'.table)) (sym found)
       (gone-cases (co c).text by (record { number = c.rec.pid; holds = hs }) (g c) x fate q'.table P
       (let late = entry_of by (AwaitGone (g c) x) answer.Late in
@@ -207,13 +207,13 @@ module _ (c : Given) (p k : ℕ) (on : has_ready c.t p k ≡ true) where
       (λ past2 q2 fate2 k2 h2.
       let st = step_with (co c).text by (Kill (g c) x) fate2 q2.table in
       let is = kill-is (co c).text x fate2 q2.table h2 in
-      subst (λ (st : Stepped). TracedBehind LateFirst anyway Anyhow (co c) (past2 ++ entry_of by (Kill (g c) x) st.answer ∷ []) (then_edge more) (reply_of [] st.answer) (after_call (Make (Kill (g c) x)) [] st q2)) (sym is)
-      (after (past2 ++ entry_of by (Kill (g c) x) answer.Fine ∷ []) (after_call (Make (Kill (g c) x)) [] (gives answer.Fine (Cut x q2.table)) q2) q2.table
+      subst (λ (st : Stepped). TracedBehind LateFirst anyway Anyhow (co c) (past2 ++ entry_of by (Kill (g c) x) st.answer ∷ []) (then_edge more) (reply_of [] st.answer) (after_call c.rec.generation.image (Make (Kill (g c) x)) [] st q2)) (sym is)
+      (after (past2 ++ entry_of by (Kill (g c) x) answer.Fine ∷ []) (after_call c.rec.generation.image (Make (Kill (g c) x)) [] (gives answer.Fine (Cut x q2.table)) q2) q2.table
       (λ j e. any-more (λ e. is_quit_of (g c) j e.call) past2 (entry_of by (Kill (g c) x) answer.Fine) (k2.1 j e)) h2 refl))
-      (past ++ late ∷ []) (after_call (Make (AwaitGone (g c) x)) [] (gives answer.Late q'.table) q')
+      (past ++ late ∷ []) (after_call c.rec.generation.image (Make (AwaitGone (g c) x)) [] (gives answer.Late q'.table) q')
       (was, λ j e. any-more (λ e. is_quit_of (g c) j e.call) past late (told' j (in-there x j ks e))) h')
       (let gone = entry_of by (AwaitGone (g c) x) answer.Gone in
-      after (past ++ gone ∷ []) (after_call (Make (AwaitGone (g c) x)) [] (gives answer.Gone (Cut x q'.table)) q') q'.table
+      after (past ++ gone ∷ []) (after_call c.rec.generation.image (Make (AwaitGone (g c) x)) [] (gives answer.Gone (Cut x q'.table)) q') q'.table
       (λ j e. any-more (λ e. is_quit_of (g c) j e.call) past gone (told' j (in-there x j ks e))) h' refl)))
       past q told h
 

@@ -18,7 +18,7 @@ use Rattle.definitions.specs.Exits.{change}
 use Rattle.definitions.specs.Manner.{is_leave_call}
 use Rattle.definitions.specs.Tree.{Tree, Branches, Nothing, plain_reply, replies_to, reply_of}
 use Rattle.definitions.specs.Plans.{on, others, tries, back_from}
-use Rattle.definitions.specs.Path.{first_cause}
+use Rattle.definitions.specs.Path.{first_cause, Lack, lacked_by}
 use Rattle.definitions.specs.Run.{Ending, Progress, after_moment, after_call, answered}
 use Rattle.definitions.specs.Claims.{names_any}
 use Rattle.theorems.proofs.Refusals.{is_leave}
@@ -79,21 +79,21 @@ module _ (c : Given) (m : ℕ) (ne : m ≢ c.rec.pid) (r0 : Names) (only0 : Only
   edges call rest = on (plain_reply call ∷ []) rest (on (others (replies_to call) ++ reply.MasterGone ∷ []) back Nothing)
 
   abbrev pub Edge : Call → Tree → List ℕ → Progress → Stepped → Type 0
-  Edge call rest set q st = Behind I P Anyhow Unasked (co c) (edges call rest) (reply_of set st.answer) (after_call (Make call) set st q)
+  Edge call rest set q st = Behind I P Anyhow Unasked (co c) (edges call rest) (reply_of set st.answer) (after_call image (Make call) set st q)
 
   -- A call failed, whatever became of the table.
   abbrev pub failed_with : Table → Progress → Progress
-  failed_with t q = record { table = t; calls = q.calls + 1; ready = q.ready; lacking = q.lacking; faults = q.faults + 1; losses = q.losses; returns = q.returns; cause = first_cause q.cause true (q.calls + 1); note = q.note }
+  failed_with t q = record { table = t; calls = q.calls + 1; ready = q.ready; lacking = q.lacking; lacked = q.lacked; faults = q.faults + 1; losses = q.losses; returns = q.returns; cause = first_cause q.cause true (q.calls + 1); note = q.note }
 
   -- A call was answered plainly.
-  abbrev pub plain_with : Table → List ℕ → List ℕ → Progress → Progress
-  plain_with t ready lacking q = record { table = t; calls = q.calls + 1; ready = ready; lacking = lacking; faults = q.faults; losses = q.losses; returns = q.returns; cause = first_cause q.cause false (q.calls + 1); note = q.note }
+  abbrev pub plain_with : Table → List ℕ → List ℕ → List Lack → Progress → Progress
+  plain_with t ready lacking lacked q = record { table = t; calls = q.calls + 1; ready = ready; lacking = lacking; lacked = lacked; faults = q.faults; losses = q.losses; returns = q.returns; cause = first_cause q.cause false (q.calls + 1); note = q.note }
 
   pub still-framed : (q : Progress) → Looks (view v none r0) q.table.rows → Framed (view v none r0) q.table.rows q.table.rows
   still-framed q looks = record { looks = looks; same = λ t. refl }
 
-  pub held-plain : (x y : Doing) (t : Table) (ready lacking : List ℕ) (q : Progress) → Held x 0 false [] q → t.files ≡ y.files → t.limits ≡ q.table.limits → lacking ≡ [] → Framed (view v none r0) q.table.rows t.rows → Second c (w c m y.hs y.s y.r) y.names y.d t.rows q.losses → Held y 0 false [] (plain_with t ready lacking q)
-  held-plain x y t ready lacking q b files limits is framed second = record {
+  pub held-plain : (x y : Doing) (t : Table) (ready lacking : List ℕ) (lacked : List Lack) (q : Progress) → Held x 0 false [] q → t.files ≡ y.files → t.limits ≡ q.table.limits → lacked_by v.image lacked ≡ [] → Framed (view v none r0) q.table.rows t.rows → Second c (w c m y.hs y.s y.r) y.names y.d t.rows q.losses → Held y 0 false [] (plain_with t ready lacking lacked q)
+  held-plain x y t ready lacking lacked q b files limits is framed second = record {
     looks = framed.looks;
     enough = b.enough;
     secured = λ a e. omega (arith, b.secured a e, framed.same (named (g c) (is_in (R c))));
@@ -134,7 +134,7 @@ module _ (c : Given) (m : ℕ) (ne : m ≢ c.rec.pid) (r0 : Names) (only0 : Only
         band-inv v (sc x) (grounded I P (co c) (acts c) (good x)) none r0 (named (g c) (is_in (R c))) (length (R c)) 0 false [] q b,
         band-inv v (sc x) (grounded I P (co c) (acts c) (good x)) none r0 (named (g c) (is_in (R c))) (length (R c)) 0 false [] middle b',
         tt,
-        subst (λ (y : Course). Behind I P Anyhow Unasked y (edges call rest) (reply_of set (answered (co c).text image order moment.fate middle).answer) (after_call order set (answered (co c).text image order moment.fate middle) middle)) (sym after)
+        subst (λ (y : Course). Behind I P Anyhow Unasked y (edges call rest) (reply_of set (answered (co c).text image order moment.fate middle).answer) (after_call image order set (answered (co c).text image order moment.fate middle) middle)) (sym after)
             (⊎_elim (λ looks. subst (λ (o : Option Caller). Edge call rest set middle (step_by (co c).text image o call moment.fate middle.table)) (sym (finds (w c m x.hs x.s x.r) middle.table.rows looks)) (own middle b' looks moment.fate))
             (λ dead. subst (λ (o : Option Caller). Edge call rest set middle (step_by (co c).text image o call moment.fate middle.table)) (sym (dead-none (w c m x.hs x.s x.r) middle.table.rows dead)) (gone middle b')) b'.beside.0),
       )
@@ -155,7 +155,7 @@ module _ (c : Given) (m : ℕ) (ne : m ≢ c.rec.pid) (r0 : Names) (only0 : Only
   try-adopt rest x q aside next b =
       step Adopt [] rest x q refl b
       (λ q' b' looks fate. adopt-cases (co c).text image (me x) fate q'.table (λ st. Edge Adopt rest [] q' st) (just-failed x q' aside b')
-      (next (plain_with q'.table q'.ready q'.lacking q') (held-plain x x q'.table q'.ready q'.lacking q' b' b'.still.files_stay refl b'.lacking (still-framed q' b'.looks) b'.beside)))
+      (next (plain_with q'.table q'.ready q'.lacking q'.lacked q') (held-plain x x q'.table q'.ready q'.lacking q'.lacked q' b' b'.still.files_stay refl b'.lacking (still-framed q' b'.looks) b'.beside)))
       (λ q' b'. just-failed x q' aside b')
 
   abbrev pub with_hs : Doing → List Hold → Doing
@@ -168,7 +168,7 @@ module _ (c : Given) (m : ℕ) (ne : m ≢ c.rec.pid) (r0 : Names) (only0 : Only
       let t' = (own_step (co c).text image (me x) (CloseAt a) q'.table).table in
       let framed = framed-change (view v none r0) m (is_of m) (with_holds (lacks_address a)) q'.table.rows apart (mine-of m, λ k zs. refl) (holds-stay (lacks_address a)) b'.looks in
       subst (λ st. Edge (CloseAt a) rest [] q' st) (sym (unfailing (co c).text image (me x) (CloseAt a) fate q'.table tt))
-      (next (plain_with t' q'.ready q'.lacking q') (held-plain x (with_hs x (lacks_address a x.hs)) t' q'.ready q'.lacking q' b' b'.still.files_stay refl b'.lacking framed
+      (next (plain_with t' q'.ready q'.lacking q'.lacked q') (held-plain x (with_hs x (lacks_address a x.hs)) t' q'.ready q'.lacking q'.lacked q' b' b'.still.files_stay refl b'.lacking framed
       (inl (looks-allows (after_close a (w c m x.hs x.s x.r)) (w c m (lacks_address a x.hs) x.s x.r) (record { number = refl; others = λ k e. e; image = refl; holds = refl; starting = λ j k e. e; ready = λ j k e. e; held_starting = λ j k e. share-lacks (posts c) k a x.hs; held = λ j k e. share-lacks (posts c) k a x.hs }) t'.rows (close-looks (w c m x.hs x.s x.r) a q'.table.rows looks)), omega (arith, b'.beside.1, close-weigh m x.names a q'.table.rows)))))
       (λ q' b'. just-failed x q' aside b')
 
@@ -187,8 +187,8 @@ module _ (c : Given) (m : ℕ) (ne : m ≢ c.rec.pid) (r0 : Names) (only0 : Only
       let h : Hold = record { fd = lowest_free hs; socket = q'.table.next_socket; address = a } in
       let t' = with_new_socket q'.table m h in
       let framed = framed-change (view v none r0) m (is_row m) (with_holds (put_hold h)) q'.table.rows apart (mine-row m, λ k zs. refl) (holds-stay (put_hold h)) b'.looks in
-      next h (plain_with t' q'.ready q'.lacking q') refl refl (ap (λ (l : Limits). nat_lt (length hs) l.descriptors) (sym b'.still.limits_stay) ∙ room)
-      (held-plain x (bare (put_hold h hs) files) t' q'.ready q'.lacking q' b' b'.still.files_stay refl b'.lacking framed
+      next h (plain_with t' q'.ready q'.lacking q'.lacked q') refl refl (ap (λ (l : Limits). nat_lt (length hs) l.descriptors) (sym b'.still.limits_stay) ∙ room)
+      (held-plain x (bare (put_hold h hs) files) t' q'.ready q'.lacking q'.lacked q' b' b'.still.files_stay refl b'.lacking framed
       (inl (looks-allows (after_open h (w c m hs none none)) (w c m (put_hold h hs) none none) (record { number = refl; others = λ k e. e; image = refl; holds = refl; starting = λ j k e. e; ready = λ j k e. e; held_starting = λ j k e. absurd (cc e); held = λ j k e. absurd (cc e) }) t'.rows (open-looks (w c m hs none none) h q'.table.rows looks)), omega arith))))
       (λ q' b'. just-failed x q' aside b')
 
@@ -206,7 +206,7 @@ module _ (c : Given) (m : ℕ) (ne : m ≢ c.rec.pid) (r0 : Names) (only0 : Only
       let j = q'.table.next_process in
       let t' = with_new_row q'.table (λ j. Worker j m (new c) k Starting hold) in
       let framed = framed-grow (view v none r0) m j (new c) k hold q'.table.rows apart (eqb-refl m m refl) b'.looks in
-      next (plain_with t' q'.ready q'.lacking q') (held-plain x (with_starting x (plus x.s (new c) k)) t' q'.ready q'.lacking q' b' b'.still.files_stay refl b'.lacking framed
+      next (plain_with t' q'.ready q'.lacking q'.lacked q') (held-plain x (with_starting x (plus x.s (new c) k)) t' q'.ready q'.lacking q'.lacked q' b' b'.still.files_stay refl b'.lacking framed
       (inl (fork-looks (w c m x.hs x.s x.r) (new c) k j hold q'.table.rows refl off looks), omega (arith, b'.beside.1, fork-weigh m (new c) x.names k j hold q'.table.rows)))))
       (λ q' b'. just-failed x q' aside b')
 
@@ -239,7 +239,7 @@ module _ (c : Given) (m : ℕ) (ne : m ≢ c.rec.pid) (r0 : Names) (only0 : Only
       let framed = framed-change (view v none r0) m (is_worker is_starting m (new c) k) made_ready q'.table.rows apart (mine-worker is_starting m (new c) k, λ j zs. refl) ready-stays b'.looks in
       let gain = await-gains (w c m hs s (named (new c) (is_in done))) (new c) (named (new c) (is_in (k ∷ done))) k q'.table.rows (both-true (same_generation (new c) (new c)) (is_in (k ∷ done) k) (same-refl (new c)) (in-here k k done refl)) (off-named k done off) live looks in
       let more = weigh-sub m (named (new c) (is_in done)) (named (new c) (is_in (k ∷ done))) (λ h j e. both-true (same_generation h (new c)) (is_in (k ∷ done) j) (and-left _ _ e) (in-there k j done (and-right (same_generation h (new c)) _ e))) q'.table.rows in
-      next (plain_with t' q'.ready q'.lacking q') (held-plain x y t' q'.ready q'.lacking q' b' b'.still.files_stay refl b'.lacking framed (
+      next (plain_with t' q'.ready q'.lacking q'.lacked q') (held-plain x y t' q'.ready q'.lacking q'.lacked q' b' b'.still.files_stay refl b'.lacking framed (
         inl (looks-allows (after_wait (new c) k (w c m hs s (named (new c) (is_in done)))) (w c m hs (minus s (new c) k) (named (new c) (is_in (k ∷ done)))) (record { number = refl; others = λ j e. e; image = refl; holds = refl; starting = λ h j e. e; ready = joins k done; held_starting = λ h j e. refl; held = λ h j e. refl }) t'.rows (await-looks (w c m hs s (named (new c) (is_in done))) (new c) k q'.table.rows looks)),
         omega (arith, b'.beside.1, gain, more),
       )))
@@ -259,5 +259,5 @@ module _ (c : Given) (m : ℕ) (ne : m ≢ c.rec.pid) (r0 : Names) (only0 : Only
       step (WritePid path) [] rest x q refl b
       (λ q' b' looks fate. write-cases (co c).text image (me x) path fate q'.table (λ st. Edge (WritePid path) rest [] q' st) (just-failed x q' aside b')
       (let t' = with_files (with_file path m q'.table.files) q'.table in
-      next (plain_with t' q'.ready q'.lacking q') (held-plain x (with_written x (with_file path m x.files)) t' q'.ready q'.lacking q' b' (ap (with_file path m) b'.still.files_stay) refl b'.lacking (record { looks = b'.looks; same = λ t. refl }) b'.beside)))
+      next (plain_with t' q'.ready q'.lacking q'.lacked q') (held-plain x (with_written x (with_file path m x.files)) t' q'.ready q'.lacking q'.lacked q' b' (ap (with_file path m) b'.still.files_stay) refl b'.lacking (record { looks = b'.looks; same = λ t. refl }) b'.beside)))
       (λ q' b'. just-failed x q' aside b')

@@ -17,6 +17,7 @@ use Rattle.definitions.specs.Record.{FilesAre, oldbin}
 use Rattle.definitions.specs.Tree.{Tree, Nothing, reply_of}
 use Rattle.definitions.specs.Plans.{on, does, then_edge, note_edges, quits, awaits_gone, settle, remove_oldbin, hand_over, back_late, back_from, back_serving, asks, retire, relieve}
 use Rattle.definitions.specs.Run.{Ending, Progress, Return, noted, after_call, after_moment, answered}
+use Rattle.definitions.specs.Path.{lacked_by}
 use Rattle.theorems.proofs.Views.{Names, named, View, Looks, finds, eqb-is, eqb-refl}
 use Rattle.theorems.proofs.Effects.{none, looks-allows}
 use Rattle.theorems.proofs.Exits.{spares-each, shrinks}
@@ -64,7 +65,7 @@ module _ (c : Given) (m : ℕ) (ne : m ≢ c.rec.pid) (some : 1 ≤ m) (r0 : Nam
   abbrev Beside : List File → Names → Names → Bool → Progress → Type 0
   Beside files st rd b q = Band v (both files) st rd none 0 0 b [] q
 
-  beside : (files : List File) (st rd : Names) (b : Bool) (q : Progress) → Looks (view v st rd) q.table.rows → q.lacking ≡ [] → Marks b [] q.faults q.losses q.returns q.cause → Still (both files).files (both files).note (both files).limits q.table.files q.note q.table.limits → (both files).Holds q.table.rows q.losses q.faults → Beside files st rd b q
+  beside : (files : List File) (st rd : Names) (b : Bool) (q : Progress) → Looks (view v st rd) q.table.rows → lacked_by v.image q.lacked ≡ [] → Marks b [] q.faults q.losses q.returns q.cause → Still (both files).files (both files).note (both files).limits q.table.files q.note q.table.limits → (both files).Holds q.table.rows q.losses q.faults → Beside files st rd b q
   beside files st rd b q looks lacking marks still holds = record {
     looks = looks;
     enough = λ a e. absurd (omega (arith, e));
@@ -91,29 +92,29 @@ module _ (c : Given) (m : ℕ) (ne : m ≢ c.rec.pid) (some : 1 ≤ m) (r0 : Nam
   good-last : (files : List File) (note : PidNote) → IsGood (x c m hs r) (last files note) I
   good-last files note = good-alone c (x c m hs r) (serves_new c) (f c) 0 0 [] (λ e. refl) hs (inl (λ a. omega arith)) refl (hold-new c m hs none r laid common) common
 
-  settles : (files : List File) (note : PidNote) (b : Bool) (q : Progress) → FilesAre note c.rec.pid_path m files → Band (x c m hs r) (last files note) none r T (length S) 0 b [] q → Goes c (co_after c) (settle (new c).image (new_crew c) S Target c.rec.retries) q
-  settles files note b q are h =
+  settles : (ls : List ℕ) (files : List File) (note : PidNote) (b : Bool) (q : Progress) → FilesAre note c.rec.pid_path m files → Band (x c m hs r) (last files note) none r T (length S) 0 b ls q → Goes c (co_after c) (settle (new c).image (new_crew c) S Target c.rec.retries) q
+  settles ls files note b q are h =
       rule-settle (x c m hs r) (last files note) (grounded I P (co_after c) (acts-after c) (good-last files note)) Target (new_crew c) S (λ k. refl) (below-distinct (n c)) (λ k e. omega (arith, below-of (n c) k e, low c)) c.rec.retries false
-      (λ r' q' k' b' up only' h' saw exact. new-full c m some hs lists keys laid files note are r' q' only' h'.looks h'.lacking h'.still saw exact)
-      (λ r' q' y ys only' h' saw exact. new-short c m some hs lists keys laid files note are r' q' y ys only' h'.looks h'.lacking (h'.marks.caused refl) h'.still h'.budget saw exact)
-      c.rec.retries 0 (omega arith) b (λ e. absurd (cc e)) r [] q only h
+      (λ r' q' k' b' up only' h' is saw exact. new-full c m some hs lists keys laid files note are r' q' only' h'.looks is h'.still saw exact)
+      (λ r' q' y ys only' h' is saw exact. new-short c m some hs lists keys laid files note are r' q' y ys only' h'.looks is (h'.marks.caused refl) h'.still h'.budget saw exact)
+      c.rec.retries 0 (omega arith) b (λ e. absurd (cc e)) r ls q only h
 
   -- The old master's file goes, and the new one settles.
-  removes : (path : Option FilePath) (rest : Tree) (files : List File) (b : Bool) (q : Progress) → Written c m ne r0 only0 path files → ((files' : List File) (note' : PidNote) (b' : Bool) (q' : Progress) → FilesAre note' path m files' → Band (x c m hs r) (last files' note') none r T (length S) 0 b' [] q' → Goes c (co_after c) rest q') → Band (x c m hs r) (last files c.rec.note) none r T (length S) 0 b [] q → Goes c (co_after c) (remove_oldbin (new c).image path rest) q
-  removes None rest files b q written next h = next files c.rec.note b q (no-path c.rec.note c.rec.pid m files files written) h
-  removes (Some path) rest files b q written next h =
+  removes : (ls : List ℕ) (path : Option FilePath) (rest : Tree) (files : List File) (b : Bool) (q : Progress) → Written c m ne r0 only0 path files → ((files' : List File) (note' : PidNote) (b' : Bool) (q' : Progress) → FilesAre note' path m files' → Band (x c m hs r) (last files' note') none r T (length S) 0 b' ls q' → Goes c (co_after c) rest q') → Band (x c m hs r) (last files c.rec.note) none r T (length S) 0 b ls q → Goes c (co_after c) (remove_oldbin (new c).image path rest) q
+  removes ls None rest files b q written next h = next files c.rec.note b q (no-path c.rec.note c.rec.pid m files files written) h
+  removes ls (Some path) rest files b q written next h =
       let order = Make (RemovePid (oldbin path)) in
       let bs = note_edges (Some InPlace) (Some OldbinLeft) rest in
       let sc = last files c.rec.note in
       let gd = good-last files c.rec.note in
-      rule-step (x c m hs r) sc (grounded I P (co_after c) (acts-after c) gd) order [] bs none r T (length S) 0 b [] q refl h (λ p h' fate.
+      rule-step (x c m hs r) sc (grounded I P (co_after c) (acts-after c) gd) order [] bs none r T (length S) 0 b ls q refl h (λ p h' fate.
       remove-cases (co_after c).text (new c).image (record { number = m; holds = hs }) (oldbin path) fate p.table (λ st. Answers (x c m hs r) sc (grounded I P (co_after c) (acts-after c) gd) order [] bs p st)
-      (let h2 = band-anew (x c m hs r) sc (grounded I P (co_after c) (acts-after c) gd) none r T (length S) 1 true [] _ (band-failed (x c m hs r) sc (grounded I P (co_after c) (acts-after c) gd) none r T (length S) 0 b [] p h') in
+      (let h2 = band-anew (x c m hs r) sc (grounded I P (co_after c) (acts-after c) gd) none r T (length S) 1 true ls _ (band-failed (x c m hs r) sc (grounded I P (co_after c) (acts-after c) gd) none r T (length S) 0 b ls p h') in
       next files OldbinLeft true (noted (Some OldbinLeft) (failed_at (x c m hs r) sc (grounded I P (co_after c) (acts-after c) gd) p)) (written.0, ap is_some written.1)
       (record { looks = h2.looks; enough = h2.enough; secured = h2.secured; budget = h2.budget; lacking = h2.lacking; marks = h2.marks; still = record { files_stay = h2.still.files_stay; note_stays = refl; limits_stay = h2.still.limits_stay }; beside = h2.beside }))
       (let files' = without_file (oldbin path) p.table.files in
       let there : owner_at path files' ≡ Some m = other-removed (oldbin path) path p.table.files (oldbin-other path) ∙ ap (owner_at path) h'.still.files_stay ∙ written.0 in
-      next files' InPlace b (noted (Some InPlace) (after_call order [] (gives answer.Fine (with_files files' p.table)) p)) (there, gone-file (oldbin path) p.table.files)
+      next files' InPlace b (noted (Some InPlace) (after_call (new c).image order [] (gives answer.Fine (with_files files' p.table)) p)) (there, gone-file (oldbin path) p.table.files)
       (record { looks = h'.looks; enough = h'.enough; secured = h'.secured; budget = h'.budget; lacking = h'.lacking; marks = marks-plain b p.faults p.losses (p.calls + 1) p.cause h'.marks; still = record { files_stay = refl; note_stays = refl; limits_stay = h'.still.limits_stay }; beside = h'.beside })))
 
   ---- The old master leaves
@@ -131,16 +132,16 @@ module _ (c : Given) (m : ℕ) (ne : m ≢ c.rec.pid) (some : 1 ≤ m) (r0 : Nam
       let me : Caller = record { number = c.rec.pid; holds = H0 c } in
       let is : answered (co c).text c.rec.generation.image order moment.fate middle ≡ gives answer.Fine (each_row (without_master c.rec.pid) middle.table) =
       ap (λ (o : Option Caller). step_by (co c).text c.rec.generation.image o Leave moment.fate middle.table) (finds (view v none none) middle.table.rows h'.looks) ∙ unfailing (co c).text c.rec.generation.image me Leave moment.fate middle.table tt in
-      let gone = after_call order [] (gives answer.Fine (each_row (without_master c.rec.pid) middle.table)) middle in
+      let gone = after_call c.rec.generation.image order [] (gives answer.Fine (each_row (without_master c.rec.pid) middle.table)) middle in
       let one : OneOther second c.rec.pid = (ne, λ j e. eqb-is j c.rec.pid e) in
       let alone = alone-left second c.rec.pid middle.table.rows one looks' in
       let rest = remove_oldbin (new c).image c.rec.pid_path (settle (new c).image (new_crew c) S Target c.rec.retries) in
-      let after : Goes c (co_after c) rest gone = removes c.rec.pid_path (settle (new c).image (new_crew c) S Target c.rec.retries) files b gone written (λ files' note' b' q' are h2. settles files' note' b' q' are h2) (record {
+      let after : Goes c (co_after c) rest gone = removes (lacked_by (new c).image gone.lacked) c.rec.pid_path (settle (new c).image (new_crew c) S Target c.rec.retries) files b gone written (λ files' note' b' q' are h2. settles (lacked_by (new c).image gone.lacked) files' note' b' q' are h2) (record {
         looks = alone.looks;
         enough = enough-new c m;
         secured = λ a e. omega (arith, h'.beside.1, alone.same T, below-length (n c));
         budget = omega (arith, h'.beside.1, alone.same T, below-length (n c));
-        lacking = h'.lacking;
+        lacking = refl;
         marks = marks-plain b middle.faults middle.losses (middle.calls + 1) middle.cause h'.marks;
         still = h'.still;
         beside = (omega arith, omega arith);
@@ -148,7 +149,7 @@ module _ (c : Given) (m : ℕ) (ne : m ≢ c.rec.pid) (some : 1 ≤ m) (r0 : Nam
         band-inv v (both files) (grounded I P (co c) (acts c) (good files)) none none none 0 0 b [] q h,
         band-inv v (both files) (grounded I P (co c) (acts c) (good files)) none none none 0 0 b [] middle h',
         tt,
-        subst (λ (st : Stepped). Behind I P Anyhow Unasked (course_after order (co c)) (then_edge rest) (reply_of [] st.answer) (after_call order [] st middle)) (sym is) after,
+        subst (λ (st : Stepped). Behind I P Anyhow Unasked (course_after order (co c)) (then_edge rest) (reply_of [] st.answer) (after_call c.rec.generation.image order [] st middle)) (sym is) after,
       )
 
   -- It asks whether the new one lives: then it leaves, and else goes back.
@@ -162,11 +163,11 @@ module _ (c : Given) (m : ℕ) (ne : m ≢ c.rec.pid) (some : 1 ≤ m) (r0 : Nam
       subst (λ st. Answers v (both files) (grounded I P (co c) (acts c) (good files)) order [] bs p st) (sym (unfailing (co c).text c.rec.generation.image me (Alive (new c).image) fate p.table tt))
       (⊎_elim
       (λ looks. subst answered_by (sym (finds second p.table.rows looks))
-      (leaves files b (after_call order [] (gives answer.IsAlive p.table) p) written looks
+      (leaves files b (after_call c.rec.generation.image order [] (gives answer.IsAlive p.table) p) written looks
       (record { looks = h'.looks; enough = h'.enough; secured = λ a e. absurd (omega (arith, e)); budget = omega arith; lacking = h'.lacking; marks = marks-plain b p.faults p.losses (p.calls + 1) p.cause h'.marks; still = h'.still; beside = h'.beside })))
       (λ dead. subst answered_by (sym (dead-none second p.table.rows dead))
       (let framed = asked-looks (view v none none) (new c).image p.table.rows (λ e. absurd (omega (arith, e))) h'.looks in
-      goes-back-late c [] (λ e. refl) m ne hs none r 0 [] files (after_call order [] (gives answer.Gone (each_row (drop_where (is_image (new c).image)) p.table)) p) aside
+      goes-back-late c [] (λ e. refl) m ne hs none r 0 [] files (after_call c.rec.generation.image order [] (gives answer.Gone (each_row (drop_where (is_image (new c).image)) p.table)) p) aside
       (record {
         looks = framed.looks;
         enough = λ a e. absurd (omega (arith, e));
@@ -202,7 +203,7 @@ module _ (c : Given) (m : ℕ) (ne : m ≢ c.rec.pid) (some : 1 ≤ m) (r0 : Nam
       rule-step v (both files) (grounded I P (co c) (acts c) (good files)) order [] bs none none none 0 0 b [] q refl h (λ p h' fate.
       let me : Caller = record { number = c.rec.pid; holds = H0 c } in
       ask-cases (co c).text c.rec.generation.image me 2 fate p.table (λ st. Answers v (both files) (grounded I P (co c) (acts c) (good files)) order [] bs p st)
-      (goes-back-serving c p.faults (fits-attended (record { question = 2; faults = p.faults } ∷ []) is) m ne hs r T (n c) new-serves files [] (after_call order [] (gives answer.Back p.table) p) aside
+      (goes-back-serving c p.faults (fits-attended (record { question = 2; faults = p.faults } ∷ []) is) m ne hs r T (n c) new-serves files [] (after_call c.rec.generation.image order [] (gives answer.Back p.table) p) aside
       (record {
         looks = h'.looks;
         enough = λ a e. absurd (omega (arith, e));
@@ -213,8 +214,8 @@ module _ (c : Given) (m : ℕ) (ne : m ≢ c.rec.pid) (some : 1 ≤ m) (r0 : Nam
         still = h'.still;
         beside = h'.beside;
       }))
-      (retires files b (after_call order [] (gives answer.Go p.table) p) aside written
-      (beside files none none b (after_call order [] (gives answer.Go p.table) p) h'.looks h'.lacking (marks-plain b p.faults p.losses (p.calls + 1) p.cause h'.marks) h'.still h'.beside)))
+      (retires files b (after_call c.rec.generation.image order [] (gives answer.Go p.table) p) aside written
+      (beside files none none b (after_call c.rec.generation.image order [] (gives answer.Go p.table) p) h'.looks h'.lacking (marks-plain b p.faults p.losses (p.calls + 1) p.cause h'.marks) h'.still h'.beside)))
 
   abbrev counted_by_old : List Return → List File → Bool → Progress → Type 0
   counted_by_old returns files b q = Band v (pair_scene c second ne (eqb-refl c.rec.pid c.rec.pid refl) T (n c) (f c) returns files c.rec.note) none r0 (named (g c) (is_in (R c))) (length (R c)) 0 b [] q
@@ -232,9 +233,9 @@ module _ (c : Given) (m : ℕ) (ne : m ≢ c.rec.pid) (some : 1 ≤ m) (r0 : Nam
       let me : Caller = record { number = c.rec.pid; holds = H0 c } in
       let back_at : Return = record { question = 1; faults = p.faults } in
       ask-cases (co c).text c.rec.generation.image me 1 fate p.table (λ st. Answers v sc (grounded I P (co c) (acts c) gd) order [] bs p st)
-      (goes-back-from c (back_at ∷ []) (fits-attended (back_at ∷ []) is) m ne hs none r T (n c) r0 0 [] files (after_call order [] (gives answer.Back p.table) p) aside only0
+      (goes-back-from c (back_at ∷ []) (fits-attended (back_at ∷ []) is) m ne hs none r T (n c) r0 0 [] files (after_call c.rec.generation.image order [] (gives answer.Back p.table) p) aside only0
       (record { looks = h'.looks; enough = h'.enough; secured = h'.secured; budget = h'.budget; lacking = h'.lacking; marks = marks-back false back_at p.faults p.losses (p.calls + 1) p.cause h'.marks; still = h'.still; beside = h'.beside }))
-      (next (after_call order [] (gives answer.Go p.table) p)
+      (next (after_call c.rec.generation.image order [] (gives answer.Go p.table) p)
       (record { looks = h'.looks; enough = h'.enough; secured = h'.secured; budget = h'.budget; lacking = h'.lacking; marks = marks-plain false p.faults p.losses (p.calls + 1) p.cause h'.marks; still = h'.still; beside = h'.beside })))
 
   ---- All of it

@@ -95,7 +95,7 @@ module _ (by : ℕ) (g : Generation) (due : Asking) (post : Finally) (mild : Exi
             (λ past' p' k' told h'. next past' p' k'.0 (λ j on. ⊎_elim (λ same. subst (λ z. Told g z past') same k'.1) (λ more. told j more) (in-cases x j ks on)) h')),
         tt,
       )
-      (past ++ e ∷ []) (reply_of [] st.answer) (after_call (Make (Quit g x)) [] st q) (grows past e k, any-last (λ e. is_quit_of g x e.call) past e (bears-refl g x)) (keeps co.text x fate q.table h)) past p known h
+      (past ++ e ∷ []) (reply_of [] st.answer) (after_call by (Make (Quit g x)) [] st q) (grows past e k, any-last (λ e. is_quit_of g x e.call) past e (bears-refl g x)) (keeps co.text x fate q.table h)) past p known h
 
   -- what follows a wait, where the answer tells which
   gone-behind : (more killing : Tree) (past : List Entry) (a : Answer) (q : Progress) → T past more q → (a ≡ answer.Late → T past killing q) → TracedBehind due post mild co past (gone_edges more killing) (reply_of [] a) q
@@ -126,7 +126,7 @@ module _ (by : ℕ) (g : Generation) (due : Asking) (post : Finally) (mild : Exi
       let told_x = told past1 k1 x (in-here x x ks refl) in
       let waited : Waited g x (past1 ++ e ∷ []) = then-last (λ e. is_quit_of g x e.call) (λ e. is_wait_of g x e.call) past1 e told_x (bears-refl g x) in
       let known' : K' (past1 ++ e ∷ []) = (grows past1 e k1, waited) in
-      let q' = after_call (Make (AwaitGone g x)) [] st q1 in
+      let q' = after_call by (Make (AwaitGone g x)) [] st q1 in
       let h' = keeps co.text x fate1 q1.table h1 in
       gone-behind more killing (past1 ++ e ∷ []) st.answer q' (goes_on (past1 ++ e ∷ []) q' known' h')
       (λ is.
@@ -135,7 +135,7 @@ module _ (by : ℕ) (g : Generation) (due : Asking) (post : Finally) (mild : Exi
       (λ past2 q2 fate2 k2 h2.
       let st2 = step_with co.text by (Kill g x) fate2 q2.table in
       let e2 = entry_of by (Kill g x) st2.answer in
-      all-good due post mild co lost F K' (then_edge more) (goes_on, tt) (past2 ++ e2 ∷ []) (reply_of [] st2.answer) (after_call (Make (Kill g x)) [] st2 q2) (grows' past2 e2 k2.0) (keeps_kill co.text x fate2 q2.table h2))
+      all-good due post mild co lost F K' (then_edge more) (goes_on, tt) (past2 ++ e2 ∷ []) (reply_of [] st2.answer) (after_call by (Make (Kill g x)) [] st2 q2) (grows' past2 e2 k2.0) (keeps_kill co.text x fate2 q2.table h2))
       (past1 ++ e ∷ []) q' (known', was) h')) past q known h
 
 ---- What is claimed of a run

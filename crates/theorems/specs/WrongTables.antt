@@ -60,7 +60,7 @@ other_unserved = record { rows = Master 100 1 1 true both_holds ∷ Worker 101 1
 ---- Runs
 
 abbrev pub progress : Table → ℕ → ℕ → Option ℕ → Progress
-progress t faults losses cause = record { table = t; calls = 1; ready = []; lacking = []; faults = faults; losses = losses; returns = []; cause = cause; note = InPlace }
+progress t faults losses cause = record { table = t; calls = 1; ready = []; lacking = []; lacked = []; faults = faults; losses = losses; returns = []; cause = cause; note = InPlace }
 
 -- The operator went back at a question, after a number of faults.
 abbrev pub went_back : Progress → ℕ → ℕ → Progress
@@ -80,7 +80,7 @@ ran_from t e t' = record {
 
 -- the last count lacked one
 abbrev pub lacks_one : Table → ℕ → Progress
-lacks_one t faults = record { table = t; calls = 1; ready = []; lacking = 1 ∷ []; faults = faults; losses = 0; returns = []; cause = Some 1; note = InPlace }
+lacks_one t faults = record { table = t; calls = 1; ready = []; lacking = 1 ∷ []; lacked = []; faults = faults; losses = 0; returns = []; cause = Some 1; note = InPlace }
 
 abbrev pub Refuted : Type 0 → Type 0
 Refuted claim = claim → ⊥

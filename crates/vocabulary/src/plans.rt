@@ -1,6 +1,6 @@
 //! The words of a plan.
-use crate::Call;
-use listener_set::Generation;
+use crate::{Actor, Call};
+use listener_set::{Generation, Numbers};
 use worker_groups::{Crew, Groups};
 
 /// The service that ran before, or the one that the plan is to reach.
@@ -45,8 +45,15 @@ pub enum PidNote {
     NoFile,
 }
 
+/// What the last census of a master lacked of its set.
+#[derive(Clone, Copy, Debug, PartialEq, Eq)]
+pub struct Lack {
+    pub by: Actor,
+    pub numbers: Numbers,
+}
+
 /// What a step asks for. The steps of a settle name their worker when they run: the lowest
-/// number that the last census lacked.
+/// number that the last census of the step's master lacked.
 #[derive(Clone, Copy, Debug, PartialEq, Eq)]
 pub enum Order {
     Make(Call),

@@ -16,7 +16,7 @@ use Rattle.explorer.proofs.exploring.count_pair.Goals as goal
 pub overflow_add-number : goal.overflow_add-number
 overflow_add-number g c =
     let t = trail_of c.args.point.now.run.now.walk in
-    let left = asks_height t.rest t.lacking _ (c.requires.due MasterGone) in
+    let left = asks_height t.rest t.lacked _ (c.requires.due MasterGone) in
     omega (arith, left, c.requires.fit.room, c.requires.fit.countable)
 
 pub branch-point-requires-clause-moment : goal.branch-point-requires-clause-moment

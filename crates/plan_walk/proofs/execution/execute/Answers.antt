@@ -11,13 +11,13 @@ use Rattle.plan_walk.proofs.execution.execute.Goals as goal
 pub make-answer-requires : goal.make-answer-requires
 make-answer-requires g c =
     let t = trail_of c.loop-due.walk in
-    let left = asks_height t.rest t.lacking _ (c.in-Some.ensures.some MasterGone) in
+    let left = asks_height t.rest t.lacked _ (c.in-Some.ensures.some MasterGone) in
     omega (arith, left, c.loop-due.invariant.calls_room)
 
 pub push-requires : goal.push-requires
 push-requires g c =
     let t = trail_of c.loop-due.walk in
-    let left = asks_height t.rest t.lacking _ (c.in-Some.ensures.some c.make-answer.result) in
+    let left = asks_height t.rest t.lacked _ (c.in-Some.ensures.some c.make-answer.result) in
     omega (arith, left, c.loop-due.invariant.log_room)
 
 -- one entry more
@@ -28,7 +28,7 @@ loop-due-preserved g c =
     let e : Entry = record { by = c.in-Some.due.by; call = c.in-Some.due.call; answer = c.make-answer.result } in
     let kept = c.loop-due.invariant in
     let pushed = c.push.ensures.entries in
-    let asks = subst (λ (t : Trail). Asks t.rest t.lacking e) kept.trail (c.in-Some.ensures.some c.make-answer.result) in
+    let asks = subst (λ (t : Trail). Asks t.rest t.lacked e) kept.trail (c.in-Some.ensures.some c.make-answer.result) in
     record {
       path = subst (Follows start) (sym pushed) (Follows-push start old e kept.path asks);
       trail = c.after-walk.ensures.trail ∙ (ap (λ t. advance t e) kept.trail ∙ (sym (after-push start old e) ∙ ap (trail_after start) (sym pushed)));

@@ -5,10 +5,11 @@ use Rattle.vocabulary.specs.declared.calls.Answer.TheVariants.{MasterGone}
 use Rattle.definitions.specs.Path.{Report, Reports}
 use Rattle.plan_walk.specs.Walk.{trail_of, sides_in}
 use Rattle.certifier.proofs.Asking.{asked-left}
+use Rattle.rollback_plan.specs.Bounds.{lacked_in}
 use Rattle.certifier.proofs.replay.Replay.end.Goals as goal
 
 pub returns-in-Some-clause-err : goal.returns-in-Some-clause-err
-returns-in-Some-clause-err c = inl (refl, λ over. asked-left (option_map rest_of c.args.self.walk.rest) c.args.self.walk.bound.lacking _ (c.in-Some.ensures.some MasterGone) over)
+returns-in-Some-clause-err c = inl (refl, λ over. asked-left (option_map rest_of c.args.self.walk.rest) (lacked_in c.args.self.walk.bound) _ (c.in-Some.ensures.some MasterGone) over)
 
 pub returns-clause-ok : goal.returns-clause-ok
 returns-clause-ok c =

@@ -11,13 +11,13 @@ use Rattle.explorer.proofs.position.Position.make.Goals as goal
 pub answered-entry-requires : goal.answered-entry-requires
 answered-entry-requires c =
     let t = trail_of c.args.self.now.walk in
-    let left = asks_height t.rest t.lacking _ (c.requires.due MasterGone) in
+    let left = asks_height t.rest t.lacked _ (c.requires.due MasterGone) in
     omega (arith, left, c.requires.fit.room)
 
 pub after-self-requires-clause-asks : goal.after-self-requires-clause-asks
 after-self-requires-clause-asks c =
     let t = trail_of c.args.self.now.walk in
-    subst (λ (e : Entry). Asks t.rest t.lacking e) (sym c.answered-entry.ensures.entry) (c.requires.due c.answered-entry.result.answer)
+    subst (λ (e : Entry). Asks t.rest t.lacked e) (sym c.answered-entry.ensures.entry) (c.requires.due c.answered-entry.result.answer)
 
 pub returns : goal.returns
 returns c =
