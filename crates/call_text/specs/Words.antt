@@ -4,7 +4,7 @@ use Rattle.vocabulary.specs.declared.calls.Fate.{Fate}
 use Rattle.vocabulary.specs.declared.calls.Fate.TheVariants as fate
 use Rattle.vocabulary.specs.declared.calls.Reply.{Reply}
 use Rattle.vocabulary.specs.declared.plans.End.{End}
-use Rattle.vocabulary.specs.declared.plans.End.TheVariants.{Done, RolledBack, ShortOld, ShortTarget}
+use Rattle.vocabulary.specs.declared.plans.End.TheVariants.{Done, RolledBack, ShortOld, ShortTarget, Split, JoinReady, JoinBack, Join}
 use Rattle.vocabulary.specs.declared.plans.PidNote.{PidNote}
 use Rattle.vocabulary.specs.declared.plans.Side.{Side}
 use Rattle.vocabulary.specs.declared.calls.Reply.TheVariants as reply
@@ -52,6 +52,10 @@ end_text Done = codes "done"
 end_text RolledBack = codes "rolled-back"
 end_text ShortOld = codes "degraded-old"
 end_text ShortTarget = codes "degraded-target"
+end_text Split = codes "split"
+end_text JoinReady = codes "join-ready"
+end_text JoinBack = codes "join-back"
+end_text Join = codes "join"
 
 abbrev pub note_text : PidNote → List ℕ
 note_text InPlace = codes "in-place"

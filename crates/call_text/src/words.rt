@@ -61,6 +61,10 @@ pub fn end_text(end: End) -> &'static str
         End::RolledBack => "rolled-back",
         End::ShortOld => "degraded-old",
         End::ShortTarget => "degraded-target",
+        End::Split => "split",
+        End::JoinReady => "join-ready",
+        End::JoinBack => "join-back",
+        End::Join => "join",
     }
 }
 

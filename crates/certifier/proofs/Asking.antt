@@ -3,7 +3,7 @@ use Rattle.std.proofs.Common.{◌≡◌, ℕ, true, false, not, List, Option, So
 use Rattle.std.specs.Prelude.{is_some, is_none}
 use Rattle.vocabulary.specs.declared.reports.Outcome.{Outcome}
 use Rattle.vocabulary.specs.declared.reports.Outcome.TheVariants as outcome
-use Rattle.vocabulary.specs.declared.plans.End.TheVariants.{Done, RolledBack, ShortOld, ShortTarget}
+use Rattle.vocabulary.specs.declared.plans.End.TheVariants.{Done, RolledBack, ShortOld, ShortTarget, Split, JoinReady, JoinBack, Join}
 use Rattle.vocabulary.specs.declared.plans.PidNote.{PidNote}
 use Rattle.definitions.specs.Tree.{Tree, Ends, Does}
 use Rattle.definitions.specs.Path.{Entry, Report, Sides, Trail, Asks, rest_after, IsOver, IsOutcome, Reports, Lack}
@@ -55,6 +55,10 @@ one-report sides t one other h k =
 pub not-lost : (sides : Sides) (rest : Option Tree) (lacking : List ℕ) (o : Outcome) → is_some rest ≡ true → IsOutcome sides rest lacking o → o ≡ outcome.Lost → ⊥
 not-lost sides None lacking o some is lost = let none : false ≡ true = some in cc
 not-lost sides (Some (Ends Done)) lacking o some is lost = let e : outcome.Done ≡ outcome.Lost = sym is ∙ lost in cc
+not-lost sides (Some (Ends Split)) lacking o some is lost = let e : outcome.Done ≡ outcome.Lost = sym is ∙ lost in cc
+not-lost sides (Some (Ends JoinReady)) lacking o some is lost = let e : outcome.Done ≡ outcome.Lost = sym is ∙ lost in cc
+not-lost sides (Some (Ends JoinBack)) lacking o some is lost = let e : outcome.Done ≡ outcome.Lost = sym is ∙ lost in cc
+not-lost sides (Some (Ends Join)) lacking o some is lost = let e : outcome.Done ≡ outcome.Lost = sym is ∙ lost in cc
 not-lost sides (Some (Ends RolledBack)) lacking o some is lost = let e : outcome.RolledBack ≡ outcome.Lost = sym is ∙ lost in cc
 not-lost sides (Some (Ends ShortOld)) lacking o some is lost = let e = sym is ∙ lost in cc
 not-lost sides (Some (Ends ShortTarget)) lacking o some is lost = let e = sym is ∙ lost in cc

@@ -10,7 +10,7 @@ pub use Rattle.vocabulary.specs.declared.calls.Reply.TheVariants as reply
 pub use Rattle.vocabulary.specs.declared.plans.Side.{Side}
 pub use Rattle.vocabulary.specs.declared.plans.Side.TheVariants.{Old, Target}
 pub use Rattle.vocabulary.specs.declared.plans.End.{End}
-pub use Rattle.vocabulary.specs.declared.plans.End.TheVariants.{Done, RolledBack, ShortOld, ShortTarget}
+pub use Rattle.vocabulary.specs.declared.plans.End.TheVariants.{Done, RolledBack, ShortOld, ShortTarget, Split, JoinReady, JoinBack, Join}
 pub use Rattle.vocabulary.specs.declared.plans.PidNote.{PidNote}
 pub use Rattle.vocabulary.specs.declared.plans.Order.{Order}
 pub use Rattle.vocabulary.specs.declared.plans.Order.TheVariants.{Make, ForkLacking, AwaitLacking, KillLacking}

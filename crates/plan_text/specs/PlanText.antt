@@ -11,7 +11,7 @@ use Rattle.vocabulary.specs.declared.plans.Order.{Order}
 use Rattle.vocabulary.specs.declared.plans.Order.TheVariants.{Make}
 use Rattle.definitions.specs.Tree.{order_replies}
 use Rattle.rollback_plan.specs.declared.step.Next.{Next}
-use Rattle.rollback_plan.specs.declared.step.Next.TheVariants.{To, Over}
+use Rattle.rollback_plan.specs.declared.step.Next.TheVariants.{To, Over, Both}
 use Rattle.rollback_plan.specs.declared.step.PlanEdge.{PlanEdge}
 use Rattle.rollback_plan.specs.declared.step.Step.{Step}
 use Rattle.rollback_plan.specs.Steps.{edge_for}
@@ -31,8 +31,13 @@ replies_of order = order_replies order ++ MasterGone ∷ []
 abbrev pub same_next : Next → Next → Bool
 same_next (To one) (To other) = one.0 == other.0
 same_next (Over one) (Over other) = sameb end_type one other
+same_next (Both one two) (Both other another) = one.0 == other.0 && two.0 == another.0
 same_next (To one) (Over other) = false
+same_next (To one) (Both other another) = false
 same_next (Over one) (To other) = false
+same_next (Over one) (Both other another) = false
+same_next (Both one two) (To other) = false
+same_next (Both one two) (Over other) = false
 
 abbrev pub same_note : Option PidNote → Option PidNote → Bool
 same_note (Some one) (Some other) = sameb note_type one other
@@ -62,6 +67,8 @@ reply_words s e behind (r ∷ rs) = (if goes s e r then reply_text r ++ behind e
 abbrev pub place_text : Next → List ℕ
 place_text (To place) = decimal place.0
 place_text (Over end) = end_text end
+-- the new part's place and the old one's
+place_text (Both new old) = decimal new.0 ++ codes "+" ++ decimal old.0
 
 abbrev pub note_part : Option PidNote → List ℕ
 note_part None = []

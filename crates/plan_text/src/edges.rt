@@ -17,7 +17,8 @@ fn same_next(one: Next, other: Next) -> bool
     match (one, other) {
         (Next::To(one), Next::To(other)) => one.0 == other.0,
         (Next::Over(one), Next::Over(other)) => one == other,
-        (Next::To(_), Next::Over(_)) | (Next::Over(_), Next::To(_)) => false,
+        (Next::Both(one, two), Next::Both(other, another)) => one.0 == other.0 && two.0 == another.0,
+        _ => false,
     }
 }
 
@@ -90,6 +91,11 @@ pub(crate) fn write_place(out: &mut Vec<u8>, next: Next) -> Result<(), AllocErro
     match next {
         Next::To(place) => write_number(out, u64::from(place.0)),
         Next::Over(end) => out.extend_from_slice(end_text(end).as_bytes()),
+        Next::Both(new, old) => {
+            write_number(out, u64::from(new.0))?;
+            out.extend_from_slice(b"+")?;
+            write_number(out, u64::from(old.0))
+        }
     }
 }
 

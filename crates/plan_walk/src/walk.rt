@@ -135,7 +135,7 @@ impl<'a> Walk<'a> {
             return Outcome::Lost;
         };
         match cursor.end() {
-            Some(End::Done) => Outcome::Done,
+            Some(End::Done | End::Split | End::JoinReady | End::JoinBack | End::Join) => Outcome::Done,
             Some(End::RolledBack) => Outcome::RolledBack,
             Some(End::ShortOld) => self.degraded(Side::Old, &self.sides.old),
             Some(End::ShortTarget) => self.degraded(Side::Target, &self.sides.target),

@@ -3,7 +3,7 @@ use Rattle.std.proofs.Common.{◌≡◌, ℕ, ◌+◌, ◌-◌, ◌<◌, ◌≤�
 use Rattle.std.proofs.lemmas.Bool.{ltb-true, lt-ltb, cases_eq, cases_lt, and_from, and_parts, or_cases, or_left, or_right, eq-eqb, eqb-true, false≢true}
 use Rattle.std.proofs.lemmas.List.{get_or-set_same, get_or-set_other, set_past}
 use Rattle.rollback_plan.specs.declared.step.Next.{Next}
-use Rattle.rollback_plan.specs.declared.step.Next.TheVariants.{To, Over}
+use Rattle.rollback_plan.specs.declared.step.Next.TheVariants.{To, Over, Both}
 use Rattle.rollback_plan.specs.declared.step.PlanEdge.{PlanEdge}
 use Rattle.rollback_plan.specs.declared.step.Step.{Step}
 use Rattle.rollback_plan.specs.Steps.{is_below, all_below}
@@ -17,6 +17,7 @@ max_cases a b = elim (cases_lt a b) [ inl h ↦ inr (omega arith) | inr h ↦ in
 -- what is behind an edge is behind it and others
 behind_front : (next : Next) (ps : List ℕ) (k : ℕ) → is_in (place_behind next []) k ≡ true → is_in (place_behind next ps) k ≡ true
 behind_front (Over end) ps k h = absurd (false≢true h)
+behind_front (Both new old) ps k h = absurd (false≢true h)
 behind_front (To place) ps k h = elim (or_cases (nat_eq place.0 k) false h) [
   | inl same ↦ or_left (nat_eq place.0 k) (is_in ps k) same
   | inr no_more ↦ absurd (false≢true no_more)
@@ -24,11 +25,13 @@ behind_front (To place) ps k h = elim (or_cases (nat_eq place.0 k) false h) [
 
 pub in_behind : (next : Next) (ps : List ℕ) (k : ℕ) → is_in ps k ≡ true → is_in (place_behind next ps) k ≡ true
 in_behind (Over end) ps k h = h
+in_behind (Both new old) ps k h = h
 in_behind (To place) ps k h = or_right (nat_eq place.0 k) (is_in ps k) h
 
 -- what one edge changes
 at_cases : (n depth : ℕ) (next : Next) (depths : List ℕ) → is_below n next ≡ true → (k : ℕ) → (get_or (deepened_at depth next depths) k 0 ≡ get_or depths k 0) ⊎ ((k < n) × (get_or (deepened_at depth next depths) k 0 ≡ depth) × (is_in (place_behind next []) k ≡ true))
 at_cases n depth (Over end) depths below k = inl refl
+at_cases n depth (Both new old) depths below k = inl refl
 at_cases n depth (To place) depths below k =
     elim (cases_eq k place.0) [
       | inr other ↦ inl (get_or-set_other depths place.0 k (max (get_or depths place.0 0) depth) 0 other)
@@ -44,6 +47,7 @@ at_cases n depth (To place) depths below k =
 
 at_ge : (depth : ℕ) (next : Next) (depths : List ℕ) (k : ℕ) → get_or depths k 0 ≤ get_or (deepened_at depth next depths) k 0
 at_ge depth (Over end) depths k = omega arith
+at_ge depth (Both new old) depths k = omega arith
 at_ge depth (To place) depths k =
     elim (cases_eq k place.0) [
       | inr other ↦ omega (arith, get_or-set_other depths place.0 k (max (get_or depths place.0 0) depth) 0 other)
@@ -55,6 +59,7 @@ at_ge depth (To place) depths k =
 
 at_length : (depth : ℕ) (next : Next) (depths : List ℕ) → length (deepened_at depth next depths) ≡ length depths
 at_length depth (Over end) depths = refl
+at_length depth (Both new old) depths = refl
 at_length depth (To place) depths = length-set depths place.0 (max (get_or depths place.0 0) depth)
 
 pub length-deepened : (depth : ℕ) (edges : List PlanEdge) (depths : List ℕ) → length (deepened depth edges depths) ≡ length depths
@@ -80,6 +85,7 @@ deepened_ge depth (e ∷ edges) depths k = omega (arith, at_ge depth e.next dept
 
 deeper_le : (old new : List ℕ) (d : ℕ) (next : Next) → ((k : ℕ) → get_or old k 0 ≤ get_or new k 0) → is_deeper old d next ≡ true → is_deeper new d next ≡ true
 deeper_le old new d (Over end) ge h = refl
+deeper_le old new d (Both a b) ge h = refl
 deeper_le old new d (To place) ge h = lt-ltb d (get_or new place.0 0) (omega (arith, ge place.0, ltb-true d (get_or old place.0 0) h))
 
 -- what lies deeper stays so where depths grow
@@ -88,6 +94,7 @@ all_deeper-le old new d edges ge = all_weaker (λ e. is_deeper old d e.next) (λ
 
 one_behind : (d depth : ℕ) (next : Next) (depths : List ℕ) → d < depth → is_below (length depths) next ≡ true → is_deeper (deepened_at depth next depths) d next ≡ true
 one_behind d depth (Over end) depths h below = refl
+one_behind d depth (Both new old) depths h below = refl
 one_behind d depth (To place) depths h below =
     lt-ltb d _ (omega (arith, get_or-set_same depths place.0 (max (get_or depths place.0 0) depth) 0 (ltb-true place.0 (length depths) below)))
 
@@ -173,6 +180,7 @@ deepened_on steps first place s depths h at back low has =
 
 behind_deeper : (depths : List ℕ) (d : ℕ) (next : Next) (ps : List ℕ) (k : ℕ) → is_deeper depths d next ≡ true → (is_in ps k ≡ true → d < get_or depths k 0) → is_in (place_behind next ps) k ≡ true → d < get_or depths k 0
 behind_deeper depths d (Over end) ps k deep rest h = rest h
+behind_deeper depths d (Both new old) ps k deep rest h = rest h
 behind_deeper depths d (To place) ps k deep rest h = elim (or_cases (nat_eq place.0 k) (is_in ps k) h) [
   | inl same ↦ omega (arith, ltb-true d (get_or depths place.0 0) deep, ap (λ j. get_or depths j 0) (eqb-true place.0 k same))
   | inr there ↦ rest there

@@ -6,7 +6,7 @@ use Rattle.definitions.specs.Tree.{Tree, Ends}
 use Rattle.rollback_plan.specs.declared.draft.Draft.{Draft}
 use Rattle.rollback_plan.specs.declared.step.Place.{Place}
 use Rattle.rollback_plan.specs.declared.step.Next.{Next}
-use Rattle.rollback_plan.specs.declared.step.Next.TheVariants.{To, Over}
+use Rattle.rollback_plan.specs.declared.step.Next.TheVariants.{To, Over, Both}
 use Rattle.rollback_plan.specs.Steps.{tree_among, is_below}
 use Rattle.rollback_plan.specs.Drafts.{trees_of, tree_at, IsMade, Keeps}
 
@@ -31,6 +31,7 @@ keeps_on old mid new k l =
 -- the tree behind an edge among more trees
 pub tree_more : (trees more : List Tree) (next : Next) → is_below (length trees) next ≡ true → tree_among 0 (trees ++ more) next ≡ tree_among 0 trees next
 tree_more trees more (Over end) h = refl
+tree_more trees more (Both new old) h = refl
 tree_more trees more (To place) h = ap (λ o. unwrap_or o (Ends Done)) (slice_get-append trees more (place.0 - 0) (omega (arith, ltb-true place.0 (length trees) h)))
 
 pub longer : (old new : Draft) → Keeps old new → length (trees_of old) ≤ length (trees_of new)

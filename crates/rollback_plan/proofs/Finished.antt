@@ -6,7 +6,7 @@ use Rattle.listener_set.specs.Numbers.{is_in}
 use Rattle.vocabulary.specs.declared.plans.End.TheVariants.{Done}
 use Rattle.definitions.specs.Tree.{Tree, Ends, height}
 use Rattle.rollback_plan.specs.declared.step.Next.{Next}
-use Rattle.rollback_plan.specs.declared.step.Next.TheVariants.{To, Over}
+use Rattle.rollback_plan.specs.declared.step.Next.TheVariants.{To, Over, Both}
 use Rattle.rollback_plan.specs.declared.step.PlanEdge.{PlanEdge}
 use Rattle.rollback_plan.specs.declared.step.Step.{Step}
 use Rattle.rollback_plan.specs.Steps.{trees_after, all_below, all_lead_back, leads_back, all_lead_on, first_tree}
@@ -27,6 +27,7 @@ pub record AreOrdered (steps : List Step) (first : ℕ) (depths met order : List
 
 deeper_behind : (depths : List ℕ) (d : ℕ) (next : Next) → is_deeper depths d next ≡ true → holds_behind (λ k. nat_lt 0 (get_or depths k 0)) next ≡ true
 deeper_behind depths d (Over end) h = refl
+deeper_behind depths d (Both new old) h = refl
 deeper_behind depths d (To place) h = lt-ltb 0 (get_or depths place.0 0) (omega (arith, ltb-true d (get_or depths place.0 0) h))
 
 -- each place that was met has a depth
@@ -82,6 +83,7 @@ order_leads_on steps first depths met order numbers h ns i p s at step =
   where
     one : (next : Next) → holds_behind (is_in met) next ≡ true → is_deeper depths (get_or depths p 0) next ≡ true → LeadsOn order numbers i next
     one (Over end) known deep = tt
+    one (Both new old) known deep = tt
     one (To place) known deep =
         let stands = ns.stands place.0 (in_order steps first depths met order h place.0 known) in
         elim (cases_lt i (get_or numbers place.0 0 - 1)) [

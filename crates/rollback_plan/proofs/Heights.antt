@@ -4,7 +4,7 @@ use Rattle.std.proofs.lemmas.List.{map_push}
 use Rattle.vocabulary.specs.declared.plans.End.TheVariants.{Done}
 use Rattle.definitions.specs.Tree.{Tree, Ends, height, highest}
 use Rattle.rollback_plan.specs.declared.step.Next.{Next}
-use Rattle.rollback_plan.specs.declared.step.Next.TheVariants.{To, Over}
+use Rattle.rollback_plan.specs.declared.step.Next.TheVariants.{To, Over, Both}
 use Rattle.rollback_plan.specs.declared.step.PlanEdge.{PlanEdge}
 use Rattle.rollback_plan.specs.declared.step.Step.{Step}
 use Rattle.rollback_plan.specs.Steps.{tree_among, branches_among, step_tree}
@@ -17,6 +17,7 @@ height_at (t ∷ trees) (suc k) = height_at trees k
 
 height_there : (trees : List Tree) (next : Next) → height_behind (map height trees) next ≡ height (tree_among 0 trees next)
 height_there trees (Over end) = refl
+height_there trees (Both new old) = refl
 height_there trees (To place) = height_at trees place.0 ∙ ap (λ k. height (unwrap_or (slice_get trees k) (Ends Done))) (let e : place.0 ≡ place.0 - 0 = omega arith in e)
 
 pub highest_there : (trees : List Tree) (edges : List PlanEdge) → highest_behind (map height trees) edges ≡ highest (branches_among 0 trees edges)
@@ -36,6 +37,7 @@ highest_within n heights (e ∷ edges) h = omega (arith, one e.next, highest_wit
   where
     one : (next : Next) → height_behind heights next ≤ n
     one (Over end) = omega arith
+    one (Both new old) = omega arith
     one (To place) = h place.0
 
 pub within_more : (n : ℕ) (heights : List ℕ) (m : ℕ) → ((k : ℕ) → get_or heights k 0 ≤ n) → m ≤ n + 1 → (k : ℕ) → get_or (heights ++ m ∷ []) k 0 ≤ n + 1

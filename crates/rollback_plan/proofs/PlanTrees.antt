@@ -11,7 +11,7 @@ use Rattle.definitions.specs.Path.{follow}
 use Rattle.rollback_plan.specs.declared.step.Step.{Step}
 use Rattle.rollback_plan.specs.declared.step.PlanEdge.{PlanEdge}
 use Rattle.rollback_plan.specs.declared.step.Next.{Next}
-use Rattle.rollback_plan.specs.declared.step.Next.TheVariants.{To, Over}
+use Rattle.rollback_plan.specs.declared.step.Next.TheVariants.{To, Over, Both}
 use Rattle.rollback_plan.specs.declared.step.Place.{Place}
 use Rattle.rollback_plan.specs.Steps.{step_tree, trees_from, all_lead_on, is_past, branches_among, tree_among, edge_for, tree_here, tree_behind, is_within}
 use Rattle.rollback_plan.specs.Cursors.{end_of}
@@ -20,6 +20,7 @@ use Rattle.rollback_plan.proofs.StepTrees.{all_weaker}
 -- an edge that leads past n finds its tree one place further on
 past_tree : (n more : ℕ) (t : Tree) (trees : List Tree) (next : Next) → is_past n more next ≡ true → tree_among (suc n) trees next ≡ tree_among n (t ∷ trees) next
 past_tree n more t trees (Over end) h = refl
+past_tree n more t trees (Both new old) h = refl
 past_tree n more t trees (To place) h =
     let past : n < place.0 = ltb-true n place.0 (and_parts (nat_lt n place.0) _ h).0 in
     ap (λ k. unwrap_or (slice_get (t ∷ trees) k) (Ends Done)) (let e : suc (place.0 - suc n) ≡ place.0 - n = omega arith in e)
@@ -33,6 +34,7 @@ past_branches n more t trees (e ∷ edges) h =
 
 past_less : (n more : ℕ) (next : Next) → is_past (suc n) more next ≡ true → is_past n (suc more) next ≡ true
 past_less n more (Over end) h = refl
+past_less n more (Both new old) h = refl
 past_less n more (To place) h =
     let parts = and_parts (nat_lt (suc n) place.0) (nat_lt place.0 (suc (suc n + more))) h in
     and_from (nat_lt n place.0) (nat_lt place.0 (suc (n + suc more)))
@@ -41,6 +43,7 @@ past_less n more (To place) h =
 
 past_more : (n more : ℕ) (next : Next) → is_past n more next ≡ true → is_past n (suc more) next ≡ true
 past_more n more (Over end) h = refl
+past_more n more (Both new old) h = refl
 past_more n more (To place) h =
     let parts = and_parts (nat_lt n place.0) (nat_lt place.0 (suc (n + more))) h in
     and_from (nat_lt n place.0) (nat_lt place.0 (suc (n + suc more)))

@@ -1,12 +1,12 @@
 -- The trees of steps.
-use Rattle.std.proofs.Common.{◌≡◌, ℕ, zero, suc, ◌+◌, ◌<◌, ◌≤◌, ◌&&◌, Bool, true, false, List, [], ◌∷◌, ◌++◌, length, get_or, take, refl, sym, ◌∙◌, ap, subst, arith, add-zero, zero-add, length-append, append_assoc, Some, slice_get}
+use Rattle.std.proofs.Common.{nat_lt, ◌≡◌, ℕ, zero, suc, ◌+◌, ◌<◌, ◌≤◌, ◌&&◌, Bool, true, false, List, [], ◌∷◌, ◌++◌, length, get_or, take, refl, sym, ◌∙◌, ap, subst, arith, add-zero, zero-add, length-append, append_assoc, Some, slice_get}
 use Rattle.std.proofs.lemmas.Bool.{ltb-true, lt-ltb, and_parts, and_from}
 use Rattle.std.proofs.lemmas.List.{append-nil, take_at, take_all, take_more}
 use Rattle.std.specs.List.{list_all}
 use Rattle.definitions.specs.Tree.{Tree}
 use Rattle.rollback_plan.specs.declared.step.Step.{Step}
 use Rattle.rollback_plan.specs.declared.step.Next.{Next}
-use Rattle.rollback_plan.specs.declared.step.Next.TheVariants.{To, Over}
+use Rattle.rollback_plan.specs.declared.step.Next.TheVariants.{To, Over, Both}
 use Rattle.rollback_plan.specs.declared.step.PlanEdge.{PlanEdge}
 use Rattle.rollback_plan.specs.Steps.{step_tree, trees_after, trees_from, is_below, all_below, leads_back, all_lead_back}
 
@@ -92,6 +92,9 @@ back_at n (x ∷ steps) (suc i) s h at =
 
 below_of : (n m : ℕ) (next : Next) → n ≤ m → is_below n next ≡ true → is_below m next ≡ true
 below_of n m (Over end) h b = refl
+below_of n m (Both new old) h b =
+    let p = and_parts (nat_lt new.0 n) (nat_lt old.0 n) b in
+    and_from (nat_lt new.0 m) (nat_lt old.0 m) (lt-ltb new.0 m (omega (arith, h, ltb-true new.0 n p.0))) (lt-ltb old.0 m (omega (arith, h, ltb-true old.0 n p.1)))
 below_of n m (To place) h b = lt-ltb place.0 m (omega (arith, ltb-true place.0 n b))
 
 -- edges that lead below n lead below more

@@ -6,7 +6,7 @@ use Rattle.std.specs.List.{list_all}
 use Rattle.vocabulary.specs.declared.plans.End.TheVariants.{Done}
 use Rattle.definitions.specs.Tree.{Tree, Ends, Does}
 use Rattle.rollback_plan.specs.declared.step.Next.{Next}
-use Rattle.rollback_plan.specs.declared.step.Next.TheVariants.{To, Over}
+use Rattle.rollback_plan.specs.declared.step.Next.TheVariants.{To, Over, Both}
 use Rattle.rollback_plan.specs.declared.step.PlanEdge.{PlanEdge}
 use Rattle.rollback_plan.specs.declared.step.Step.{Step}
 use Rattle.rollback_plan.specs.Steps.{tree_among, branches_among, step_tree, trees_after, trees_from, is_below, all_below, all_lead_back, is_past, all_lead_on}
@@ -57,6 +57,7 @@ draft_at steps p s back at =
 -- an edge of the i-th place leads to a place that stands later in the order
 abbrev pub LeadsOn : List ℕ → List ℕ → ℕ → Next → Type 0
 LeadsOn order numbers i (Over end) = Unit {0}
+LeadsOn order numbers i (Both new old) = Unit {0}
 LeadsOn order numbers i (To place) = (i + 2 ≤ get_or numbers place.0 0) × (slice_get order (get_or numbers place.0 0 - 1) ≡ Some place.0)
 
 abbrev pub AllLeadOn : List ℕ → List ℕ → ℕ → List PlanEdge → Type 0
@@ -85,6 +86,7 @@ rest_after order i p rest h k = h (suc k) ∙ ap (slice_get order) (let e : i + 
 
 next_tree : (steps : List Step) (order numbers : List ℕ) (i : ℕ) (rest : List ℕ) (next : Next) → IsRest order (suc i) rest → LeadsOn order numbers i next → tree_among (suc (suc i)) (map (at_place steps) rest) (next_numbered numbers next) ≡ tree_among 0 (trees_after [] steps) next
 next_tree steps order numbers i rest (Over end) h on = refl
+next_tree steps order numbers i rest (Both new old) h on = refl
 next_tree steps order numbers i rest (To place) h on =
     let m : ℕ = get_or numbers place.0 0 in
     let there : slice_get rest (m - suc (suc i)) ≡ Some place.0 = h (m - suc (suc i)) ∙ (ap (slice_get order) (let e : suc i + (m - suc (suc i)) ≡ m - 1 = omega (arith, on.0) in e) ∙ on.1) in
@@ -120,6 +122,7 @@ length-numbered numbers steps (p ∷ rest) (n ∷ plan) all = ap suc (length-num
 
 next_past : (order numbers : List ℕ) (i more : ℕ) (next : Next) → length order ≡ i + suc more → LeadsOn order numbers i next → is_past (suc i) more (next_numbered numbers next) ≡ true
 next_past order numbers i more (Over end) many on = refl
+next_past order numbers i more (Both new old) many on = refl
 next_past order numbers i more (To place) many on =
     let low = low_at order (get_or numbers place.0 0 - 1) place.0 on.1 in
     and_from (nat_lt (suc i) (get_or numbers place.0 0)) (nat_lt (get_or numbers place.0 0) (suc (suc i + more)))

@@ -5,7 +5,7 @@ use Rattle.std.proofs.lemmas.List.{reverse-append, length-reverse, length-replic
 use Rattle.std.specs.List.{list_all}
 use Rattle.listener_set.specs.Numbers.{is_in}
 use Rattle.rollback_plan.specs.declared.step.Next.{Next}
-use Rattle.rollback_plan.specs.declared.step.Next.TheVariants.{To, Over}
+use Rattle.rollback_plan.specs.declared.step.Next.TheVariants.{To, Over, Both}
 use Rattle.rollback_plan.specs.declared.step.PlanEdge.{PlanEdge}
 use Rattle.rollback_plan.specs.declared.step.Step.{Step}
 use Rattle.rollback_plan.specs.Steps.{is_below, all_below, all_lead_back}
@@ -82,6 +82,7 @@ all_in test (x ∷ xs) k h here =
 
 behind_weaker : (t u : ℕ → Bool) (next : Next) → ((k : ℕ) → t k ≡ true → u k ≡ true) → holds_behind t next ≡ true → holds_behind u next ≡ true
 behind_weaker t u (Over end) f h = refl
+behind_weaker t u (Both new old) f h = refl
 behind_weaker t u (To place) f h = f place.0 h
 
 pub edges_weaker : (t u : ℕ → Bool) (edges : List PlanEdge) → ((k : ℕ) → t k ≡ true → u k ≡ true) → holds_of_edges t edges ≡ true → holds_of_edges u edges ≡ true
@@ -89,6 +90,7 @@ edges_weaker t u edges f = all_weaker (λ e. holds_behind t e.next) (λ e. holds
 
 one_behind : (next : Next) (ps : List ℕ) → holds_behind (is_in (place_behind next ps)) next ≡ true
 one_behind (Over end) ps = refl
+one_behind (Both new old) ps = refl
 one_behind (To place) ps = or_left (nat_eq place.0 place.0) (is_in ps place.0) (eq-eqb place.0 place.0 refl)
 
 -- what is behind edges is among the places behind them
@@ -100,6 +102,7 @@ edges_in (e ∷ edges) =
 
 all_behind : (test : ℕ → Bool) (next : Next) (ps : List ℕ) → holds_behind test next ≡ true → list_all test ps ≡ true → list_all test (place_behind next ps) ≡ true
 all_behind test (Over end) ps h k = k
+all_behind test (Both new old) ps h k = k
 all_behind test (To place) ps h k = and_from (test place.0) (list_all test ps) h k
 
 all_of_edges : (test : ℕ → Bool) (edges : List PlanEdge) → holds_of_edges test edges ≡ true → list_all test (places_behind edges) ≡ true
@@ -110,6 +113,7 @@ all_of_edges test (e ∷ edges) h =
 
 length-behind : (next : Next) (ps : List ℕ) → length (place_behind next ps) ≤ length ps + 1
 length-behind (Over end) ps = omega arith
+length-behind (Both new old) ps = omega arith
 length-behind (To place) ps = omega arith
 
 length-places_behind : (edges : List PlanEdge) → length (places_behind edges) ≤ length edges
@@ -266,6 +270,7 @@ walked_on steps first flags met waiting p s h was at low =
 
 low_behind : (n k : ℕ) (next : Next) → k < n → is_below k next ≡ true → holds_behind (λ j. nat_lt j n) next ≡ true
 low_behind n k (Over end) lt below = refl
+low_behind n k (Both new old) lt below = refl
 low_behind n k (To place) lt below = lt-ltb place.0 n (omega (arith, ltb-true place.0 k below))
 
 -- what is behind the edges of a place is a place

@@ -2,7 +2,8 @@
 use Rattle.std.proofs.Common.{◌≡◌, ℕ, List, [], ◌∷◌, ◌++◌, reverse, refl, sym, ◌∙◌, ap, append_assoc}
 use Rattle.std.proofs.lemmas.List.{reverse-append, append-nil}
 use Rattle.rollback_plan.specs.declared.step.Next.{Next}
-use Rattle.rollback_plan.specs.declared.step.Next.TheVariants.{To, Over}
+use Rattle.rollback_plan.specs.declared.step.Place.{Place}
+use Rattle.rollback_plan.specs.declared.step.Next.TheVariants.{To, Over, Both}
 use Rattle.rollback_plan.specs.declared.step.PlanEdge.{PlanEdge}
 use Rattle.rollback_plan.specs.Numbering.{place_behind, places_behind}
 
@@ -10,6 +11,7 @@ use Rattle.rollback_plan.specs.Numbering.{place_behind, places_behind}
 
 place_behind-append : (next : Next) (ps qs : List ℕ) → place_behind next (ps ++ qs) ≡ place_behind next ps ++ qs
 place_behind-append (Over end) ps qs = refl
+place_behind-append (Both new old) ps qs = refl
 place_behind-append (To place) ps qs = refl
 
 pub places_behind-append : (es fs : List PlanEdge) → places_behind (es ++ fs) ≡ places_behind es ++ places_behind fs
@@ -18,6 +20,7 @@ places_behind-append (e ∷ es) fs = ap (place_behind e.next) (places_behind-app
 
 reverse-place_behind : (next : Next) (ps : List ℕ) → reverse (place_behind next ps) ≡ reverse ps ++ place_behind next []
 reverse-place_behind (Over end) ps = sym (append-nil (reverse ps))
+reverse-place_behind (Both new old) ps = sym (append-nil (reverse ps))
 reverse-place_behind (To place) ps = reverse-append (place.0 ∷ []) ps
 
 pub places_behind-reverse : (edges : List PlanEdge) → places_behind (reverse edges) ≡ reverse (places_behind edges)
@@ -26,6 +29,12 @@ places_behind-reverse (e ∷ edges) =
     ap places_behind (reverse-append (e ∷ []) edges)
     ∙ (places_behind-append (reverse edges) (e ∷ [])
     ∙ (ap (λ ps. ps ++ place_behind e.next []) (places_behind-reverse edges) ∙ sym (reverse-place_behind e.next (places_behind edges))))
+
+-- nothing is behind what leads to no place
+pub behind_none : (next : Next) → ((x : Place) → next ≡ To x → ⊥) → place_behind next [] ≡ []
+behind_none (Over end) off = refl
+behind_none (Both new old) off = refl
+behind_none (To place) off = absurd (off place refl)
 
 -- one edge more
 pub behind_more : (old waiting : List ℕ) (es : List PlanEdge) (e : PlanEdge) (next : Next) → e.next ≡ next → waiting ≡ old ++ places_behind es → waiting ++ place_behind next [] ≡ old ++ places_behind (es ++ e ∷ [])

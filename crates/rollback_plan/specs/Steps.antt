@@ -2,10 +2,10 @@
 use Rattle.std.specs.Prelude.{◌≡◌, ℕ, suc, ◌+◌, ◌-◌, Bool, true, ◌&&◌, List, [], ◌∷◌, ◌++◌, Option, None, slice_get, unwrap_or, nat_lt, length}
 use Rattle.std.specs.List.{list_all, find}
 use Rattle.vocabulary.specs.declared.calls.Reply.{Reply}
-use Rattle.vocabulary.specs.declared.plans.End.TheVariants.{Done}
+use Rattle.vocabulary.specs.declared.plans.End.TheVariants.{Done, Split}
 use Rattle.definitions.specs.Tree.{Tree, Branches, Ends, Does, Nothing, Branch, among}
 use Rattle.rollback_plan.specs.declared.step.Next.{Next}
-use Rattle.rollback_plan.specs.declared.step.Next.TheVariants.{To, Over}
+use Rattle.rollback_plan.specs.declared.step.Next.TheVariants.{To, Over, Both}
 use Rattle.rollback_plan.specs.declared.step.PlanEdge.{PlanEdge}
 use Rattle.rollback_plan.specs.declared.step.Step.{Step}
 
@@ -24,6 +24,7 @@ edge_for edges r = find (λ e. among e.replies.now r) edges
 -- the tree behind an edge, where trees stand at places of which the first has a number
 abbrev pub tree_among : ℕ → List Tree → Next → Tree
 tree_among first trees (Over end) = Ends end
+tree_among first trees (Both new old) = Ends Split
 tree_among first trees (To place) = unwrap_or (slice_get trees (place.0 - first)) (Ends Done)
 
 abbrev pub branches_among : ℕ → List Tree → List PlanEdge → Branches
@@ -39,6 +40,7 @@ step_tree first trees s = Does s.by s.order s.set (branches_among first trees s.
 -- an edge leads to one of the first n places, or to an end
 abbrev pub is_below : ℕ → Next → Bool
 is_below n (Over end) = true
+is_below n (Both new old) = nat_lt new.0 n && nat_lt old.0 n
 is_below n (To place) = nat_lt place.0 n
 
 abbrev pub all_below : ℕ → List PlanEdge → Bool
@@ -61,6 +63,7 @@ trees_after trees (s ∷ steps) = trees_after (trees ++ step_tree 0 trees s ∷ 
 -- an edge of the step at place n leads past it to one of the next places, or to an end
 abbrev pub is_past : ℕ → ℕ → Next → Bool
 is_past n more (Over end) = true
+is_past n more (Both new old) = true
 is_past n more (To place) = nat_lt n place.0 && nat_lt place.0 (suc (n + more))
 
 abbrev pub all_lead_on : ℕ → List Step → Bool

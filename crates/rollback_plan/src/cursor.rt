@@ -45,7 +45,7 @@ impl<'a> Cursor<'a> {
     {
         match self.at {
             Next::To(place) => Some(&self.plan.steps[place.0 as usize - 1]),
-            Next::Over(_) => None,
+            Next::Over(_) | Next::Both(..) => None,
         }
     }
 
@@ -56,6 +56,7 @@ impl<'a> Cursor<'a> {
         match self.at {
             Next::To(_) => None,
             Next::Over(end) => Some(end),
+            Next::Both(..) => Some(End::Split),
         }
     }
 

@@ -137,6 +137,10 @@ fn edges_numbered(
         let next = match edge.next {
             Next::To(place) => Next::To(Place(numbers[place.0 as usize])),
             Next::Over(end) => Next::Over(end),
+            Next::Both(new, old) => Next::Both(
+                Place(numbers[new.0 as usize]),
+                Place(numbers[old.0 as usize]),
+            ),
         };
         numbered.push(PlanEdge {
             replies: edge.replies,

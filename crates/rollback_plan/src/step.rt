@@ -16,6 +16,8 @@ pub struct Place(pub u32);
 pub enum Next {
     To(Place),
     Over(End),
+    /// To the first step of the new master's part and that of the old one's.
+    Both(Place, Place),
 }
 
 /// What follows some replies to a step.

@@ -119,6 +119,7 @@ module _ (t : Table) (rec : Record) (quick : Bool) (pattern : Pattern) (s : IsSt
   post (At RolledBack) q = ⊥
   post (At ShortOld) q = ⊥
   post (At ShortTarget) q = ⊥
+  post (At _) q = ⊥
   post Lost q = ⊥
 
   abbrev Goes : Tree → Progress → Type 0
@@ -344,6 +345,7 @@ all-done t rec quick pattern s (At Done) q h = ((h.0, refl, tt, tt), tt, h.1, h.
 all-done t rec quick pattern s (At RolledBack) q h = absurd h
 all-done t rec quick pattern s (At ShortOld) q h = absurd h
 all-done t rec quick pattern s (At ShortTarget) q h = absurd h
+all-done t rec quick pattern s (At _) q h = absurd h
 all-done t rec quick pattern s Lost q h = absurd h
 
 goes : (t : Table) (rec : Record) (quick : Bool) (pattern : Pattern) (s : IsStart t rec) → Goes t rec quick pattern s (plan_tree rec (Stop quick)) (start_at t rec.note)

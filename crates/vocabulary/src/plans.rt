@@ -28,6 +28,14 @@ pub enum End {
     ShortOld,
     /// The target's service runs, less what the last census lacked.
     ShortTarget,
+    /// Here two masters' parts begin: no end of a plan, and none of the next three is.
+    Split,
+    /// The new master's part has ended, and it is ready.
+    JoinReady,
+    /// The new master's part has ended, and the plan goes back.
+    JoinBack,
+    /// The old master's part has ended.
+    Join,
 }
 
 /// Where the reigning master's pid file stands.

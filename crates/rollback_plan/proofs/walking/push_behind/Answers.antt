@@ -1,12 +1,12 @@
-use Rattle.std.proofs.Common.{◌++◌, map, sym, ◌∙◌, ap}
+use Rattle.std.proofs.Common.{◌++◌, map, refl, sym, ◌∙◌, ap}
 use Rattle.std.proofs.lemmas.List.{map_push, append-nil}
 use Rattle.std.proofs.lemmas.Iterator.Adapters.{YieldsList-from_rev_slice}
 use Rattle.std.proofs.lemmas.Iterator.Consumers.{YieldsList-end}
 use denote.Ref.{Bor}
 use Rattle.rollback_plan.specs.declared.step.PlanEdge.{PlanEdge}
-use Rattle.rollback_plan.specs.declared.step.Next.TheVariants.{To, Over}
+use Rattle.rollback_plan.specs.declared.step.Next.TheVariants.{To}
 use Rattle.rollback_plan.specs.Numbering.{places_behind}
-use Rattle.rollback_plan.proofs.Walks.{behind_more, places_behind-reverse}
+use Rattle.rollback_plan.proofs.Walks.{behind_more, behind_none, places_behind-reverse}
 use Rattle.rollback_plan.proofs.walking.push_behind.Goals as goal
 
 pub loop-edge-preserved : goal.loop-edge-preserved
@@ -17,9 +17,11 @@ loop-edge-preserved c =
 
 pub loop-edge-preserved-in_default : goal.loop-edge-preserved-in_default
 loop-edge-preserved-in_default c =
+    let next = c.in-Some.edge.now.next in
     sym (append-nil c.loop-edge.waiting.items)
-    ∙ (behind_more c.args.waiting.now.items c.loop-edge.waiting.items (map (λ (e : Bor PlanEdge). e.now) c.loop-edge.yielded) c.in-Some.edge.now (Over c.in_default.field-0) c.in_default.is c.loop-edge.invariant
-    ∙ ap (λ es. c.args.waiting.now.items ++ places_behind es) (sym (map_push (λ (e : Bor PlanEdge). e.now) c.loop-edge.yielded c.in-Some.edge)))
+    ∙ (ap (λ ps. c.loop-edge.waiting.items ++ ps) (sym (behind_none next c.in_default.not-To))
+    ∙ (behind_more c.args.waiting.now.items c.loop-edge.waiting.items (map (λ (e : Bor PlanEdge). e.now) c.loop-edge.yielded) c.in-Some.edge.now next refl c.loop-edge.invariant
+    ∙ ap (λ es. c.args.waiting.now.items ++ places_behind es) (sym (map_push (λ (e : Bor PlanEdge). e.now) c.loop-edge.yielded c.in-Some.edge))))
 
 pub returns : goal.returns
 returns c =
