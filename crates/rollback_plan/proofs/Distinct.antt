@@ -7,7 +7,7 @@ use Rattle.std.specs.List.{flat_map, range_with_len, IsDistinct, AllByRecursion}
 use Rattle.listener_set.specs.Numbers.{is_in}
 use Rattle.rollback_plan.specs.declared.step.Step.{Step}
 use Rattle.rollback_plan.specs.Steps.{all_lead_back}
-use Rattle.rollback_plan.specs.Numbering.{Walks, IsByDepth, IsOrder, CanBeOrder, laid_at}
+use Rattle.rollback_plan.specs.Numbering.{all_within, Walks, IsByDepth, IsOrder, CanBeOrder, laid_at}
 use Rattle.rollback_plan.proofs.Walked.{in_left, in_right, in_cases, in_one, in_itself}
 use Rattle.rollback_plan.proofs.Ordered.{in_filter, layers_rise, rises_in}
 use Rattle.rollback_plan.proofs.Finished.{found_in, ordered, order_few, order_within}
@@ -94,20 +94,20 @@ distinct_layers depths places from (suc n) h =
     absurd (omega (arith, at, deep))))
 
 -- the order of a walk's places has none twice
-order_distinct : (steps : List Step) (first : ℕ) (depths met order : List ℕ) → Walks steps [] (first ∷ []) met → IsByDepth depths met order → IsDistinct nat_eq order
+order_distinct : (steps : List Step) (roots depths met order : List ℕ) → Walks steps [] roots met → IsByDepth depths met order → IsDistinct nat_eq order
 unfolding IsDistinct
-order_distinct steps first depths met order walk sorted = subst (IsDistinct nat_eq) (sym sorted.is) (distinct_layers depths met 0 sorted.deepest (walk_distinct steps walk tt))
+order_distinct steps roots depths met order walk sorted = subst (IsDistinct nat_eq) (sym sorted.is) (distinct_layers depths met 0 sorted.deepest (walk_distinct steps walk tt))
 
 -- places that were found in order can be numbered
-pub can_be_order : (steps lent : List Step) (first : ℕ) (order order_lent : List ℕ) → lent ≡ steps → all_lead_back 0 steps ≡ true → first < length steps → length steps ≤ 65536 → IsOrder lent first order
+pub can_be_order : (steps lent : List Step) (roots order order_lent : List ℕ) → lent ≡ steps → all_lead_back 0 steps ≡ true → all_within (length steps) roots ≡ true → length steps ≤ 65536 → IsOrder lent roots order
     → order_lent ≡ order → CanBeOrder (length steps) order_lent
-can_be_order steps lent first order order_lent same back low few found again =
-    let o = ordered steps lent first order same back low found in
+can_be_order steps lent roots order order_lent same back low few found again =
+    let o = ordered steps lent roots order same back low found in
     subst (CanBeOrder (length steps)) (sym again)
     (record {
-      few = omega (arith, order_few steps first found.depths found.met order o, few);
-      within = order_within steps first found.depths found.met order o;
-      distinct = order_distinct steps first found.depths found.met order o.walk.in_turn o.sorted;
+      few = omega (arith, order_few steps roots found.depths found.met order o, few);
+      within = order_within steps roots found.depths found.met order o;
+      distinct = order_distinct steps roots found.depths found.met order o.walk.in_turn o.sorted;
     })
 
 -- ---- a place that is not taken yet

@@ -9,7 +9,7 @@ use Rattle.rollback_plan.specs.declared.step.Next.TheVariants.{To, Over, Both}
 use Rattle.rollback_plan.specs.declared.step.PlanEdge.{PlanEdge}
 use Rattle.rollback_plan.specs.declared.step.Step.{Step}
 use Rattle.rollback_plan.specs.Steps.{is_below, all_below, all_lead_back}
-use Rattle.rollback_plan.specs.Numbering.{place_behind, places_behind, holds_behind, holds_of_edges, Walks, IsWalk}
+use Rattle.rollback_plan.specs.Numbering.{place_behind, places_behind, holds_behind, holds_of_edges, all_within, Walks, IsWalk}
 use Rattle.rollback_plan.proofs.StepTrees.{all_weaker, back_at}
 use Rattle.rollback_plan.proofs.Depths.{in_behind}
 
@@ -160,26 +160,26 @@ unmet_none (suc n) = ap suc (unmet_none n)
 abbrev pub is_known : List ℕ → List ℕ → ℕ → Bool
 is_known met waiting k = is_in met k || is_in waiting k
 
-pub record AreWalked (steps : List Step) (first : ℕ) (flags : List Bool) (met waiting : List ℕ) : Type 0 where
+pub record AreWalked (steps : List Step) (roots : List ℕ) (flags : List Bool) (met waiting : List ℕ) : Type 0 where
   pub count : length flags ≡ length steps
   pub flagged : (k : ℕ) → get_or flags k false ≡ true → is_in met k ≡ true
-  pub begins : is_known met waiting first ≡ true
+  pub begins : list_all (is_known met waiting) roots ≡ true
   pub closed : (k : ℕ) (s : Step) → is_in met k ≡ true → slice_get steps k ≡ Some s → holds_of_edges (is_known met waiting) s.edges.items ≡ true
-  pub reached : (test : ℕ → Bool) → test first ≡ true → ((k : ℕ) (s : Step) → test k ≡ true → slice_get steps k ≡ Some s → holds_of_edges test s.edges.items ≡ true) → (list_all test met ≡ true) × (list_all test waiting ≡ true)
+  pub reached : (test : ℕ → Bool) → list_all test roots ≡ true → ((k : ℕ) (s : Step) → test k ≡ true → slice_get steps k ≡ Some s → holds_of_edges test s.edges.items ≡ true) → (list_all test met ≡ true) × (list_all test waiting ≡ true)
   pub only : (k : ℕ) → is_in met k ≡ true → get_or flags k false ≡ true
-  pub turns : (all : List ℕ) → Walks steps met (reverse waiting) all → Walks steps [] (first ∷ []) all
+  pub turns : (all : List ℕ) → Walks steps met (reverse waiting) all → Walks steps [] roots all
   pub few : length met + unmet flags ≡ length steps
 
-pub walked_none : (steps : List Step) (first : ℕ) (flags : List Bool) (met waiting : List ℕ) → flags ≡ replicate (length steps) false → met ≡ [] → waiting ≡ first ∷ [] → AreWalked steps first flags met waiting
-walked_none steps first flags met waiting e none one = rw (e, none, one)
+pub walked_none : (steps : List Step) (roots : List ℕ) (flags : List Bool) (met waiting : List ℕ) → flags ≡ replicate (length steps) false → met ≡ [] → waiting ≡ reverse roots → AreWalked steps roots flags met waiting
+walked_none steps roots flags met waiting e none one = rw (e, none, one)
     record {
       count = length-replicate (length steps) false;
       flagged = λ k h. absurd (false≢true (sym (never (length steps) k) ∙ h));
-      begins = in_itself first;
+      begins = all_known roots (λ k here. here);
       closed = λ k s h at. absurd (false≢true h);
-      reached = λ test h passes. (refl, and_from (test first) true h refl);
+      reached = λ test h passes. (refl, all_reverse test roots h);
       only = λ k h. absurd (false≢true h);
-      turns = λ all walk. walk;
+      turns = λ all walk. subst (λ (ws : List ℕ). Walks steps [] ws all) (reverse-reverse roots) walk;
       few = omega (arith, unmet_none (length steps));
     }
   where
@@ -188,13 +188,19 @@ walked_none steps first flags met waiting e none one = rw (e, none, one)
     never (suc n) zero = refl
     never (suc n) (suc k) = never n k
 
+    all_known : (ks : List ℕ) → ((k : ℕ) → is_in ks k ≡ true → is_in roots k ≡ true) → list_all (is_known [] (reverse roots)) ks ≡ true
+    all_known [] f = refl
+    all_known (x ∷ ks) f =
+        and_from (is_known [] (reverse roots) x) _ (in_reverse roots x (f x (or_left (nat_eq x x) (is_in ks x) (eq-eqb x x refl))))
+        (all_known ks (λ k here. f k (or_right (nat_eq x k) (is_in ks k) here)))
+
 -- a place that was met goes from those that wait
-pub walked_past : (steps : List Step) (first : ℕ) (flags : List Bool) (met waiting : List ℕ) (p : ℕ) → AreWalked steps first flags met (waiting ++ p ∷ []) → get_or flags p false ≡ true → AreWalked steps first flags met waiting
-walked_past steps first flags met waiting p h was =
+pub walked_past : (steps : List Step) (roots : List ℕ) (flags : List Bool) (met waiting : List ℕ) (p : ℕ) → AreWalked steps roots flags met (waiting ++ p ∷ []) → get_or flags p false ≡ true → AreWalked steps roots flags met waiting
+walked_past steps roots flags met waiting p h was =
     record {
       count = h.count;
       flagged = h.flagged;
-      begins = still first h.begins;
+      begins = all_weaker (is_known met (waiting ++ p ∷ [])) (is_known met waiting) still roots h.begins;
       closed = λ k s here at. edges_weaker (is_known met (waiting ++ p ∷ [])) (is_known met waiting) s.edges.items still (h.closed k s here at);
       reached = λ test begins passes. ((h.reached test begins passes).0, (all_front test waiting (p ∷ []) (h.reached test begins passes).1).0);
       only = h.only;
@@ -215,16 +221,16 @@ some_one : {x y : Step} → Some x ≡ Some y → x ≡ y
 some_one e = cc
 
 -- a place is met, and what is behind it waits
-pub walked_on : (steps : List Step) (first : ℕ) (flags : List Bool) (met waiting : List ℕ) (p : ℕ) (s : Step) → AreWalked steps first flags met (waiting ++ p ∷ []) → get_or flags p false ≡ false → slice_get steps p ≡ Some s → p < length flags
-    → AreWalked steps first (set flags p true) (met ++ p ∷ []) (waiting ++ reverse (places_behind s.edges.items))
-walked_on steps first flags met waiting p s h was at low =
+pub walked_on : (steps : List Step) (roots : List ℕ) (flags : List Bool) (met waiting : List ℕ) (p : ℕ) (s : Step) → AreWalked steps roots flags met (waiting ++ p ∷ []) → get_or flags p false ≡ false → slice_get steps p ≡ Some s → p < length flags
+    → AreWalked steps roots (set flags p true) (met ++ p ∷ []) (waiting ++ reverse (places_behind s.edges.items))
+walked_on steps roots flags met waiting p s h was at low =
     record {
       count = length-set flags p true ∙ h.count;
       flagged = λ k flag. elim (cases_eq k p) [
         | inl same ↦ in_right met (p ∷ []) k (subst (λ (j : ℕ). is_in (j ∷ []) k ≡ true) same (in_itself k))
         | inr other ↦ in_left met (p ∷ []) k (h.flagged k (sym (get_or-set_other flags p k true false other) ∙ flag))
       ];
-      begins = still first h.begins;
+      begins = all_weaker (is_known met (waiting ++ p ∷ [])) (is_known (met ++ p ∷ []) (waiting ++ reverse (places_behind s.edges.items))) still roots h.begins;
       closed = λ k t here there. elim (in_cases met (p ∷ []) k here) [
         | inl before ↦ edges_weaker (is_known met (waiting ++ p ∷ [])) (is_known (met ++ p ∷ []) (waiting ++ reverse (places_behind s.edges.items))) t.edges.items still (h.closed k t before there)
         | inr last ↦
@@ -280,14 +286,14 @@ low_passes steps back k s here at =
     (subst (λ (n : ℕ). all_below n s.edges.items ≡ true) (let e : 0 + k ≡ k = omega arith in e) (back_at 0 steps k s back at))
 
 -- places that are met or wait are places of the steps
-pub walked_low : (steps : List Step) (first : ℕ) (flags : List Bool) (met waiting : List ℕ) → AreWalked steps first flags met waiting → all_lead_back 0 steps ≡ true → first < length steps → list_all (λ k. nat_lt k (length steps)) waiting ≡ true
-walked_low steps first flags met waiting h back low = (h.reached (λ k. nat_lt k (length steps)) (lt-ltb first (length steps) low) (low_passes steps back)).1
+pub walked_low : (steps : List Step) (roots : List ℕ) (flags : List Bool) (met waiting : List ℕ) → AreWalked steps roots flags met waiting → all_lead_back 0 steps ≡ true → all_within (length steps) roots ≡ true → list_all (λ k. nat_lt k (length steps)) waiting ≡ true
+walked_low steps roots flags met waiting h back low = (h.reached (λ k. nat_lt k (length steps)) low (low_passes steps back)).1
 
 -- nothing waits any more
-pub walked_all : (steps : List Step) (first : ℕ) (flags : List Bool) (met : List ℕ) → AreWalked steps first flags met [] → IsWalk steps first met
-walked_all steps first flags met h =
+pub walked_all : (steps : List Step) (roots : List ℕ) (flags : List Bool) (met : List ℕ) → AreWalked steps roots flags met [] → IsWalk steps roots met
+walked_all steps roots flags met h =
     record {
-      begins = over first h.begins;
+      begins = all_weaker (is_known met []) (is_in met) over roots h.begins;
       closed = λ k s here at. edges_weaker (is_known met []) (is_in met) s.edges.items over (h.closed k s here at);
       reached = λ test begins passes. (h.reached test begins passes).0;
       few = omega (arith, h.few);
@@ -298,9 +304,9 @@ walked_all steps first flags met h =
     over k known = elim (or_cases (is_in met k) false known) [ inl here ↦ here | inr no_more ↦ absurd (false≢true no_more) ]
 
 -- the place that waited last is a place of the steps
-pub place_low : (steps : List Step) (first : ℕ) (flags : List Bool) (met waiting rest : List ℕ) (p : ℕ) → AreWalked steps first flags met waiting → waiting ≡ rest ++ p ∷ [] → all_lead_back 0 steps ≡ true → first < length steps → p < length steps
-place_low steps first flags met waiting rest p h e back low =
-    let all = subst (λ (ws : List ℕ). list_all (λ k. nat_lt k (length steps)) ws ≡ true) e (walked_low steps first flags met waiting h back low) in
+pub place_low : (steps : List Step) (roots : List ℕ) (flags : List Bool) (met waiting rest : List ℕ) (p : ℕ) → AreWalked steps roots flags met waiting → waiting ≡ rest ++ p ∷ [] → all_lead_back 0 steps ≡ true → all_within (length steps) roots ≡ true → p < length steps
+place_low steps roots flags met waiting rest p h e back low =
+    let all = subst (λ (ws : List ℕ). list_all (λ k. nat_lt k (length steps)) ws ≡ true) e (walked_low steps roots flags met waiting h back low) in
     ltb-true p (length steps) (and_parts (nat_lt p (length steps)) true (all_front (λ k. nat_lt k (length steps)) rest (p ∷ []) all).1).0
 
 -- less is left to do where a place is met

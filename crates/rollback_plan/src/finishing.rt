@@ -40,7 +40,7 @@ impl Draft {
         let Draft { steps } = self;
         let alloc = *steps.allocator();
         let heights = heights_of(alloc, &steps)?;
-        let order = order_from(alloc, &steps, first)?;
+        let order = order_from(alloc, &steps, &[first.0])?;
         let plan = in_order(alloc, steps, &order)?;
         Ok(Plan {
             steps: plan,
@@ -52,15 +52,15 @@ impl Draft {
     }
 }
 
-/// The places that a walk from the first one meets, by their depth.
-fn order_from(alloc: Global, steps: &[Step], first: Place) -> Result<Vec<u32>, AllocError>
+/// The places that a walk to some places meets, by their depth.
+fn order_from(alloc: Global, steps: &[Step], roots: &[u32]) -> Result<Vec<u32>, AllocError>
     requires few { length steps.now ≤ 65536 }
     requires back { IsTrue (all_lead_back 0 steps.now) }
-    requires first { first.0 < length steps.now }
-    ensures { IfOk result (λ order. IsOrder steps.now first.0 order.items) }
+    requires roots { IsTrue (all_within (length steps.now) roots.now) }
+    ensures { IfOk result (λ order. IsOrder steps.now roots.now order.items) }
 {
-    let depths = depths_from(alloc, steps, first)?;
-    let met = walk(alloc, steps, first)?;
+    let depths = depths_from(alloc, steps, roots)?;
+    let met = walk(alloc, steps, roots)?;
     by_depth(alloc, &met, &depths)
 }
 

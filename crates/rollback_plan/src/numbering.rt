@@ -1,10 +1,10 @@
 //! What a plan needs to know of the steps of a draft: how tall they are and how deep they lie.
-ghost use Rattle.std.specs.Prelude.{◌≡◌, [], ◌+◌, ◌≤◌, ◌<◌, IsTrue, IfOk, length, map};
+ghost use Rattle.std.specs.Prelude.{◌≡◌, [], ◌+◌, ◌≤◌, IsTrue, IfOk, length, map};
 ghost use Rattle.definitions.specs.Tree.{height};
 ghost use Rattle.rollback_plan.specs.Steps.{all_below, all_lead_back, trees_after};
-ghost use Rattle.rollback_plan.specs.Numbering.{highest_behind, deepened, AreDepths};
+ghost use Rattle.rollback_plan.specs.Numbering.{highest_behind, deepened, all_within, AreDepths};
 
-use crate::{Next, Place, PlanEdge, Step};
+use crate::{Next, PlanEdge, Step};
 use std::alloc::{AllocError, Global};
 
 /// How many steps there are on the longest path from each step.
@@ -35,19 +35,21 @@ fn tallest_behind(edges: &[PlanEdge], heights: &[u32]) -> u32
     tallest
 }
 
-/// The greatest number of steps on a path from the first step to each; 0 where there is none.
+/// The greatest number of steps on a path from one of some places to each; 0 where there is none.
 pub(crate) fn depths_from(
     alloc: Global,
     steps: &[Step],
-    first: Place,
+    roots: &[u32],
 ) -> Result<Vec<u32>, AllocError>
     requires few { length steps.now ≤ 65536 }
     requires back { IsTrue (all_lead_back 0 steps.now) }
-    requires first { first.0 < length steps.now }
-    ensures { IfOk result (λ depths. AreDepths steps.now first.0 depths.items) }
+    requires roots { IsTrue (all_within (length steps.now) roots.now) }
+    ensures { IfOk result (λ depths. AreDepths steps.now roots.now depths.items) }
 {
     let mut depths = vec![in alloc; 0; steps.len()]?;
-    depths[first.0 as usize] = 1;
+    for root in roots {
+        depths[*root as usize] = 1;
+    }
     for place in (0..steps.len()).rev() {
         let depth = depths[place];
         if depth > 0 {

@@ -1,23 +1,23 @@
 //! The walk that meets each step of a plan, first edge first.
-ghost use Rattle.std.specs.Prelude.{◌≡◌, ◌++◌, ◌<◌, ◌≤◌, IsTrue, IfOk, length, reverse, vec_len};
+ghost use Rattle.std.specs.Prelude.{◌≡◌, ◌++◌, ◌≤◌, IsTrue, IfOk, length, reverse, vec_len};
 ghost use Rattle.rollback_plan.specs.Steps.{all_lead_back};
-ghost use Rattle.rollback_plan.specs.Numbering.{places_behind, IsWalk};
+ghost use Rattle.rollback_plan.specs.Numbering.{places_behind, all_within, IsWalk};
 
-use crate::{Next, Place, PlanEdge, Step};
+use crate::{Next, PlanEdge, Step};
 use std::alloc::{AllocError, Global};
 
-/// The places that a walk meets, in the order in which it first meets them: a step, then what is
-/// behind its first edge, then what is behind its second, and so on.
-pub(crate) fn walk(alloc: Global, steps: &[Step], first: Place) -> Result<Vec<u32>, AllocError>
+/// The places that a walk from some places meets, in the order in which it first meets them: a step, then what is
+/// behind its first edge, then what is behind its second, and so on; from the first of these places, then from the next.
+pub(crate) fn walk(alloc: Global, steps: &[Step], roots: &[u32]) -> Result<Vec<u32>, AllocError>
     requires few { length steps.now ≤ 65536 }
     requires back { IsTrue (all_lead_back 0 steps.now) }
-    requires first { first.0 < length steps.now }
-    ensures { IfOk result (λ met. IsWalk steps.now first.0 met.items) }
+    requires roots { IsTrue (all_within (length steps.now) roots.now) }
+    ensures { IfOk result (λ met. IsWalk steps.now roots.now met.items) }
 {
     let mut is_met = vec![in alloc; false; steps.len()]?;
     let mut met = Vec::new(alloc);
-    let mut waiting = Vec::new(alloc);
-    waiting.push(first.0)?;
+    let mut waiting = Vec::from_slice(alloc, roots)?;
+    waiting.reverse();
     while let Some(place) = waiting.pop() {
         let here = place as usize;
         if is_met[here] {

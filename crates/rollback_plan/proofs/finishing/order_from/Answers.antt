@@ -7,4 +7,4 @@ pub by_depth-requires : goal.by_depth-requires
 by_depth-requires c =
     subst (λ (ds : List ℕ). are_laid ds c.deref.result.now ≡ true) (sym c.deref-2.ensures.value)
     (subst (λ (ms : List ℕ). are_laid c.in_ok-depths.depths.items ms ≡ true) (sym c.deref.ensures.value)
-    (met_laid c.args.steps.now c.args.first.0 c.in_ok-depths.depths.items c.in_ok-met.met.items c.in_ok-depths.ensures c.in_ok-met.ensures))
+    (met_laid c.args.steps.now c.args.roots.now c.in_ok-depths.depths.items c.in_ok-met.met.items c.in_ok-depths.ensures c.in_ok-met.ensures))
