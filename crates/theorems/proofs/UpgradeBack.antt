@@ -13,8 +13,8 @@ use Rattle.definitions.specs.Table.{Address, FilePath, File, Hold, Process, Mast
 use Rattle.definitions.specs.Calls.{gives, with_files, with_file, without_file, own_step}
 use Rattle.definitions.specs.Record.{FilesAre, oldbin}
 use Rattle.definitions.specs.Tree.{Tree}
-use Rattle.definitions.specs.Plans.{does, then_edge, note_edges, settle, move_back, back_alone, back_from, back_late, back_serving, starts_any, awaits_any}
-use Rattle.definitions.specs.Run.{Ending, Progress, Return, faults_since, noted, after_call}
+use Rattle.definitions.specs.Plans.{does, then_edge, note_edges, settle, move_back, back_alone, back_from, back_late, starts_any, awaits_any}
+use Rattle.definitions.specs.Run.{Ending, Progress, Return, noted, after_call}
 use Rattle.theorems.proofs.Rows.{one, weigh, and-left, and-right, both-true}
 use Rattle.theorems.proofs.Views.{HoldsShare, Names, named, View, ready_in, eqb-is, eqb-refl}
 use Rattle.theorems.proofs.Effects.{none, bears-is}
@@ -25,7 +25,7 @@ use Rattle.theorems.proofs.Files.{written-file, other-written, gone-file, other-
 use Rattle.theorems.proofs.Logic.{Unasked, Along, move-cases, unfailing}
 use Rattle.theorems.proofs.Rules.{IsGood, Scene, view, plus, also, Band, Only, marks-plain, weigh-sub, rule-step, rule-settle, rule-forks-any, rule-awaits-any, band-failed, band-part, band-anew, band-fewer, band-still, failed_at, Answers, grounded}
 use Rattle.theorems.proofs.Duo.{OneOther, alone-terminated, with_other}
-use Rattle.theorems.proofs.UpgradeStage.{Given, g, new, old_crew, R, H0, f, co, acts, inv, post, Goes, u, low-R, dR, w, common0, alone_scene, good-alone, Second, pair_scene, Serve, good-pair, old-full, old-short, hold-old, serves_old, few-new, n, Fits, enough-old}
+use Rattle.theorems.proofs.UpgradeStage.{Given, g, new, old_crew, R, H0, f, co, acts, inv, post, Goes, u, low-R, dR, w, common0, alone_scene, good-alone, Second, pair_scene, Serve, good-pair, old-full, old-short, hold-old, serves_old, few-new, n, Fits}
 
 -- what is known before the rest of the waits of a restart: what is Ready was started, and every name that was tried is counted
 record Restarted (h : Generation) (all ks done : List ℕ) (r t : Names) (count : ℕ) : Type 0 where

@@ -1,11 +1,11 @@
 -- An upgrade's way back at the second question: the old workers are gone, and the new master serves until they are started again.
-use Rattle.std.proofs.Common.{◌≡◌, ◌≢◌, ℕ, ◌+◌, ◌≤◌, Bool, true, false, List, [], ◌∷◌, length, Option, Some, None, refl, sym, subst, arith, inl, inr}
+use Rattle.std.proofs.Common.{◌≢◌, ℕ, ◌+◌, true, List, [], ◌∷◌, length, refl, sym, subst, arith, inl, inr}
 use Rattle.listener_set.specs.Numbers.{is_in}
 use Rattle.vocabulary.specs.declared.plans.Order.TheVariants.{Make}
 use Rattle.vocabulary.specs.declared.calls.Call.TheVariants.{TermMaster}
-use Rattle.definitions.specs.Table.{Address, File, Hold, Caller}
+use Rattle.definitions.specs.Table.{File, Hold, Caller}
 use Rattle.definitions.specs.Calls.{own_step}
-use Rattle.definitions.specs.Plans.{then_edge, does, back_alone, back_from, back_serving}
+use Rattle.definitions.specs.Plans.{then_edge, back_alone, back_from, back_serving}
 use Rattle.definitions.specs.Run.{Ending, Progress, Return, faults_since, after_call}
 use Rattle.theorems.proofs.Views.{Names, named, View, eqb-is, eqb-refl}
 use Rattle.theorems.proofs.Effects.{none}

@@ -1,4 +1,4 @@
-use Rattle.std.proofs.Common.{◌≡◌, ◌++◌, ◌∷◌, [], ◌<◌, true, false, List, ℕ, length, get_or, set, reverse, refl, sym, ◌∙◌, ap, subst, arith}
+use Rattle.std.proofs.Common.{◌≡◌, ◌++◌, ◌<◌, true, false, List, ℕ, length, get_or, set, reverse, refl, sym, ◌∙◌, ap, subst, arith}
 use Rattle.std.proofs.lemmas.List.{nil_from_length, get_or_read}
 use Rattle.std.proofs.lemmas.Option.{slice_get_read}
 use Rattle.rollback_plan.specs.Numbering.{places_behind}
