@@ -1,10 +1,10 @@
 //! Plans that are drawn up by hand, as they are numbered, written and drawn.
 use listener_set::{Generation, Numbers};
 use plan_text::{write_graph, write_plan};
-use rollback_plan::{Draft, DraftRefusal, MOST_STEPS, Next, Plan, PlanEdge};
+use rollback_plan::{Bound, Draft, DraftRefusal, MOST_STEPS, Next, Plan, PlanEdge};
 use std::alloc::Global;
 use std::test::Fail;
-use vocabulary::{Actor, Call, End, Order, PidNote, Reply, Side, Sides};
+use vocabulary::{Actor, Answer, Call, End, Order, PidNote, Reply, Side, Sides};
 use worker_groups::{Crew, Group, Groups, Posts};
 
 const FIRST: Generation = Generation {
@@ -86,6 +86,37 @@ fn a_settle(alloc: Global) -> Result<Plan, Fail> {
         ],
     )?;
     Ok(draft.finish(counted, PidNote::InPlace, &sole_sides(), Vec::new(alloc))?)
+}
+
+/// A count of each of two masters, and a fork of what is lacking by the first.
+fn counts_of_two_masters(alloc: Global) -> Result<Plan, Fail> {
+    let count = Order::Make(Call::Census(FIRST));
+    let mut draft = Draft::new(alloc);
+    let forked = draft.add(
+        Actor(1),
+        Order::ForkLacking(first_crew()),
+        &Numbers::none(),
+        &[PlanEdge::over(&[Reply::Forked, Reply::Again, Reply::NoMemory], End::Done)],
+    )?;
+    let second = draft.add(
+        Actor(2),
+        count,
+        &Numbers::below(2),
+        &[
+            PlanEdge::over(&[Reply::Full], End::Done),
+            PlanEdge::to(&[Reply::Short], forked),
+        ],
+    )?;
+    let first = draft.add(
+        Actor(1),
+        count,
+        &Numbers::below(3),
+        &[
+            PlanEdge::over(&[Reply::Full], End::Done),
+            PlanEdge::to(&[Reply::Short], second),
+        ],
+    )?;
+    Ok(draft.finish(first, PidNote::InPlace, &sole_sides(), Vec::new(alloc))?)
 }
 
 /// A fork whose worker quits again, a count that two paths lead to, and one that none leads to.
@@ -180,6 +211,24 @@ fn plans_are_numbered_and_written(rt: HostRuntime) -> Result<(), Fail> {
     assert!(rt; write_plan(rt.alloc(), &ways)?.as_slice() == TWO_WAYS);
     let grouped = one_more_of_two_groups(rt.alloc())?;
     assert!(rt; write_plan(rt.alloc(), &grouped)?.as_slice() == TWO_GROUPS);
+    Ok(())
+}
+
+/// The first master forks worker 2, which its own count lacked, and not worker 0, which the other's lacked.
+#[test]
+fn each_master_names_what_its_own_count_lacked(rt: HostRuntime) -> Result<(), Fail> {
+    let plan = counts_of_two_masters(rt.alloc())?;
+    let mut bound = Bound::new();
+    if let Some(count) = plan.get(1) {
+        bound.take(count, &Answer::Counted(Numbers::below(2)));
+    }
+    if let Some(count) = plan.get(2) {
+        bound.take(count, &Answer::Counted(Numbers::none()));
+    }
+    let Some(fork) = plan.get(3) else {
+        panic!(rt; "no third step");
+    };
+    assert_eq!(rt; bound.call(fork), Call::Fork(FIRST, 2, None));
     Ok(())
 }
 
