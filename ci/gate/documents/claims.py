@@ -16,6 +16,8 @@ VARIANT = re.compile(r"^    ([A-Z][A-Za-z0-9]*)(?:\(.*\))?,$", re.M)
 # A list of names in parentheses: what a bullet cites.
 CITED = re.compile(r"\(((?:`[^`]+`(?:, )?)+)\)")
 CODE = re.compile(r"[A-Z]\d+")
+# What the page of a crate says that has no contract beyond what holds everywhere.
+NO_MORE = "- Every function is safe and ends, as everywhere; nothing more."
 BULLET = re.compile(r"^- .*$", re.M)
 
 
@@ -42,6 +44,15 @@ def imported(text: str) -> Iterator[str]:
         yield from (name.strip() for name in names.split(","))
 
 
+@functools.cache
+def own_words(folder: pathlib.Path) -> frozenset[str]:
+    """The words of a crate's contracts: those of its sources and specs."""
+    found: set[str] = set()
+    for path in (*folder.glob("src/**/*.rt"), *folder.glob("specs/**/*.antt")):
+        found.update(re.findall(r"[A-Za-z_][A-Za-z0-9_]*", path.read_text()))
+    return frozenset(found)
+
+
 def section(text: str, title: str) -> str:
     """What is below a heading of the second level, or nothing."""
     found = re.search(rf"^## {re.escape(title)}\n(.*?)(?=^## |\Z)", text, re.M | re.S)
@@ -64,9 +75,12 @@ def crate_faults(tree: Tree, name: str) -> Iterator[str]:
     for title in ("Proved", "Tested only", "Neither"):
         if not BULLET.search(section(text, title)):
             yield f"{path}: no list below '## {title}'"
-    for clause in cited(section(text, "Proved")):
-        if clause not in clauses(tree.root):
-            yield f"{path}: no clause is named {clause}"
+    known = clauses(tree.root) & own_words(tree.root / "crates" / name)
+    for bullet in BULLET.findall(section(text, "Proved")):
+        names = list(cited(bullet))
+        if not names and bullet != NO_MORE:
+            yield f"{path}: no clause is named by '{bullet[:60]}'"
+        yield from (f"{path}: no clause of {name} is named {clause}" for clause in names if clause not in known)
 
 
 def faults(tree: Tree) -> Iterator[str]:
