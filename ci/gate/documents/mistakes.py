@@ -2,7 +2,7 @@
 import dataclasses
 from collections.abc import Callable, Iterator
 
-from gate.documents import claims, commands, links, names, options, shape, words
+from gate.documents import claims, codes, commands, links, names, options, shape, words
 from gate.documents.pages import Tree
 
 Check = Callable[[Tree], Iterator[str]]
@@ -10,6 +10,7 @@ CHECKS: dict[str, Check] = {
     "names": names.faults,
     "links": links.faults,
     "options": options.faults,
+    "codes": codes.faults,
     "commands": commands.faults,
     "claims": claims.faults,
     "tables": shape.table_faults,
@@ -39,6 +40,8 @@ MISTAKES = (
     Mistake("options", "docs/prefork-enact.1", r".B \-\-state", r".B \-\-status", "--status"),
     Mistake("options", "docs/FORMATS.md", "[--state]", "[--status]", "enact has no --status"),
     Mistake("options", "completions/prefork.bash", "--why --dot", "--why", "plan lacks --dot"),
+    Mistake("codes", "docs/FORMATS.md", "| `V1` |", "| `V2` |", "the code V1 is missing"),
+    Mistake("codes", "docs/formats/plans.md", "| `H5` |", "| `H6` |", "no code H6"),
     Mistake("commands", "README.md", "6 m1 census 1.2 : counted 0-1", "6 m1 census 1.2 : counted 0-2", "counted 0-2"),
     Mistake("commands", "README.md", "./prefork certify --bare", "./prefork certify --bald", "status 2"),
     Mistake("commands", "docs/prefork.toml.5", "workers = 2\npid", "workers = 3\npid", "workers = 3"),
