@@ -7,7 +7,8 @@ from collections.abc import Iterator
 from gate.documents.pages import Tree
 
 # A definition or a field in a file of specs, and a named clause, function or type in a source.
-DEFINED = re.compile(r"^ *(?:(?:abbrev|opaque|pub|record|data|law) )+([A-Za-z_][A-Za-z0-9_]*)|^ *([A-Za-z_][A-Za-z0-9_]*) :", re.M)
+NAME = r"([A-Za-z_][A-Za-z0-9_]*)"
+DEFINED = re.compile(rf"^ *(?:(?:abbrev|opaque|unfoldable|pub|record|data) )+{NAME}|^ *{NAME} :", re.M)
 CLAUSE = re.compile(r"\b(?:ensures|requires) ([a-z_][a-z0-9_]*) \{")
 FUNCTION = re.compile(r"\b(?:fn|struct|enum|trait|type|const) ([A-Za-z_][A-Za-z0-9_]*)")
 IMPORTED = re.compile(r"\buse Rattle\.[\w.]+\.\{([^}]*)\}")

@@ -1,4 +1,5 @@
 """The codes of faults and refusals: the same in `prefork explain` and in the pages of formats."""
+import functools
 import re
 import subprocess
 from collections.abc import Iterator
@@ -10,10 +11,12 @@ CODE = re.compile(r"\b[A-Z]\d{1,2}\b")
 PAGES = ("docs/FORMATS.md", "docs/formats/configuration.md", "docs/formats/blocks.md", "docs/formats/plans.md")
 
 
-def explained(program: str) -> set[str]:
+@functools.cache
+def explained(program: str) -> frozenset[str]:
     """The codes that the program explains."""
-    ended = subprocess.run([program, "explain"], stdin=subprocess.DEVNULL, capture_output=True, text=True, timeout=SECONDS)
-    return {line.split()[0] for line in ended.stdout.splitlines() if line.strip()}
+    command = [program, "explain"]
+    ended = subprocess.run(command, stdin=subprocess.DEVNULL, capture_output=True, text=True, timeout=SECONDS)
+    return frozenset(line.split()[0] for line in ended.stdout.splitlines() if line.strip())
 
 
 def faults(tree: Tree) -> Iterator[str]:

@@ -33,7 +33,7 @@ class Mistake:
 MISTAKES = (
     Mistake("names", "README.md", "`plan_executor::enact`", "`plan_performer::enact`", "plan_performer"),
     Mistake("names", "docs/TESTING.md", "`ci/limits`", "`ci/frontiers`", "ci/frontiers"),
-    Mistake("names", "docs/ARCHITECTURE.md", "`rollback_plan/src/draft.rt`", "`rollback_plan/src/drift.rt`", "drift.rt"),
+    Mistake("names", "docs/ARCHITECTURE.md", "rollback_plan/src/draft.rt", "rollback_plan/src/drift.rt", "drift.rt"),
     Mistake("links", "README.md", "(docs/FORMATS.md)", "(docs/FORMS.md)", "docs/FORMS.md"),
     Mistake("links", "README.md", "docs/PROVED.md#the-headline", "docs/PROVED.md#the-deadline", "#the-deadline"),
     Mistake("options", "docs/prefork-enact.1", r"[\fB\-\-state\fP]", "", "enact lacks --state"),
@@ -43,17 +43,17 @@ MISTAKES = (
     Mistake("codes", "docs/FORMATS.md", "| `V1` |", "| `V2` |", "the code V1 is missing"),
     Mistake("codes", "docs/formats/plans.md", "| `H5` |", "| `H6` |", "no code H6"),
     Mistake("commands", "README.md", "6 m1 census 1.2 : counted 0-1", "6 m1 census 1.2 : counted 0-2", "counted 0-2"),
-    Mistake("commands", "README.md", "./prefork certify --bare", "./prefork certify --bald", "status 2"),
+    Mistake("commands", "docs/prefork-plan.1", r"\-\-workers 2 TTOU", r"\-\-workers two TTOU", "status 2"),
     Mistake("commands", "docs/prefork.toml.5", "workers = 2\npid", "workers = 3\npid", "workers = 3"),
     Mistake("commands", "docs/prefork-plan.1", ".SH EXIT STATUS", ".SH ENDS", "no section EXIT STATUS"),
     Mistake("claims", "crates/certifier/README.md", "`IsCertified`", "`IsCertain`", "IsCertain"),
     Mistake("claims", "crates/certifier/README.md", "## Tested only", "## Tested", "Tested only"),
     Mistake("claims", "docs/PROVED.md", "(`Says`)", "(`SaysAll`)", "SaysAll"),
-    Mistake("claims", "docs/PROVED.md", "- [certifier](../crates/certifier/README.md)", "- certifier", "no line for certifier"),
+    Mistake("claims", "docs/PROVED.md", "[explorer](../crates/explorer/README.md)", "explorer", "no line for explorer"),
     Mistake("tables", "docs/PROVED.md", "| no: it kills first |", f"| {'no ' * 80} |", "a cell of"),
     Mistake("length", "CONTRIBUTING.md", "## Names", "word " * 2_500, "split it"),
     Mistake("words", "README.md", "Status 0: the new service runs.", "Status 0: what it came to.", "came to"),
-    Mistake("words", "docs/prefork-explore.1", "Standard input is not read.", "Other lines are passed over.", "passed over"),
+    Mistake("words", "docs/prefork-explore.1", "Standard input is not read.", "Lines are passed over.", "passed over"),
 )
 
 

@@ -10,8 +10,9 @@ from gate.documents.pages import Tree, line_of, without_blocks
 
 # Where names come from. Pages themselves are no source of names, and nor is this check.
 SOURCES = ("crates.txt", "try", "prefork", "install", "crates/*/src/**/*", "crates/*/specs/**/*",
-           "crates/*/proofs/**/*", "ci/*", "ci/gate/*.py", "ci/web/*", "bench/*", "examples/*", "completions/*", "tools/*",
-           "service/bin/*", "service/native/*", "service/prefork_service/*.py", "service/double/*", "service/examples/*",
+           "crates/*/proofs/**/*", "ci/*", "ci/gate/*.py", "ci/web/*", "bench/*", "examples/*", "completions/*",
+           "tools/*", "service/bin/*", "service/native/*", "service/prefork_service/*.py", "service/double/*",
+           "service/examples/*",
            "service/tests/**/*.py", "service/build", "service/man/*", "tests/cases/*/args", "tests/cases/*/stdin",
            "tests/cases/*/stdout", "tests/cases/*/stderr", "tests/faults/*", "tests/children/**/*")
 WORD = re.compile(r"[A-Za-z_][A-Za-z0-9_]*(?:-[A-Za-z0-9_]+)*")

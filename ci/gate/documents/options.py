@@ -1,4 +1,5 @@
 """The options of the program: the same in --help, the man pages, FORMATS and the completion."""
+import functools
 import re
 import subprocess
 from collections.abc import Iterator
@@ -22,12 +23,13 @@ def help_of(program: str, *words: str) -> str:
     return ended.stdout
 
 
-def by_help(tree: Tree) -> Options:
+@functools.cache
+def by_help(program: str) -> Options:
     """The options of each subcommand, as --help lists them."""
-    listed = re.search(r"^Commands:\n(.*?)\n\n", help_of(tree.program), re.M | re.S)
+    listed = re.search(r"^Commands:\n(.*?)\n\n", help_of(program), re.M | re.S)
     names = re.findall(r"^  ([a-z]+) ", listed[1], re.M) if listed else []
     lines = re.compile(r"^ +(?:-\w, )?(--[a-z]+)", re.M)
-    return {name: set(lines.findall(help_of(tree.program, name))) - COMMON for name in names}
+    return {name: set(lines.findall(help_of(program, name))) - COMMON for name in names}
 
 
 def by_formats(tree: Tree) -> Options:
@@ -85,7 +87,7 @@ def differences(place: str, wanted: Options, got: Options) -> Iterator[str]:
 
 def faults(tree: Tree) -> Iterator[str]:
     """Options that --help, the man pages, FORMATS and the completion do not share."""
-    wanted = by_help(tree)
+    wanted = by_help(tree.program)
     if not wanted:
         yield f"{tree.program} --help lists no subcommand"
         return
