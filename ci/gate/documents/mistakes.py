@@ -52,6 +52,7 @@ MISTAKES = (
     Mistake("claims", "docs/PROVED.md", "[explorer](../crates/explorer/README.md)", "explorer", "no line for explorer"),
     Mistake("tables", "docs/PROVED.md", "| no: it kills first |", f"| {'no ' * 80} |", "a cell of"),
     Mistake("length", "CONTRIBUTING.md", "## Names", "word " * 2_500, "split it"),
+    Mistake("length", "README.md", "## The promise", "\n## The promise", "more than 110"),
     Mistake("words", "README.md", "Status 0: the new service runs.", "Status 0: what it came to.", "came to"),
     Mistake("words", "docs/prefork-explore.1", "Standard input is not read.", "Lines are passed over.", "passed over"),
 )

@@ -6,6 +6,8 @@ from gate.documents.pages import Tree, without_blocks
 MOST_CELL = 200
 # What is read in ten minutes, at 250 words a minute.
 MOST_WORDS = 2_500
+# The README is a screen and a tour.
+MOST_LINES = {"README.md": 110}
 
 
 def cells(line: str) -> list[str]:
@@ -36,3 +38,6 @@ def length_faults(tree: Tree) -> Iterator[str]:
         words = len(text.split())
         if words > MOST_WORDS:
             yield f"{path}: {words} words, more than {MOST_WORDS}: split it"
+        lines = text.count("\n")
+        if lines > MOST_LINES.get(path, lines):
+            yield f"{path}: {lines} lines, more than {MOST_LINES[path]}"
