@@ -2,7 +2,7 @@
 import dataclasses
 from collections.abc import Callable, Iterator
 
-from gate.documents import claims, codes, commands, links, names, options, shape, words
+from gate.documents import claims, codes, commands, links, names, options, shape, versions, words
 from gate.documents.pages import Tree
 
 Check = Callable[[Tree], Iterator[str]]
@@ -15,6 +15,7 @@ CHECKS: dict[str, Check] = {
     "claims": claims.faults,
     "tables": shape.table_faults,
     "length": shape.length_faults,
+    "versions": versions.faults,
     "words": words.faults,
 }
 
@@ -53,6 +54,8 @@ MISTAKES = (
     Mistake("tables", "docs/PROVED.md", "| no: it kills first |", f"| {'no ' * 80} |", "a cell of"),
     Mistake("length", "CONTRIBUTING.md", "## Names", "word " * 2_500, "split it"),
     Mistake("length", "README.md", "## The promise", "\n## The promise", "more than 110"),
+    Mistake("versions", "docs/prefork-plan.1", "prefork 0.", "prefork 9.", "docs/prefork-plan.1: the version is 9."),
+    Mistake("versions", "CHANGELOG.md", "## 0.2.0 (", "## 9.9.9 (", "not 9.9.9"),
     Mistake("words", "README.md", "Status 0: the new service runs.", "Status 0: what it came to.", "came to"),
     Mistake("words", "docs/prefork-explore.1", "Standard input is not read.", "Lines are passed over.", "passed over"),
 )
