@@ -1,0 +1,72 @@
+"""Mistakes that are planted, one at a time, and the checks that must find them."""
+import dataclasses
+from collections.abc import Callable, Iterator
+
+from gate.documents import claims, codes, commands, links, names, options, shape, versions, words
+from gate.documents.pages import Tree
+
+Check = Callable[[Tree], Iterator[str]]
+CHECKS: dict[str, Check] = {
+    "names": names.faults,
+    "links": links.faults,
+    "options": options.faults,
+    "codes": codes.faults,
+    "commands": commands.faults,
+    "claims": claims.faults,
+    "tables": shape.table_faults,
+    "length": shape.length_faults,
+    "versions": versions.faults,
+    "words": words.faults,
+}
+
+
+@dataclasses.dataclass(frozen=True)
+class Mistake:
+    """In a page something right is replaced by something wrong, and a check must say so."""
+
+    check: str
+    page: str
+    right: str
+    wrong: str
+    said: str
+
+
+MISTAKES = (
+    Mistake("names", "README.md", "`plan_executor::enact`", "`plan_performer::enact`", "plan_performer"),
+    Mistake("names", "docs/TESTING.md", "`ci/limits`", "`ci/frontiers`", "ci/frontiers"),
+    Mistake("names", "docs/ARCHITECTURE.md", "rollback_plan/src/draft.rt", "rollback_plan/src/drift.rt", "drift.rt"),
+    Mistake("links", "README.md", "(docs/FORMATS.md)", "(docs/FORMS.md)", "docs/FORMS.md"),
+    Mistake("links", "README.md", "docs/PROVED.md#the-headline", "docs/PROVED.md#the-deadline", "#the-deadline"),
+    Mistake("options", "docs/prefork-enact.1", r"[\fB\-\-state\fP]", "", "enact lacks --state"),
+    Mistake("options", "docs/prefork-enact.1", r".B \-\-state", r".B \-\-status", "--status"),
+    Mistake("options", "docs/FORMATS.md", "[--state]", "[--status]", "enact has no --status"),
+    Mistake("options", "completions/prefork.bash", "--why --dot", "--why", "plan lacks --dot"),
+    Mistake("codes", "docs/FORMATS.md", "| `V1` |", "| `V2` |", "the code V1 is missing"),
+    Mistake("codes", "docs/formats/plans.md", "| `H5` |", "| `H6` |", "no code H6"),
+    Mistake("commands", "README.md", "6 m1 census 1.2 : counted 0-1", "6 m1 census 1.2 : counted 0-2", "counted 0-2"),
+    Mistake("commands", "docs/prefork-plan.1", r"\-\-workers 2 TTOU", r"\-\-workers two TTOU", "status 2"),
+    Mistake("commands", "docs/prefork.toml.5", "workers = 2\npid", "workers = 3\npid", "workers = 3"),
+    Mistake("commands", "docs/prefork-plan.1", ".SH EXIT STATUS", ".SH ENDS", "no section EXIT STATUS"),
+    Mistake("claims", "crates/certifier/README.md", "`IsCertified`", "`IsCertain`", "IsCertain"),
+    Mistake("claims", "crates/certifier/README.md", "## Tested only", "## Tested", "Tested only"),
+    Mistake("claims", "docs/PROVED.md", "(`Says`)", "(`SaysAll`)", "SaysAll"),
+    Mistake("claims", "docs/PROVED.md", "[explorer](../crates/explorer/README.md)", "explorer", "no line for explorer"),
+    Mistake("tables", "docs/PROVED.md", "| no: it kills first |", f"| {'no ' * 80} |", "a cell of"),
+    Mistake("length", "CONTRIBUTING.md", "## Names", "word " * 2_500, "split it"),
+    Mistake("length", "README.md", "## The promise", "\n## The promise", "more than 110"),
+    Mistake("versions", "docs/prefork-plan.1", "prefork 0.", "prefork 9.", "docs/prefork-plan.1: the version is 9."),
+    Mistake("versions", "CHANGELOG.md", "## 0.2.0 (", "## 9.9.9 (", "not 9.9.9"),
+    Mistake("words", "README.md", "Status 0: the new service runs.", "Status 0: what it came to.", "came to"),
+    Mistake("words", "docs/prefork-explore.1", "Standard input is not read.", "Lines are passed over.", "passed over"),
+)
+
+
+def faults(tree: Tree, mistake: Mistake) -> Iterator[str]:
+    """What is wrong with the check: nothing where it names the mistake that is planted."""
+    try:
+        planted = tree.with_mistake(mistake.page, mistake.right, mistake.wrong)
+    except ValueError as error:
+        yield f"a mistake of {mistake.check} cannot be planted: {error}"
+        return
+    if not any(mistake.said in fault for fault in CHECKS[mistake.check](planted)):
+        yield f"{mistake.check} does not find '{mistake.wrong[:40]}' in {mistake.page}"

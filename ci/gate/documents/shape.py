@@ -1,0 +1,43 @@
+"""The shape of pages: short cells of tables, and pages that are read in ten minutes."""
+from collections.abc import Iterator
+
+from gate.documents.pages import Tree, without_blocks
+
+MOST_CELL = 200
+# What is read in ten minutes, at 250 words a minute.
+MOST_WORDS = 2_500
+# The README is a screen and a tour.
+MOST_LINES = {"README.md": 110}
+
+
+def cells(line: str) -> list[str]:
+    """The cells of a row of a table, where a bar in back-ticks does not end a cell."""
+    found, is_code = [""], False
+    for character in line.strip().strip("|"):
+        is_code ^= character == "`"
+        if character == "|" and not is_code:
+            found.append("")
+        else:
+            found[-1] += character
+    return [cell.strip() for cell in found]
+
+
+def table_faults(tree: Tree) -> Iterator[str]:
+    """Cells of tables that are too long."""
+    for path, text in tree.markdown():
+        for number, line in enumerate(without_blocks(text).split("\n"), 1):
+            if line.startswith("|"):
+                for cell in cells(line):
+                    if len(cell) > MOST_CELL:
+                        yield f"{path}:{number}: a cell of {len(cell)} characters: {cell[:40]}.."
+
+
+def length_faults(tree: Tree) -> Iterator[str]:
+    """Pages that take more than ten minutes to read."""
+    for path, text in tree.markdown():
+        words = len(text.split())
+        if words > MOST_WORDS:
+            yield f"{path}: {words} words, more than {MOST_WORDS}: split it"
+        lines = text.count("\n")
+        if lines > MOST_LINES.get(path, lines):
+            yield f"{path}: {lines} lines, more than {MOST_LINES[path]}"

@@ -1,0 +1,44 @@
+"""Words that texts for people do not have: each was hard to read where it carried everything."""
+import re
+from collections.abc import Iterator
+
+from gate.documents.pages import Tree, line_of, plain_man, without_code
+
+# A pattern of what is not written, and what is written in its place.
+WORDS: dict[str, str] = {
+    r"\bwants? (?:of|for) memory\b": "out of memory",
+    r"\bwanting\b": "missing",
+    r"\b(?:comes?|came|coming) to\b(?! light| rest| an end)": "ends with, results in, gives",
+    r"\bbehind\b": "after",
+    r"\bstands?\b(?! for\b| alone\b|-)": "is",
+    r"\bso many\b": "the number of",
+    r"(?<!there )\b(?:is|are) none\b": "invalid, missing, or the noun",
+    r"\b(?:nobody|who) bears?\b|\bbears? (?:a|the|that) name\b": "has",
+    r"\bpassed over\b": "ignored",
+    r"\b(?:for|by|is|as) who(?:m|ever)?\b": "for those that, by the one that",
+    r"\bwhoever\b": "the process that, anybody who",
+    r"\bwho (?:has|wants?|quits?|reads?|knows?|changes?|edits?|believes?|drains?)\b": "the one that ..",
+    r"\bsomebody else'?s?\b": "another process, a foreign process",
+    r"\blooked after\b": "what is done",
+    r"\bparted by\b": "separated by",
+}
+FOUND = re.compile("|".join(f"(?P<w{at}>{pattern})" for at, pattern in enumerate(WORDS)), re.I)
+INSTEAD = list(WORDS.values())
+
+# Pages in which some of these words are left, and why.
+EXCEPTIONS: dict[str, str] = {
+    "docs/PERFORMANCE.md": "not rewritten yet",
+    "examples/README.md": "not rewritten yet",
+}
+
+
+def faults(tree: Tree) -> Iterator[str]:
+    """Where a page has such a word."""
+    pages = [(path, without_code(text)) for path, text in tree.markdown()]
+    pages += [(path, plain_man(text)) for path, text in tree.man()]
+    for path, text in pages:
+        if path in EXCEPTIONS:
+            continue
+        for found in FOUND.finditer(text):
+            instead = INSTEAD[int((found.lastgroup or "w0")[1:])]
+            yield f"{path}:{line_of(text, found.start())}: '{found[0]}': write {instead}"
