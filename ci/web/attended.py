@@ -1,7 +1,6 @@
 """Upgrades that ask their operator twice: who serves at each question, each answer, and who is killed meanwhile."""
 import math
 import os
-import pathlib
 import re
 import signal
 import subprocess
@@ -233,8 +232,7 @@ def attended_worker_killed_then_back(site: Site) -> None:
 
 
 def attended_master_killed(site: Site) -> None:
-    """The old master killed while it asks: the upgrade is lost, and `serve` starts a master again. The file with the
-    number of the killed one stays beside that of the new one, as wherever a master is killed in an upgrade."""
+    """The old master killed while it asks: the upgrade is lost, and `serve` starts a master again."""
     site.begin()
     old = site.workers()
     sent = begin_upgrade(site)
@@ -245,7 +243,6 @@ def attended_master_killed(site: Site) -> None:
     until("two other workers", lambda: site.has_others(old) and site.question() == "asks nothing\n")
     refuses_answers(site)
     site.wants("HUP", 0, "done", 2)
-    pathlib.Path(f"{site.pid_file}.oldbin").unlink()
     site.end("12")
     site.certify()
 

@@ -1,13 +1,17 @@
 """Processes that are killed or hang: workers, masters, the service itself and its keeper."""
 import concurrent.futures
+import contextlib
 import os
+import pathlib
 import re
 import signal
+import socket
 import time
 
-from gate.addresses import answer_of
+from gate.addresses import answer_of, is_refused
 from gate.waiting import SECONDS, until
 from web.site import CLIENTS, Scenario, Site
+from web.systemd import Systemd
 
 
 def a_worker_is_killed(site: Site) -> None:
@@ -107,20 +111,116 @@ def both_are_killed(site: Site) -> None:
     site.certify()
 
 
+def another_keeper(site: Site, old: int | None) -> None:
+    until("another keeper", lambda: site.keeper() not in (None, old))
+
+
 def a_keeper_is_killed(site: Site) -> None:
-    """The keeper killed: the workers serve on, a reload is rolled back, and a new `serve` mends it."""
-    site.begin()
-    site.kill(site.keeper())
-    site.wants("HUP", 3, "rolled-back", 2)
-    site.end("1")
-    site.certify()
-    site.begin()
+    """The keeper killed, and then a worker, and the keeper again: another one has the same sockets. An address that it
+    did not open is closed, too, once it is dropped."""
+    site.begin(listeners=[site.first, site.second])
+    old = site.keeper()
+    site.kill(old)
+    victim = min(site.workers())
+    os.kill(victim, signal.SIGKILL)
+    until("another worker", lambda: site.has_others({victim}))
+    another_keeper(site, old)
+    old = site.keeper()
+    site.kill(old)
+    site.go_over_to()
     site.wants("HUP", 0, "done", 2)
-    site.end("1")
+    until("the dropped address is refused", lambda: is_refused(site.second))
+    site.end("1", may_fail=CLIENTS)
     site.certify()
+
+
+def a_keeper_hangs(site: Site) -> None:
+    """A keeper that is stopped, and then a worker is killed: the keeper is replaced, and the worker too."""
+    site.begin()
+    old = site.keeper()
+    os.kill(old or 0, signal.SIGSTOP)
+    victim = min(site.workers())
+    os.kill(victim, signal.SIGKILL)
+    another_keeper(site, old)
+    until("another worker", lambda: site.has_others({victim}))
+    site.wants("HUP", 0, "done", 2)
+    site.end("1", may_fail=CLIENTS)
+    site.certify()
+
+
+def a_serve_is_killed_whose_sockets_are_stored(site: Site) -> None:
+    """`serve` killed, and started again by systemd, which has the sockets: no connection is refused meanwhile. They are
+    those of the next start, which closes one that its configuration does not have."""
+    path = site.room / "unix.sock"
+    systemd = Systemd(site.room / "notify")
+    try:
+        site.environment["NOTIFY_SOCKET"] = str(systemd.path)
+        site.begin(listeners=[site.first, str(path)])
+        until("the sockets are stored", lambda: len(systemd.stored) == 2)
+        site.serve.kill()
+        site.serve.wait()
+        site.before, site.given = systemd.start()
+        site.serve = site.started()
+        until("the pid file of serve", lambda: (site.run / "serve.pid").read_text() == f"{site.serve.pid}\n")
+        site.check("the Unix socket doesn't serve", unix_answer(path).startswith("HTTP/1.1 200 "))
+        site.go_over_to()
+        site.wants("HUP", 0, "done", 2)
+        until("one socket is stored", lambda: len(systemd.stored) == 1)
+        site.end("1")
+        until("systemd is told of the end", lambda: "STOPPING=1" in systemd.said)
+        site.certify()
+    finally:
+        systemd.close()
+
+
+def unix_answer(path: pathlib.Path) -> str:
+    with socket.socket(socket.AF_UNIX) as client:
+        client.settimeout(SECONDS)
+        client.connect(str(path))
+        client.sendall(b"GET / HTTP/1.1\r\nHost: test\r\nConnection: close\r\n\r\n")
+        return client.recv(200).decode()
+
+
+# Clients that say nothing, at each socket of a service that may have fewer descriptors.
+SILENT, DESCRIPTORS = 300, 256
+
+
+def silent_clients(site: Site) -> None:
+    """Clients that connect to the keeper and to `serve` and say nothing, more than there are descriptors: words and
+    workers get through, with these clients there and after them."""
+    site.before = ["sh", "-c", f'ulimit -n {DESCRIPTORS} && exec "$@"', "sh"]
+    site.begin()
+    with contextlib.ExitStack() as clients:
+        for name, kind in (("ctl.sock", socket.SOCK_STREAM), ("keeper.sock", socket.SOCK_SEQPACKET)):
+            for _ in range(SILENT):
+                client = clients.enter_context(socket.socket(socket.AF_UNIX, kind))
+                client.connect(str(site.run / name))
+        site.wants("HUP", 0, "done", 2)
+        victim = min(site.workers())
+        os.kill(victim, signal.SIGKILL)
+        until("another worker", lambda: site.has_others({victim}))
+    site.wants("HUP", 0, "done", 2)
+    site.end("1", may_fail=CLIENTS)
+    site.certify()
+
+
+def too_few_descriptors(site: Site) -> None:
+    """Configurations that the limits do not allow to be reloaded are refused at the start, by name."""
+    for settings, limit, named in (
+        ({"listeners": [f"127.0.0.1:{port}" for port in range(1, 5)], "workers": 200}, 1024, "1684 descriptors in its keeper"),
+        ({"workers": 300}, 1024, "1224 descriptors in its master"),
+    ):
+        site.configure(**settings)
+        site.before = ["sh", "-c", f'ulimit -n {limit} && exec "$@"', "sh"]
+        site.serve = site.started()
+        site.check(f"it serves with {settings}", site.serve.wait(SECONDS) == 1)
+        said = (site.room / "said").read_text()
+        site.check(f"the refusal doesn't say {named}: {said}", f"a reload needs {named}, and {limit} are allowed" in said)
+        site.nothing_left()
 
 
 SCENARIOS: tuple[Scenario, ...] = (
     a_worker_is_killed, a_worker_hangs, a_master_is_killed, a_reigning_master_is_killed, a_serve_is_killed,
-    both_are_killed, a_keeper_is_killed,
+    both_are_killed, a_keeper_is_killed, a_keeper_hangs, a_serve_is_killed_whose_sockets_are_stored, silent_clients,
+    too_few_descriptors,
 )

@@ -8,8 +8,8 @@ import socket
 import time
 
 from gate.addresses import answer_of, is_answered, is_refused
-from gate.waiting import until
-from web.site import BROKEN, CLIENTS, Scenario, Site
+from gate.waiting import SECONDS, until
+from web.site import BROKEN, CLIENTS, Scenario, Site, text_of
 
 
 def there_and_back(site: Site) -> None:
@@ -127,9 +127,37 @@ def a_broken_file(site: Site) -> None:
     """HUP after the application's file was replaced by one that doesn't start."""
     site.begin()
     site.install(BROKEN)
+    sent = site.sent("HUP")
+    _, said = sent.communicate(timeout=SECONDS)
+    site.check(f"the operator isn't told what is started again: {said}", "the files as they are now" in said)
     site.wants("HUP", 3, "rolled-back", 2)
     site.end("1")
     site.certify()
+
+
+def a_refused_edit(site: Site) -> None:
+    """A file that is refused as a configuration, and then a killed master, and a killed `serve`: both are started again
+    with what was accepted."""
+    site.begin()
+    site.config.write_text("listeners = [\n")
+    site.wants_refused("HUP", "refused C1")
+    old = site.workers()
+    site.kill(site.master())
+    until("two other workers", lambda: site.has_others(old))
+    site.wants_refused("HUP", "refused C1")
+    site.check_load(site.end_load(), "1")
+    site.serve.kill()
+    site.serve.wait()
+    site.serve = site.started()
+    until("the pid file of serve", lambda: text_of(site.run / "serve.pid") == f"{site.serve.pid}\n")
+    until("an answer", lambda: is_answered(site.first))
+    said = text_of(site.room / "said")
+    for wanted in ("with the configuration that was accepted", "has changed since: HUP reads it", "starts with that"):
+        site.check(f"{wanted!r} isn't said: {said}", wanted in said)
+    site.wants_refused("HUP", "refused C1")
+    site.configure()
+    site.wants("HUP", 0, "done", 2)
+    site.stop()
 
 
 def a_held_address(site: Site) -> None:
@@ -163,5 +191,5 @@ def a_unix_socket(site: Site) -> None:
 
 SCENARIOS: tuple[Scenario, ...] = (
     there_and_back, back, adds_an_address, drops_an_address, two_groups, more_and_less, no_workers, another_command,
-    a_broken_file, a_held_address, a_unix_socket,
+    a_broken_file, a_refused_edit, a_held_address, a_unix_socket,
 )

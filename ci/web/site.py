@@ -40,6 +40,12 @@ def text_of(file: pathlib.Path) -> str:
     return file.read_text() if file.exists() else ""
 
 
+def catches(process: int, number: int) -> bool:
+    """Whether a process takes a signal by itself."""
+    caught = re.search(r"^SigCgt:\s*([0-9a-f]+)$", text_of(pathlib.Path(f"/proc/{process}/status")), re.M)
+    return caught is not None and bool(int(caught[1], 16) >> (number - 1) & 1)
+
+
 def is_guard(words: list[str]) -> bool:
     return str(BIN / "prefork-guard") in words[:2]
 
@@ -53,11 +59,14 @@ class Site:
         self.prefork, self.certifier = str(self.room / "prefork"), prefork
         (self.room / "prefork").symlink_to(prefork)
         self.mark, self.tally, self.slowest_rate = Mark("PREFORK_HTTP"), Tally(), math.inf
+        # What starts `serve`: words before its own, and descriptors that it inherits.
+        self.before: list[str] = []
+        self.given: list[int] = []
         # Processes, once they are started.
         self.load: Any = None
         self.serve: Any = None
         self.home, self.run, self.hold = self.room / "site", self.room / "run", self.room / "hold"
-        self.pid_file, self.config = self.room / "master.pid", self.room / "site.toml"
+        self.config = self.room / "site.toml"
         self.home.mkdir()
         for file in (SERVICE / "double").iterdir():
             if file.is_file():
@@ -74,7 +83,7 @@ class Site:
         """Writes a configuration: the first address and two workers, if nothing else or groups are said."""
         served = {} if "groups" in settings else {"listeners": [self.first], "workers": 2}
         command = [str(self.home / "app"), "child"]
-        settings = {**served, "command": command, "timeout": 60, "pid": str(self.pid_file), **settings}
+        settings = {**served, "command": command, "timeout": 60, **settings}
         new = self.room / "new.toml"
         new.write_text(configuration(**settings))
         new.replace(self.room / file)
@@ -139,13 +148,14 @@ class Site:
             ],
             stdout=subprocess.PIPE, text=True, env=self.environment, cwd=self.room,
         )
+        until("the load", lambda: catches(self.load.pid, signal.SIGTERM))
         # So that there is load before the first word.
         time.sleep(0.5)
 
     def started(self) -> subprocess.Popen:
-        command: list[Any] = [BIN / "prefork-serve", "--folder", self.run, "--prefork", self.prefork]
+        command: list[Any] = [*self.before, BIN / "prefork-serve", "--folder", self.run, "--prefork", self.prefork]
         command += [*self.options, "site.toml"]
-        streams: dict[str, Any] = {"stdin": subprocess.DEVNULL, "stderr": self.said}
+        streams: dict[str, Any] = {"stdin": subprocess.DEVNULL, "stderr": self.said, "pass_fds": self.given}
         return subprocess.Popen(command, env=self.environment, cwd=self.room, **streams)
 
     def blocks(self) -> str:
@@ -252,24 +262,27 @@ class Site:
         """Ends load and service, and looks at what is left."""
         found = self.end_load()
         self.check_load(found, versions, may_fail)
+        self.stop()
+        return found
+
+    def stop(self) -> None:
+        """Ends the service, and looks at what is left."""
         sent = self.sent("QUIT")
         block, faults = sent.communicate(timeout=SECONDS)
         self.check(f"QUIT: {sent.returncode}, {block}{faults}", sent.returncode == 0)
         self.check("serve ends with another status", self.serve.wait(SECONDS) == 0)
         self.nothing_left()
-        return found
 
     def check_load(self, found: dict[str, Any], versions: Iterable[str], may_fail: int = 0) -> None:
         self.check(f"{found['failed']} requests failed: {found['failures']}", found["failed"] <= may_fail)
         self.check(f"answers of {found['versions']}", set(found["versions"]) == set(versions))
 
     def nothing_left(self) -> None:
-        """No process, socket or pid file of it is left."""
+        """No process, and no file but blocks, of it is left."""
         running = self.mark.left()
         self.check(f"processes are left: {running}", not running)
         left = sorted(file.name for file in self.run.iterdir() if not file.name.startswith("blocks"))
         self.check(f"files are left: {left}", not left)
-        self.check("a pid file is left", not list(self.room.glob("master.pid*")))
 
     def certify(self, text: str | None = None) -> None:
         """`certify` accepts the blocks."""

@@ -3,8 +3,9 @@ import os
 import signal
 import socket
 
+from gate.addresses import is_refused
 from gate.waiting import SECONDS, until
-from web.site import Scenario, Site
+from web.site import Scenario, Site, text_of
 
 
 def signals_are_words(site: Site) -> None:
@@ -69,6 +70,97 @@ def a_bad_start(site: Site) -> None:
     site.nothing_left()
 
 
+def an_address_in_use(site: Site) -> None:
+    """A start whose address another program has ends with status 1 and the reason, and leaves nothing."""
+    host, _, port = site.second.rpartition(":")
+    with socket.socket() as other:
+        other.bind((host, int(port)))
+        other.listen()
+        site.configure(listeners=[site.first, site.second])
+        site.serve = site.started()
+        site.check("it serves without an address", site.serve.wait(SECONDS) == 1)
+    said = text_of(site.room / "said")
+    site.check(f"the reason isn't said: {said}", f"{site.second}: Address already in use" in said)
+    site.check("the other address is open", is_refused(site.first))
+    site.nothing_left()
+
+
+def a_pid_of_the_master(site: Site) -> None:
+    """A configuration that would write the number of a process that handles no signals is refused, with the reason, at a
+    start and at HUP. The number in serve.pid takes HUP before and after an upgrade."""
+    pid = str(site.room / "master.pid")
+    site.configure(pid=pid)
+    site.serve = site.started()
+    site.check("it serves with a pid of the master", site.serve.wait(SECONDS) == 1)
+    site.check("the reason isn't said", "serve.pid" in text_of(site.room / "said"))
+    site.nothing_left()
+    site.begin()
+    site.configure(pid=pid)
+    block, said = site.sent("HUP").communicate(timeout=SECONDS)
+    site.check(f"HUP: {block}{said}", block == "word HUP\nrefused pid\n" and "serve.pid" in said)
+    site.configure()
+    number = int((site.run / "serve.pid").read_text())
+    for count in (1, 2):
+        os.kill(number, signal.SIGHUP)
+        until("the block of HUP", lambda: site.blocks().count("\nword HUP\n") == count)
+        site.check_workers("HUP", 2)
+        if count == 1:
+            site.wants("USR2", 0, "done", 2)
+    site.check("the number has changed", int((site.run / "serve.pid").read_text()) == number)
+    site.end("1")
+
+
+def asks(site: Site, word: str) -> socket.socket:
+    """A word on its way. Words that are sent so come in this order."""
+    asker = socket.socket(socket.AF_UNIX)
+    asker.settimeout(SECONDS)
+    asker.connect(str(site.run / "ctl.sock"))
+    asker.sendall(f"{word}\n".encode())
+    return asker
+
+
+def answer_to(asker: socket.socket) -> str:
+    with asker, asker.makefile() as answer:
+        return answer.read()
+
+
+def begins_and_waits(site: Site, version: int) -> socket.socket:
+    """A HUP whose new workers wait."""
+    site.hold.touch()
+    site.install(site.version(version, waits=str(site.hold)))
+    begun = asks(site, "HUP")
+    until("the HUP is on its way", lambda: "HUP is being carried out" in site.question())
+    return begun
+
+
+def words_that_wait(site: Site) -> None:
+    """Twenty HUPs that wait are one, and each of them has its block; a HUP after another word is one of its own. A stop
+    goes before what waits."""
+    site.begin()
+    begun = begins_and_waits(site, 2)
+    waiting = [asks(site, "HUP") for _ in range(20)] + [asks(site, "TTIN"), asks(site, "HUP")]
+    said = site.question()
+    site.check(f"more or less words wait: {said}", "3 more words wait" in said)
+    site.hold.unlink()
+    wrong = [answer for asker in [begun, *waiting] if "\ndone " not in (answer := answer_to(asker))]
+    site.check(f"words were not done: {wrong}", not wrong)
+    site.check("the blocks are others", site.blocks().count("word HUP\n") == 3)
+    site.check_workers("the last HUP", 2)
+    site.check_load(site.end_load(), "12")
+    begun = begins_and_waits(site, 3)
+    waiting, stop = [asks(site, "TTIN"), asks(site, "HUP")], asks(site, "QUIT")
+    said = site.question()
+    site.check(f"more or less words wait: {said}", "3 more words wait" in said)
+    site.hold.unlink()
+    answers = [answer_to(asker) for asker in (begun, stop)]
+    site.check(f"HUP and QUIT: {answers}", all("\ndone " in answer for answer in answers))
+    lost = {answer_to(asker) for asker in waiting}
+    site.check(f"what waited: {lost}", lost == {"lost: the service has stopped\n"})
+    site.check("serve ends with another status", site.serve.wait(SECONDS) == 0)
+    site.nothing_left()
+    site.certify()
+
+
 def guards(site: Site) -> None:
     """`guard` alone: lines go through; a worker that doesn't answer, one whose child keeps its output open, and one
     whose guard is killed end, with all that they have started."""
@@ -97,5 +189,5 @@ def guards(site: Site) -> None:
 
 
 SCENARIOS: tuple[Scenario, ...] = (
-    signals_are_words, nobody_else, a_bad_start, guards,
+    signals_are_words, nobody_else, a_bad_start, an_address_in_use, a_pid_of_the_master, words_that_wait, guards,
 )

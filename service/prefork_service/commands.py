@@ -4,10 +4,14 @@ The master knows one program, prefork-launch. It finds the command of a worker's
 `next` is for a generation that has no worker yet, and `I.C` for the workers of generation I.C. So the new generation
 of a reload starts by the new configuration's command, and a worker of the old generation that is started again by the
 old one's.
+
+The configuration that was accepted last stays: a master that is started again has it, and so has a service that was
+killed, where the file has become one that is refused.
 """
 import datetime
 import json
 import pathlib
+import subprocess
 import tomllib
 
 from .folder import Folder, say
@@ -47,6 +51,18 @@ def parted(text: bytes) -> tuple[bytes, list[str] | None]:
         return text, None
 
 
+def refusal_of(prefork: str, config: pathlib.Path) -> str | None:
+    """Why the master refuses a configuration, if it does."""
+    command = [prefork, "plan", "--why", "--from", config, "USR1"]
+    found = subprocess.run(command, stdin=subprocess.DEVNULL, stdout=subprocess.DEVNULL, stderr=subprocess.PIPE, text=True)
+    return found.stderr.strip() if found.returncode else None
+
+
+# The master handles no signals: whoever sends HUP to the number in its file ends it.
+PID_OF_MASTER = "the configuration has a pid, which would name the master, and that handles no signals. Remove it: " \
+    "serve.pid in the folder of the service is the file for kill"
+
+
 class Commands:
     """What workers are started by, and the configurations that the master reads."""
 
@@ -55,24 +71,65 @@ class Commands:
         self.place = folder.path / "commands"
         self.place.mkdir(mode=0o700, exist_ok=True)
         self.now, self.next = folder.path / "config.toml", folder.path / "next.toml"
+        self.accepted = folder.path / "accepted.toml"
         self.known: list[pathlib.Path] = []
         self.proposed: list[str] | None = None
         self.is_changing = False
+        # The text of the file as it was read last, and as it was when it was accepted.
+        self.text, self.accepted_text = b"", b""
         self.current = self.read(self.now)
 
     def read(self, target: pathlib.Path) -> list[str] | None:
         """Reads the configuration and writes it for the master, without its command; the command for its workers."""
         try:
-            text, command = parted(self.config.read_bytes())
+            self.text = self.config.read_bytes()
         except OSError as fault:
             # The master finds it missing, and says so.
             target.unlink(missing_ok=True)
             say(f"{self.config}: {fault.strerror}")
             return self.default
+        return self.write(target)
+
+    def write(self, target: pathlib.Path) -> list[str] | None:
+        text, command = parted(self.text)
         target.write_bytes(text)
         if not command and not self.default:
             say(f"{self.config} has no command, and the command line names no program")
         return command or self.default
+
+    def is_kept(self) -> bool:
+        """Whether a service that was killed has left the configuration that it had accepted; that is taken then."""
+        if not self.accepted.exists():
+            return False
+        say(f"{self.config} is refused; the service that was killed had accepted another text, and starts with that")
+        self.text = self.accepted.read_bytes()
+        self.current = self.write(self.now)
+        return True
+
+    def accept(self) -> None:
+        """Keeps the configuration that was read last. The copy is for a service that is killed: without it this one
+        serves on."""
+        self.accepted_text = self.text
+        new = self.place / "accepted"
+        try:
+            new.write_bytes(self.text)
+            new.replace(self.accepted)
+        except OSError as fault:
+            say(f"{self.accepted}: {fault.strerror}")
+
+    def names_master(self) -> bool:
+        """Whether the configuration that was read last has a pid file."""
+        try:
+            return "pid" in tomllib.loads(self.text.decode())
+        except ValueError:
+            return False
+
+    def has_changed(self) -> bool:
+        """Whether the file is another one than was accepted."""
+        try:
+            return self.config.read_bytes() != self.accepted_text
+        except OSError:
+            return True
 
     def begin(self) -> None:
         """Forgets all generations: a master is about to start."""
@@ -103,6 +160,7 @@ class Commands:
         if report.startswith(("done", "degraded target")):
             self.current = self.proposed
             self.next.replace(self.now)
+            self.accept()
             dropped = self.known
         else:
             dropped = [file for file in self.generations() if file not in self.known]
@@ -111,6 +169,6 @@ class Commands:
             file.unlink(missing_ok=True)
 
     def clear(self) -> None:
-        for file in [*self.place.iterdir(), self.now, self.next]:
+        for file in [*self.place.iterdir(), self.now, self.next, self.accepted]:
             file.unlink(missing_ok=True)
         self.place.rmdir()

@@ -60,13 +60,13 @@ class Pipes:
         return not watched.poll(0)
 
 
-def socket_of(address: str) -> tuple[socket.socket, socket.socket]:
+def socket_of(address: str, seconds: float = KEEPER_SECONDS) -> tuple[socket.socket, socket.socket]:
     """The listening socket of an address, and the connection to the keeper that holds it."""
     place = os.environ.get("PREFORK_KEEPER")
     if not place:
         raise Unfit("PREFORK_KEEPER does not name the keeper's socket")
     hold = socket.socket(socket.AF_UNIX, socket.SOCK_SEQPACKET)
-    hold.settimeout(KEEPER_SECONDS)
+    hold.settimeout(seconds)
     try:
         hold.connect(place)
         hold.send(address.encode())

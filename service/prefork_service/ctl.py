@@ -19,13 +19,15 @@ import socket
 import sys
 
 from .questions import STATE
+from .words import NOTE
 
 STATUS = {"done": 0, "nothing": 0, "answered": 0, "rolled-back": 3, "degraded": 4, "unread": 2}
 
 
-def asked(folder: str, word: str) -> str:
-    """What comes of a word. A question that is asked before that is said on standard error."""
-    block = ""
+def asked(folder: str, word: str) -> tuple[str, str]:
+    """What comes of a word, and what is to be said of it to people. A question that is asked before that is said at
+    once."""
+    block, notes = "", ""
     with socket.socket(socket.AF_UNIX) as service:
         service.connect(str(pathlib.Path(folder) / "ctl.sock"))
         service.sendall(f"{word}\n".encode())
@@ -33,9 +35,11 @@ def asked(folder: str, word: str) -> str:
             for line in answer:
                 if line.startswith("asks ") and word != STATE:
                     print(f"prefork-ctl: it {line}", end="", file=sys.stderr, flush=True)
+                elif line.startswith(NOTE):
+                    notes += f"prefork-ctl: {line.removeprefix(NOTE)}"
                 else:
                     block += line
-    return block
+    return block, notes
 
 
 def main() -> int:
@@ -49,12 +53,13 @@ def main() -> int:
     given = parser.parse_args()
     word = " ".join(given.word) or STATE
     try:
-        block = asked(given.folder, word)
+        block, notes = asked(given.folder, word)
     except OSError as fault:
         print(f"prefork-ctl: no service in {given.folder}: {fault.strerror or fault}", file=sys.stderr)
         return 1
     if not block:
         print("prefork-ctl: the service has ended before it answered", file=sys.stderr)
         return 1
-    sys.stdout.write(block)
+    print(block, end="", flush=True)
+    print(notes, end="", file=sys.stderr)
     return 0 if word == STATE else STATUS.get(block.splitlines()[-1].split()[0], 1)

@@ -12,7 +12,11 @@ LEAVE_SECONDS = 35
 
 
 def say(text: str) -> None:
-    print(f"prefork-serve: {text}", file=sys.stderr, flush=True)
+    """Says something to people. A standard error that is full is no reason to serve nobody."""
+    try:
+        print(f"prefork-serve: {text}", file=sys.stderr, flush=True)
+    except OSError:
+        pass
 
 
 class Folder:

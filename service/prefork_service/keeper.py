@@ -14,37 +14,80 @@ accept no connection that has not begun to ask.
 
 `errors` in place of an address is answered with the keeper's own standard error, where a worker's messages belong.
 
+A client that says nothing for 5 seconds is dropped, and so is the oldest of more than 64 such clients, or where no
+descriptor is left for another one.
+
 It ends with its standard input: with the process that started it.
+
+With --door N it is the keeper of prefork-serve. It listens at the socket N, which it inherits and which has the path
+PATH, and its standard input is a socket to prefork-serve, over which each of them tells the other of sockets, in one
+packet each:
+
+    +ADDRESS    with a listening socket: the keeper has opened it, or is given it. Who holds one that it is given, it
+                does not know, and it does not close that one
+    -ADDRESS    the keeper has closed it
+    !ADDRESS: REASON    the keeper can't open it
+    =           all who are to hold a socket have asked for it since: it may be closed, once those that finish are over
+    ?  .        prefork-serve asks whether the keeper answers, and it does
+    x           the keeper is to end, and Unix sockets are to be removed
 """
+import argparse
 import io
 import os
+import resource
 import selectors
 import socket
 import stat
 import sys
 import time
 
+from .door import Door
+
 LINGER = 2.0
-DEFER = "--defer-accept"
+# How long workers that hold a socket, and are not known to, may take to close it once they finish.
+FINISH_SECONDS = 10.0
 QUEUE = 1024
 LONGEST_ADDRESS = 200
 # How long a connection without a byte is held back; the system counts in its own steps.
 DEFER_SECONDS = 1
 # Asked for in place of an address: the standard error of the service.
 ERRORS = "errors"
+DEFER = "--defer-accept"
+# What the packets to and from prefork-serve begin with.
+OPENED, CLOSED, REFUSED, SETTLED, ASKS, ANSWERS, ENDS = "+-!=?.x"
+
+
+def say(text: str) -> None:
+    try:
+        print(f"prefork-keeper: {text}", file=sys.stderr, flush=True)
+    except OSError:
+        pass
 
 
 class Kept:
-    """A listening socket, how many hold it, and since when it is held no more."""
+    """A listening socket, how many hold it, whether others may that the keeper does not know, and since when it is
+    held no more."""
 
-    def __init__(self, address: str, defers: bool):
-        self.address, self.holders, self.free_since = address, 0, 0.0
-        self.socket = listening(address, defers)
+    def __init__(self, address: str, one: socket.socket, has_strangers: bool = False):
+        self.address, self.socket, self.has_strangers = address, one, has_strangers
+        self.holders, self.free_since = 0, 0.0
 
-    def close(self) -> None:
+    def settle(self) -> None:
+        """Strangers finish, and nobody else is one."""
+        if self.has_strangers:
+            self.has_strangers, self.free_since = False, time.monotonic() + FINISH_SECONDS
+
+    def is_free(self, linger: float) -> bool:
+        return not self.holders and not self.has_strangers and time.monotonic() - self.free_since > linger
+
+    def remove(self) -> None:
+        """Closes it, and removes it if it is a file."""
         self.socket.close()
         if self.address.startswith("/"):
-            os.unlink(self.address)
+            try:
+                os.unlink(self.address)
+            except FileNotFoundError:
+                pass
 
 
 def listening(address: str, defers: bool) -> socket.socket:
@@ -83,33 +126,51 @@ def remove_stale(path: str) -> None:
         os.unlink(path)
 
 
+class Channel:
+    """The socket to prefork-serve, which has a copy of each listening socket."""
+
+    def __init__(self) -> None:
+        self.socket = socket.socket(fileno=os.dup(0))
+
+    def tell(self, text: str, one: socket.socket | None = None) -> None:
+        try:
+            socket.send_fds(self.socket, [text.encode()], [one.fileno()] if one else [])
+        except OSError:
+            # It has ended, and so does the input.
+            pass
+
+    def hear(self) -> tuple[str, socket.socket | None]:
+        try:
+            said, given, _, _ = socket.recv_fds(self.socket, LONGEST_ADDRESS + 1, 1)
+        except OSError:
+            return "", None
+        return said.decode(), socket.socket(fileno=given[0]) if given else None
+
+
 class Keeper:
     """The sockets that are kept, by address, and who holds which."""
 
-    def __init__(self, path: str, linger: float, defers: bool):
-        self.linger, self.defers = linger, defers
+    def __init__(self, door: socket.socket, linger: float, defers: bool, channel: Channel | None):
+        self.linger, self.defers, self.channel = linger, defers, channel
         self.kept: dict[str, Kept] = {}
         self.held: dict[socket.socket, Kept] = {}
         self.events = selectors.DefaultSelector()
-        self.door = socket.socket(socket.AF_UNIX, socket.SOCK_SEQPACKET)
-        # Under its own name once it listens: whoever finds it can connect.
-        new = os.path.join(os.path.dirname(path), f".{os.getpid()}")
-        self.door.bind(new)
-        os.chmod(new, 0o600)
-        self.door.listen(QUEUE)
-        os.rename(new, path)
-        self.events.register(self.door, selectors.EVENT_READ, self.admit)
+        self.door = Door(self.events, door, self.begin_to_hear, say)
 
     def run(self) -> None:
-        self.events.register(sys.stdin, selectors.EVENT_READ, self.leave)
+        if self.channel:
+            self.events.register(self.channel.socket, selectors.EVENT_READ, self.hear_serve)
+        else:
+            self.events.register(sys.stdin, selectors.EVENT_READ, self.hear_input)
         while True:
             for key, _ in self.events.select(self.linger / 4):
                 key.data(key.fileobj)
             self.close_dropped()
+            self.door.tend()
 
-    def admit(self, door: socket.socket) -> None:
-        holder, _ = door.accept()
+    def begin_to_hear(self, holder: socket.socket) -> None:
         self.events.register(holder, selectors.EVENT_READ, self.hear)
+        self.hear(holder)
 
     def hear(self, holder: socket.socket) -> None:
         """Hears the address that a holder asks for, or that it has gone."""
@@ -124,13 +185,23 @@ class Keeper:
             self.give_errors(holder)
             return
         try:
-            kept = self.kept.get(address) or Kept(address, self.defers)
-            socket.send_fds(holder, [b"ok"], [kept.socket.fileno()])
+            kept = self.kept.get(address) or self.opened(address)
         except (OSError, OverflowError, ValueError) as refusal:
-            self.refuse(holder, getattr(refusal, "strerror", None) or str(refusal))
+            self.refuse(holder, address, getattr(refusal, "strerror", None) or str(refusal))
             return
-        self.kept[address] = self.held[holder] = kept
+        self.held[holder] = kept
         kept.holders += 1
+        try:
+            socket.send_fds(holder, [b"ok"], [kept.socket.fileno()])
+        except OSError:
+            self.let_go(holder)
+
+    def opened(self, address: str) -> Kept:
+        kept = self.kept[address] = Kept(address, listening(address, self.defers))
+        kept.free_since = time.monotonic()
+        if self.channel:
+            self.channel.tell(OPENED + address, kept.socket)
+        return kept
 
     def give_errors(self, holder: socket.socket) -> None:
         try:
@@ -139,7 +210,9 @@ class Keeper:
             pass
         self.let_go(holder)
 
-    def refuse(self, holder: socket.socket, reason: str) -> None:
+    def refuse(self, holder: socket.socket, address: str, reason: str) -> None:
+        if self.channel:
+            self.channel.tell(f"{REFUSED}{address}: {reason}")
         try:
             holder.send(f"no {reason}".encode())
         except OSError:
@@ -152,27 +225,76 @@ class Keeper:
         kept = self.held.pop(holder, None)
         if kept:
             kept.holders -= 1
-            kept.free_since = time.monotonic()
+            kept.free_since = max(kept.free_since, time.monotonic())
 
     def close_dropped(self) -> None:
         if not any(kept.holders for kept in self.kept.values()):
             return
-        now = time.monotonic()
         for kept in list(self.kept.values()):
-            if not kept.holders and now - kept.free_since > self.linger:
-                kept.close()
+            if kept.is_free(self.linger):
+                kept.remove()
                 del self.kept[kept.address]
+                if self.channel:
+                    self.channel.tell(CLOSED + kept.address)
 
-    def leave(self, given: io.TextIOBase) -> None:
-        if not os.read(given.fileno(), 4096):
+    def hear_serve(self, _: socket.socket) -> None:
+        said, given = self.channel.hear() if self.channel else ("", None)
+        kind, address = said[:1], said[1:]
+        if kind == OPENED and given:
+            self.kept[address] = Kept(address, given, has_strangers=True)
+        elif kind == SETTLED:
             for kept in self.kept.values():
-                kept.close()
+                kept.settle()
+        elif kind == ASKS and self.channel:
+            self.channel.tell(ANSWERS)
+        elif kind == ENDS:
+            self.leave()
+        else:
+            # Killed: whoever has copies of the sockets goes on with them, the files too.
             sys.exit(0)
+
+    def hear_input(self, given: io.TextIOBase) -> None:
+        if not os.read(given.fileno(), 4096):
+            self.leave()
+
+    def leave(self) -> None:
+        for kept in self.kept.values():
+            kept.remove()
+        sys.exit(0)
+
+
+def own_door(path: str) -> socket.socket:
+    """A door at a path. It has its name once it listens: whoever finds it can connect."""
+    door = socket.socket(socket.AF_UNIX, socket.SOCK_SEQPACKET)
+    new = os.path.join(os.path.dirname(path), f".{os.getpid()}")
+    door.bind(new)
+    os.chmod(new, 0o600)
+    door.listen(QUEUE)
+    os.rename(new, path)
+    return door
+
+
+def arguments() -> argparse.Namespace:
+    parser = argparse.ArgumentParser(prog="prefork-keeper", description="Keeps the listening sockets of a service.")
+    parser.add_argument(DEFER, action="store_true", help="accept a TCP connection once its first bytes are there")
+    door = "the number of the socket at PATH, as prefork-serve gives it; standard input is a socket to prefork-serve"
+    parser.add_argument("--door", type=int, metavar="N", help=door)
+    parser.add_argument("path", metavar="PATH", help="where workers ask")
+    linger = f"how long a socket that nobody holds stays open ({LINGER:g})"
+    parser.add_argument("linger", type=float, nargs="?", default=LINGER, metavar="SECONDS", help=linger)
+    return parser.parse_args()
+
+
+def take_descriptors() -> None:
+    """As many as the system allows: each worker has one here for each of its addresses."""
+    _, most = resource.getrlimit(resource.RLIMIT_NOFILE)
+    resource.setrlimit(resource.RLIMIT_NOFILE, (most, most))
 
 
 def main() -> int:
-    words = [word for word in sys.argv[1:] if word != DEFER]
-    if len(words) not in (1, 2):
-        sys.exit(__doc__)
-    Keeper(words[0], float(words[1]) if len(words) > 1 else LINGER, DEFER in sys.argv).run()
+    given = arguments()
+    take_descriptors()
+    is_of_serve = given.door is not None
+    door = socket.socket(fileno=given.door) if is_of_serve else own_door(given.path)
+    Keeper(door, given.linger, given.defer_accept, Channel() if is_of_serve else None).run()
     return 0

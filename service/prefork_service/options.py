@@ -9,6 +9,7 @@ from . import places
 USAGE = """prefork-serve [OPTIONS] CONFIG -- PROGRAM ARGUMENT..
        prefork-serve [OPTIONS] --wsgi MODULE:APP CONFIG
        prefork-serve [OPTIONS] CONFIG"""
+WSGI_THREADS = 4
 Options = dict[str, tuple[str | None, str]]
 # Options that are handed on to the worker: what they take, and what they mean.
 SHARED: Options = {
@@ -103,6 +104,12 @@ def worker_command(given: argparse.Namespace) -> list[str] | None:
         options = handed_on(given, SHARED | PROGRAM)
         return checked([str(places.ACTIVATE), *options], ["--", *given.program])
     return None
+
+
+def processes_each(given: argparse.Namespace) -> int:
+    """How many processes and threads a worker is at least: those of its adapter, of the application and its guard."""
+    threads = int(given.threads[-1]) if given.threads else WSGI_THREADS
+    return (2 + threads if given.wsgi else 3 if given.program else 1) + bool(given.guard)
 
 
 def checked(adapter: list[str], program: list[str]) -> list[str]:

@@ -1,5 +1,4 @@
 """The loop of a service: words to the master, one at a time, and their blocks to whoever asked."""
-import collections
 import os
 import selectors
 import signal
@@ -8,30 +7,43 @@ import sys
 import time
 from typing import Any
 
-from .commands import Commands
+from .commands import PID_OF_MASTER, Commands
+from .door import Door
 from .folder import Folder, say
+from .keeping import Keeping
 from .master import Master
 from .questions import ANSWERS, NOT_ASKED, STATE, line_of, state
 from .systemd import notify
-from .words import CHANGES, SIGNALS, STOPS, WORDS, Word
+from .words import CHANGES, NOTE, SIGNALS, START, STOPS, WORDS, Queue, Word
 
 TICK_SECONDS = 1.0
+# The longest pause of the loop, and that while no master runs.
+PAUSE, SHORT_PAUSE = 1.0, 0.1
+TOO_MANY, NOT_READ, HAS_PID = "refused too-many-wait", "refused not-read", "refused pid"
+# What its operator is told after an application that did not start.
+OLD_SERVES = "the workers that run are of the version before. One that ends is started again from the files as they are " \
+    "now: put the old version back, or mend the new one"
+
+
+def is_broken(word: str, block: str) -> bool:
+    """Whether a block says that a new version did not start, and that the old one runs."""
+    return word in CHANGES and "\nrolled-back " in block and " await-ready " in block
 
 
 class Service:
     """A master that is kept running, and the words that wait for it."""
 
-    def __init__(self, folder: Folder, command: list[str], commands: Commands):
-        self.folder, self.command, self.commands = folder, command, commands
+    def __init__(self, keeping: Keeping, command: list[str], commands: Commands):
+        self.keeping, self.folder, self.events = keeping, keeping.folder, keeping.events
+        self.command, self.commands = command, commands
         # The master, once it is started, the words that wait for it, and the one that it carries out.
         self.master: Any = None
-        self.waiting: collections.deque[Word] = collections.deque()
+        self.waiting = Queue()
         self.current: Word | None = None
         # The question that the current word asks, or 0.
         self.question = 0
         self.begun, self.next_tick, self.is_stopped = 0.0, 0.0, False
         self.has_heard, self.is_ready = False, False
-        self.events = selectors.DefaultSelector()
         self.take_signals()
         self.open_door()
 
@@ -45,29 +57,43 @@ class Service:
         self.events.register(self.signals, selectors.EVENT_READ, self.hear_signals)
 
     def open_door(self) -> None:
-        self.door = socket.socket(socket.AF_UNIX)
-        self.door.bind(str(self.folder.words))
+        listener = socket.socket(socket.AF_UNIX)
+        listener.bind(str(self.folder.words))
         os.chmod(self.folder.words, 0o600)
-        self.door.listen(64)
-        self.events.register(self.door, selectors.EVENT_READ, self.admit)
+        listener.listen(64)
+        self.door = Door(self.events, listener, self.hear_asker, say)
 
     def run(self) -> None:
         while not self.is_stopped:
             self.begin_master()
             self.tell_next()
-            for key, _ in self.events.select(0.1 if self.master is None else self.until_tick()):
+            for key, _ in self.events.select(self.pause()):
                 key.data(key.fileobj)
-        for word in self.waiting:
-            word.answer("lost: the service has stopped\n")
+            self.door.tend()
+            self.keeping.tend()
+        while self.waiting:
+            self.waiting.next().answer("lost: the service has stopped\n")
+
+    def pause(self) -> float:
+        """How long the loop may wait for something to happen."""
+        moments = [self.until_tick(), self.door.seconds(), PAUSE if self.master else SHORT_PAUSE, PAUSE]
+        return min(moment for moment in moments if moment is not None)
 
     def begin_master(self) -> None:
         """Starts a master if none runs, at most one a second. Its start is the first block."""
-        if self.master is None and time.monotonic() - self.begun > 1:
-            self.begun = time.monotonic()
+        if self.master is not None or time.monotonic() - self.begun < 1:
+            return
+        self.begun = time.monotonic()
+        try:
             self.commands.begin()
-            self.master, self.current = Master(self.command, self.folder), Word("tick 0")
-            self.events.register(self.master.output, selectors.EVENT_READ, self.hear_master)
-            self.events.register(self.master.errors, selectors.EVENT_READ, self.hear_errors)
+            self.master, self.current = Master(self.command, self.folder), Word(START)
+        except OSError as fault:
+            if not self.has_heard:
+                raise
+            say(f"the master is not started: {fault}")
+            return
+        self.events.register(self.master.output, selectors.EVENT_READ, self.hear_master)
+        self.events.register(self.master.errors, selectors.EVENT_READ, self.hear_errors)
 
     def until_tick(self) -> float | None:
         return max(0.0, self.next_tick - time.monotonic()) if self.current is None else None
@@ -78,14 +104,33 @@ class Service:
             return
         now = time.monotonic()
         if self.waiting:
-            self.current = self.waiting.popleft()
+            self.current = self.waiting.next()
         elif now >= self.next_tick:
             self.current, self.next_tick = Word(f"tick {int(now)}"), now + TICK_SECONDS
         else:
             return
-        if self.current.text in CHANGES:
+        if self.current.text not in CHANGES or self.has_read():
+            self.master.tell(self.current.text)
+
+    def has_read(self) -> bool:
+        """Reads the configuration again for the current word, which is refused if the copy for the master can't be
+        written."""
+        try:
             self.commands.change()
-        self.master.tell(self.current.text)
+        except OSError as fault:
+            self.refuse(NOT_READ, f"the configuration is not read: {fault}")
+        else:
+            if self.commands.names_master():
+                self.refuse(HAS_PID, PID_OF_MASTER)
+        return self.current is not None
+
+    def refuse(self, report: str, reason: str) -> None:
+        """Refuses the current word, which its master is not told."""
+        word, self.current = self.current, None
+        if word:
+            say(f"{word.text}: {reason}")
+            self.commands.settle(report)
+            word.answer(f"{NOTE}{reason}\nword {word.text}\n{report}\n")
 
     def hear_master(self, _: int) -> None:
         blocks = self.master.hear()
@@ -127,6 +172,14 @@ class Service:
             return
         report, self.has_heard = block.splitlines()[-1], True
         self.commands.settle(report)
+        if word.text == START:
+            self.commands.accept()
+        for note in self.notes(word, block):
+            word.tell(f"{NOTE}{note}\n")
+        if word.text == START:
+            self.keeping.release()
+        if word.text in (*CHANGES, START) and report.startswith(("done", "degraded target")):
+            self.keeping.settle()
         if not word.text.startswith("tick ") or not report.startswith("done"):
             say(f"{word.text}: {report}")
         # The new master of an upgrade has gone, and its workers with it. The old one, which passed
@@ -144,6 +197,15 @@ class Service:
             self.is_ready = True
             notify("READY=1")
 
+    def notes(self, word: Word, block: str) -> list[str]:
+        """What is said to people of a block: why addresses were not opened, and what workers are started from."""
+        found = list(dict.fromkeys(self.keeping.refusals))
+        self.keeping.refusals.clear()
+        if is_broken(word.text, block) and not found:
+            say(OLD_SERVES)
+            found.append(OLD_SERVES)
+        return found
+
     def end_master(self) -> None:
         """The master has ended without having been told to."""
         self.events.unregister(self.master.output)
@@ -154,7 +216,9 @@ class Service:
             sys.exit("prefork-serve: the master does not start; its message is above")
         self.master, self.question = None, 0
         self.commands.settle("lost")
-        say(f"the master has ended with status {status}, and is started again")
+        say(f"the master has ended with status {status}, and is started again with the configuration that was accepted")
+        if self.commands.has_changed():
+            say(f"{self.commands.config} has changed since: HUP reads it")
         if self.current:
             self.current.answer("lost: the master has ended\n")
             self.current = None
@@ -163,23 +227,16 @@ class Service:
         for number in os.read(signals, 4096):
             name = signal.Signals(number).name.removeprefix("SIG")
             if name in SIGNALS:
-                self.waiting.append(Word(name))
-
-    def admit(self, door: socket.socket) -> None:
-        asker, _ = door.accept()
-        asker.setblocking(False)
-        self.events.register(asker, selectors.EVENT_READ, self.hear_asker)
+                self.take(Word(name))
 
     def hear_asker(self, asker: socket.socket) -> None:
-        self.events.unregister(asker)
         try:
             text = asker.recv(64).decode().strip()
         except (OSError, UnicodeDecodeError):
             text = ""
-        asker.setblocking(True)
         word = Word(text, asker)
         if text in WORDS:
-            self.waiting.append(word)
+            self.take(word)
         elif text in ANSWERS:
             self.answer(word)
         elif text == STATE:
@@ -187,3 +244,8 @@ class Service:
             word.answer(state(self.question, current, len(self.waiting)))
         else:
             word.answer("unread W1\n")
+
+    def take(self, word: Word) -> None:
+        """Lets a word wait for its turn."""
+        if not self.waiting.take(word):
+            word.answer(f"word {word.text}\n{TOO_MANY}\n")

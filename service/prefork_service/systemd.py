@@ -1,10 +1,58 @@
-"""What systemd is told, if it has started the service."""
+"""What systemd is told, if it has started the service, and the sockets that it has for it."""
 import os
 import socket
+from collections.abc import Iterable
+
+# What the system may take to accept a message.
+SECONDS = 1.0
+FIRST = 3
 
 
-def notify(text: str) -> None:
+def notify(text: str, sockets: Iterable[socket.socket] = ()) -> None:
+    """A systemd that takes no message is no reason to serve nobody."""
     place = os.environ.get("NOTIFY_SOCKET", "")
-    if place:
+    if not place:
+        return
+    try:
         with socket.socket(socket.AF_UNIX, socket.SOCK_DGRAM) as told:
-            told.sendto(text.encode(), place.replace("@", "\0", 1))
+            told.settimeout(SECONDS)
+            told.connect(place.replace("@", "\0", 1) if place.startswith("@") else place)
+            socket.send_fds(told, [text.encode()], [one.fileno() for one in sockets])
+    except OSError:
+        pass
+
+
+def name_of(address: str) -> str:
+    """An address as the name of a descriptor: that has no colon."""
+    return address.replace(":", "_port_")
+
+
+def store(address: str, one: socket.socket) -> None:
+    """Gives a socket to systemd, which hands it to the next start (FileDescriptorStoreMax)."""
+    notify(f"FDSTORE=1\nFDNAME={name_of(address)}\nFDPOLL=0", [one])
+
+
+def unstore(address: str) -> None:
+    notify(f"FDSTOREREMOVE=1\nFDNAME={name_of(address)}")
+
+
+def inherited() -> dict[str, socket.socket]:
+    """The listening sockets that systemd has for this process, by their addresses."""
+    count = os.environ.pop("LISTEN_FDS", "0")
+    is_ours = os.environ.pop("LISTEN_PID", "") == str(os.getpid())
+    os.environ.pop("LISTEN_FDNAMES", None)
+    found: dict[str, socket.socket] = {}
+    if not is_ours or not count.isdigit():
+        return found
+    for number in range(FIRST, FIRST + int(count)):
+        one = socket.socket(fileno=number)
+        one.set_inheritable(False)
+        place = one.getsockname()
+        is_new = one.getsockopt(socket.SOL_SOCKET, socket.SO_ACCEPTCONN)
+        address = place if isinstance(place, str) else f"{place[0]}:{place[1]}"
+        if not is_new or address in found:
+            one.close()
+            continue
+        one.setblocking(False)
+        found[address] = one
+    return found

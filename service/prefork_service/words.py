@@ -1,4 +1,5 @@
 """Control words, and who waits for what comes of them."""
+import collections
 import socket
 
 STOPS = ("QUIT", "INT", "TERM")
@@ -6,28 +7,75 @@ STOPS = ("QUIT", "INT", "TERM")
 SIGNALS = ("HUP", "USR1", "USR2", "WINCH", "TTIN", "TTOU", *STOPS)
 ATTENDED = "USR2 attended"
 WORDS = (*SIGNALS, ATTENDED)
+# What a master that starts carries out.
+START = "tick 0"
 # Words at which the configuration is read again.
 CHANGES = ("HUP", "USR2", ATTENDED)
 
 
+# How a line begins that is for people, before a block.
+NOTE = "note "
+# How many words may wait, and how many askers of them.
+MOST_WAITING = 64
+# What an asker that reads nothing may delay the service.
+TELL_SECONDS = 1.0
+
+
 class Word:
-    """A word, and the connection of whoever waits for its block, if anybody does."""
+    """A word, and the connections of those that wait for its block."""
 
     def __init__(self, text: str, asker: socket.socket | None = None):
-        self.text, self.asker = text, asker
+        self.text, self.askers = text, [asker] if asker else []
+        if asker:
+            asker.settimeout(TELL_SECONDS)
+
+    def join(self, other: "Word") -> None:
+        """Stands for another word too, which is the same."""
+        self.askers += other.askers
 
     def tell(self, text: str) -> None:
         """Says something before the block is there."""
-        if not self.asker:
-            return
-        try:
-            self.asker.sendall(text.encode())
-        except OSError:
-            # The asker has gone.
-            pass
+        for asker in self.askers:
+            try:
+                asker.sendall(text.encode())
+            except OSError:
+                # The asker has gone.
+                pass
 
     def answer(self, text: str) -> None:
         self.tell(text)
-        if self.asker:
-            self.asker.close()
-        self.asker = None
+        for asker in self.askers:
+            asker.close()
+        self.askers = []
+
+
+class Queue:
+    """Words that wait for their turn: a stop before the others, the others in the order in which they came. HUPs in a
+    row are one: it reads the configuration when its turn comes."""
+
+    def __init__(self) -> None:
+        self.stops: list[Word] = []
+        self.others: collections.deque[Word] = collections.deque()
+
+    def __len__(self) -> int:
+        return len(self.stops) + len(self.others)
+
+    def take(self, word: Word) -> bool:
+        """Lets a word wait; whether there is room."""
+        same = [other for other in self.stops if other.text == word.text]
+        if word.text == "HUP" and self.others and self.others[-1].text == "HUP":
+            same = [self.others[-1]]
+        if sum(len(other.askers) for other in self.others) >= MOST_WAITING and word.text not in STOPS:
+            return False
+        if same:
+            same[0].join(word)
+        elif word.text in STOPS:
+            self.stops.append(word)
+        elif len(self.others) < MOST_WAITING:
+            self.others.append(word)
+        else:
+            return False
+        return True
+
+    def next(self) -> Word:
+        return self.stops.pop(0) if self.stops else self.others.popleft()

@@ -9,7 +9,7 @@ import unittest
 from typing import Any
 
 from kit import BIN, OUT, built, until
-from prefork_service.commands import Commands, parted
+from prefork_service.commands import Commands, parted, refusal_of
 
 
 def words_of(file: pathlib.Path) -> list[str]:
@@ -119,6 +119,54 @@ class CommandsTest(unittest.TestCase):
         self.configure("workers = 1\n")
         self.commands.change()
         self.assertEqual(words_of(self.place / "next"), ["false"])
+
+    def test_what_was_accepted_is_kept(self) -> None:
+        self.commands.accept()
+        first = self.config.read_text()
+        self.configure("listeners = [")
+        self.commands.change()
+        self.assertTrue(self.commands.has_changed())
+        self.commands.settle("refused C1")
+        self.assertEqual(self.commands.accepted.read_text(), first)
+        self.configure('command = ["two"]\nworkers = 2\n')
+        self.commands.change()
+        self.commands.settle("done cause none pid no-file")
+        self.assertEqual(self.commands.accepted.read_text(), 'command = ["two"]\nworkers = 2\n')
+        self.assertFalse(self.commands.has_changed())
+
+    def test_a_start_after_a_kill_has_what_was_accepted(self) -> None:
+        self.commands.accept()
+        self.configure("listeners = [")
+        later = self.made()
+        self.assertIsNone(later.current)
+        self.assertTrue(later.is_kept())
+        self.assertEqual((later.current, later.now.read_text()), (["one"], '"workers" = 1\n'))
+        later.accept()
+        self.assertTrue(later.has_changed())
+        later.clear()
+        self.assertFalse(self.made().is_kept())
+
+    def test_a_copy_that_cannot_be_written_ends_nothing(self) -> None:
+        self.commands.accepted.mkdir()
+        self.commands.accept()
+        self.assertFalse(self.commands.has_changed())
+        self.commands.accepted.rmdir()
+
+    def test_a_pid_of_the_master_is_seen(self) -> None:
+        self.assertFalse(self.commands.names_master())
+        self.configure('command = ["one"]\npid = "/tmp/x"\n')
+        self.commands.change()
+        self.assertTrue(self.commands.names_master())
+        self.configure("pid = [")
+        self.commands.change()
+        self.assertFalse(self.commands.names_master())
+
+    def test_why_the_master_refuses_a_configuration(self) -> None:
+        program = self.room / "master"
+        program.write_text("#!/bin/sh\necho \"$@\"; echo prefork: config C1 >&2; exit 1\n")
+        program.chmod(0o755)
+        self.assertEqual(refusal_of(str(program), self.config), "prefork: config C1")
+        self.assertIsNone(refusal_of("true", self.config))
 
     def test_a_configuration_that_is_missing_is_missing_for_the_master(self) -> None:
         self.config.unlink()

@@ -1,0 +1,145 @@
+"""The keeper of a service, as prefork-serve keeps it: started again whenever it has ended, with the same sockets.
+
+prefork-serve has a copy of each listening socket, and the door at which workers ask. So connections wait, and workers
+wait for their answer, while a keeper starts. systemd is given the sockets too, if it stores them, so that they outlive
+prefork-serve.
+"""
+import os
+import selectors
+import socket
+import subprocess
+import time
+from typing import Any
+
+from . import places
+from .convention import socket_of
+from .folder import Folder, say
+from .keeper import ANSWERS, ASKS, CLOSED, ENDS, LONGEST_ADDRESS, OPENED, QUEUE, REFUSED, SETTLED
+from .systemd import store, unstore
+
+# How long it may take to answer, before it is killed; how often it is asked, and the least time between two starts.
+ANSWER_SECONDS, ASK_SECONDS, PAUSE_SECONDS = 10.0, 1.0, 1.0
+# How long the first one may take to open an address of the start.
+START_SECONDS = 60.0
+
+
+class Keeping:
+    """A keeper that runs, or is about to, and the sockets that it has."""
+
+    def __init__(self, events: selectors.BaseSelector, folder: Folder, options: list[str], held: dict[str, socket.socket]):
+        self.events, self.folder, self.options, self.held = events, folder, options, held
+        # The keeper and the socket to it, once it is started; when it was begun and asked last, and whether it owes an
+        # answer.
+        self.process: Any = None
+        self.channel: Any = None
+        self.begun, self.asked, self.owes, self.restarts = 0.0, 0.0, False, -1
+        # Why addresses were not opened since the last word, and the connections that hold those of the start.
+        self.refusals: list[str] = []
+        self.holds: list[socket.socket] = []
+        self.open_door()
+        for address, one in held.items():
+            store(address, one)
+        self.begin()
+
+    def open_door(self) -> None:
+        """Under its own name once it listens: whoever finds it can connect."""
+        new = self.folder.path / f".{os.getpid()}"
+        self.door = socket.socket(socket.AF_UNIX, socket.SOCK_SEQPACKET)
+        self.door.bind(str(new))
+        new.chmod(0o600)
+        self.door.listen(QUEUE)
+        new.rename(self.folder.keeper)
+
+    def begin(self) -> None:
+        self.begun, self.restarts = time.monotonic(), self.restarts + 1
+        self.channel, theirs = socket.socketpair(socket.AF_UNIX, socket.SOCK_SEQPACKET)
+        command = [places.KEEPER, *self.options, "--door", str(self.door.fileno()), self.folder.keeper]
+        given = [self.folder.lock, self.door.fileno()]
+        try:
+            self.process = subprocess.Popen(command, stdin=theirs, start_new_session=True, pass_fds=given)
+        except OSError as fault:
+            self.channel.close()
+            say(f"the keeper is not started: {fault.strerror}")
+            return
+        finally:
+            theirs.close()
+        self.channel.setblocking(False)
+        self.events.register(self.channel, selectors.EVENT_READ, self.hear)
+        for address, one in self.held.items():
+            self.tell(OPENED + address, one)
+
+    def tell(self, text: str, one: socket.socket | None = None) -> None:
+        """Tells the keeper something. One that has ended, or hears nothing, is found by what it owes."""
+        try:
+            socket.send_fds(self.channel, [text.encode()], [one.fileno()] if one else [])
+        except OSError:
+            pass
+
+    def hear(self, _: socket.socket) -> None:
+        """What the keeper says of its sockets."""
+        try:
+            said, given, _, _ = socket.recv_fds(self.channel, LONGEST_ADDRESS + 200, 1)
+        except OSError:
+            said, given = b"", []
+        kind, text = said.decode()[:1], said.decode()[1:]
+        if kind == OPENED and given:
+            self.held[text] = socket.socket(fileno=given[0])
+            store(text, self.held[text])
+        elif kind == CLOSED:
+            unstore(text)
+            self.held.pop(text).close()
+        elif kind == REFUSED:
+            self.refusals.append(text)
+            say(f"an address is not opened: {text}")
+        elif kind == ANSWERS:
+            self.owes = False
+        elif not kind:
+            self.bury()
+
+    def bury(self) -> None:
+        """The keeper has ended, or hears no more."""
+        self.events.unregister(self.channel)
+        self.channel.close()
+        self.process.kill()
+        say(f"the keeper has ended with status {self.process.wait()}, and is started again")
+        self.process, self.owes = None, False
+
+    def tend(self) -> None:
+        """Starts a keeper if none runs, and asks the one that does whether it still answers."""
+        now = time.monotonic()
+        if not self.process:
+            if now - self.begun > PAUSE_SECONDS:
+                self.begin()
+        elif self.owes and now - self.asked > ANSWER_SECONDS:
+            say(f"the keeper has not answered for {ANSWER_SECONDS:g} seconds")
+            self.bury()
+        elif not self.owes and now - self.asked > ASK_SECONDS:
+            self.asked, self.owes = now, True
+            self.tell(ASKS)
+
+    def hold(self, addresses: list[str]) -> None:
+        """Opens the addresses of the start, and holds them until workers do. Raises Unfit if one can't be opened."""
+        for address in addresses:
+            listener, hold = socket_of(address, START_SECONDS)
+            listener.close()
+            self.holds.append(hold)
+
+    def release(self) -> None:
+        for hold in self.holds:
+            hold.close()
+        self.holds.clear()
+
+    def settle(self) -> None:
+        """All workers have been started since: whoever is to hold a socket has asked for it."""
+        if self.process:
+            self.tell(SETTLED)
+
+    def end(self) -> None:
+        """Ends the keeper, and with it the sockets."""
+        self.release()
+        self.door.close()
+        if not self.process:
+            return
+        self.tell(ENDS)
+        self.channel.close()
+        self.process.wait()

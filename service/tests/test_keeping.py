@@ -1,0 +1,169 @@
+"""The keeper of a service: it may die, and its sockets stay."""
+import os
+import pathlib
+import selectors
+import signal
+import socket
+import tempfile
+import time
+import types
+import unittest
+from collections.abc import Callable
+from unittest import mock
+
+from kit import free_address
+from prefork_service import keeper, keeping
+from prefork_service.convention import Unfit
+from prefork_service.keeper import Kept
+from prefork_service.keeping import Keeping
+
+
+class KeepingTest(unittest.TestCase):
+    def setUp(self) -> None:
+        room = tempfile.TemporaryDirectory(prefix="keeping-")
+        self.addCleanup(room.cleanup)
+        self.room = pathlib.Path(room.name)
+        lock = os.open(self.room, os.O_RDONLY)
+        self.addCleanup(os.close, lock)
+        self.folder = types.SimpleNamespace(path=self.room, keeper=self.room / "keeper.sock", lock=lock)
+        self.events = selectors.DefaultSelector()
+        self.addCleanup(self.events.close)
+        pauses = mock.patch.object(keeping, "PAUSE_SECONDS", 0.1)
+        pauses.start()
+        self.addCleanup(pauses.stop)
+        self.keeping = Keeping(self.events, self.folder, [], {})
+        self.addCleanup(self.end)
+
+    def end(self) -> None:
+        self.keeping.end()
+        for one in self.keeping.held.values():
+            one.close()
+
+    def turn(self, holds: Callable, seconds: float = 20.0) -> bool:
+        deadline = time.monotonic() + seconds
+        while not holds() and time.monotonic() < deadline:
+            for key, _ in self.events.select(0.05):
+                key.data(key.fileobj)
+            self.keeping.tend()
+        return bool(holds())
+
+    def asked(self, address: str) -> tuple[str, int]:
+        """The answer of the keeper, and the number of the socket in the system."""
+        hold = socket.socket(socket.AF_UNIX, socket.SOCK_SEQPACKET)
+        self.addCleanup(hold.close)
+        hold.settimeout(20)
+        hold.connect(str(self.folder.keeper))
+        hold.send(address.encode())
+        said, given, _, _ = socket.recv_fds(hold, 200, 1)
+        if not given:
+            return said.decode(), 0
+        with socket.socket(fileno=given[0]) as one:
+            return said.decode(), os.fstat(one.fileno()).st_ino
+
+    def killed(self, number: int = signal.SIGKILL) -> int:
+        """Kills the keeper; its number."""
+        process = self.keeping.process.pid
+        os.kill(process, number)
+        return process
+
+    def is_another(self, process: int) -> bool:
+        return self.keeping.process is not None and self.keeping.process.pid != process
+
+    def test_a_killed_keeper_is_started_again_with_the_same_sockets(self) -> None:
+        places = [free_address(), str(self.room / "site.sock")]
+        before = [self.asked(place) for place in places]
+        self.assertTrue(self.turn(lambda: len(self.keeping.held) == 2))
+        for _ in range(2):
+            process = self.killed()
+            self.assertTrue(self.turn(lambda: self.is_another(process)))
+            self.assertEqual([self.asked(place) for place in places], before)
+
+    def test_who_asks_while_no_keeper_runs_waits(self) -> None:
+        place = free_address()
+        before = self.asked(place)
+        self.assertTrue(self.turn(lambda: self.keeping.held))
+        self.killed(signal.SIGSTOP)
+        hold = socket.socket(socket.AF_UNIX, socket.SOCK_SEQPACKET)
+        self.addCleanup(hold.close)
+        hold.connect(str(self.folder.keeper))
+        hold.send(place.encode())
+        process = self.killed()
+        self.assertTrue(self.turn(lambda: self.is_another(process)))
+        hold.settimeout(20)
+        said, given, _, _ = socket.recv_fds(hold, 200, 1)
+        with socket.socket(fileno=given[0]) as one:
+            self.assertEqual((said.decode(), os.fstat(one.fileno()).st_ino), before)
+
+    def test_a_keeper_that_hangs_is_replaced(self) -> None:
+        with mock.patch.multiple(keeping, ANSWER_SECONDS=30.0, ASK_SECONDS=0.1):
+            self.assertFalse(self.turn(lambda: self.keeping.restarts, 1.0))
+        with mock.patch.multiple(keeping, ANSWER_SECONDS=0.5, ASK_SECONDS=0.1):
+            process = self.killed(signal.SIGSTOP)
+            self.assertTrue(self.turn(lambda: self.is_another(process)))
+
+    def test_a_keeper_that_cannot_be_started_is_tried_again(self) -> None:
+        process = self.killed()
+        with mock.patch.object(keeping.subprocess, "Popen", side_effect=BlockingIOError(11, "again")) as start:
+            self.assertTrue(self.turn(lambda: start.call_count > 1))
+        self.assertTrue(self.turn(lambda: self.is_another(process)))
+        self.assertEqual(self.asked(free_address())[0], "ok")
+
+    def test_the_addresses_of_a_start_are_held_until_they_are_released(self) -> None:
+        places = [str(self.room / name) for name in ("one", "two")]
+        with mock.patch.dict(os.environ, PREFORK_KEEPER=str(self.folder.keeper)):
+            self.keeping.hold(places)
+            with socket.socket() as other:
+                other.bind(("127.0.0.1", 0))
+                other.listen()
+                taken = "127.0.0.1:%d" % other.getsockname()[1]
+                with self.assertRaisesRegex(Unfit, f"{taken}: Address already in use"):
+                    self.keeping.hold([taken])
+        self.assertTrue(self.turn(lambda: self.keeping.refusals))
+        self.assertEqual(self.keeping.refusals, [f"{taken}: Address already in use"])
+        self.assertFalse(self.turn(lambda: len(self.keeping.held) < 2, 3.0))
+        self.keeping.release()
+
+    def test_a_dropped_address_is_given_up_here_too(self) -> None:
+        self.asked(str(self.room / "kept"))
+        hold = socket.socket(socket.AF_UNIX, socket.SOCK_SEQPACKET)
+        hold.connect(str(self.folder.keeper))
+        hold.send(str(self.room / "dropped").encode())
+        self.assertTrue(self.turn(lambda: len(self.keeping.held) == 2))
+        hold.close()
+        self.assertTrue(self.turn(lambda: len(self.keeping.held) == 1))
+        self.assertFalse((self.room / "dropped").exists())
+
+    def test_the_end_removes_files_and_a_kill_does_not(self) -> None:
+        place = self.room / "site.sock"
+        self.asked(str(place))
+        self.assertTrue(self.turn(lambda: self.keeping.held))
+        process = self.keeping.process
+        self.events.unregister(self.keeping.channel)
+        self.keeping.channel.close()
+        self.assertEqual(process.wait(20), 0)
+        self.assertTrue(place.exists())
+        self.keeping.begin()
+        self.keeping.end()
+        self.assertFalse(place.exists())
+
+
+class KeptTest(unittest.TestCase):
+    def test_a_socket_that_strangers_may_hold_stays_until_they_have_finished(self) -> None:
+        kept = Kept("127.0.0.1:1", mock.Mock(), has_strangers=True)
+        self.assertFalse(kept.is_free(0.0))
+        with mock.patch.object(keeper, "FINISH_SECONDS", 0.2):
+            kept.settle()
+        self.assertFalse(kept.is_free(0.0))
+        time.sleep(0.3)
+        self.assertTrue(kept.is_free(0.0))
+        kept.holders = 1
+        self.assertFalse(kept.is_free(0.0))
+
+    def test_one_without_strangers_is_not_kept_for_them(self) -> None:
+        kept = Kept("127.0.0.1:1", mock.Mock())
+        kept.settle()
+        self.assertTrue(kept.is_free(0.0))
+
+
+if __name__ == "__main__":
+    unittest.main()
