@@ -1,3 +1,3 @@
 """The service around a Prefork master: its sockets, its words, its workers."""
 
-VERSION = "0.1.0"
+VERSION = "0.2.0"

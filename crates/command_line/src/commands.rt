@@ -29,7 +29,7 @@ fn bare<'a>(alloc: Global) -> Command<'a>
     Command::new(alloc, "prefork")
         .about("Plan and rehearse the control words of a preforking master")
         .after_help(PROGRAM_NOTES)
-        .version("0.1.0")
+        .version("0.2.0")
         .subcommand_required(true)
         .disable_help_subcommand(true)
 }

@@ -8,7 +8,7 @@ Example: what a master with two workers does on TTIN:
 Example: the plan of a reload, before anything is done:
   prefork plan --from a.toml --to b.toml HUP
 
-Example: a master with a worker that is looked after once, and stopped:
+Example: start a master with one worker, send it one tick, and stop it:
   printf 'tick 1\\nQUIT\\n' | prefork supervise --program prefork";
 
 pub(crate) const FROM_HELP: &str = "\
@@ -16,8 +16,8 @@ The configuration of the start, a TOML file
 [default: one worker, 0.0.0.0:8080]";
 
 pub(crate) const TO_HELP: &str = "\
-The configuration that HUP and USR2 go over to
-[default: that of the start]";
+The configuration that HUP, USR2 and 'USR2 attended'
+go over to [default: that of the start]";
 
 pub(crate) const PROGRAM_HELP: &str = "\
 The executable of the workers, started with the word
@@ -36,7 +36,7 @@ How many workers are wanted and run at the start,
 configuration [default: the configuration's count]";
 
 pub(crate) const WHY_HELP: &str = "\
-Say more of a fault, on lines behind its own";
+Explain a fault, on lines after its own";
 
 pub(crate) const CODE_HELP: &str = "\
 A code as the program prints it, without what follows
@@ -139,9 +139,9 @@ Standard input has a control word on each line, without quotes; `prefork enact
 file, starts its workers as on 'tick 0', and then carries out one word after
 another. HUP, USR2 and 'USR2 attended' read the file of --to anew.
 
-This version takes no answers from the operator. The master itself answers each
-question of 'USR2 attended' with 'back', so it rolls that word back at the first
-question.
+While 'USR2 attended' asks, the next WINCH or QUIT goes on; the next HUP, the
+end of the input or a failed read goes back. Other lines wait their turn; with 64
+lines waiting, the upgrade goes back.
 
 For each word the output has a block, as `prefork enact` prints them, before the
 next line is read. At a tick each worker is asked for a beat, and each that comes
@@ -152,9 +152,9 @@ Workers are told lines on standard input and answer on standard output; their
 standard error is the master's. When the master ends, however it does, their
 input ends, and so do they. Each worker takes two descriptors of the master.
 
-Exit status: 0 all done, 1 a word was refused, unread or lost, or a file or
-memory was wanting, 2 usage, 3 rolled back, 4 degraded; of several, 1 comes
-before 4 and 4 before 3.
+Exit status: 0 all done, 1 a word was refused, unread or lost, a file could not
+be read or written, or memory ran out, 2 usage, 3 rolled back, 4 degraded; of
+several, 1 comes before 4 and 4 before 3.
 
 Example: two ticks, a reload, and a graceful stop:
   printf 'tick 1\\ntick 2\\nHUP\\nQUIT\\n' | prefork supervise --program prefork";
@@ -167,8 +167,8 @@ on standard output. At the end of its input it stops its children and ends.
 A service whose executable wraps prefork passes its own name on:
   exec prefork adopt --program \"$0\"
 
-Exit status: 0 its input has ended, 1 a line could not be read or memory was
-wanting, 2 usage.";
+Exit status: 0 its input has ended, 1 a line could not be read or memory ran
+out, 2 usage.";
 
 pub(crate) const CHILD_NOTES: &str = "\
 A worker answers what a master asks of it, and serves nothing: it shows how one
