@@ -131,7 +131,7 @@ module _ (text : List ℕ) (g : Generation) (k : ℕ) where
         ∙ onward-exit (branch branches (reply_of set plain.answer)) (worker ∷ []) (after_call by order set plain (after_moment [] p))
 
   -- From there on the run in which it has exited is that in which it exits next.
-  joined : (rest : Option Tree) (ls : List ℕ) (e : Entry) (x : Progress) (a b : Pattern) → Asks rest ls e → a (x.calls + 1) ≡ quiet → b (x.calls + 1) ≡ leaving →
+  joined : (rest : Option Tree) (ls : List Lack) (e : Entry) (x : Progress) (a b : Pattern) → Asks rest ls e → a (x.calls + 1) ≡ quiet → b (x.calls + 1) ≡ leaving →
       ((m : ℕ) → x.calls + 1 < m → a m ≡ b m) → EndsAlike (rest_run text rest a (after_moment (worker ∷ []) x)) (rest_run text rest b x)
   joined None ls e x a b asks here there behind = absurd asks
   joined (Some (Ends end)) ls e x a b asks here there behind = absurd asks
