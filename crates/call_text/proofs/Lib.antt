@@ -7,5 +7,6 @@ pub mod SetTexts
 pub mod ShortfallTexts
 pub mod AnswerTexts
 pub mod NameTexts
+pub mod PlainAnswers
 pub mod ReportTexts
 pub mod ShortTexts

@@ -3,10 +3,13 @@ use Rattle.std.specs.Prelude.{ℕ, Bool, false, List, [], ◌∷◌, ◌++◌, O
 use Rattle.vocabulary.specs.declared.calls.Call.{Call}
 use Rattle.vocabulary.specs.declared.calls.Answer.{Answer}
 use Rattle.vocabulary.specs.declared.calls.Answer.TheVariants as answer
+use Rattle.vocabulary.specs.declared.calls.Reply.{Reply}
+use Rattle.vocabulary.specs.declared.calls.Reply.TheVariants as reply
 use Rattle.vocabulary.specs.declared.calls.Reply.TheVariants.{MasterGone}
 use Rattle.definitions.specs.Tree.{replies_to, reply_of, among}
 use Rattle.plain_text.specs.NumberText.{number_within}
 use Rattle.call_text.specs.CallText.{answer_word}
+use Rattle.call_text.specs.Words.{reply_text}
 use Rattle.plain_text.specs.Cuts.{cut}
 use Rattle.call_text.specs.Reading.{◌>>=◌, some_if}
 use Rattle.call_text.specs.SetReading.{set_of}
@@ -27,6 +30,41 @@ plain_answers =
 
 abbrev pub plain_of : List ℕ → Option Answer
 plain_of text = find (is_answer text) plain_answers
+
+-- the replies whose answers are one word, in the order of these answers
+abbrev pub plain_replies : List Reply
+plain_replies =
+    reply.InUse ∷ reply.TooMany ∷ reply.Denied ∷ reply.NoMemory ∷ reply.Fine ∷ reply.Forked ∷ reply.Again ∷ reply.IsReady ∷ reply.Gone
+    ∷ reply.Late ∷ reply.Spawned ∷ reply.NoImage ∷ reply.Adopted ∷ reply.Refused ∷ reply.IoFault ∷ reply.IsAlive ∷ reply.Go ∷ reply.Back ∷ reply.MasterGone ∷ []
+
+-- whether a word tells this reply
+abbrev pub tells : List ℕ → Reply → Bool
+tells text r = bytes_eq (reply_text r) text
+
+-- the answer of one word that gives a reply
+abbrev pub plain_answer : Reply → Option Answer
+plain_answer reply.Opened = None
+plain_answer reply.Full = None
+plain_answer reply.Short = None
+plain_answer reply.InUse = Some answer.InUse
+plain_answer reply.TooMany = Some answer.TooMany
+plain_answer reply.Denied = Some answer.Denied
+plain_answer reply.NoMemory = Some answer.NoMemory
+plain_answer reply.Fine = Some answer.Fine
+plain_answer reply.Forked = Some answer.Forked
+plain_answer reply.Again = Some answer.Again
+plain_answer reply.IsReady = Some answer.IsReady
+plain_answer reply.Gone = Some answer.Gone
+plain_answer reply.Late = Some answer.Late
+plain_answer reply.Spawned = Some answer.Spawned
+plain_answer reply.NoImage = Some answer.NoImage
+plain_answer reply.Adopted = Some answer.Adopted
+plain_answer reply.Refused = Some answer.Refused
+plain_answer reply.IoFault = Some answer.IoFault
+plain_answer reply.IsAlive = Some answer.IsAlive
+plain_answer reply.Go = Some answer.Go
+plain_answer reply.Back = Some answer.Back
+plain_answer reply.MasterGone = Some answer.MasterGone
 
 abbrev pub answer_about : List ℕ → List ℕ → Option Answer
 answer_about word rest =

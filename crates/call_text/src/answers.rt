@@ -1,43 +1,25 @@
 //! Texts of answers.
-ghost use Rattle.std.specs.Prelude.{◌≡◌, ◌<◌, ◌≤◌, ◌++◌, length, IfOk};
+ghost use Rattle.std.specs.Prelude.{◌≡◌, ◌<◌, ◌≤◌, ◌++◌, length, find, IfOk};
 ghost use Rattle.plain_text.specs.Kept.{kept};
 ghost use Rattle.call_text.specs.CallText.{answer_word, answer_text};
 ghost use Rattle.call_text.specs.Reads.{Reads};
 ghost use Rattle.call_text.specs.Ranges.{IsAnswerTo};
-ghost use Rattle.call_text.specs.AnswerReading.{listed, is_answer, plain_of, answer_about, answer_of, answer_to};
+ghost use Rattle.call_text.specs.AnswerReading.{listed, tells, plain_replies, plain_answer, plain_of, answer_about, answer_of, answer_to};
 
 use crate::sets::{read_numbers, write_set};
+use crate::words::reply_text;
 use call_replies::{replies_to, reply_to};
 use listener_set::Numbers;
 use plain_text::{LINE_BYTES, Line, Sink, cut, number_within, write_number};
-use vocabulary::{Answer, Call};
+use vocabulary::{Answer, Call, Reply};
 
 /// The first word of an answer.
 fn answer_word(answer: &Answer) -> &'static str
     ensures { result.now ≡ answer_word answer.now }
 {
     match answer {
-        Answer::Opened(_) => "opened",
-        Answer::InUse => "in-use",
-        Answer::TooMany => "too-many",
-        Answer::Denied => "denied",
-        Answer::NoMemory => "no-memory",
-        Answer::Fine => "ok",
-        Answer::Forked => "forked",
-        Answer::Again => "again",
-        Answer::IsReady => "ready",
-        Answer::Gone => "gone",
-        Answer::Late => "late",
         Answer::Counted(_) => "counted",
-        Answer::Spawned => "spawned",
-        Answer::NoImage => "no-image",
-        Answer::Adopted => "adopted",
-        Answer::Refused => "refused",
-        Answer::IoFault => "io-fault",
-        Answer::IsAlive => "alive",
-        Answer::Go => "go",
-        Answer::Back => "back",
-        Answer::MasterGone => "master-gone",
+        _ => reply_text(reply_to(answer, &Numbers::none())),
     }
 }
 
@@ -80,43 +62,79 @@ fn is_listed(call: &Call, answer: &Answer) -> bool
     replies_to(call).contains(&reply_to(answer, &Numbers::none()))
 }
 
-/// The answers of one word.
-const PLAIN: [Answer; 19] = [
-    Answer::InUse,
-    Answer::TooMany,
-    Answer::Denied,
-    Answer::NoMemory,
-    Answer::Fine,
-    Answer::Forked,
-    Answer::Again,
-    Answer::IsReady,
-    Answer::Gone,
-    Answer::Late,
-    Answer::Spawned,
-    Answer::NoImage,
-    Answer::Adopted,
-    Answer::Refused,
-    Answer::IoFault,
-    Answer::IsAlive,
-    Answer::Go,
-    Answer::Back,
-    Answer::MasterGone,
+/// The replies whose answers are one word.
+const PLAIN: [Reply; 19] = [
+    Reply::InUse,
+    Reply::TooMany,
+    Reply::Denied,
+    Reply::NoMemory,
+    Reply::Fine,
+    Reply::Forked,
+    Reply::Again,
+    Reply::IsReady,
+    Reply::Gone,
+    Reply::Late,
+    Reply::Spawned,
+    Reply::NoImage,
+    Reply::Adopted,
+    Reply::Refused,
+    Reply::IoFault,
+    Reply::IsAlive,
+    Reply::Go,
+    Reply::Back,
+    Reply::MasterGone,
 ];
 
-fn is_answer(answer: &Answer, text: &[u8]) -> bool
-    ensures { result ≡ is_answer text.now answer.now }
+/// The reply that a word tells. (A table of answers would be made anew at each call, in 7 KB; this one takes 19 bytes.)
+fn plain_reply(text: &[u8]) -> Option<Reply>
+    ensures { result ≡ find (tells text.now) plain_replies }
 {
-    match answer {
-        Answer::Opened(_) | Answer::Counted(_) => false,
-        _ => answer_word(answer).as_bytes() == text,
-    }
+    PLAIN.iter().copied().find(|reply| tells(*reply, text))
+}
+
+fn tells(reply: Reply, text: &[u8]) -> bool
+    ensures { result ≡ tells text.now reply }
+{
+    reply_text(reply).as_bytes() == text
+}
+
+/// The answer of one word that gives a reply.
+fn plain_answer(reply: Reply) -> Option<Answer>
+    ensures { result ≡ plain_answer reply }
+{
+    let answer = match reply {
+        Reply::Opened | Reply::Full | Reply::Short => return None,
+        Reply::InUse => Answer::InUse,
+        Reply::TooMany => Answer::TooMany,
+        Reply::Denied => Answer::Denied,
+        Reply::NoMemory => Answer::NoMemory,
+        Reply::Fine => Answer::Fine,
+        Reply::Forked => Answer::Forked,
+        Reply::Again => Answer::Again,
+        Reply::IsReady => Answer::IsReady,
+        Reply::Gone => Answer::Gone,
+        Reply::Late => Answer::Late,
+        Reply::Spawned => Answer::Spawned,
+        Reply::NoImage => Answer::NoImage,
+        Reply::Adopted => Answer::Adopted,
+        Reply::Refused => Answer::Refused,
+        Reply::IoFault => Answer::IoFault,
+        Reply::IsAlive => Answer::IsAlive,
+        Reply::Go => Answer::Go,
+        Reply::Back => Answer::Back,
+        Reply::MasterGone => Answer::MasterGone,
+    };
+    Some(answer)
 }
 
 /// An answer of one word.
 fn read_plain(text: &[u8]) -> Option<Answer>
     ensures { result ≡ plain_of text.now }
 {
-    PLAIN.iter().copied().find(|answer| is_answer(answer, text))
+    match plain_reply(text) {
+        Some(reply) => plain_answer(reply),
+        None => None,
+    }
 }
 
 /// An answer of two words.
