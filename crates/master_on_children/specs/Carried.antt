@@ -1,5 +1,5 @@
 -- A target carried out on real children.
-use Rattle.std.specs.Prelude.{ℕ, ◌≡◌, true, false, List, Option}
+use Rattle.std.specs.Prelude.{ℕ, ◌≡◌, true, List, Option}
 use Rattle.definitions.specs.Record.{Record}
 use Rattle.definitions.specs.Target.{sides_of, text_handed}
 use Rattle.definitions.specs.After.{lacks_generation, record_after}
@@ -7,6 +7,7 @@ use Rattle.definitions.specs.Plans.{plan_tree}
 use Rattle.definitions.specs.Path.{KeepsPathLaw}
 use Rattle.vocabulary.specs.declared.targets.Target.{Target}
 use Rattle.reload_planner.specs.declared.refusal.PlanRefusal.TheVariants.{NoGeneration}
+use Rattle.upgrade_planner.specs.Planned.{HasPlan}
 use Rattle.child_family.specs.declared.family.Family.{Ghosts}
 use Rattle.child_edge.specs.State.{State, state_of}
 use Rattle.child_edge.specs.Edge.{CallsHeld}
@@ -14,10 +15,6 @@ use Rattle.word_runner.specs.Codes.{unplanned_code}
 use Rattle.word_runner.specs.declared.enactor.Enacted.{Enacted}
 use Rattle.master_on_children.specs.Inbox.{on_children, AreAnswered}
 use Rattle.master_on_children.specs.declared.attended.Attended.{Attended}
-
--- There is a plan: no number of the target's generation would pass its limit.
-abbrev pub HasPlan : Record → Target → Type 0
-HasPlan r target = lacks_generation r target ≡ false
 
 -- There is none, and the code is the planner's.
 pub record IsUnplanned (r : Record) (target : Target) (code : List ℕ) : Type 0 where

@@ -1,17 +1,15 @@
 //! Targets carried out on real children.
 ghost use Rattle.std.specs.Prelude.{◌≡◌, IfOk, IfErr, IsErrOf, OnErr};
-ghost use Rattle.definitions.specs.Plans.{plan_tree};
-ghost use Rattle.definitions.specs.Target.{IsTarget, sides_of, text_handed};
-ghost use Rattle.rollback_plan.specs.Plans.{tree_of, note_of, sides_told, text_of};
+ghost use Rattle.definitions.specs.Target.{IsTarget};
 ghost use Rattle.word_runner.specs.Enactors.{HasCode};
-ghost use Rattle.master_on_children.specs.Carried.{HasPlan, IsUnplanned, IsCarriedOut};
+ghost use Rattle.upgrade_planner.specs.Planned.{HasPlan};
+ghost use Rattle.master_on_children.specs.Carried.{IsUnplanned, IsCarriedOut};
 
 use crate::Attended;
 use child_family::Family;
 use log::Log;
 use plan_walk::{Transcript, execute};
 use reload_planner::PlanRefusal;
-use rollback_plan::Plan;
 use service_state::Record;
 use std::alloc::Global;
 use std::io::Read;
@@ -67,7 +65,11 @@ fn carry_out<F: Family + Drop, I: Read + Drop, L: Log + Drop>(
     ensures memory { IsErrOf result TargetRefusal.Memory → HasPlan state.now target.now }
     ensures err { OnErr result (world.new ≡ world.old) }
 {
-    let plan = plan_of(alloc, state, target)?;
+    let plan = match upgrade_planner::plan_target(alloc, state, target) {
+        Ok(plan) => plan,
+        Err(PlanRefusal::Memory) => return Err(TargetRefusal::Memory),
+        Err(refusal) => return Err(TargetRefusal::Coded(CodeText::unplanned(refusal))),
+    };
     let longest = plan.longest();
     let Ok(mut log) = Transcript::with_room(alloc, longest) else {
         return Err(TargetRefusal::Memory);
@@ -78,22 +80,4 @@ fn carry_out<F: Family + Drop, I: Read + Drop, L: Log + Drop>(
     let report = execute(&plan, world, &mut log);
     let after = state.after(target, &report, state.pid);
     Ok(Enacted { log, report, after })
-}
-
-/// The plan of a target. Where there is none, the code is the planner's.
-fn plan_of(alloc: Global, state: &Record, target: &Target) -> Result<Plan, TargetRefusal>
-    requires { IsTarget target.now }
-    ensures has_plan { IfOk result (λ _. HasPlan state.now target.now) }
-    ensures tree { IfOk result (λ plan. tree_of plan ≡ plan_tree state.now target.now) }
-    ensures note { IfOk result (λ plan. note_of plan ≡ state.now.note) }
-    ensures sides { IfOk result (λ plan. sides_told plan ≡ sides_of state.now target.now) }
-    ensures text { IfOk result (λ plan. text_of plan ≡ text_handed state.now target.now) }
-    ensures declined { IfErr result (HasCode (IsUnplanned state.now target.now)) }
-    ensures memory { IsErrOf result TargetRefusal.Memory → HasPlan state.now target.now }
-{
-    match upgrade_planner::plan_target(alloc, state, target) {
-        Ok(plan) => Ok(plan),
-        Err(PlanRefusal::Memory) => Err(TargetRefusal::Memory),
-        Err(refusal) => Err(TargetRefusal::Coded(CodeText::unplanned(refusal))),
-    }
 }

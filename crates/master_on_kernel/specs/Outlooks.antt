@@ -4,8 +4,8 @@ use Rattle.definitions.specs.Record.{Record}
 use Rattle.definitions.specs.Tree.{height}
 use Rattle.reload_planner.specs.Codes.{plan_code}
 use Rattle.reload_planner.specs.declared.refusal.PlanRefusal.{PlanRefusal}
-use Rattle.plan_executor.specs.Refusals.{HasNoPlan}
-use Rattle.definitions.specs.Plans.{planned}
+use Rattle.upgrade_planner.specs.Planned.{HasPlan, HasNoPlan}
+use Rattle.definitions.specs.Plans.{plan_tree}
 use Rattle.vocabulary.specs.declared.targets.Target.{Target}
 use Rattle.rollback_plan.specs.declared.plan.Plan.{Plan}
 use Rattle.rollback_plan.specs.Plans.{tree_of, steps_of}
@@ -40,7 +40,8 @@ pub record Tells (body : Body) (outlook : Outlook) : Type 0 where
 -- the plan of a target
 pub record Shows (r : Record) (target : Target) (form : Form) (outlook : Outlook) : Type 0 where
   pub plan : Plan
-  pub is_its : planned r target ≡ Some (tree_of plan)
+  pub has_plan : HasPlan r target
+  pub is_its : tree_of plan ≡ plan_tree r target
   pub text : outlook.text.items ≡ shown form plan
   pub status : outlook.status ≡ 0
 

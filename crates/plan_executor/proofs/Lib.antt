@@ -3,7 +3,6 @@ pub mod Running
 pub mod Reporting
 pub mod Replaying
 pub mod Refused
-pub mod Planned
 pub mod Reigning
 pub mod Enacting
 pub mod Exact

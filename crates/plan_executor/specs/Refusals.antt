@@ -1,9 +1,8 @@
 -- Why a target is not carried out.
-use Rattle.std.specs.Prelude.{ℕ, ◌≡◌, true, false, Some}
+use Rattle.std.specs.Prelude.{ℕ, ◌≡◌, Some}
 use Rattle.definitions.specs.Table.{Table}
 use Rattle.definitions.specs.Record.{Record, Agrees}
 use Rattle.vocabulary.specs.declared.targets.Target.{Target}
-use Rattle.definitions.specs.After.{lacks_generation}
 use Rattle.definitions.specs.Tree.{height}
 use Rattle.definitions.specs.Plans.{plan_tree}
 use Rattle.definitions.specs.Run.{Pattern}
@@ -12,20 +11,9 @@ use Rattle.kernel_model.specs.Room.{LacksNumbers}
 use Rattle.kernel_model.specs.declared.refusal.ReserveRefusal.{ReserveRefusal}
 use Rattle.kernel_model.specs.declared.refusal.ReserveRefusal.TheVariants as reserve
 use Rattle.reload_planner.specs.declared.refusal.PlanRefusal.{PlanRefusal}
-use Rattle.reload_planner.specs.declared.refusal.PlanRefusal.TheVariants as planner
+pub use Rattle.upgrade_planner.specs.Planned.{HasPlan, HasNoPlan}
 use Rattle.plan_executor.specs.declared.enactment.EnactRefusal.{EnactRefusal}
 use Rattle.plan_executor.specs.declared.enactment.EnactRefusal.TheVariants.{Memory, RecordDisagrees, Plan, MasterNamed, NoNumbers}
-
--- There is a plan: no number of the target's generation would pass its limit.
-abbrev pub HasPlan : Record → Target → Type 0
-HasPlan r target = lacks_generation r target ≡ false
-
--- When a target's planner refuses it so, want of memory aside. Each target has a planner, and no plan is too large.
-abbrev pub HasNoPlan : Record → Target → PlanRefusal → Type 0
-HasNoPlan r target planner.Unplanned = ⊥
-HasNoPlan r target planner.TooLarge = ⊥
-HasNoPlan r target planner.NoGeneration = lacks_generation r target ≡ true
-HasNoPlan r target planner.Memory = ⊥
 
 -- The record agrees, and no planner refuses the target: what is refused then is found out only behind the plan's memory.
 pub record IsPlannable (t : Table) (r : Record) (target : Target) : Type 0 where

@@ -1,10 +1,11 @@
 //! The plan of a target, by the planner that plans such a target.
-ghost use Rattle.std.specs.Prelude.{◌≡◌, ◌≤◌, ◌↔◌, Some, length, IfOk, IsErrOf, IsTrue};
+ghost use Rattle.std.specs.Prelude.{◌≡◌, ◌≤◌, ◌↔◌, length, IfOk, IsErrOf, IsTrue};
 ghost use Rattle.definitions.specs.Target.{IsTarget, sides_of, text_handed};
 ghost use Rattle.definitions.specs.After.{lacks_generation};
-ghost use Rattle.definitions.specs.Plans.{planned};
+ghost use Rattle.definitions.specs.Plans.{plan_tree};
 ghost use Rattle.rollback_plan.specs.Plans.{tree_of, note_of, sides_told, text_of, trees_in};
 ghost use Rattle.reload_planner.specs.Planning.{most_steps};
+ghost use Rattle.upgrade_planner.specs.Planned.{HasPlan};
 
 use crate::{plan, plan_attended};
 use reload_planner::PlanRefusal;
@@ -20,7 +21,8 @@ use vocabulary::Target;
 /// Each target has a planner, so `Unplanned` (P2) never comes, and no plan is too large.
 pub fn plan_target(alloc: Global, state: &Record, target: &Target) -> Result<Plan, PlanRefusal>
     requires { IsTarget target.now }
-    ensures tree { IfOk result (λ plan. planned state.now target.now ≡ Some (tree_of plan)) }
+    ensures has_plan { IfOk result (λ _. HasPlan state.now target.now) }
+    ensures tree { IfOk result (λ plan. tree_of plan ≡ plan_tree state.now target.now) }
     ensures note { IfOk result (λ plan. note_of plan ≡ state.now.note) }
     ensures sides { IfOk result (λ plan. sides_told plan ≡ sides_of state.now target.now) }
     ensures text { IfOk result (λ plan. text_of plan ≡ text_handed state.now target.now) }
