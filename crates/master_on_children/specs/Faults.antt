@@ -1,13 +1,24 @@
 -- Faults of a supervisor, as they are printed.
-use Rattle.std.specs.Prelude.{ℕ, ◌≡◌, ◌≢◌, ◌⊎◌, List, codes}
+use Rattle.std.specs.Prelude.{ℕ, ◌≡◌, ◌≢◌, ◌⊎◌, List, Result, Ok, Err, codes}
 use Rattle.std.specs.declared.io.ErrorKind.{ErrorKind}
 use Rattle.std.specs.declared.io.ErrorKind.TheVariants.{OutOfMemory}
 use Rattle.master_on_children.specs.declared.fault.SupervisorFault.{SupervisorFault}
 use Rattle.master_on_children.specs.declared.fault.SupervisorFault.TheVariants.{Memory, File}
+use Rattle.master_on_children.specs.declared.fault.Halt.{Halt}
+use Rattle.master_on_children.specs.declared.fault.Halt.TheVariants.{Short, Fault}
 
 abbrev pub fault_code : SupervisorFault → List ℕ
 fault_code Memory = codes "memory"
 fault_code File = codes "file"
+
+-- what no further line was acted on for
+abbrev pub fault_of : Halt → SupervisorFault
+fault_of Short = Memory
+fault_of (Fault fault) = fault
+
+abbrev pub status_or_fault : Result ℕ Halt → Result ℕ SupervisorFault
+status_or_fault (Ok status) = Ok status
+status_or_fault (Err halt) = Err (fault_of halt)
 
 -- By the kind of an error: want of memory, which may fail a read or a write too, or else a fault of a file.
 abbrev pub IsOfKind : ErrorKind → SupervisorFault → Type 0

@@ -1,5 +1,5 @@
 -- What lines come to, on real children.
-use Rattle.std.specs.Prelude.{ℕ, ◌≡◌, List, [], ◌∷◌, ◌++◌, map, length, Option, Some, None, Result, Ok, Err, OnOk, IsOk, is_ok, alloc_error, if◌then◌else◌}
+use Rattle.std.specs.Prelude.{ℕ, ◌≡◌, ◌⊎◌, List, [], ◌∷◌, ◌++◌, map, length, Option, Some, None, Result, Ok, Err, OnOk, IsOk, IsErr, is_ok, alloc_error, if◌then◌else◌}
 use Rattle.vocabulary.specs.Settings.{Settings}
 use Rattle.definitions.specs.Record.{Record}
 use Rattle.vocabulary.specs.declared.targets.Target.{Target}
@@ -125,6 +125,41 @@ module _ {F I L N : Type 0} {f : Ghosts F} (remaining : I → Option (List ℕ))
     pub are_heard : AreHeard lines n old blocks m before_end
     pub ended : IsNextLine remaining before_end.world.inbox (Ok None) new.world.inbox
     pub still : new ≡ taken before_end new.world.inbox
+
+  -- Memory was wanted for the last of these lines. It came to no more blocks than these.
+  pub record AreCutShort (lines : List Typed) (n : N) (old : Standing (Attended F I L f)) (blocks : List Block) (m : N) (new : Standing (Attended F I L f)) : Type 0 where
+    pub before : List Typed
+    pub last : Typed
+    pub heard : List Block
+    pub k : N
+    pub mid : Standing (Attended F I L f)
+    pub inbox : Inbox I
+    pub said : Said
+    pub lines_are : lines ≡ before ++ last ∷ []
+    pub are_heard : AreHeard before n old heard k mid
+    pub is_next : IsNextLine remaining mid.world.inbox (Ok (Some last)) inbox
+    pub comes : LineComesTo last k (taken mid inbox) said m new
+    pub wanted : IsErr said.done
+    pub blocks_are : blocks ≡ heard ++ said.blocks.items
+
+  -- What a master came to up to a word that wanted memory: the first tick, a line, or the end.
+  abbrev pub IsShortAtFirst : N → Standing (Attended F I L f) → List Block → N → Standing (Attended F I L f) → Type 0
+  IsShortAtFirst n first blocks m last =
+      (tick : Said) × IsTicked remaining first.record 0 first tick last × IsErr tick.done × (m ≡ n) × (blocks ≡ tick.blocks.items)
+
+  abbrev pub IsShortAtLine : N → Standing (Attended F I L f) → List Block → N → Standing (Attended F I L f) → Type 0
+  IsShortAtLine n first blocks m last =
+      (tick : Said) × (ticked : Standing (Attended F I L f)) × (lines : List Typed) × (heard : List Block)
+      × IsTicked remaining first.record 0 first tick ticked × IsOk tick.done × AreCutShort lines n ticked heard m last × (blocks ≡ tick.blocks.items ++ heard)
+
+  abbrev pub IsShortAtEnd : N → Standing (Attended F I L f) → List Block → N → Standing (Attended F I L f) → Type 0
+  IsShortAtEnd n first blocks m last =
+      (tick : Said) × (ticked : Standing (Attended F I L f)) × (lines : List Typed) × (heard : List Block) × (before_end : Standing (Attended F I L f)) × (end : Said)
+      × IsTicked remaining first.record 0 first tick ticked × IsOk tick.done × IsHeardOut lines n ticked heard m before_end
+      × EndComesTo remaining before_end.record before_end end last × IsErr end.done × (blocks ≡ (tick.blocks.items ++ heard) ++ end.blocks.items)
+
+  abbrev pub IsShortRun : N → Standing (Attended F I L f) → List Block → N → Standing (Attended F I L f) → Type 0
+  IsShortRun n first blocks m last = IsShortAtFirst n first blocks m last ⊎ (IsShortAtLine n first blocks m last ⊎ IsShortAtEnd n first blocks m last)
 
   -- All that a master came to: the first tick, the lines, and the end, and memory was never wanted.
   pub record IsRun (n : N) (first : Standing (Attended F I L f)) (blocks : List Block) (m : N) (last : Standing (Attended F I L f)) : Type 0 where

@@ -29,6 +29,41 @@ impl SupervisorFault {
     }
 }
 
+/// Why no further line is acted on.
+#[derive(Clone, Copy, Debug, PartialEq, Eq)]
+pub(crate) enum Halt {
+    /// A word wanted memory. All blocks up to there are told.
+    Short,
+    /// A line could not be read, or a block could not be told.
+    Fault(SupervisorFault),
+}
+
+impl From<SupervisorFault> for Halt {
+    ghost use Rattle.std.specs.Prelude.{◌≡◌};
+    ghost use Rattle.master_on_children.specs.declared.fault.Halt.TheVariants.{Fault};
+
+    ghost from_gives = { λ fault halt. halt ≡ Fault fault };
+
+    fn from(fault: SupervisorFault) -> Halt {
+        Halt::Fault(fault)
+    }
+}
+
+/// To who started the supervisor, want of memory is that.
+impl From<Halt> for SupervisorFault {
+    ghost use Rattle.std.specs.Prelude.{◌≡◌};
+    ghost use Rattle.master_on_children.specs.Faults.{fault_of};
+
+    ghost from_gives = { λ halt fault. fault ≡ fault_of halt };
+
+    fn from(halt: Halt) -> SupervisorFault {
+        match halt {
+            Halt::Short => SupervisorFault::Memory,
+            Halt::Fault(fault) => fault,
+        }
+    }
+}
+
 impl From<AllocError> for SupervisorFault {
     ghost use Rattle.std.specs.Prelude.{◌≡◌};
     ghost use Rattle.master_on_children.specs.declared.fault.SupervisorFault.TheVariants.{Memory};

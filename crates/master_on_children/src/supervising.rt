@@ -1,13 +1,15 @@
 //! Control words from an input, with their blocks on an output.
-ghost use Rattle.std.specs.Prelude.{◌≡◌, ◌≤◌, List, IfOk, IsOk, IsTrue, OnOk};
+ghost use Rattle.std.specs.Prelude.{◌≡◌, ◌≤◌, List, IfOk, IsOk, IsErr, IsErrOf, IsTrue, OnOk};
 ghost use Rattle.std.specs.Io.KnownBytes.{Appends};
 ghost use Rattle.transcript.specs.Block.{block_text, transcript_text};
 ghost use Rattle.word_runner.specs.Status.{status_after, gravest};
 ghost use Rattle.word_runner.specs.declared.block.Block.{Block as Done};
+ghost use Rattle.master_on_children.specs.Faults.{status_or_fault};
 ghost use Rattle.master_on_children.specs.Typed.{Typed};
-ghost use Rattle.master_on_children.specs.Lines.{IsHeardOut, IsRun};
+ghost use Rattle.master_on_children.specs.Lines.{IsHeardOut, AreCutShort, IsRun, IsShortRun};
 ghost use Rattle.master_on_children.specs.Starts.{IsWritten, IsSupervised};
 
+use crate::fault::Halt;
 use crate::master::Master;
 use crate::said::Said;
 use crate::{NextSettings, Summary, SupervisorFault};
@@ -86,10 +88,21 @@ pub fn supervise_on<F: Family + Drop, N: NextSettings, I: Read + Drop, L: Log + 
         };
     }
     let mut master = Master::begin(alloc, family, start, operator, workers);
-    let status = follow(alloc, &mut master, next, output);
+    let followed = follow(alloc, &mut master, next, output);
+    let status = status_or_fault(followed);
     Supervised {
         family: master.into_family(),
         status,
+    }
+}
+
+/// The status, or the fault that is told in place of it.
+fn status_or_fault(followed: Result<u8, Halt>) -> Result<u8, SupervisorFault>
+    ensures { result ≡ status_or_fault followed }
+{
+    match followed {
+        Ok(status) => Ok(status),
+        Err(halt) => Err(SupervisorFault::from(halt)),
     }
 }
 
@@ -103,17 +116,21 @@ fn write_pid<F: Family>(family: &mut F, start: &SupervisorStart) -> bool
     }
 }
 
-/// Acts on the first tick, on each line and on their end, and gives the status of all blocks.
+/// Acts on the first tick, on each line and on their end, and gives the status of all blocks. Where a word wants memory,
+/// what was acted on is told.
 fn follow<F: Family + Drop, I: Read + Drop, L: Log + Drop, N: NextSettings, O: Write>(
     alloc: Global,
     master: &mut Master<F, I, L>,
     next: &mut N,
     output: &mut O,
-) -> Result<u8, SupervisorFault>
-    ensures { IfOk result (λ status. (blocks : List Done)
+) -> Result<u8, Halt>
+    ensures run { IfOk result (λ status. (blocks : List Done)
         × IsRun I.remaining N.reads next.old master.old.standing blocks next.new master.new.standing
         × Appends (O.contents output.old) (O.contents output.new) (transcript_text blocks)
         × (status ≡ gravest blocks)) }
+    ensures short { IsErrOf result Halt.Short → (blocks : List Done)
+        × IsShortRun I.remaining N.reads next.old master.old.standing blocks next.new master.new.standing
+        × Appends (O.contents output.old) (O.contents output.new) (transcript_text blocks) }
 {
     let ticked = master.tick(0);
     let first = tell(alloc, 0, &ticked, output, master.log())?;
@@ -123,18 +140,22 @@ fn follow<F: Family + Drop, I: Read + Drop, L: Log + Drop, N: NextSettings, O: W
     Ok(gravest)
 }
 
-/// Acts on each line up to the end of the input, and gives the status of the blocks so far and of its own.
+/// Acts on each line up to the end of the input, and gives the status of the blocks so far and of its own. Where a word
+/// wants memory, what was acted on is told.
 fn hear_all<F: Family + Drop, I: Read + Drop, L: Log + Drop, N: NextSettings, O: Write>(
     alloc: Global,
     before: u8,
     master: &mut Master<F, I, L>,
     next: &mut N,
     output: &mut O,
-) -> Result<u8, SupervisorFault>
-    ensures { IfOk result (λ status. (lines : List Typed) × (blocks : List Done)
+) -> Result<u8, Halt>
+    ensures heard { IfOk result (λ status. (lines : List Typed) × (blocks : List Done)
         × IsHeardOut I.remaining N.reads lines next.old master.old.standing blocks next.new master.new.standing
         × Appends (O.contents output.old) (O.contents output.new) (transcript_text blocks)
         × (status ≡ status_after before blocks)) }
+    ensures short { IsErrOf result Halt.Short → (lines : List Typed) × (blocks : List Done)
+        × AreCutShort I.remaining N.reads lines next.old master.old.standing blocks next.new master.new.standing
+        × Appends (O.contents output.old) (O.contents output.new) (transcript_text blocks) }
 {
     let mut status = before;
     for _ in 0..u64::MAX {
@@ -145,7 +166,7 @@ fn hear_all<F: Family + Drop, I: Read + Drop, L: Log + Drop, N: NextSettings, O:
         let said = master.hear(line, next);
         status = tell(alloc, status, &said, output, master.log())?;
     }
-    Err(SupervisorFault::File)
+    Err(Halt::Fault(SupervisorFault::File))
 }
 
 /// Tells what was said, and gives the status then. Want of memory comes behind the blocks that there are.
@@ -155,14 +176,18 @@ fn tell<O: Write, L: Log>(
     said: &Said,
     output: &mut O,
     log: &L,
-) -> Result<u8, SupervisorFault>
+) -> Result<u8, Halt>
     ensures told { OnOk result (Appends (O.contents output.old) (O.contents output.new) (transcript_text said.now.blocks.items)) }
     ensures status { IfOk result (λ status. status ≡ status_after before said.now.blocks.items) }
     ensures whole { OnOk result (IsOk said.now.done) }
+    ensures behind { IsErrOf result Halt.Short → Appends (O.contents output.old) (O.contents output.new) (transcript_text said.now.blocks.items) }
+    ensures short { IsErrOf result Halt.Short → IsErr said.now.done }
 {
     let status = tell_all(alloc, before, &said.blocks, output, log)?;
-    said.done?;
-    Ok(status)
+    match said.done {
+        Ok(()) => Ok(status),
+        Err(_) => Err(Halt::Short),
+    }
 }
 
 /// Tells blocks one after another, and gives the status then.
