@@ -1,1 +1,2 @@
 mod WorkerLineTexts
+mod Obeying

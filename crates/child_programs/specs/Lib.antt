@@ -3,3 +3,4 @@ pub mod Response
 pub mod Worker
 pub mod Requests
 pub mod Master
+pub mod Served

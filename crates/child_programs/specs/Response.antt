@@ -24,9 +24,10 @@ HasRoom (says text) = length text < 4096
 HasRoom (leaves text) = length text < 4096
 HasRoom fails = ⊤
 
--- The exit status where the program ends then, 1 where it can't write its answer. `wrote` says of a text that it was written.
+-- The exit status where the program ends then, 1 where it can't write its answer. `wrote` says of a text that it was written, and
+-- nothing else.
 abbrev pub IsActed : Response → Option ℕ → (List ℕ → Type 0) → Type 0
-IsActed quiet status wrote = status ≡ None
+IsActed quiet status wrote = (status ≡ None) × wrote []
 IsActed (says text) status wrote = ((status ≡ None) × wrote (text ++ 10 ∷ [])) ⊎ (status ≡ Some 1)
 IsActed (leaves text) status wrote = ((status ≡ Some 0) × wrote (text ++ 10 ∷ [])) ⊎ (status ≡ Some 1)
-IsActed fails status wrote = status ≡ Some 1
+IsActed fails status wrote = (status ≡ Some 1) × wrote []

@@ -1,7 +1,7 @@
 -- What a worker does at each line.
-use Rattle.std.specs.Prelude.{ℕ, List, ◌∷◌, ◌++◌, Option, Some, None, codes}
+use Rattle.std.specs.Prelude.{ℕ, ◌≡◌, List, ◌∷◌, ◌++◌, Option, Some, None, codes}
 use Rattle.std.specs.Fmt.{decimal}
-use Rattle.child_programs.specs.WorkerLines.{WorkerLine, Named, Listener, Go, Ping, Tick, Usr1, Close, Quit}
+use Rattle.child_programs.specs.WorkerLines.{WorkerLine, Named, Listener, Go, Ping, Tick, Usr1, Close, Quit, line_of}
 use Rattle.child_programs.specs.Response.{Response, quiet, says, leaves, fails}
 
 -- the answer to a moment names the start
@@ -29,3 +29,7 @@ obeyed start None = fails
 abbrev pub start_after : Option ℕ → Option WorkerLine → Option ℕ
 start_after start (Some (Named g nr new)) = Some new
 start_after start _ = start
+
+-- A line led from one start to another, and to this response.
+abbrev pub Obeys : Option ℕ → List ℕ → Option ℕ → Response → Type 0
+Obeys old line new r = (r ≡ obeyed old (line_of line)) × (new ≡ start_after old (line_of line))

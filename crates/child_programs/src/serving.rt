@@ -1,6 +1,9 @@
 //! The programs of the children of an edge, from their first line to their end.
-ghost use Rattle.std.specs.Io.KnownBytes.{Appends};
-ghost use Rattle.child_programs.specs.Response.{Response, IsActed};
+ghost use Rattle.std.specs.Prelude.{ℕ, Option, None, List, IfOk};
+ghost use Rattle.std.specs.Io.KnownBytes.{Keeps};
+ghost use Rattle.child_processes.specs.NextLine.{unheard};
+ghost use Rattle.child_programs.specs.Worker.{Obeys};
+ghost use Rattle.child_programs.specs.Served.{if_more, IsNextLine, IsObeyed, IsServed};
 
 use crate::answering::{Answers, Refusing};
 use crate::handover_lines::{HandoverLines, Part};
@@ -22,26 +25,40 @@ const ROOM: u32 = 4096;
 
 /// Hears a line, and does what is to be done. The exit status where the program ends then.
 fn obey<H: Hears, O: Write>(program: &mut H, line: &[u8], output: &mut O) -> Option<u8>
-    ensures { (r : Response) × H.hears program.old line.now program.new r × IsActed r result (λ text. Appends (O.contents output.old) (O.contents output.new) text) }
+    ensures { IsObeyed H.hears program.old (O.contents output.old) line.now result program.new (O.contents output.new) }
 {
     let mut answer = Line::new();
     let step = program.hear(line, &mut answer);
     act(step, &mut answer, output)
 }
 
-/// Hears lines up to the end of input, or to one at which the program ends. A line that is too long is heard as an empty
-/// one, which no program can be told. A read that fails ends the program with status 1.
+/// Hears the next line, and whether there is one. One that is too long is heard as an empty one, which no program can be
+/// told. The only refusal is that of a read.
+fn next_line<I: Read + Drop>(lines: &mut LineReader<I>, line: &mut Line) -> io::Result<bool>
+    ensures { IfOk result (λ more. IsNextLine (unheard I.remaining lines.old) (if_more more line.new) (unheard I.remaining lines.new)) }
+{
+    match lines.hear(line)? {
+        Heard::Ended => return Ok(false),
+        Heard::TooLong => line.clear(),
+        Heard::Line => {}
+    }
+    Ok(true)
+}
+
+/// Hears lines up to the end of input, or to one at which the program ends. A read that fails ends the program with
+/// status 1.
 fn serve<H: Hears, I: Read + Drop, O: Write>(
     program: &mut H,
     lines: &mut LineReader<I>,
     output: &mut O,
-) -> u8 {
+) -> u8
+    ensures { IsServed H.hears (unheard I.remaining lines.old) program.old (O.contents output.old) result program.new (O.contents output.new) }
+{
     let mut line = Line::new();
     for _ in 0..u64::MAX {
-        match lines.hear(&mut line) {
-            Ok(Heard::Ended) => return 0,
-            Ok(Heard::TooLong) => line.clear(),
-            Ok(Heard::Line) => {}
+        match next_line(lines, &mut line) {
+            Ok(true) => {}
+            Ok(false) => return 0,
             Err(_) => return 1,
         }
         if let Some(status) = obey(program, line.bytes(), output) {
@@ -53,7 +70,11 @@ fn serve<H: Hears, I: Read + Drop, O: Write>(
 
 /// A worker on pipes. Gives the exit status: 0 after `quit` and at the end of input, and 1 at a line that it can't be told
 /// ([`WorkerProgram::hear`]), one of more than 4,096 bytes too, and where a read fails or an answer can't be written.
-pub fn serve_worker<I: Read + Drop, O: Write>(input: I, output: &mut O) -> u8 {
+pub fn serve_worker<I: Read + Drop, O: Write>(input: I, output: &mut O) -> u8
+    ensures { (unread : Option (List ℕ)) × (start : Option ℕ)
+        × Keeps (I.remaining input) unread
+        × IsServed Obeys unread None (O.contents output.old) result start (O.contents output.new) }
+{
     serve(
         &mut WorkerProgram::new(),
         &mut LineReader::new(input),
@@ -90,10 +111,8 @@ fn receive<I: Read + Drop>(
 ) -> io::Result<Received> {
     let mut handover = HandoverLines::new(alloc)?;
     for _ in 0..u64::MAX {
-        match lines.hear(line)? {
-            Heard::Ended => return Ok(Received::Ended),
-            Heard::TooLong => line.clear(),
-            Heard::Line => {}
+        if !next_line(lines, line)? {
+            return Ok(Received::Ended);
         }
         match handover.take(line.bytes())? {
             Part::More => {}

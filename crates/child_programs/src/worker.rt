@@ -101,11 +101,9 @@ impl WorkerProgram {
 }
 
 impl Hears for WorkerProgram {
-    ghost use Rattle.std.specs.Prelude.{◌≡◌};
-    ghost use Rattle.child_programs.specs.WorkerLines.{line_of};
-    ghost use Rattle.child_programs.specs.Worker.{obeyed, start_after};
+    ghost use Rattle.child_programs.specs.Worker.{Obeys};
 
-    ghost hears = { λ old line new r. (r ≡ obeyed old (line_of line)) × (new ≡ start_after old (line_of line)) };
+    ghost hears = { Obeys };
 
     fn hear(&mut self, line: &[u8], answer: &mut Line) -> Reaction {
         self.hear(line, answer)
