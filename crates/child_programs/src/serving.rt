@@ -111,10 +111,8 @@ fn receive<I: Read + Drop>(
 ) -> io::Result<Received> {
     let mut handover = HandoverLines::new(alloc)?;
     for _ in 0..u64::MAX {
-        match lines.hear(line)? {
-            Heard::Ended => return Ok(Received::Ended),
-            Heard::TooLong => line.clear(),
-            Heard::Line => {}
+        if !next_line(lines, line)? {
+            return Ok(Received::Ended);
         }
         match handover.take(line.bytes())? {
             Part::More => {}

@@ -1,11 +1,11 @@
 -- What a family in memory tells.
 use Rattle.std.specs.Prelude.{List, map, Option, Some, None, if◌then◌else◌}
-use Rattle.tests_of_children.specs.declared.recorded.Asked.{Asked}
-use Rattle.tests_of_children.specs.declared.recorded.Asked.TheVariants.{Started, Said, HeardLine, Stopped, Awaited, Wrote, Renamed, Removed}
+use Rattle.tests_of_children.specs.declared.recorded.FamilyCall.{FamilyCall}
+use Rattle.tests_of_children.specs.declared.recorded.FamilyCall.TheVariants.{Started, Said, HeardLine, Stopped, Awaited, Wrote, Renamed, Removed}
 use Rattle.tests_of_children.specs.declared.recorded.Recorded.{Recorded}
 use Rattle.child_family.specs.Told.{Told, heard_of, started, said, heard, stopped, awaited, wrote, renamed, removed}
 
-abbrev pub told_of : Asked → Told
+abbrev pub told_of : FamilyCall → Told
 told_of (Started role result) = started role result
 told_of (Said id line ok) = said id line.items ok
 told_of (HeardLine id h line) = heard id (heard_of h line.items)

@@ -1,5 +1,5 @@
 //! Edges over children in memory.
-use crate::recorded::{Asked, Recorded};
+use crate::recorded::{FamilyCall, Recorded};
 use crate::setup::{FIRST, ask, below, edge_of, start};
 use child_edge::Edge;
 use child_family::Heard;
@@ -44,16 +44,16 @@ fn tells_a_worker_what_it_is(rt: HostRuntime) -> Result<(), Fail> {
     let calls = edge.family().calls();
     assert_eq!(rt; calls.len(), 5);
     assert!(rt;
-        matches!(&calls[1], Asked::Said(10, line, true) if line.as_slice() == b"worker 1.1 5 1".as_slice())
+        matches!(&calls[1], FamilyCall::Said(10, line, true) if line.as_slice() == b"worker 1.1 5 1".as_slice())
     );
     assert!(rt;
-        matches!(&calls[2], Asked::Said(10, line, true) if line.as_slice() == b"listener 0.0.0.0:8080".as_slice())
+        matches!(&calls[2], FamilyCall::Said(10, line, true) if line.as_slice() == b"listener 0.0.0.0:8080".as_slice())
     );
     assert!(rt;
-        matches!(&calls[3], Asked::Said(10, line, true) if line.as_slice() == b"go".as_slice())
+        matches!(&calls[3], FamilyCall::Said(10, line, true) if line.as_slice() == b"go".as_slice())
     );
     assert!(rt;
-        matches!(&calls[4], Asked::HeardLine(10, Heard::Line, line) if line.as_slice() == b"ready".as_slice())
+        matches!(&calls[4], FamilyCall::HeardLine(10, Heard::Line, line) if line.as_slice() == b"ready".as_slice())
     );
     Ok(())
 }
@@ -72,16 +72,16 @@ fn opens_and_closes(rt: HostRuntime) -> Result<(), Fail> {
     let calls = edge.family().calls();
     assert_eq!(rt; calls.len(), 7);
     assert!(rt;
-        matches!(&calls[6], Asked::Said(10, line, true) if line.as_slice() == b"close 0.0.0.0:8080".as_slice())
+        matches!(&calls[6], FamilyCall::Said(10, line, true) if line.as_slice() == b"close 0.0.0.0:8080".as_slice())
     );
     Ok(())
 }
 
 /// Whether just these lines were said, in order, each to the child of its number.
-fn are_said(calls: &[Asked], lines: &[(u32, &[u8])]) -> bool {
+fn are_said(calls: &[FamilyCall], lines: &[(u32, &[u8])]) -> bool {
     let mut rest = lines.iter();
     for call in calls {
-        if let Asked::Said(id, text, true) = call {
+        if let FamilyCall::Said(id, text, true) = call {
             match rest.next() {
                 Some((child, line)) if child == id && text.as_slice() == *line => {}
                 _ => return false,
@@ -166,15 +166,15 @@ fn passes_calls_to_its_child_master(rt: HostRuntime) -> Result<(), Fail> {
     let calls = edge.family().calls();
     assert_eq!(rt; calls.len(), 12);
     assert!(rt;
-        matches!(&calls[1], Asked::Said(10, line, true) if line.as_slice() == b"handover 1".as_slice())
+        matches!(&calls[1], FamilyCall::Said(10, line, true) if line.as_slice() == b"handover 1".as_slice())
     );
     assert!(rt;
-        matches!(&calls[2], Asked::Said(10, line, true) if line.as_slice() == b"end".as_slice())
+        matches!(&calls[2], FamilyCall::Said(10, line, true) if line.as_slice() == b"end".as_slice())
     );
     assert!(rt;
-        matches!(&calls[3], Asked::Said(10, line, true) if line.as_slice() == b"m2 adopt".as_slice())
+        matches!(&calls[3], FamilyCall::Said(10, line, true) if line.as_slice() == b"m2 adopt".as_slice())
     );
-    assert!(rt; matches!(calls[11], Asked::Stopped(10)));
+    assert!(rt; matches!(calls[11], FamilyCall::Stopped(10)));
     Ok(())
 }
 

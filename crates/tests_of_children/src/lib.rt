@@ -18,4 +18,4 @@ mod recorded;
 #[cfg(test)]
 mod setup;
 
-pub use recorded::{Asked, Recorded};
+pub use recorded::{FamilyCall, Recorded};

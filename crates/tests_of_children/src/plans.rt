@@ -1,7 +1,7 @@
 //! Plans carried out on children in memory, of which each call fails in turn.
 ghost use Rattle.definitions.specs.Target.{IsTarget};
 
-use crate::recorded::{Asked, Recorded};
+use crate::recorded::{FamilyCall, Recorded};
 use crate::setup::ask;
 use child_edge::Edge;
 use listener_set::Numbers;
@@ -42,9 +42,9 @@ fn is_answered(line: &[u8]) -> bool {
 }
 
 /// Whether no child was heard more often than it was told a line with an answer.
-fn hears_no_answer_twice(calls: &[Asked]) -> bool {
+fn hears_no_answer_twice(calls: &[FamilyCall]) -> bool {
     for (at, call) in calls.iter().enumerate() {
-        if let Asked::HeardLine(id, _, _) = call {
+        if let FamilyCall::HeardLine(id, _, _) = call {
             if heard(&calls[..at], *id) >= told(&calls[..at], *id) {
                 return false;
             }
@@ -53,18 +53,18 @@ fn hears_no_answer_twice(calls: &[Asked]) -> bool {
     true
 }
 
-fn heard(calls: &[Asked], id: u32) -> usize {
+fn heard(calls: &[FamilyCall], id: u32) -> usize {
     calls
         .iter()
-        .filter(|call| matches!(call, Asked::HeardLine(other, _, _) if *other == id))
+        .filter(|call| matches!(call, FamilyCall::HeardLine(other, _, _) if *other == id))
         .count()
 }
 
-fn told(calls: &[Asked], id: u32) -> usize {
+fn told(calls: &[FamilyCall], id: u32) -> usize {
     calls
         .iter()
         .filter(
-            |call| matches!(call, Asked::Said(other, line, _) if *other == id && is_answered(line)),
+            |call| matches!(call, FamilyCall::Said(other, line, _) if *other == id && is_answered(line)),
         )
         .count()
 }

@@ -7,7 +7,7 @@ use std::alloc::Global;
 
 /// A call that was made, with its answer.
 #[derive(Drop)]
-pub enum Asked {
+pub enum FamilyCall {
     Started(Role, Result<u32, StartFault>),
     Said(u32, Vec<u8>, bool),
     HeardLine(u32, Heard, Vec<u8>),
@@ -22,7 +22,7 @@ pub enum Asked {
 #[derive(Drop)]
 pub struct Recorded {
     alloc: Global,
-    calls: Vec<Asked>,
+    calls: Vec<FamilyCall>,
     /// Whether no call is missing.
     is_whole: bool,
     obeying: Obeying,
@@ -46,11 +46,11 @@ impl Recorded {
     }
 
     /// The calls that were made.
-    pub fn calls(&self) -> &[Asked] {
+    pub fn calls(&self) -> &[FamilyCall] {
         self.calls.as_slice()
     }
 
-    fn keep(&mut self, call: Asked)
+    fn keep(&mut self, call: FamilyCall)
         ensures { Tells (calls_of self.old) (calls_of self.new) (told_of call) }
     {
         if self.calls.push(call).is_err() {
@@ -72,14 +72,14 @@ impl Family for Recorded {
 
     fn start(&mut self, role: &Role) -> Result<u32, StartFault> {
         let result = self.obeying.start(role);
-        self.keep(Asked::Started(*role, result));
+        self.keep(FamilyCall::Started(*role, result));
         result
     }
 
     fn say(&mut self, id: u32, line: &[u8]) -> bool {
         let is_said = self.obeying.say(id, line);
         match line.to_vec(self.alloc) {
-            Ok(text) => self.keep(Asked::Said(id, text, is_said)),
+            Ok(text) => self.keep(FamilyCall::Said(id, text, is_said)),
             Err(_) => self.lose(),
         }
         is_said
@@ -88,7 +88,7 @@ impl Family for Recorded {
     fn hear(&mut self, id: u32, line: &mut Line) -> Heard {
         let heard = self.obeying.hear(id, line);
         match line.bytes().to_vec(self.alloc) {
-            Ok(text) => self.keep(Asked::HeardLine(id, heard, text)),
+            Ok(text) => self.keep(FamilyCall::HeardLine(id, heard, text)),
             Err(_) => self.lose(),
         }
         heard
@@ -96,19 +96,19 @@ impl Family for Recorded {
 
     fn stop(&mut self, id: u32) {
         self.obeying.forget(id);
-        self.keep(Asked::Stopped(id));
+        self.keep(FamilyCall::Stopped(id));
     }
 
     fn gone(&mut self, id: u32) -> bool {
         self.obeying.forget(id);
-        self.keep(Asked::Awaited(id, true));
+        self.keep(FamilyCall::Awaited(id, true));
         true
     }
 
     fn write_file(&mut self, path: &FilePath, contents: &[u8]) -> bool {
         let is_fine = self.obeying.does();
         match contents.to_vec(self.alloc) {
-            Ok(text) => self.keep(Asked::Wrote(*path, text, is_fine)),
+            Ok(text) => self.keep(FamilyCall::Wrote(*path, text, is_fine)),
             Err(_) => self.lose(),
         }
         is_fine
@@ -116,13 +116,13 @@ impl Family for Recorded {
 
     fn rename_file(&mut self, from: &FilePath, to: &FilePath) -> bool {
         let is_fine = self.obeying.does();
-        self.keep(Asked::Renamed(*from, *to, is_fine));
+        self.keep(FamilyCall::Renamed(*from, *to, is_fine));
         is_fine
     }
 
     fn remove_file(&mut self, path: &FilePath) -> bool {
         let is_fine = self.obeying.does();
-        self.keep(Asked::Removed(*path, is_fine));
+        self.keep(FamilyCall::Removed(*path, is_fine));
         is_fine
     }
 }

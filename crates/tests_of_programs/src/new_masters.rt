@@ -5,7 +5,7 @@ use child_family::{Heard, Role};
 use listener_set::Generation;
 use std::alloc::{AllocError, Global};
 use std::test::Fail;
-use tests_of_children::{Asked, Recorded};
+use tests_of_children::{FamilyCall, Recorded};
 
 /// What an old master hands over, line by line.
 const HANDOVER: [&[u8]; 8] = [
@@ -81,19 +81,19 @@ fn a_new_master_starts_workers_and_writes_its_number(rt: HostRuntime) -> Result<
     };
     let calls = family.calls();
     assert_eq!(rt; calls.len(), 5);
-    assert!(rt; matches!(&calls[0], Asked::Started(started, Ok(10)) if *started == role));
+    assert!(rt; matches!(&calls[0], FamilyCall::Started(started, Ok(10)) if *started == role));
     assert!(rt; has_said(&calls[1], b"worker 2.2 5 1"));
     assert!(rt; has_said(&calls[2], b"listener 0.0.0.0:8080"));
     assert!(rt; has_said(&calls[3], b"go"));
     assert!(rt;
-        matches!(&calls[4], Asked::Wrote(_, text, true) if text.as_slice() == b"200\n".as_slice())
+        matches!(&calls[4], FamilyCall::Wrote(_, text, true) if text.as_slice() == b"200\n".as_slice())
     );
     Ok(())
 }
 
 /// Whether a call said just this line to the first child.
-fn has_said(call: &Asked, line: &[u8]) -> bool {
-    matches!(call, Asked::Said(10, said, true) if said.as_slice() == line)
+fn has_said(call: &FamilyCall, line: &[u8]) -> bool {
+    matches!(call, FamilyCall::Said(10, said, true) if said.as_slice() == line)
 }
 
 #[test]
@@ -205,19 +205,22 @@ fn calls_are_passed_to_the_next_master(rt: HostRuntime) -> Result<(), Fail> {
 
 /// Whether the next master was started, told each line of its handover, and then each of its calls, whose answer is
 /// heard.
-fn hands_over(calls: &[Asked]) -> bool {
+fn hands_over(calls: &[FamilyCall]) -> bool {
     let Some((first, rest)) = calls.split_first() else {
         return false;
     };
     let Some((texts, asked)) = rest.split_at_checked(7) else {
         return false;
     };
-    let is_started = matches!(first, Asked::Started(Role::Master { image: 3 }, Ok(10)));
+    let is_started = matches!(
+        first,
+        FamilyCall::Started(Role::Master { image: 3 }, Ok(10))
+    );
     is_started && says_all(texts, &NEXT[1..8]) && asked.len() == 10
 }
 
 /// Whether calls say these lines.
-fn says_all(calls: &[Asked], lines: &[&[u8]]) -> bool {
+fn says_all(calls: &[FamilyCall], lines: &[&[u8]]) -> bool {
     calls.len() == lines.len()
         && calls.iter().zip(lines.iter()).all(|(call, line)| line
             .strip_suffix(b"\n")
@@ -242,8 +245,8 @@ fn a_handover_is_passed_on(rt: HostRuntime) -> Result<(), Fail> {
     assert_eq!(rt; calls.len(), 13);
     let lines: [&[u8]; 3] = [b"m3 spawn-master 4\n", b"handover 1\n", b"end\n"];
     assert!(rt; says_all(&calls[8..11], &lines));
-    assert!(rt; matches!(&calls[11], Asked::HeardLine(10, Heard::Line, _)));
-    assert!(rt; matches!(&calls[12], Asked::Stopped(10)));
+    assert!(rt; matches!(&calls[11], FamilyCall::HeardLine(10, Heard::Line, _)));
+    assert!(rt; matches!(&calls[12], FamilyCall::Stopped(10)));
     Ok(())
 }
 
@@ -395,11 +398,11 @@ fn talk_with(
     let mut heard = Vec::new(alloc);
     for call in family.calls() {
         match call {
-            Asked::Said(id, line, _) if *id == child => {
+            FamilyCall::Said(id, line, _) if *id == child => {
                 said.extend_from_slice(line.as_slice())?;
                 said.extend_from_slice(b"\n")?;
             }
-            Asked::HeardLine(id, _, line) if *id == child => {
+            FamilyCall::HeardLine(id, _, line) if *id == child => {
                 heard.extend_from_slice(line.as_slice())?;
                 heard.extend_from_slice(b"\n")?;
             }

@@ -11,7 +11,7 @@ use service_state::Record;
 use std::alloc::{AllocError, Global};
 use std::io::{Error as IoError, ErrorKind, Read, Result as IoResult, Write};
 use std::test::Fail;
-use tests_of_children::{Asked, Recorded};
+use tests_of_children::{FamilyCall, Recorded};
 use transcript::read_transcripts;
 use vocabulary::{Outcome, Settings};
 use word_runner::{Block, Body, CodeText, Standing};
@@ -80,24 +80,24 @@ fn writes(
 }
 
 /// The calls of a family, a line each.
-fn calls_text(alloc: Global, calls: &[Asked]) -> Result<Vec<u8>, AllocError> {
+fn calls_text(alloc: Global, calls: &[FamilyCall]) -> Result<Vec<u8>, AllocError> {
     let mut text = Vec::new(alloc);
     for call in calls {
         match call {
-            Asked::Started(..) => text.extend_from_slice(b"start")?,
-            Asked::Said(_, line, _) => {
+            FamilyCall::Started(..) => text.extend_from_slice(b"start")?,
+            FamilyCall::Said(_, line, _) => {
                 text.extend_from_slice(b"say ")?;
                 text.extend_from_slice(line)?;
             }
-            Asked::HeardLine(..) => text.extend_from_slice(b"hear")?,
-            Asked::Stopped(_) => text.extend_from_slice(b"stop")?,
-            Asked::Awaited(..) => text.extend_from_slice(b"gone")?,
-            Asked::Wrote(_, contents, _) => {
+            FamilyCall::HeardLine(..) => text.extend_from_slice(b"hear")?,
+            FamilyCall::Stopped(_) => text.extend_from_slice(b"stop")?,
+            FamilyCall::Awaited(..) => text.extend_from_slice(b"gone")?,
+            FamilyCall::Wrote(_, contents, _) => {
                 text.extend_from_slice(b"write ")?;
                 text.extend_from_slice(contents)?;
             }
-            Asked::Renamed(..) => text.extend_from_slice(b"rename")?,
-            Asked::Removed(..) => text.extend_from_slice(b"remove")?,
+            FamilyCall::Renamed(..) => text.extend_from_slice(b"rename")?,
+            FamilyCall::Removed(..) => text.extend_from_slice(b"remove")?,
         }
         text.extend_from_slice(b"\n")?;
     }
