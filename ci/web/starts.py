@@ -1,22 +1,26 @@
 """The service from outside: its start, its folder, signals and words to it, and guards alone."""
+import json
 import os
 import signal
 import socket
+import subprocess
 
 from gate.addresses import is_refused
 from gate.waiting import SECONDS, until
-from web.site import Scenario, Site, text_of
+from web.site import BIN, Scenario, Site, text_of
+from web.systemd import Systemd
 
 
 def signals_are_words(site: Site) -> None:
     """TTIN, USR1, HUP and TTOU sent to `serve` by its pid file, and words of many `ctl` at a time, each with its own
     block."""
-    with socket.socket(socket.AF_UNIX, socket.SOCK_DGRAM) as systemd:
-        site.environment["NOTIFY_SOCKET"] = str(site.room / "notify")
-        systemd.bind(site.environment["NOTIFY_SOCKET"])
-        systemd.settimeout(SECONDS)
+    systemd = Systemd(site.room / "notify")
+    site.environment["NOTIFY_SOCKET"] = str(systemd.path)
+    try:
         site.begin()
-        site.check("systemd isn't told", systemd.recv(100) == b"READY=1")
+        until("systemd is told", lambda: "READY=1" in systemd.said)
+    finally:
+        systemd.close()
     number = int((site.run / "serve.pid").read_text())
     for name, wanted in (("TTIN", 3), ("HUP", 2)):
         os.kill(number, signal.Signals[f"SIG{name}"])
@@ -110,6 +114,55 @@ def a_pid_of_the_master(site: Site) -> None:
     site.end("1")
 
 
+def a_status(site: Site) -> None:
+    """The status agrees with the processes and with the words, before and after an upgrade, while a word is carried out,
+    and after a worker, the keeper and the master were killed."""
+    site.begin()
+    agrees(site, "1.1", None, 1)
+    site.wants("USR2", 0, "done", 2)
+    agrees(site, "2.2", "USR2", 2)
+    said, _ = site.sent("status").communicate(timeout=SECONDS)
+    site.check(f"the old master isn't named: {said}", f"old master  process {site.master()}: " in said)
+    begun = begins_and_waits(site, 2)
+    site.check("it isn't said what is carried out", status(site)["doing"] == "HUP")
+    site.hold.unlink()
+    site.check("the HUP was not done", "\ndone " in answer_to(begun))
+    site.check_workers("HUP", 2)
+    agrees(site, "2.3", "HUP", 2)
+    old = site.keeper()
+    site.kill(old)
+    until("another keeper", lambda: site.keeper() not in (None, old))
+    agrees(site, "2.3", "HUP", 2, keepers=1)
+    old_workers = site.workers()
+    site.kill(site.new_master())
+    until("two other workers", lambda: site.has_others(old_workers))
+    until("the block of the start", lambda: status(site)["workers"])
+    agrees(site, "1.1", "HUP", 1, keepers=1, restarts=1)
+    site.config.write_text("workers = 0\n")
+    site.check("it isn't said that the file has changed", status(site)["file_has_changed"])
+    site.end("12")
+
+
+def status(site: Site) -> dict:
+    command: list = [BIN / "prefork-ctl", "--folder", site.run, "--json", "status"]
+    found = subprocess.run(command, capture_output=True, text=True, env=site.environment, timeout=SECONDS)
+    return json.loads(found.stdout)
+
+
+def agrees(site: Site, generation: str, word: str | None, masters: int, keepers: int = 0, restarts: int = 0) -> None:
+    """Compares a status with what runs. A worker's process is its own here: it has no adapter."""
+    found = status(site)
+    site.check(f"workers: {found}", {worker["process"] for worker in found["workers"]} == site.workers())
+    site.check(f"generation: {found}", {worker["generation"] for worker in found["workers"]} == {generation})
+    site.check(f"addresses: {found}", found["addresses"] == [site.first])
+    reigning = site.new_master() if masters > 1 else site.master()
+    site.check(f"masters: {found}", len(found["masters"]) == masters and found["masters"][-1] == reigning)
+    site.check(f"keeper: {found}", found["keeper"] == {"process": site.keeper(), "restarts": keepers})
+    site.check(f"restarts: {found}", found["master_restarts"] == restarts)
+    site.check(f"last word: {found}", (found["last"] or {}).get("word") == word)
+    site.check(f"the service: {found}", found["service"]["process"] == site.serve.pid)
+
+
 def asks(site: Site, word: str) -> socket.socket:
     """A word on its way. Words that are sent so come in this order."""
     asker = socket.socket(socket.AF_UNIX)
@@ -189,5 +242,5 @@ def guards(site: Site) -> None:
 
 
 SCENARIOS: tuple[Scenario, ...] = (
-    signals_are_words, nobody_else, a_bad_start, an_address_in_use, a_pid_of_the_master, words_that_wait, guards,
+    signals_are_words, nobody_else, a_bad_start, an_address_in_use, a_pid_of_the_master, a_status, words_that_wait, guards,
 )

@@ -27,7 +27,7 @@ _prefork_service() {
             fi
             options='--folder --prefork --guard --defer-accept --wsgi --python --threads --timeout --keep --chdir --ready --ready-within --probe --probe-within --probe-limit --stop --finish --usr1 --env --no-listen-fds --blocking --help'
             ;;
-        prefork-ctl) options='--folder --help' ;;
+        prefork-ctl) options='--folder --json --help' ;;
         prefork-guard) options='--finish --help' ;;
         prefork-checkworker) options='--path --slow --one --patience --help' ;;
         prefork-load) options='--clients --rate --seconds --patience --path --again --json --help' ;;
@@ -36,7 +36,7 @@ _prefork_service() {
     if [[ $cur == -* ]]; then
         mapfile -t COMPREPLY < <(compgen -W "$options" -- "$cur")
     elif [[ ${COMP_WORDS[0]##*/} == prefork-ctl ]]; then
-        mapfile -t COMPREPLY < <(compgen -W 'HUP QUIT INT TERM USR1 USR2 attended WINCH TTIN TTOU go back' -- "$cur")
+        mapfile -t COMPREPLY < <(compgen -W 'status HUP QUIT INT TERM USR1 USR2 attended WINCH TTIN TTOU go back' -- "$cur")
     elif [[ ${COMP_WORDS[0]##*/} == prefork-serve ]]; then
         compopt -o default
     fi

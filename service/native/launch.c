@@ -64,14 +64,27 @@ static size_t peek(char *text, size_t room) {
     return (size_t)length;
 }
 
-/* The generation of this worker: I.C of the line `worker I.C NR START`, which the master writes at once. */
-static void read_generation(char *generation, size_t room) {
+/* The generation of this worker, I.C, and its number, NR, of the line `worker I.C NR START`, which the master writes at
+ * once. */
+static unsigned read_generation(char *generation, size_t room) {
     char text[LONGEST_LINE + 1];
-    unsigned image, configuration;
+    unsigned image, configuration, number;
     text[peek(text, LONGEST_LINE)] = 0;
-    if (!strchr(text, '\n') || sscanf(text, "worker %9u.%9u ", &image, &configuration) != 2)
+    if (!strchr(text, '\n') || sscanf(text, "worker %9u.%9u %9u ", &image, &configuration, &number) != 3)
         fail("the first line is not that of a master");
     snprintf(generation, room, "%u.%u", image, configuration);
+    return number;
+}
+
+/* Notes the process of this worker in the folder `workers`, for the status. Without that folder nobody asks. */
+static void note_process(const char *generation, unsigned number) {
+    char path[4096];
+    snprintf(path, sizeof path, "%s/workers/%s.%u", setting("PREFORK_FOLDER"), generation, number);
+    int file = open(path, O_WRONLY | O_CREAT | O_TRUNC | O_CLOEXEC, 0600);
+    if (file >= 0) {
+        dprintf(file, "%d\n", (int)getpid());
+        close(file);
+    }
 }
 
 /* The words of a generation's command, in memory that lasts. */
@@ -109,8 +122,9 @@ static void take_errors(void) {
 int main(int count, char **words) {
     char generation[32], own[4096];
     if (count == 2 && !strcmp(words[1], "child")) {
-        read_generation(generation, sizeof generation);
+        unsigned number = read_generation(generation, sizeof generation);
         char **command = command_of(generation);
+        note_process(generation, number);
         take_errors();
         execvp(command[0], command);
         fail("%s: %s", command[0], strerror(errno));

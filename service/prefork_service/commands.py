@@ -13,6 +13,7 @@ import json
 import pathlib
 import subprocess
 import tomllib
+from typing import Any
 
 from .folder import Folder, say
 
@@ -51,10 +52,22 @@ def parted(text: bytes) -> tuple[bytes, list[str] | None]:
         return text, None
 
 
+def is_toml(text: bytes) -> bool:
+    try:
+        tomllib.loads(text.decode())
+    except ValueError:
+        return False
+    return True
+
+
 def refusal_of(prefork: str, config: pathlib.Path) -> str | None:
-    """Why the master refuses a configuration, if it does."""
+    """Why the master refuses a configuration, or can't be asked, if that is so."""
     command = [prefork, "plan", "--why", "--from", config, "USR1"]
-    found = subprocess.run(command, stdin=subprocess.DEVNULL, stdout=subprocess.DEVNULL, stderr=subprocess.PIPE, text=True)
+    streams: dict[str, Any] = {"stdin": subprocess.DEVNULL, "stdout": subprocess.DEVNULL, "stderr": subprocess.PIPE}
+    try:
+        found = subprocess.run(command, **streams, text=True)
+    except OSError as fault:
+        return f"{prefork}: {fault.strerror}"
     return found.stderr.strip() if found.returncode else None
 
 
@@ -75,9 +88,10 @@ class Commands:
         self.known: list[pathlib.Path] = []
         self.proposed: list[str] | None = None
         self.is_changing = False
-        # The text of the file as it was read last, and as it was when it was accepted.
-        self.text, self.accepted_text = b"", b""
+        # The text of the file as it was read last, and the text of what runs.
+        self.text, self.current_text = b"", b""
         self.current = self.read(self.now)
+        self.current_text = self.text
 
     def read(self, target: pathlib.Path) -> list[str] | None:
         """Reads the configuration and writes it for the master, without its command; the command for its workers."""
@@ -93,7 +107,7 @@ class Commands:
     def write(self, target: pathlib.Path) -> list[str] | None:
         text, command = parted(self.text)
         target.write_bytes(text)
-        if not command and not self.default:
+        if not command and not self.default and is_toml(self.text):
             say(f"{self.config} has no command, and the command line names no program")
         return command or self.default
 
@@ -102,17 +116,16 @@ class Commands:
         if not self.accepted.exists():
             return False
         say(f"{self.config} is refused; the service that was killed had accepted another text, and starts with that")
-        self.text = self.accepted.read_bytes()
+        self.text = self.current_text = self.accepted.read_bytes()
         self.current = self.write(self.now)
         return True
 
     def accept(self) -> None:
-        """Keeps the configuration that was read last. The copy is for a service that is killed: without it this one
-        serves on."""
-        self.accepted_text = self.text
+        """Keeps the configuration of what runs. The copy is for a service that is killed: without it this one serves
+        on."""
         new = self.place / "accepted"
         try:
-            new.write_bytes(self.text)
+            new.write_bytes(self.current_text)
             new.replace(self.accepted)
         except OSError as fault:
             say(f"{self.accepted}: {fault.strerror}")
@@ -127,7 +140,7 @@ class Commands:
     def has_changed(self) -> bool:
         """Whether the file is another one than was accepted."""
         try:
-            return self.config.read_bytes() != self.accepted_text
+            return self.config.read_bytes() != self.current_text
         except OSError:
             return True
 
@@ -142,9 +155,13 @@ class Commands:
 
     def write_next(self, command: list[str] | None) -> None:
         words = [*self.before, *(command or ["false"])]
+        text, there = b"".join(word.encode("utf-8", "surrogateescape") + b"\0" for word in words), self.place / "next"
+        if there.exists() and there.read_bytes() == text:
+            # On a full disk it could not be written again.
+            return
         new = self.place / "new"
-        new.write_bytes(b"".join(word.encode("utf-8", "surrogateescape") + b"\0" for word in words))
-        new.replace(self.place / "next")
+        new.write_bytes(text)
+        new.replace(there)
 
     def change(self) -> None:
         """The configuration is read again: the next word starts a new generation."""
@@ -158,7 +175,7 @@ class Commands:
             return
         self.is_changing = False
         if report.startswith(("done", "degraded target")):
-            self.current = self.proposed
+            self.current, self.current_text = self.proposed, self.text
             self.next.replace(self.now)
             self.accept()
             dropped = self.known

@@ -27,6 +27,8 @@ class Folder:
         self.path = pathlib.Path(path).absolute()
         self.pid, self.blocks = self.path / "serve.pid", self.path / "blocks"
         self.words, self.keeper = self.path / "ctl.sock", self.path / "keeper.sock"
+        # A file for each worker, with the number of its process.
+        self.workers = self.path / "workers"
         self.path.mkdir(mode=0o700, parents=True, exist_ok=True)
         found = self.path.stat()
         if found.st_uid != os.geteuid() or found.st_mode & 0o077:
@@ -49,6 +51,8 @@ class Folder:
             time.sleep(0.1)
         for left in (self.words, self.keeper):
             left.unlink(missing_ok=True)
+        shutil.rmtree(self.workers, ignore_errors=True)
+        self.workers.mkdir(mode=0o700)
         self.pid.write_text(f"{os.getpid()}\n")
 
     def is_claimed(self) -> bool:
@@ -69,6 +73,7 @@ class Folder:
     def clear(self) -> None:
         for own in (self.words, self.keeper, self.pid):
             own.unlink(missing_ok=True)
+        shutil.rmtree(self.workers, ignore_errors=True)
         # Of an adapter that was killed together with the process that holds its program.
         for room in self.path.glob("worker.*"):
             shutil.rmtree(room, ignore_errors=True)

@@ -1,14 +1,17 @@
 """The master of a service, `prefork supervise`: the blocks that it prints, and the questions that it asks."""
 import os
+import re
 import subprocess
 import sys
 from typing import Any
 
-from .folder import Folder
+from .folder import Folder, say
 from .questions import ASKS, LOG
 
 # How the last line of a block begins.
 ENDS = ("done", "rolled-back", "degraded", "lost", "refused", "unread", "nothing")
+
+BEAT = re.compile(r"word beat (\d+) (\d+)")
 
 
 class Master:
@@ -16,8 +19,10 @@ class Master:
     what it asks: `--verbose` says that there."""
 
     def __init__(self, command: list[str], folder: Folder):
-        self.folder, self.unread = folder, ""
+        self.folder, self.unread, self.is_short = folder, "", False
         self.block: list[str] = []
+        # The moment at which each worker has beaten last.
+        self.beats: dict[int, int] = {}
         # What was read of a line of its standard error, and whether that has ended.
         self.unread_errors, self.is_silent = b"", False
         if folder.blocks.exists():
@@ -31,7 +36,19 @@ class Master:
 
     def reopen(self) -> None:
         """Appends to the file `blocks`, or to a new one if it was moved away."""
-        self.file = open(self.folder.blocks, "ab", opener=lambda path, flags: os.open(path, flags, 0o600))
+        self.file = open(self.folder.blocks, "ab", 0, opener=lambda path, flags: os.open(path, flags, 0o600))
+
+    def keep(self, got: bytes) -> None:
+        """Writes to the file `blocks`. One that can't be written, on a full disk, is no reason to serve nobody: that is
+        said once, and what comes later is tried again."""
+        try:
+            while got:
+                got = got[self.file.write(got) :]
+            self.is_short = False
+        except OSError as fault:
+            if not self.is_short:
+                say(f"blocks are not written: {fault.strerror}")
+            self.is_short = True
 
     def tell(self, word: str) -> None:
         if word == "USR1":
@@ -48,8 +65,7 @@ class Master:
         got = os.read(self.output, 65536)
         if not got:
             return None
-        self.file.write(got)
-        self.file.flush()
+        self.keep(got)
         *lines, self.unread = (self.unread + got.decode()).split("\n")
         return [block for line in lines if (block := self.take(line))]
 
@@ -59,7 +75,10 @@ class Master:
         if line.split(" ", 1)[0] not in ENDS:
             return None
         block, self.block = self.block, []
-        return None if block[0].startswith("word beat ") else "".join(f"{line}\n" for line in block)
+        beat = BEAT.fullmatch(block[0])
+        if beat:
+            self.beats[int(beat[1])] = int(beat[2])
+        return None if beat else "".join(f"{line}\n" for line in block)
 
     def hear_errors(self) -> list[int]:
         """The questions that it has asked. What is no line of its log is for people, and passed on."""

@@ -52,15 +52,13 @@ def commands_of(given: argparse.Namespace, folder: Folder) -> Commands | None:
 
 def is_fit(given: argparse.Namespace, commands: Commands) -> bool:
     """Whether the configuration can be served; why not is said."""
-    if not commands.current:
-        return False
     refusal = refusal_of(given.prefork, commands.now)
     text = commands.now.read_bytes() if commands.now.exists() else b""
     faults = [refusal] if refusal else shortages(needs_of(text, processes_each(given)))
     faults += [PID_OF_MASTER] if commands.names_master() else []
     for fault in faults:
         say(f"{given.config}: {fault}")
-    return not faults
+    return bool(commands.current) and not faults
 
 
 def main() -> int:

@@ -1,5 +1,7 @@
 """The loop of a service: words to the master, one at a time, and their blocks to whoever asked."""
+import json
 import os
+import re
 import selectors
 import signal
 import socket
@@ -13,13 +15,16 @@ from .folder import Folder, say
 from .keeping import Keeping
 from .master import Master
 from .questions import ANSWERS, NOT_ASKED, STATE, line_of, state
+from .status import Record, Status, masters_of, started_workers, workers_of
 from .systemd import notify
-from .words import CHANGES, NOTE, SIGNALS, START, STOPS, WORDS, Queue, Word
+from .words import CHANGES, NOTE, SIGNALS, START, STATUS, STOPS, WORDS, Queue, Word
 
 TICK_SECONDS = 1.0
 # The longest pause of the loop, and that while no master runs.
 PAUSE, SHORT_PAUSE = 1.0, 0.1
 TOO_MANY, NOT_READ, HAS_PID = "refused too-many-wait", "refused not-read", "refused pid"
+# A call of a block in which a worker or a master did not start.
+FAILED_START = re.compile(r"^\d+ m\d+ (?:fork|await-ready|spawn-master|adopt) .*: (?!forked$|ready$|spawned$|adopted$)", re.M)
 # What its operator is told after an application that did not start.
 OLD_SERVES = "the workers that run are of the version before. One that ends is started again from the files as they are " \
     "now: put the old version back, or mend the new one"
@@ -27,7 +32,7 @@ OLD_SERVES = "the workers that run are of the version before. One that ends is s
 
 def is_broken(word: str, block: str) -> bool:
     """Whether a block says that a new version did not start, and that the old one runs."""
-    return word in CHANGES and "\nrolled-back " in block and " await-ready " in block
+    return word in CHANGES and "\nrolled-back " in block and FAILED_START.search(block) is not None
 
 
 class Service:
@@ -44,6 +49,7 @@ class Service:
         self.question = 0
         self.begun, self.next_tick, self.is_stopped = 0.0, 0.0, False
         self.has_heard, self.is_ready = False, False
+        self.record, self.began, self.starts = Record(), time.monotonic(), 0
         self.take_signals()
         self.open_door()
 
@@ -92,6 +98,7 @@ class Service:
                 raise
             say(f"the master is not started: {fault}")
             return
+        self.starts += 1
         self.events.register(self.master.output, selectors.EVENT_READ, self.hear_master)
         self.events.register(self.master.errors, selectors.EVENT_READ, self.hear_errors)
 
@@ -172,6 +179,7 @@ class Service:
             return
         report, self.has_heard = block.splitlines()[-1], True
         self.commands.settle(report)
+        self.record.note(word.text, block)
         if word.text == START:
             self.commands.accept()
         for note in self.notes(word, block):
@@ -239,11 +247,33 @@ class Service:
             self.take(word)
         elif text in ANSWERS:
             self.answer(word)
+        elif text == STATUS:
+            word.answer(json.dumps(self.status()) + "\n")
         elif text == STATE:
             current = self.current.text if self.current else None
             word.answer(state(self.question, current, len(self.waiting)))
         else:
             word.answer("unread W1\n")
+
+    def status(self) -> Status:
+        """Who runs, what was done last, and what is being done now."""
+        running, process = started_workers(self.folder.workers), self.keeping.process
+        return {
+            "service": {
+                "process": os.getpid(), "seconds": int(time.monotonic() - self.began), "folder": str(self.folder.path)
+            },
+            "addresses": sorted(self.keeping.held),
+            "generation": self.record.generation,
+            "workers": workers_of(self.record, running, self.master.beats if self.master else {}),
+            "masters": masters_of(self.master.process.pid) if self.master else [],
+            "master_restarts": max(0, self.starts - 1),
+            "keeper": {"process": process.pid if process else None, "restarts": self.keeping.restarts},
+            "last": self.record.last,
+            "doing": self.current.text if self.current and not self.current.text.startswith("tick ") else None,
+            "question": self.question,
+            "waiting": len(self.waiting),
+            "file_has_changed": self.commands.has_changed(),
+        }
 
     def take(self, word: Word) -> None:
         """Lets a word wait for its turn."""

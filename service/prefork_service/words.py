@@ -7,6 +7,8 @@ STOPS = ("QUIT", "INT", "TERM")
 SIGNALS = ("HUP", "USR1", "USR2", "WINCH", "TTIN", "TTOU", *STOPS)
 ATTENDED = "USR2 attended"
 WORDS = (*SIGNALS, ATTENDED)
+# Asked in place of a word: what runs.
+STATUS = "status"
 # What a master that starts carries out.
 START = "tick 0"
 # Words at which the configuration is read again.

@@ -21,7 +21,7 @@ BIN, OUT, PROGRAMS = SERVICE / "bin", SERVICE / "out", SERVICE / "tests" / "prog
 PORTS = range(15000, 32000)
 
 
-def until(holds: Callable[[], Any], seconds: float = 20.0) -> bool:
+def until(holds: Callable[[], Any], seconds: float = 60.0) -> bool:
     """Waits for something to hold; whether it did."""
     deadline = time.monotonic() + seconds
     while time.monotonic() < deadline:

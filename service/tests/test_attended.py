@@ -92,9 +92,11 @@ class AttendedTest(unittest.TestCase):
         time.sleep(PAUSE)
         self.assertEqual(self.answered(), "")
         self.heard("back")
-        self.assertEqual([word.communicate(timeout=20)[0].split("\n")[0] for word in waiting], ["word TTIN", "word QUIT"])
+        heard = [word.communicate(timeout=20)[0].split("\n")[0] for word in waiting]
+        # A stop goes before what waits.
+        self.assertEqual(heard, ["lost: the service has stopped", "word QUIT"])
         self.assertEqual(self.serve.wait(20), 0)
-        self.assertEqual(self.answered(), "HUP\nTTIN\nQUIT\n")
+        self.assertEqual(self.answered(), "HUP\nQUIT\n")
 
     def test_an_answer_to_nothing_is_refused(self) -> None:
         for word in ("go", "back"):

@@ -127,6 +127,8 @@ class CommandsTest(unittest.TestCase):
         self.commands.change()
         self.assertTrue(self.commands.has_changed())
         self.commands.settle("refused C1")
+        # A master that is started again.
+        self.commands.accept()
         self.assertEqual(self.commands.accepted.read_text(), first)
         self.configure('command = ["two"]\nworkers = 2\n')
         self.commands.change()
@@ -167,6 +169,7 @@ class CommandsTest(unittest.TestCase):
         program.chmod(0o755)
         self.assertEqual(refusal_of(str(program), self.config), "prefork: config C1")
         self.assertIsNone(refusal_of("true", self.config))
+        self.assertEqual(refusal_of("/no/master", self.config), "/no/master: No such file or directory")
 
     def test_a_configuration_that_is_missing_is_missing_for_the_master(self) -> None:
         self.config.unlink()
@@ -196,9 +199,11 @@ class LaunchTest(unittest.TestCase):
             place.mkdir()
             (place / "next").write_bytes(b"sh\0-c\0echo a; cat\0")
             (place / "2.7").write_bytes(b"sh\0-c\0echo b; cat\0")
+            (pathlib.Path(room) / "workers").mkdir()
             for generation, wanted in (("1.1", "a"), ("2.7", "b")):
                 lines = f"worker {generation} 0 7\nlistener x\ngo\n"
                 self.assertEqual(self.launched(room, "child", lines).stdout, f"{wanted}\n{lines}")
+                self.assertTrue((pathlib.Path(room) / "workers" / f"{generation}.0").read_text().strip().isdigit())
             self.assertEqual((place / "1.1").stat().st_ino, (place / "next").stat().st_ino)
 
     def test_messages_of_workers_go_where_those_of_the_service_go(self) -> None:

@@ -1,0 +1,161 @@
+"""The status of a service: who runs, what was done last, and what is being done now."""
+import datetime
+import os
+import pathlib
+import re
+import time
+from typing import Any
+
+from .questions import line_of
+
+CENSUS = re.compile(r" census (\d+\.\d+) : counted (\S+)$", re.M)
+TICKS = os.sysconf("SC_CLK_TCK")
+Status = dict[str, Any]
+LEFT_BEHIND = "an upgrade has left it; it passes words on. QUIT and a new start of the service end it"
+
+
+def numbers_of(counted: str) -> list[int]:
+    """The workers that a census has counted: `0-2,5` are four."""
+    found: list[int] = []
+    for part in counted.split(","):
+        first, _, last = part.partition("-")
+        if first.isdigit():
+            found += range(int(first), int(last or first) + 1)
+    return found
+
+
+class Record:
+    """What blocks have told: which workers there are, and the last word."""
+
+    def __init__(self) -> None:
+        self.generation, self.workers = "", []
+        self.last: Status | None = None
+
+    def note(self, word: str, block: str) -> None:
+        counted = CENSUS.findall(block)
+        if counted:
+            self.generation, self.workers = counted[-1][0], numbers_of(counted[-1][1])
+        if not word.startswith("tick "):
+            at = datetime.datetime.now().astimezone().isoformat(timespec="seconds")
+            self.last = {"word": word, "report": block.splitlines()[-1], "at": at}
+
+
+def fields_of(process: int) -> list[str]:
+    """What the system says of a process after its name; nothing if it has ended."""
+    try:
+        return pathlib.Path(f"/proc/{process}/stat").read_text().rpartition(")")[2].split()
+    except OSError:
+        return []
+
+
+def age_of(process: int) -> int:
+    """For how many seconds a process has run."""
+    fields = fields_of(process)
+    return max(0, int(time.clock_gettime(time.CLOCK_BOOTTIME) - int(fields[19]) / TICKS)) if fields else 0
+
+
+def descends(process: int, ancestor: int) -> bool:
+    """Whether a process runs that this one has started, or one that it has started."""
+    while process > 1:
+        fields = fields_of(process)
+        if not fields or fields[0] == "Z":
+            return False
+        process = int(fields[1])
+        if process == ancestor:
+            return True
+    return False
+
+
+def started_workers(place: pathlib.Path) -> dict[tuple[str, int], int]:
+    """The processes of workers, by generation and number. The files of those that have ended are removed."""
+    found = {}
+    for file in place.iterdir():
+        text = file.read_text().strip()
+        if text.isdigit() and descends(int(text), os.getpid()):
+            generation, _, number = file.name.rpartition(".")
+            found[generation, int(number)] = int(text)
+        elif text:
+            file.unlink(missing_ok=True)
+    return found
+
+
+def masters_of(first: int) -> list[int]:
+    """The master that the service has started, and the new ones of upgrades, each started by the one before."""
+    found, is_more = [first], True
+    while is_more:
+        is_more = False
+        for child in children_of(found[-1]):
+            try:
+                words = pathlib.Path(f"/proc/{child}/cmdline").read_bytes().split(b"\0")
+            except OSError:
+                continue
+            if words[1:2] == [b"adopt"]:
+                found.append(child)
+                is_more = True
+                break
+    return found
+
+
+def children_of(process: int) -> list[int]:
+    try:
+        return [int(word) for word in pathlib.Path(f"/proc/{process}/task/{process}/children").read_text().split()]
+    except OSError:
+        return []
+
+
+def workers_of(record: Record, running: dict[tuple[str, int], int], beats: dict[int, int]) -> list[Status]:
+    """Each worker that was counted last; one whose process is not known has ended since."""
+    found = []
+    for number in record.workers:
+        process = running.get((record.generation, number))
+        age = age_of(process) if process else 0
+        # A beat from before its start is that of another worker with this number.
+        beat = max(0, int(time.monotonic()) - beats[number]) if number in beats else None
+        found.append({
+            "generation": record.generation, "number": number, "process": process,
+            "seconds": age if process else None,
+            "last_beat_seconds": beat if beat is not None and beat <= age else None,
+        })
+    return found
+
+
+def shown(status: Status) -> str:
+    """A status in words."""
+    service, keeper, last = status["service"], status["keeper"], status["last"]
+    lines = [
+        f"service     process {service['process']}, for {service['seconds']} s, in {service['folder']}",
+        f"addresses   {' '.join(status['addresses']) or 'none'}",
+        f"generation  {status['generation'] or 'none'}, {len(status['workers'])} workers",
+        *(shown_worker(worker, len(status["masters"]) > 1) for worker in status["workers"]),
+        *shown_masters(status["masters"], status["master_restarts"]),
+        f"keeper      process {keeper['process'] or 'none'}, started again {times(keeper['restarts'])}",
+        f"last word   {last['word']} at {last['at']}: {last['report']}" if last else "last word   none",
+        f"now         {shown_doing(status)}",
+    ]
+    if status["file_has_changed"]:
+        lines.append("file        has changed since it was accepted; HUP reads it")
+    return "".join(f"{line}\n" for line in lines)
+
+
+def shown_worker(worker: Status, is_upgraded: bool) -> str:
+    if not worker["process"]:
+        return f"worker {worker['number']:<4} has ended"
+    beat = worker["last_beat_seconds"]
+    told = f"beat {beat} s ago" if beat is not None else "told no ticks" if is_upgraded else "no beat yet"
+    return f"worker {worker['number']:<4} process {worker['process']}, for {worker['seconds']} s, {told}"
+
+
+def shown_masters(masters: list[int], restarts: int) -> list[str]:
+    old = [f"old master  process {process}: {LEFT_BEHIND}" for process in masters[:-1]]
+    reigning = f"process {masters[-1]}" if masters else "none runs"
+    return [f"master      {reigning}, started again {times(restarts)}", *old]
+
+
+def shown_doing(status: Status) -> str:
+    doing = f"carries out {status['doing']}" if status["doing"] else "waits for words"
+    asks = f", {line_of(status['question']).strip()}" if status["question"] else ""
+    return f"{doing}{asks}, {status['waiting']} more wait" if status["waiting"] else f"{doing}{asks}"
+
+
+def times(count: int) -> str:
+    return "once" if count == 1 else f"{count} times"

@@ -1,0 +1,104 @@
+"""What a status says."""
+import os
+import pathlib
+import subprocess
+import tempfile
+import time
+import unittest
+
+from kit import PYTHON, until
+from prefork_service.status import Record, age_of, descends, masters_of, numbers_of, shown, started_workers, workers_of
+
+BLOCK = "word HUP\n1 m1 census 1.1 : counted 0-2\n2 m1 census 1.2 : counted 0-1,3\ndone cause none pid no-file\n"
+
+
+class RecordTest(unittest.TestCase):
+    def test_the_numbers_of_a_census(self) -> None:
+        for text, wanted in (("0-2,5", [0, 1, 2, 5]), ("none", []), ("7", [7])):
+            self.assertEqual(numbers_of(text), wanted)
+
+    def test_the_last_census_and_the_last_word_that_is_no_tick(self) -> None:
+        record = Record()
+        record.note("HUP", BLOCK)
+        record.note("tick 5", "word tick 5\n1 m1 census 1.2 : counted 0-1\ndone cause none pid no-file\n")
+        self.assertEqual((record.generation, record.workers), ("1.2", [0, 1]))
+        self.assertEqual((record.last["word"], record.last["report"]), ("HUP", "done cause none pid no-file"))
+        record.note("USR2", "word USR2\nrefused W5\n")
+        self.assertEqual((record.generation, record.last["report"]), ("1.2", "refused W5"))
+
+
+class ProcessesTest(unittest.TestCase):
+    def started(self, *command: str) -> subprocess.Popen:
+        process = subprocess.Popen(command, stdout=subprocess.DEVNULL)
+        self.addCleanup(process.wait)
+        self.addCleanup(process.kill)
+        return process
+
+    def test_only_processes_of_this_service_are_its_workers(self) -> None:
+        with tempfile.TemporaryDirectory() as room:
+            place, child = pathlib.Path(room), self.started("sleep", "1000")
+            ended = subprocess.Popen(["true"])
+            ended.wait()
+            for name, process in (("1.2.0", child.pid), ("1.1.0", ended.pid), ("1.2.1", 1)):
+                (place / name).write_text(f"{process}\n")
+            (place / "1.2.2").touch()
+            self.assertEqual(started_workers(place), {("1.2", 0): child.pid})
+            self.assertEqual(sorted(file.name for file in place.iterdir()), ["1.2.0", "1.2.2"])
+
+    def test_whose_process_it_is(self) -> None:
+        shell = self.started("sleep", "1000")
+        self.assertTrue(descends(shell.pid, os.getpid()))
+        self.assertFalse(descends(os.getppid(), os.getpid()))
+        self.assertFalse(descends(2**22 + 1, os.getpid()))
+
+    def test_the_age_of_a_process(self) -> None:
+        process = self.started("sleep", "1000")
+        time.sleep(2.1)
+        self.assertIn(age_of(process.pid), range(1, 60))
+
+    def test_the_masters_of_upgrades(self) -> None:
+        code = "import subprocess, sys; subprocess.run([sys.executable, 'adopt']) if sys.argv[1:] else None"
+        with tempfile.TemporaryDirectory() as room:
+            (pathlib.Path(room) / "adopt").write_text("import time; time.sleep(1000)\n")
+            first = subprocess.Popen([PYTHON, "-c", code, "x"], cwd=room)
+            self.addCleanup(first.wait)
+            self.assertTrue(until(lambda: len(masters_of(first.pid)) == 2))
+            found = masters_of(first.pid)
+            os.kill(found[1], 9)
+        self.assertEqual(found[0], first.pid)
+
+    def test_workers_that_have_ended_and_beats_of_others(self) -> None:
+        record, process = Record(), self.started("sleep", "1000")
+        record.note("HUP", BLOCK)
+        now = int(time.monotonic())
+        found = workers_of(record, {("1.2", 0): process.pid, ("1.1", 1): process.pid}, {0: now - 1000, 1: now})
+        self.assertEqual([worker["number"] for worker in found], [0, 1, 3])
+        self.assertEqual([worker["process"] for worker in found], [process.pid, None, None])
+        self.assertIsNone(found[0]["last_beat_seconds"])
+
+
+class ShownTest(unittest.TestCase):
+    def test_a_status_in_words(self) -> None:
+        worker = {"generation": "2.2", "number": 0, "process": 7, "seconds": 9, "last_beat_seconds": 1}
+        status = {
+            "service": {"process": 1, "seconds": 60, "folder": "/run/site"}, "addresses": ["127.0.0.1:8080"],
+            "generation": "2.2", "workers": [worker, {**worker, "number": 1, "process": None}], "masters": [3, 4],
+            "master_restarts": 1, "keeper": {"process": 5, "restarts": 0},
+            "last": {"word": "USR2", "report": "done", "at": "2026-01-01T00:00:00+00:00"}, "doing": "HUP", "question": 1,
+            "waiting": 2, "file_has_changed": True,
+        }
+        said = shown(status)
+        for wanted in (
+            "worker 0    process 7, for 9 s, beat 1 s ago\n", "worker 1    has ended\n",
+            "master      process 4, started again once\n", "old master  process 3: an upgrade has left it",
+            "last word   USR2 at 2026-01-01T00:00:00+00:00: done\n",
+            "now         carries out HUP, asks 1: old and new workers serve, 2 more wait\n", "file        has changed",
+        ):
+            self.assertIn(wanted, said)
+        quiet = {**status, "last": None, "doing": None, "question": 0, "waiting": 0, "masters": [], "file_has_changed": False}
+        for wanted in ("master      none runs", "last word   none\n", "now         waits for words\n"):
+            self.assertIn(wanted, shown(quiet))
+
+
+if __name__ == "__main__":
+    unittest.main()
