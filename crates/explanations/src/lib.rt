@@ -5,6 +5,7 @@
 mod asking;
 mod codes;
 mod explanation;
+mod keys;
 mod lines;
 mod places;
 mod sentences;
