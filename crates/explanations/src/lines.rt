@@ -141,6 +141,22 @@ fn line_of_group(text: &[u8], index: usize, key: Option<Key>) -> Option<FoundLin
     found
 }
 
+/// The line in which the byte at a place is, or the last one.
+pub fn line_of_byte(text: &[u8], at: usize) -> Option<FoundLine<'_>> {
+    let mut begun: usize = 0;
+    let mut found = None;
+    for (place, line) in text.split(|byte| *byte == b'\n').enumerate() {
+        if begun <= at {
+            found = Some(FoundLine {
+                number: place.saturating_add(1),
+                text: line,
+            });
+        }
+        begun = begun.saturating_add(line.len()).saturating_add(1);
+    }
+    found
+}
+
 /// Whether a line begins with a key, or with a heading of its name.
 fn names(line: &[u8], key: Key) -> bool {
     let start = line

@@ -1,7 +1,7 @@
 //! Where a fault was found.
 use crate::asking::{files_of, start_of};
 use crate::keys::{UnknownKey, is_of_configuration, nearest, unknown_key};
-use crate::lines::{FoundLine, line_of_block, line_of_refusal};
+use crate::lines::{FoundLine, line_of_block, line_of_byte, line_of_refusal};
 use call_text::TextRefusal;
 use certifier::Mismatch;
 use command_line::Request;
@@ -164,14 +164,35 @@ fn tell_file<R: AllocGlobal + Files, E: Write>(
         return false;
     };
     let _ = write!(errors, "  {option} {path}");
-    match unknown_in(text.as_slice(), &refusal) {
+    tell_refusal(rt.alloc(), text.as_slice(), &refusal, errors);
+    true
+}
+
+/// The line of a configuration that is refused, on the rest of the line, and what is wrong there.
+fn tell_refusal<E: Write>(alloc: Global, text: &[u8], refusal: &ConfigRefusal, errors: &mut E) {
+    if let ConfigRefusal::NotToml = refusal {
+        return tell_broken(alloc, text, errors);
+    }
+    match unknown_in(text, refusal) {
         Some(unknown) => {
             tell_rest(Some(unknown.line), errors);
-            tell_unknown(rt.alloc(), unknown.key, group_of(&refusal), errors);
+            tell_unknown(alloc, unknown.key, group_of(refusal), errors);
         }
-        None => tell_rest(line_of_refusal(text.as_slice(), &refusal), errors),
+        None => tell_rest(line_of_refusal(text, refusal), errors),
     }
-    true
+}
+
+/// The line at which a text is no longer TOML, on the rest of the line, and why.
+fn tell_broken<E: Write>(alloc: Global, text: &[u8], errors: &mut E) {
+    let Err(error) = toml::table_from_slice(alloc, text) else {
+        return tell_rest(None, errors);
+    };
+    let found = match error.span() {
+        Some(span) => line_of_byte(text, span.start),
+        None => None,
+    };
+    tell_rest(found, errors);
+    let _ = writeln!(errors, "  {}", error.message());
 }
 
 /// Why a file is not read, on the rest of the line.

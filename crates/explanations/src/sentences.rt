@@ -145,9 +145,8 @@ started has some left, so no command line is known to print this.",
         meaning: "the file is not TOML",
         remedy: "\
 Or it is not UTF-8, repeats a key, or has an integer of more than 64 bits.
-Write one 'key = value' on each line, and texts in quotes. Python 3.11 tells
-most faults with their lines (write your file's name for FILE):
-  python3 -c 'import tomllib; tomllib.load(open(\"FILE\", \"rb\"))'",
+Write one 'key = value' on each line, texts in quotes, and lists in brackets
+with commas. --why names the line and what is wrong there.",
     },
     Explanation {
         code: "C2",
@@ -455,8 +454,8 @@ pub const ANSWERS: [Explanation; 33] = [
         remedy: "\
 An answer of 'open': another process, or the master itself, listens there.
 The word is rolled back. Find that process (ss -ltnp, or ss -lxp for a path)
-and stop it, or choose another address. Under `serve` the worker that cannot
-have the socket ends instead, and the answer of 'await-ready' is `gone`.",
+and stop it, or choose another address. Under `prefork-serve` a worker that
+cannot have the socket ends instead: the answer of 'await-ready' is `gone`.",
     },
     Explanation {
         code: "too-many",
@@ -560,12 +559,12 @@ again.",
     },
     Explanation {
         code: "refused",
-        meaning: "the word, or a handover, was refused and nothing was changed",
+        meaning: "a word or a handover was refused",
         remedy: "\
-'refused CODE' after a word: `prefork explain CODE` says why. As the answer
-of 'adopt': the new master could not use the handover, H1 to H5, or is of
-another image. The old service goes on. Check which executable was started,
-and send USR2 again.",
+'refused CODE' after a word: nothing was changed, and `prefork explain CODE`
+says why. As the answer of 'adopt': the new master cannot use the handover
+(H1 to H5, or another image or other addresses), and the old service goes
+on. Check which executable is at the path of --program, and send USR2 again.",
     },
     Explanation {
         code: "io-fault",
