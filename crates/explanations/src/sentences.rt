@@ -500,9 +500,10 @@ The plain answer of 'fork': nothing to do. The worker is not ready yet;
         meaning: "no process could be started",
         remedy: "\
 An answer of 'fork' and 'spawn-master'. Either a limit of processes or
-descriptors is reached (ulimit -u, ulimit -n), or the program is missing or
-not executable, or there is a new master already. Try the command by hand as
-the user of the service, correct what is wrong, and send the word again.",
+descriptors is reached (ulimit -u, ulimit -n), or the program of a worker is
+missing, or a program is not executable, or there is a new master already.
+Try the command by hand as the user of the service, correct what is wrong,
+and send the word again.",
     },
     Explanation {
         code: "ready",
