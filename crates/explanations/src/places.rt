@@ -224,9 +224,38 @@ fn tell_pid_file<R: AllocGlobal + Files, E: Write>(rt: &R, path: Option<&str>, e
 fn tell_rest<E: Write>(line: Option<FoundLine<'_>>, errors: &mut E) {
     if let Some(line) = line {
         let _ = write!(errors, ", line {}: ", line.number);
-        let _ = errors.write_all(line.text);
+        tell_shown(line.text.trim_ascii_end(), errors);
     }
     let _ = errors.write_all(b"\n");
+}
+
+/// The most bytes of a line that are shown.
+const SHOWN: usize = 400;
+
+/// A line for people, cut where it is long, with a question mark for each byte that a terminal could take for a command.
+fn tell_shown<E: Write>(line: &[u8], errors: &mut E) {
+    let is_text = str::from_utf8(line).is_ok();
+    let shown = &line[..line.len().min(SHOWN)];
+    let mut is_first = true;
+    for piece in shown.split(|byte| is_odd(*byte, is_text)) {
+        if !is_first {
+            let _ = errors.write_all(b"?");
+        }
+        let _ = errors.write_all(piece);
+        is_first = false;
+    }
+    if shown.len() < line.len() {
+        let _ = errors.write_all(b"..");
+    }
+}
+
+/// Whether a byte is not shown: one of no letter or sign, or one that is not ASCII in a line that is no text.
+fn is_odd(byte: u8, is_text: bool) -> bool {
+    if byte.is_ascii() {
+        byte.is_ascii_control() && byte != b'\t'
+    } else {
+        !is_text
+    }
 }
 
 /// The group that a refusal is about, counted from 0, where it is about one.
