@@ -2,7 +2,7 @@
 import dataclasses
 from collections.abc import Callable, Iterator
 
-from gate.documents import claims, codes, commands, links, names, options, shape, versions, words
+from gate.documents import claims, codes, commands, explained, links, names, options, shape, versions, words
 from gate.documents.pages import Tree
 
 Check = Callable[[Tree], Iterator[str]]
@@ -11,6 +11,7 @@ CHECKS: dict[str, Check] = {
     "links": links.faults,
     "options": options.faults,
     "codes": codes.faults,
+    "explained": explained.faults,
     "commands": commands.faults,
     "claims": claims.faults,
     "tables": shape.table_faults,
@@ -43,6 +44,8 @@ MISTAKES = (
     Mistake("options", "completions/prefork.bash", "--why --dot", "--why", "plan lacks --dot"),
     Mistake("codes", "docs/FORMATS.md", "| `V1` |", "| `V2` |", "the code V1 is missing"),
     Mistake("codes", "docs/formats/plans.md", "| `H5` |", "| `H6` |", "no code H6"),
+    Mistake("explained", "docs/formats/blocks.md", "`forked`, `again`", "`forked`, `eagain`", "does not know eagain"),
+    Mistake("explained", "docs/formats/blocks.md", "| outcome |", "| end |", "no table begins with | outcome |"),
     Mistake("commands", "README.md", "6 m1 census 1.2 : counted 0-1", "6 m1 census 1.2 : counted 0-2", "counted 0-2"),
     Mistake("commands", "docs/prefork-plan.1", r"\-\-workers 2 TTOU", r"\-\-workers two TTOU", "status 2"),
     Mistake("commands", "docs/prefork.toml.5", "workers = 2\npid", "workers = 3\npid", "workers = 3"),

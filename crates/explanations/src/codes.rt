@@ -1,29 +1,37 @@
-//! `explain`: what the codes mean.
+//! `explain`: what codes, answers and outcomes mean.
 ghost use Rattle.std.specs.Prelude.{◌≡◌, ◌++◌, ◌⊎◌, IfOk, IfErr, OnOk, IsTrue, is_some};
 ghost use Rattle.explanations.specs.Pages.{meaning_line, page_text};
 ghost use Rattle.faults.specs.declared.fault.Fault.TheVariants.{Code, Memory};
 
-use crate::{Explanation, FAULTS, WORDS, explanation_of};
+use crate::{ANSWERS, Explanation, FAULTS, WORDS, explanation_of};
 use faults::Fault;
 use std::alloc::{AllocError, Global};
 
-/// The column at which meanings begin in the list of all codes.
+/// The column at which meanings begin in the list of all.
 const COLUMN: usize = 12;
 
-/// What a code means, and what to do about it; without a code, a line for each that there is.
+/// What a code, an answer or an outcome means, and what to do about it; without one, a line for each.
 pub fn explain(alloc: Global, code: Option<&str>) -> Result<Vec<u8>, Fault>
     ensures { IfErr result (λ fault. (fault ≡ Memory) ⊎ ((fault ≡ Code) × IsTrue (is_some code.entry))) }
 {
     let Some(code) = code else {
         return Ok(list(alloc)?);
     };
-    match meaning_of(code) {
+    match explanation_in_all(code) {
         Some(found) => Ok(page(alloc, &found)?),
         None => Err(Fault::Code),
     }
 }
 
-/// What is known of a code, where there is such a one.
+/// What is known of a code, an answer or an outcome, if it is one.
+fn explanation_in_all(code: &str) -> Option<Explanation> {
+    match meaning_of(code) {
+        Some(found) => Some(found),
+        None => meaning_of_answer(code),
+    }
+}
+
+/// What is known of a code, if it is one.
 pub fn meaning_of(code: &str) -> Option<Explanation> {
     match meaning_of_fault(code) {
         Some(found) => Some(found),
@@ -39,11 +47,16 @@ fn meaning_of_word(code: &str) -> Option<Explanation> {
     explanation_of(&WORDS, code)
 }
 
-/// A line for each code.
+fn meaning_of_answer(code: &str) -> Option<Explanation> {
+    explanation_of(&ANSWERS, code)
+}
+
+/// A line for each.
 fn list(alloc: Global) -> Result<Vec<u8>, AllocError> {
     let mut text = Vec::new(alloc);
     put_faults(&mut text)?;
     put_words(&mut text)?;
+    put_answers(&mut text)?;
     Ok(text)
 }
 
@@ -53,6 +66,10 @@ fn put_faults(text: &mut Vec<u8>) -> Result<(), AllocError> {
 
 fn put_words(text: &mut Vec<u8>) -> Result<(), AllocError> {
     put_lines(text, &WORDS)
+}
+
+fn put_answers(text: &mut Vec<u8>) -> Result<(), AllocError> {
+    put_lines(text, &ANSWERS)
 }
 
 fn put_lines(text: &mut Vec<u8>, explanations: &[Explanation]) -> Result<(), AllocError> {

@@ -1,15 +1,15 @@
-//! Explanations of codes.
+//! Explanations of codes, answers and outcomes.
 ghost use Rattle.std.specs.Prelude.{◌≡◌, bytes_eq};
 ghost use Rattle.std.specs.List.{find};
 
-/// What a code means, and what to do about it.
+/// What a code, an answer or an outcome means, and what to do about it.
 #[derive(Clone, Copy, Debug)]
 pub struct Explanation {
-    /// The code as it is printed, without what follows it: `Y1`, `usage`.
+    /// The code as it is printed, without what follows it: `Y1`, `usage`, `again`.
     pub code: &'static str,
-    /// What it means: half a line, which goes on where the code stood.
+    /// What was found: half a line of at most 68 columns, which follows the code.
     pub meaning: &'static str,
-    /// What to do, or what else there is to know, in lines of at most 78 columns; or nothing.
+    /// Why it comes, what is allowed and what to do, in lines of at most 76 columns, since `--why` indents them.
     pub remedy: &'static str,
 }
 

@@ -1,10 +1,11 @@
-//! What the codes of refusals mean, and what to do, and what is said of a fault for people. The sentences stand here and
-//! nowhere else.
+//! What codes, answers and outcomes mean, what to do about them, and what is said of a fault for people.
+//! The sentences are here and nowhere else.
 #![tactic(auto)]
 
 mod asking;
 mod codes;
 mod explanation;
+mod keys;
 mod lines;
 mod places;
 mod sentences;
@@ -15,5 +16,5 @@ pub use codes::explain;
 use codes::meaning_of;
 pub use explanation::{Explanation, explanation_of};
 pub use places::Evidence;
-use sentences::{FAULTS, WORDS};
+use sentences::{ANSWERS, FAULTS, WORDS};
 pub use why::{tell, tell_usage};

@@ -11,9 +11,19 @@ pub struct FoundLine<'a> {
     pub text: &'a [u8],
 }
 
-/// The line of a configuration in which the key stands that a refusal is about, where it is about one: of a group's key,
-/// the line behind the heading of the group, or the heading itself where the group has no such line.
+/// The line of a configuration that a refusal is about, if it is about a key: the line of the listener or else that of the
+/// key; of a group's key, the line under the heading of the group, or the heading itself if the group has no such line.
 pub fn line_of_refusal<'a>(text: &'a [u8], refusal: &ConfigRefusal) -> Option<FoundLine<'a>> {
+    let found = line_of_its_key(text, refusal)?;
+    match index_of(refusal) {
+        Some(index) if names(found.text, Key::Listeners) => {
+            line_of_text(text, found.number, index)
+        }
+        _ => Some(found),
+    }
+}
+
+fn line_of_its_key<'a>(text: &'a [u8], refusal: &ConfigRefusal) -> Option<FoundLine<'a>> {
     if let ConfigRefusal::Group(index, fault) = refusal {
         let found = line_of_group(text, *index, key_of_group(fault));
         if found.is_some() {
@@ -24,6 +34,53 @@ pub fn line_of_refusal<'a>(text: &'a [u8], refusal: &ConfigRefusal) -> Option<Fo
         Some(key) => line_of_key(text, key),
         None => None,
     }
+}
+
+/// The index of the listener that a refusal is about, where it is about one.
+fn index_of(refusal: &ConfigRefusal) -> Option<usize> {
+    match refusal {
+        ConfigRefusal::BadAddress(index, _) | ConfigRefusal::Doubled(index) => Some(*index),
+        ConfigRefusal::Group(_, GroupFault::BadAddress(index, _) | GroupFault::Doubled(index)) => {
+            Some(*index)
+        }
+        _ => None,
+    }
+}
+
+/// The line on which the text at an index, counted from 0, begins, of the texts from the line with a number on.
+fn line_of_text(text: &[u8], number: usize, index: usize) -> Option<FoundLine<'_>> {
+    let mut begun: usize = 0;
+    for (place, line) in text.split(|byte| *byte == b'\n').enumerate() {
+        if place.saturating_add(1) >= number {
+            begun = begun.saturating_add(texts_in(line));
+        }
+        if begun > index {
+            return Some(FoundLine {
+                number: place.saturating_add(1),
+                text: line,
+            });
+        }
+    }
+    None
+}
+
+/// How many texts in quotes a line has before its comment.
+fn texts_in(line: &[u8]) -> usize {
+    let mut begun: usize = 0;
+    let mut open = None;
+    for byte in line {
+        match open {
+            Some(quote) if quote == *byte => open = None,
+            Some(_) => (),
+            None if *byte == b'#' => return begun,
+            None if matches!(*byte, b'"' | b'\'') => {
+                open = Some(*byte);
+                begun = begun.saturating_add(1);
+            }
+            None => (),
+        }
+    }
+    begun
 }
 
 /// The key that a refusal is about, where it is about one.
@@ -80,6 +137,22 @@ fn line_of_group(text: &[u8], index: usize, key: Option<Key>) -> Option<FoundLin
                 text: line,
             });
         }
+    }
+    found
+}
+
+/// The line in which the byte at a place is, or the last one.
+pub fn line_of_byte(text: &[u8], at: usize) -> Option<FoundLine<'_>> {
+    let mut begun: usize = 0;
+    let mut found = None;
+    for (place, line) in text.split(|byte| *byte == b'\n').enumerate() {
+        if begun <= at {
+            found = Some(FoundLine {
+                number: place.saturating_add(1),
+                text: line,
+            });
+        }
+        begun = begun.saturating_add(line.len()).saturating_add(1);
     }
     found
 }

@@ -1,11 +1,15 @@
 //! Where a fault was found.
 use crate::asking::{files_of, start_of};
-use crate::lines::{line_of_block, line_of_refusal};
+use crate::keys::{UnknownKey, is_of_configuration, nearest, unknown_key};
+use crate::lines::{FoundLine, line_of_block, line_of_byte, line_of_refusal};
 use call_text::TextRefusal;
 use certifier::Mismatch;
 use command_line::Request;
 use faults::Fault;
-use std::io::Write;
+use master_config::{ConfigRefusal, GroupFault};
+use std::alloc::Global;
+use std::fs;
+use std::io::{ErrorKind, Write};
 use std::rt::Files;
 
 /// What is known beside a fault.
@@ -26,6 +30,7 @@ pub fn tell_place<R: AllocGlobal + Files, E: Write>(
     errors: &mut E,
 ) {
     match fault {
+        Fault::Usage => tell_values(request, errors),
         Fault::Word(number, _) => tell_word(request, *number, errors),
         Fault::Config(_) | Fault::File => tell_files(rt, request, errors),
         Fault::Boot(_) => tell_workers(request, errors),
@@ -38,6 +43,22 @@ pub fn tell_place<R: AllocGlobal + Files, E: Write>(
             tell_instead(evidence.instead, errors);
         }
         _ => (),
+    }
+}
+
+/// The values that no option has.
+fn tell_values<E: Write>(request: &Request<'_>, errors: &mut E) {
+    if let Request::Explore(options) = request {
+        if let Some(events) = options.events {
+            if events != 1 && events != 2 {
+                let _ = writeln!(errors, "  --events {events}: 1 and 2 are allowed");
+            }
+        }
+        if let Some(end) = options.forbid {
+            if end != "degraded" {
+                let _ = writeln!(errors, "  --forbid {end}: only degraded is allowed");
+            }
+        }
     }
 }
 
@@ -85,8 +106,18 @@ fn tell_line<E: Write>(given: &[u8], refusal: &TextRefusal, errors: &mut E) {
 
 /// The line with this number, counted from 1; none after the end.
 fn line_at(text: &[u8], number: usize) -> Option<&[u8]> {
+    let line = text
+        .split(|byte| *byte == b'\n')
+        .nth(number.wrapping_sub(1))?;
+    let is_after = line.is_empty() && !has_line(text, number.wrapping_add(1));
+    if is_after { None } else { Some(line) }
+}
+
+/// Whether a text has a line with this number, counted from 1, or ends with the newline before it.
+fn has_line(text: &[u8], number: usize) -> bool {
     text.split(|byte| *byte == b'\n')
         .nth(number.wrapping_sub(1))
+        .is_some()
 }
 
 /// A text on the rest of the line.
@@ -94,7 +125,7 @@ fn tell_text<E: Write>(text: Option<&[u8]>, errors: &mut E) {
     let _ = match text {
         Some(text) if text.is_empty() => errors.write_all(b"(empty)"),
         Some(text) => errors.write_all(text),
-        None => errors.write_all(b"(the end)"),
+        None => errors.write_all(b"(the input ends here, inside a block)"),
     };
     let _ = errors.write_all(b"\n");
 }
@@ -102,9 +133,13 @@ fn tell_text<E: Write>(text: Option<&[u8]>, errors: &mut E) {
 /// Which of the files of a request is refused, and the line of the key that is.
 fn tell_files<R: AllocGlobal + Files, E: Write>(rt: &R, request: &Request<'_>, errors: &mut E) {
     let named = files_of(request);
-    if !tell_file(rt, "--from", named.from, errors) {
-        tell_file(rt, "--to", named.to, errors);
+    if tell_file(rt, "--from", named.from, errors) {
+        return;
     }
+    if let Request::Supervise(_) = request {
+        tell_pid_file(rt, named.from, errors);
+    }
+    let _ = tell_file(rt, "--to", named.to, errors);
 }
 
 /// Says of a file whether the fault is its; whether it was.
@@ -117,20 +152,142 @@ fn tell_file<R: AllocGlobal + Files, E: Write>(
     let Some(path) = path else {
         return false;
     };
-    let Ok(text) = master_config::text_in(rt, path) else {
-        let _ = writeln!(errors, "  {option} {path}: it can't be read");
-        return true;
+    let text = match fs::read(rt, path) {
+        Ok(text) => text,
+        Err(error) => {
+            let _ = write!(errors, "  {option} {path}");
+            tell_unread(error.kind(), errors);
+            return true;
+        }
     };
     let Err(refusal) = master_config::read(rt.alloc(), text.as_slice()) else {
         return false;
     };
     let _ = write!(errors, "  {option} {path}");
-    if let Some(line) = line_of_refusal(text.as_slice(), &refusal) {
+    tell_refusal(rt.alloc(), text.as_slice(), &refusal, errors);
+    true
+}
+
+/// The line of a configuration that is refused, on the rest of the line, and what is wrong there.
+fn tell_refusal<E: Write>(alloc: Global, text: &[u8], refusal: &ConfigRefusal, errors: &mut E) {
+    if let ConfigRefusal::NotToml = refusal {
+        return tell_broken(alloc, text, errors);
+    }
+    match unknown_in(text, refusal) {
+        Some(unknown) => {
+            tell_rest(Some(unknown.line), errors);
+            tell_unknown(alloc, unknown.key, group_of(refusal), errors);
+        }
+        None => tell_rest(line_of_refusal(text, refusal), errors),
+    }
+}
+
+/// The line at which a text is no longer TOML, on the rest of the line, and why.
+fn tell_broken<E: Write>(alloc: Global, text: &[u8], errors: &mut E) {
+    let Err(error) = toml::table_from_slice(alloc, text) else {
+        return tell_rest(None, errors);
+    };
+    let found = match error.span() {
+        Some(span) => line_of_byte(text, span.start),
+        None => None,
+    };
+    tell_rest(found, errors);
+    let _ = writeln!(errors, "  {}", error.message());
+}
+
+/// Why a file is not read, on the rest of the line.
+fn tell_unread<E: Write>(kind: ErrorKind, errors: &mut E) {
+    let _ = match kind {
+        ErrorKind::NotFound => writeln!(errors, ": it cannot be read: no such file"),
+        kind => writeln!(errors, ": it cannot be read: {kind}"),
+    };
+}
+
+/// The pid file of a configuration, if there is none to be read.
+fn tell_pid_file<R: AllocGlobal + Files, E: Write>(rt: &R, path: Option<&str>, errors: &mut E) {
+    let Ok(config) = master_config::config_in(rt, path) else {
+        return;
+    };
+    let Some(pid) = config.settings.pid else {
+        return;
+    };
+    let Ok(name) = str::from_utf8(pid.bytes()) else {
+        return;
+    };
+    if let Err(error) = fs::read(rt, name) {
+        let _ = write!(errors, "  the pid file {name}");
+        tell_unread(error.kind(), errors);
+    }
+}
+
+/// A line of a configuration with its number, on the rest of the line.
+fn tell_rest<E: Write>(line: Option<FoundLine<'_>>, errors: &mut E) {
+    if let Some(line) = line {
         let _ = write!(errors, ", line {}: ", line.number);
-        let _ = errors.write_all(line.text);
+        tell_shown(line.text.trim_ascii_end(), errors);
     }
     let _ = errors.write_all(b"\n");
-    true
+}
+
+/// The most bytes of a line that are shown.
+const SHOWN: usize = 400;
+
+/// A line for people, cut where it is long, with a question mark for each byte that a terminal could take for a command.
+fn tell_shown<E: Write>(line: &[u8], errors: &mut E) {
+    let is_text = str::from_utf8(line).is_ok();
+    let shown = &line[..line.len().min(SHOWN)];
+    let mut is_first = true;
+    for piece in shown.split(|byte| is_odd(*byte, is_text)) {
+        if !is_first {
+            let _ = errors.write_all(b"?");
+        }
+        let _ = errors.write_all(piece);
+        is_first = false;
+    }
+    if shown.len() < line.len() {
+        let _ = errors.write_all(b"..");
+    }
+}
+
+/// Whether a byte is not shown: one of no letter or sign, or one that is not ASCII in a line that is no text.
+fn is_odd(byte: u8, is_text: bool) -> bool {
+    if byte.is_ascii() {
+        byte.is_ascii_control() && byte != b'\t'
+    } else {
+        !is_text
+    }
+}
+
+/// The group that a refusal is about, counted from 0, where it is about one.
+fn group_of(refusal: &ConfigRefusal) -> Option<usize> {
+    match refusal {
+        ConfigRefusal::Group(index, _) => Some(*index),
+        _ => None,
+    }
+}
+
+/// The key that is unknown, where that is what is refused.
+fn unknown_in<'a>(text: &'a [u8], refusal: &ConfigRefusal) -> Option<UnknownKey<'a>> {
+    match refusal {
+        ConfigRefusal::UnknownKey | ConfigRefusal::Group(_, GroupFault::UnknownKey) => {
+            unknown_key(text, group_of(refusal))
+        }
+        _ => None,
+    }
+}
+
+/// An unknown key, and where it belongs or which one may be meant.
+fn tell_unknown<E: Write>(alloc: Global, key: &[u8], group: Option<usize>, errors: &mut E) {
+    let _ = errors.write_all(b"  unknown key: ");
+    let _ = errors.write_all(key);
+    let _ = match nearest(alloc, key, group) {
+        _ if is_of_configuration(key) => writeln!(
+            errors,
+            " (a key of no group: put it above the first heading)"
+        ),
+        Some(known) => writeln!(errors, " (the nearest known key is {known})"),
+        None => errors.write_all(b"\n"),
+    };
 }
 
 /// The line of a block that is not as it should be: an entry, or else the block's last line.

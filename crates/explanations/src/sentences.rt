@@ -1,389 +1,690 @@
-//! The sentences about the codes, each once.
+//! The sentences about codes, answers and outcomes, each once.
 
 use crate::Explanation;
 
-/// The codes that the program prints: those that begin its faults, and those of addresses, starts, configurations, targets
-/// and handovers. (In two lists, since the prover takes too long over one of all.)
+/// The codes that the program prints: those that begin its faults, and those of addresses, starts, configurations and
+/// handovers. (There are three lists, since the prover takes too long over one of all.)
 pub const FAULTS: [Explanation; 35] = [
     Explanation {
         code: "usage",
-        meaning: "the command line asks for nothing that there is",
+        meaning: "invalid command line",
         remedy: "\
-An argument is unknown, missing or given twice, or a number is not decimal or
-has a leading zero. `prefork --help` shows the subcommands, `prefork enact
---help` the options of one.",
+An argument is unknown, missing or given twice, or its value is not allowed.
+N and K are decimal numbers up to 4294967295 without leading zeros; --events
+is 1 or 2, --forbid is 'degraded'. See `prefork --help` for the subcommands
+and `prefork enact --help` for the options of one.",
     },
     Explanation {
         code: "word",
-        meaning: "an argument is no control word",
+        meaning: "an argument is not a control word",
         remedy: "\
-The fault has the number of the argument, counted from 1 among the words, and
-W1 or W2. Quote a word with spaces: 'beat 0 60', 'tick 60', 'USR2 attended'.",
+The number is that of the argument, counted from 1 among the words; W1 or W2
+says what is wrong. Quote a word with spaces: 'beat 0 60', 'USR2 attended'.
+Correct the word; no word was carried out.",
     },
     Explanation {
         code: "config",
         meaning: "a configuration file is refused",
         remedy: "\
-It is the file of --from, or else that of --to. The fault goes on with the
-first rule that the file breaks, C1 to C11. Nothing was started.",
+It is the file of --from or, if that one is accepted, the file of --to. The
+code after it, C1 to C11, is the first rule that the file breaks. Correct
+the file and try again; nothing was started.",
     },
     Explanation {
         code: "boot",
         meaning: "a master cannot start like this",
-        remedy: "The fault goes on with B1: more workers are asked for than there can be.",
+        remedy: "B1 follows: --workers is above 1024. Give a number from 0 to 1024.",
     },
     Explanation {
         code: "held",
-        meaning: "the address of --held cannot be held by somebody else",
+        meaning: "the address of --held cannot be held by another process",
         remedy: "\
-The fault goes on with A1 to A5 where it is no address, with B2 where the
-master listens on it itself, and with B3 where no number is left.",
+A1 to A5 follow if it is not an address, B2 if the master listens on it
+itself, B3 if no number is left for the other process. Correct the address
+or leave --held out; no word was carried out.",
     },
     Explanation {
         code: "pattern",
-        meaning: "standard input is no list of patterns",
+        meaning: "standard input is not a list of patterns",
         remedy: "\
-The fault goes on with X1 or X2 and the number of the first faulty line. No
-word was carried out. For no patterns at all give an empty input: </dev/null",
+X1 or X2 and the number of the first faulty line follow; no word was carried
+out. Correct the line. To inject no faults, redirect from /dev/null.",
     },
     Explanation {
         code: "transcript",
-        meaning: "standard input is no list of blocks",
+        meaning: "standard input is not a list of blocks",
         remedy: "\
-The fault goes on with X1 or X2 and the number of the first faulty line.
-Nothing was compared.",
+X1 or X2 and the number of the first faulty line follow; no block was
+compared. Give the output of `enact` or `supervise` unchanged, from its
+first block on.",
     },
     Explanation {
         code: "certify",
         meaning: "a block is not what the master would have done",
         remedy: "\
-The fault names the block, counted from 1, and says how: Y1 to Y4. Look first
-whether --from, --to, --workers, --bare and --held are those of the master
-that wrote the transcript.",
+The number of the block, counted from 1, and the difference follow: Y1 to
+Y4. First check that --from, --to, --workers, --bare and --held are those of
+the master that wrote the blocks (--bare for `supervise`), and that the
+input begins with that master's first block.",
     },
     Explanation {
         code: "file",
-        meaning: "a read or a write failed",
+        meaning: "a file could not be read or written, or an argument is not UTF-8",
         remedy: "\
-Of a configuration, of standard input, of the pid file of a master that starts,
-or of standard output where its reader has gone. An argument that is not UTF-8
-is told so too. What was written before is whole blocks.",
+The file is a configuration, standard input, standard output (its reader may
+be gone), or the pid file of `supervise`. Check that the path exists, that
+it is a file in a folder that you may use, and that the disk is not full.
+Blocks that were written before are whole.",
     },
     Explanation {
         code: "memory",
-        meaning: "memory was refused",
+        meaning: "out of memory",
         remedy: "\
-The blocks of words that were carried out before are written. Nothing else was
-done: a word takes its memory before its first call.",
+Blocks of words that were carried out before are written. Each word takes
+its memory before its first call, so no word was left half done. Free some
+memory or raise the limit (ulimit -v), then try again.",
     },
     Explanation {
         code: "code",
-        meaning: "there is no such code",
+        meaning: "explain does not know this code",
         remedy: "\
-`prefork explain` lists all. A code is given without what follows it: Y1, and
-not 'Y1 9'.",
+`prefork explain` lists every code, answer and outcome. Give one of them,
+as it is written there and without what follows it: Y1, and not 'Y1 9'.",
     },
     Explanation {
         code: "A1",
         meaning: "the address is empty",
-        remedy: "An address is 1.2.3.4:80, or a path that begins with a slash.",
+        remedy: "Write a host and a port, 127.0.0.1:8080, or a path that begins with '/'.",
     },
     Explanation {
         code: "A2",
-        meaning: "what stands before the colon is no host",
+        meaning: "invalid host",
         remedy: "\
-A host is four numbers up to 255 joined by dots, without leading zeros. Names,
-IPv6 and a bare :8080 are not read; for every address of the machine write
-0.0.0.0.",
+A host is four numbers from 0 to 255 joined by dots, without leading zeros,
+followed by a colon. Names, IPv6 and a bare :8080 are not allowed. For every
+address of the machine write 0.0.0.0:8080. A path must begin with '/'.",
     },
     Explanation {
         code: "A3",
-        meaning: "there is no port, or it is none",
-        remedy: "A port is a number from 1 to 65535 without a leading zero.",
+        meaning: "missing or invalid port",
+        remedy: "\
+A port is a number from 1 to 65535 without a leading zero, after the first
+colon. Write for example 127.0.0.1:8080.",
     },
     Explanation {
         code: "A4",
         meaning: "the path of a Unix socket is too long",
-        remedy: "It has at most 107 bytes.",
+        remedy: "At most 107 bytes are allowed. Use a shorter path.",
     },
     Explanation {
         code: "A5",
-        meaning: "the path of a Unix socket has a byte that it cannot have",
-        remedy: "Each byte is printable ASCII and no space.",
+        meaning: "the path of a Unix socket has an invalid byte",
+        remedy: "Only printable ASCII without spaces is allowed. Rename the path.",
     },
     Explanation {
         code: "B1",
-        meaning: "more workers are asked for than there can be",
-        remedy: "A master has at most 1,024 workers.",
+        meaning: "more than 1024 workers are asked for",
+        remedy: "A master has 0 to 1024 workers. Give a smaller number with --workers.",
     },
     Explanation {
         code: "B2",
-        meaning: "the address is held already",
-        remedy: "The master listens on it itself. Choose another for --held.",
+        meaning: "the master listens on this address itself",
+        remedy: "\
+Another process cannot hold it. With --held name an address that the master
+does not start with, for example one that only the file of --to has.",
     },
     Explanation {
         code: "B3",
         meaning: "no process or socket number is left",
-        remedy: "Numbers end at 4,294,967,295, and none is used twice.",
+        remedy: "\
+Numbers end at 4294967295, and none is used twice. A master that has just
+started has some left, so no command line is known to print this.",
     },
     Explanation {
         code: "C1",
         meaning: "the file is not TOML",
         remedy: "\
-Or it is not UTF-8, or a key stands twice, or a whole number has more than 64
-bits.",
+Or it is not UTF-8, repeats a key, or has an integer of more than 64 bits.
+Write one 'key = value' on each line, texts in quotes, and lists in brackets
+with commas. --why names the line and what is wrong there.",
     },
     Explanation {
         code: "C2",
-        meaning: "a key is unknown",
+        meaning: "unknown key",
         remedy: "\
 The keys are command, groups, listeners, pid, retries, timeout and workers;
-those of a group are listeners and workers.",
+a group has only listeners and workers. Correct or remove the key. Capitals
+count, and a key after a [[groups]] heading belongs to that group.",
     },
     Explanation {
         code: "C3",
-        meaning: "a value is not of its key's kind",
+        meaning: "a value is of the wrong kind",
         remedy: "\
-The key follows the code. retries, timeout and workers are whole numbers, pid
-is a text, listeners and command are lists of texts, groups is a list of
-tables.",
+The key follows the code. retries, timeout and workers are whole numbers
+without quotes; pid is a text in quotes; listeners and command are lists of
+texts, also for a single one: [\"0.0.0.0:80\"]; groups is a list of tables.",
     },
     Explanation {
         code: "C4",
-        meaning: "a number is out of its range",
+        meaning: "a number is out of range",
         remedy: "\
-The key follows the code. workers is 0 to 1024, retries 0 to 8, timeout 1 to
-86400; there are at most 64 listeners, and 1 to 16 groups. With groups the
-listeners and workers of all are counted.",
+The key follows the code. Allowed are workers 0 to 1024, retries 0 to 8,
+timeout 1 to 86400, at most 64 listeners, and 1 to 16 groups. The listeners
+and workers of all groups are counted together.",
     },
     Explanation {
         code: "C5",
-        meaning: "a listener is no address",
+        meaning: "a listener is not an address",
         remedy: "\
-Its place in the list, counted from 0, follows the code, and then why: A1 to
-A5.",
+Its index in the list, counted from 0, follows the code, and then the rule
+that it breaks, A1 to A5. Write a host and a port, \"0.0.0.0:8080\", or a
+path, \"/run/site.sock\".",
     },
     Explanation {
         code: "C6",
-        meaning: "a listener stands in the list twice",
+        meaning: "a listener is named twice",
         remedy: "\
-The place of the second, counted from 0, follows the code; in a group, the
-place in that group's list, and the first may be an earlier group's. Addresses
-are compared by their texts.",
+The index of the second one, counted from 0, follows the code. In a group it
+is the index in that group's list, and an earlier group may have the first.
+Remove one. Addresses are compared as texts.",
     },
     Explanation {
         code: "C7",
-        meaning: "the list of listeners is empty",
+        meaning: "there is no listener",
         remedy: "\
-Name at least one, or leave the key out: the default is 0.0.0.0:8080. A group
-has no default.",
+The list is empty, or a group has no key listeners. Name at least one
+address. Without groups you may leave the key out: it is 0.0.0.0:8080 then.",
     },
     Explanation {
         code: "C8",
-        meaning: "the pid file's path is none",
+        meaning: "invalid path of the pid file",
         remedy: "\
-It begins with a slash and has at most 100 bytes, printable ASCII and no
-space.",
+The path begins with '/' and has at most 100 bytes of printable ASCII
+without spaces. Correct it, or leave the key pid out for no pid file.",
     },
     Explanation {
         code: "C9",
-        meaning: "the command cannot be run",
+        meaning: "invalid command",
         remedy: "\
-It has 1 to 16 texts, each of 1 to 255 bytes without a byte 0; the first is
-the program.",
+It is a list of 1 to 16 texts, the program and its arguments. Each has 1 to
+255 bytes and no byte 0. Put long arguments into a script and start that.",
     },
     Explanation {
         code: "C10",
-        meaning: "listeners or workers stand beside groups",
+        meaning: "listeners or workers beside groups",
         remedy: "\
-Where there are groups, each names its own: move them into a group, or leave
-the key groups out.",
+Each group has its own. Move the keys listeners and workers into a group, or
+remove groups.",
     },
     Explanation {
         code: "C11",
         meaning: "a group is refused",
         remedy: "\
-The group's place, counted from 0, follows the code, and then the first rule
-that it breaks: C2 to C7, as of a configuration. The addresses and the workers
-of the groups before it count: all addresses are different.",
+Its index, counted from 0, follows the code, and then the first rule that it
+breaks, C2 to C7. A group has listeners, 1 or more, and workers, 1 if the
+key is missing. All groups together have at most 64 listeners, all
+different, and at most 1024 workers.",
     },
     Explanation {
         code: "H1",
-        meaning: "the handover is of another version",
-        remedy: "Its first line is neither 'handover 1' nor 'handover 2'.",
+        meaning: "the handover is of an unknown version",
+        remedy: "\
+Its first line must be 'handover 1' or 'handover 2'. `adopt` names no code:
+it answers `refused`, and the old service goes on. Upgrade to an executable
+that reads the version that the old master writes.",
     },
     Explanation {
         code: "H2",
-        meaning: "a line of the handover cannot stand there",
+        meaning: "a line of the handover is invalid or in the wrong place",
         remedy: "\
-The line's number follows the code. It has another form than its place asks
-for, or a value out of range.",
+The line's number, counted from 1, follows the code. Its form is wrong or a
+value is out of range. `adopt` names no code: it answers `refused`, and the
+old service goes on. Check that only prefork writes to the input of `adopt`.",
     },
     Explanation {
         code: "H3",
-        meaning: "the listeners of a handover do not ascend",
+        meaning: "the descriptors of a handover do not ascend",
         remedy: "\
-The line's number follows the code: its descriptor is not above the one
-before.",
+The line's number follows the code: its descriptor is not above that of the
+line before. `adopt` names no code: it answers `refused`, and the old
+service goes on. Check that only prefork writes to the input of `adopt`.",
     },
     Explanation {
         code: "H4",
-        meaning: "the handover ends before its line 'end'",
+        meaning: "the handover has no line 'end'",
         remedy: "\
-A line without its newline counts as not there. Whoever wrote it died, or the
-pipe was closed.",
+A line without its newline does not count. The old master died, or the pipe
+was closed. `adopt` names no code: if it is still asked, it answers
+`refused`. Check that a master still runs, and ask for the upgrade again.",
     },
     Explanation {
         code: "H5",
-        meaning: "something follows the handover's line 'end'",
-        remedy: "",
+        meaning: "something follows the line 'end' of the handover",
+        remedy: "\
+A handover ends with this line. `adopt` reads no further than it, so the
+program never prints this code.",
     },
 ];
 
-/// The others: those of plans, words, workers and texts.
+/// The other codes: those of plans, words, workers and texts.
 pub const WORDS: [Explanation; 23] = [
     Explanation {
         code: "P1",
-        meaning: "the plan would have more than 65,536 steps",
-        remedy: "No target of a configuration that is accepted leads there.",
+        meaning: "the plan would have more than 65536 steps",
+        remedy: "\
+No configuration that is accepted leads to such a plan, so the program never
+prints this.",
     },
     Explanation {
         code: "P2",
         meaning: "this planner makes no plan for an upgrade",
-        remedy: "An upgrade has a planner of its own. The program never prints this.",
+        remedy: "An upgrade has a planner of its own, so the program never prints this.",
     },
     Explanation {
         code: "P3",
-        meaning: "the number of the next configuration or image would pass 4,294,967,295",
+        meaning: "the configuration or image number would pass 4294967295",
         remedy: "\
-Each HUP takes a configuration number. Each USR2, attended or not, takes a
-configuration and an image number. Start the master anew.",
+Each HUP takes a configuration number; each USR2, attended or not, takes a
+configuration and an image number. Stop the master and start it anew.",
     },
     Explanation {
         code: "W1",
-        meaning: "there is no such control word",
+        meaning: "no such control word",
         remedy: "\
-The words are HUP, QUIT, INT, TERM, USR1, USR2, 'USR2 attended', WINCH, TTIN,
-TTOU, 'beat K NOW' and 'tick NOW'. Write them exactly so, with single spaces.",
+The words are HUP, QUIT, INT, TERM, USR1, USR2, 'USR2 attended', WINCH,
+TTIN, TTOU, 'beat K NOW' and 'tick NOW'. Write them exactly like this: with
+these capitals, with single spaces, and without SIG.",
     },
     Explanation {
         code: "W2",
-        meaning: "behind 'beat' or 'tick' there stand not exactly its numbers",
+        meaning: "invalid numbers after 'beat' or 'tick'",
         remedy: "\
-A beat has a worker's number, 0 to 1023, and a moment; a tick has a moment.
-Single spaces, decimal, no leading zeros.",
+In 'beat K NOW' K is a worker's number, 0 to 1023; in 'beat K NOW' and 'tick
+NOW' NOW is a moment, 0 to 18446744073709551615. Write them in decimal,
+without leading zeros, after single spaces, and nothing after them.",
     },
     Explanation {
         code: "W3",
-        meaning: "there are 1,024 workers already",
-        remedy: "TTIN asks for one more. Nothing was changed.",
+        meaning: "there are 1024 workers already",
+        remedy: "\
+TTIN asks for one more, and no master has more than 1024. Nothing was
+changed. Start a second master with other addresses if you need more.",
     },
     Explanation {
         code: "W4",
-        meaning: "there is no configuration to go over to",
+        meaning: "the configuration of --to could not be read",
         remedy: "\
-HUP, USR2 and 'USR2 attended' read one, and it could not be read. Nothing was
-changed.",
+HUP, USR2 and 'USR2 attended' read it anew. Check that the file exists and
+may be read (without --to it is the file of --from), and send the word
+again. Nothing was changed; the running service goes on.",
     },
     Explanation {
         code: "W5",
-        meaning: "the configuration names another pid file than the one that is in use",
+        meaning: "the configuration names another pid file than the one in use",
         remedy: "\
-A running master keeps its pid file. Take the change back, or stop the master
-and start it anew.",
+Or only one of the two names one. A running master keeps its pid file: take
+the change of pid back, or stop the master and start it anew. Nothing was
+changed.",
     },
     Explanation {
         code: "T1",
         meaning: "the worker is in the table already",
-        remedy: "The program never prints this.",
+        remedy: "No word adds a worker twice, so the program never prints this.",
     },
     Explanation {
         code: "T2",
         meaning: "the worker's number is above 1023",
-        remedy: "The program never prints this.",
+        remedy: "Such a number is refused as W2 before, so the program never prints this.",
     },
     Explanation {
         code: "T3",
-        meaning: "the beat is of a worker that is not there",
-        remedy: "It was killed, or it has ended. Nothing was changed.",
+        meaning: "the beat is of a worker that is not ready",
+        remedy: "\
+It has ended, was killed or told to quit, or was never started. Nothing was
+changed. Send beats only for workers of the last census.",
     },
     Explanation {
         code: "T4",
         meaning: "the beat's moment is before the worker's last beat",
-        remedy: "Clocks do not go back. The last beat stays as it was.",
+        remedy: "\
+The moments of a worker may not go back. Nothing was changed. Take them from
+a clock that is never set back, such as CLOCK_MONOTONIC.",
     },
     Explanation {
         code: "E2",
         meaning: "the master's record does not agree with the kernel",
-        remedy: "Nothing was changed.",
+        remedy: "\
+Nothing was changed. This is checked before each plan; no command line is
+known to print it. If you see it, keep the command line and the input.",
     },
     Explanation {
         code: "E3",
         meaning: "there is no plan",
-        remedy: "Why follows the code: P3. Nothing was changed.",
+        remedy: "\
+The reason follows the code: P3. Nothing was changed; the running service
+goes on. Stop the master and start it anew.",
     },
     Explanation {
         code: "E4",
-        meaning: "the pattern kills the master that carries the plan out",
+        meaning: "the pattern kills the master that carries out the plan",
         remedy: "\
-The number of the call follows the code. The old master may not exit up to its
-'leave', nor the new one from then on: who would go on? Before that the new
-one may.",
+The number of the call follows the code. Up to its 'leave' the old master
+may not exit, nor from then on the new one; nobody could go on. Before that
+the new one may. Take the line 'N exit mI' out. Nothing was changed.",
     },
     Explanation {
         code: "E5",
         meaning: "too few process or socket numbers are left for the plan",
-        remedy: "Numbers end at 4,294,967,295, and none is used twice. Nothing was changed.",
+        remedy: "\
+Numbers end at 4294967295, and none is used twice. Nothing was changed. Stop
+the master and start it anew. No command line is known to print this.",
     },
     Explanation {
         code: "V1",
         meaning: "the master has stopped",
-        remedy: "A word before this one was QUIT, INT or TERM. Nothing is left to act on.",
+        remedy: "\
+An earlier word was QUIT, INT or TERM, so nothing is left to act on. Give
+the word before the stop, or start a master anew.",
     },
     Explanation {
         code: "X1",
-        meaning: "the line has none of the forms that it could have",
+        meaning: "the line has none of the allowed forms",
         remedy: "\
-The line's number, counted from 1 through the whole input, follows the code.
-Patterns have lines 'N exit NAME', 'N fail FATE' and 'next'; blocks have the
-lines that `prefork enact` prints. Numbers have no leading zeros, and spaces
-are single. A text that ends inside a block is refused behind its last line.",
+Its number, counted from 1 through the whole input, follows the code. A
+pattern has lines 'N exit NAME', 'N fail FATE' and 'next'; blocks have the
+lines that `prefork enact` prints. Numbers have no leading zeros, spaces are
+single. If the input ends inside a block, the number is one more than its
+lines. FATE is one of in-use, too-many, denied, no-memory, again, late,
+no-image, refused, io-fault and back; the call must be able to fail so.",
     },
     Explanation {
         code: "X2",
-        meaning: "the line cannot stand in its place",
+        meaning: "the line is in the wrong place",
         remedy: "\
-The line's number follows the code. In a pattern the numbers of calls do not
-fall, and a 'fail' is the last line of its call; in a block calls are numbered
-1, 2, 3 and so on.",
+Its number follows the code. In a pattern the numbers of calls do not fall,
+and 'fail' is the last line of its call. In a block calls are numbered 1, 2,
+3 and so on. Move or correct the line.",
     },
     Explanation {
         code: "Y1",
-        meaning: "an entry is not what the plan and the kernel give there",
+        meaning: "an entry is not what the plan and the kernel allow there",
         remedy: "\
-The entry's number follows the code. It is another call than the plan's next
-one, or a call behind the plan's end, or an answer that the plan knows no way
-on from or that the kernel cannot give, whoever exits and whichever call fails
-just then. An exit is put at the entry that shows it; what only an earlier
-exit would explain is refused too.",
+The number of the entry follows the code. It is another call than the next
+one of the plan, a call after the plan's end, or an answer that the plan has
+no way on from or that the kernel cannot give, whichever process exits and
+whichever call fails just then. An exit is put at the entry that shows it.
+Compare the entry with the plan of `prefork plan`, and check the options.",
     },
     Explanation {
         code: "Y2",
-        meaning: "the report is another than that of the calls",
+        meaning: "the report is not that of the calls",
         remedy: "\
-The calls are a whole run of the plan; its outcome, shortfall, cause or note
-is another.",
+The calls are a whole run of the plan, but the outcome, shortfall, cause or
+pid note is not the one that they lead to. Compare it with the plan of
+`prefork plan`. If the options are right and the line was not edited, the
+master reported wrongly.",
     },
     Explanation {
         code: "Y3",
         meaning: "the block ends before the plan does",
-        remedy: "Or it says 'nothing' of a word for which there is a plan.",
+        remedy: "\
+Or it says 'nothing' of a word that has a plan. If the options are right and
+no line was cut off, the master stopped before the plan's end.",
     },
     Explanation {
         code: "Y4",
         meaning: "the word could not have been carried out",
         remedy: "\
 The master's record does not agree with the kernel, or there is no plan, or
-too few numbers are left.",
+too few numbers are left. Check the options, and that no block before this
+one is missing.",
+    },
+];
+
+/// What is no code: answers of calls, outcomes of words, and what else is in a block.
+pub const ANSWERS: [Explanation; 33] = [
+    Explanation {
+        code: "opened",
+        meaning: "the address is open",
+        remedy: "The plain answer of 'open', with the descriptor, 3 to 66. Nothing to do.",
+    },
+    Explanation {
+        code: "in-use",
+        meaning: "the address is already in use",
+        remedy: "\
+An answer of 'open': another process, or the master itself, listens there.
+The word is rolled back. Find that process (ss -ltnp, or ss -lxp for a path)
+and stop it, or choose another address. Under `prefork-serve` a worker that
+cannot have the socket ends instead: the answer of 'await-ready' is `gone`.",
+    },
+    Explanation {
+        code: "too-many",
+        meaning: "the master has as many descriptors as it may have",
+        remedy: "\
+An answer of 'open': a master listens at 64 addresses at most, and a reload
+opens the added ones before it closes the dropped ones. The word is rolled
+back. Drop addresses first, by a reload of its own, and then add the others.",
+    },
+    Explanation {
+        code: "denied",
+        meaning: "the address may not be opened",
+        remedy: "\
+An answer of 'open': the system does not permit it, for example a port below
+1024 without the privilege, or a folder that may not be written. The word is
+rolled back. Choose another address or grant the permission. In a rehearsal
+only a pattern, 'N fail denied', gives this answer.",
+    },
+    Explanation {
+        code: "no-memory",
+        meaning: "the system has no memory for this",
+        remedy: "\
+An answer of 'open', 'fork' and 'spawn-master'. The plan goes back, or on
+with fewer workers. Free memory or ask for fewer workers, and try again.",
+    },
+    Explanation {
+        code: "ok",
+        meaning: "the call was made",
+        remedy: "\
+The plain answer of calls that only tell or change something: nothing to do.
+After 'quit' a worker still finishes its requests.",
+    },
+    Explanation {
+        code: "forked",
+        meaning: "the worker was started",
+        remedy: "\
+The plain answer of 'fork': nothing to do. The worker is not ready yet;
+'await-ready' waits for that.",
+    },
+    Explanation {
+        code: "again",
+        meaning: "no process could be started",
+        remedy: "\
+An answer of 'fork' and 'spawn-master'. Either a limit of processes or
+descriptors is reached (ulimit -u, ulimit -n), or the program of a worker is
+missing, or a program is not executable, or there is a new master already.
+Try the command by hand as the user of the service, correct what is wrong,
+and send the word again.",
+    },
+    Explanation {
+        code: "ready",
+        meaning: "the worker is ready",
+        remedy: "\
+The plain answer of 'await-ready': the worker accepts connections. Nothing
+to do.",
+    },
+    Explanation {
+        code: "gone",
+        meaning: "the process has ended",
+        remedy: "\
+After 'await-gone' this is the plain answer. After 'await-ready' the worker
+ended before it was ready: a fault of the application, or a port in use by
+another process; its messages are on the standard error of the service.
+After 'alive' the new master has ended. Correct the cause and try again.",
+    },
+    Explanation {
+        code: "late",
+        meaning: "the worker was not ready, or had not ended, in time",
+        remedy: "\
+An answer of 'await-ready' and 'await-gone'; the worker is killed. Real
+workers have no limit of time here: one is late if its next line is not
+'ready', or 'gone'. Its standard output is for the master alone, so let the
+program print to standard error. `prefork-serve --guard` ends silent ones.",
+    },
+    Explanation {
+        code: "counted",
+        meaning: "these workers are ready",
+        remedy: "\
+The answer of 'census', with their numbers. If one is missing that should be
+there, the plan goes back, or starts it again at most 'retries' times and
+then ends degraded. See on standard error why the missing worker ended.",
+    },
+    Explanation {
+        code: "spawned",
+        meaning: "the new master was started",
+        remedy: "\
+The plain answer of 'spawn-master': nothing to do. 'adopt' says whether it
+takes over.",
+    },
+    Explanation {
+        code: "no-image",
+        meaning: "the executable of the new master is not there",
+        remedy: "\
+An answer of 'spawn-master'; the upgrade is rolled back and the old service
+goes on. Put the new executable at the path of --program, and send USR2
+again.",
+    },
+    Explanation {
+        code: "adopted",
+        meaning: "the new master has taken over the listeners",
+        remedy: "The plain answer of 'adopt': nothing to do.",
+    },
+    Explanation {
+        code: "refused",
+        meaning: "a word or a handover was refused",
+        remedy: "\
+'refused CODE' after a word: nothing was changed, and `prefork explain CODE`
+says why. As the answer of 'adopt': the new master cannot use the handover
+(H1 to H5, or another image or other addresses), and the old service goes
+on. Check which executable is at the path of --program, and send USR2 again.",
+    },
+    Explanation {
+        code: "io-fault",
+        meaning: "the pid file could not be written, renamed or removed",
+        remedy: "\
+An answer of 'write-pid', 'move-pid' and 'remove-pid'. Check that its folder
+exists and may be written, that the disk is not full, and that nothing else
+moves the file. The note at the end of the report says where it is.",
+    },
+    Explanation {
+        code: "alive",
+        meaning: "the new master is alive",
+        remedy: "The plain answer of 'alive': nothing to do.",
+    },
+    Explanation {
+        code: "go",
+        meaning: "the operator goes on with the upgrade",
+        remedy: "The plain answer of 'ask'. Under `supervise` it is the next WINCH or QUIT.",
+    },
+    Explanation {
+        code: "back",
+        meaning: "the operator goes back to the old service",
+        remedy: "\
+An answer of 'ask': not a failure, but the cause in the report. In a pattern
+it is 'N fail back'. Under `supervise` it is the next HUP, the end of the
+input, a failed read, or 64 lines that wait. To upgrade after all, send
+'USR2 attended' again and answer WINCH.",
+    },
+    Explanation {
+        code: "master-gone",
+        meaning: "the master that should make the call is gone",
+        remedy: "\
+It ended, was killed, or gave an invalid answer. A plan goes back if it can;
+otherwise the word is lost. Look at its messages on standard error for why
+it ended, then send the word again.",
+    },
+    Explanation {
+        code: "done",
+        meaning: "the service that was asked for runs",
+        remedy: "\
+The outcome of a word: nothing to do. A cause other than 'none' is a call
+that failed, whose failure the plan made up for.",
+    },
+    Explanation {
+        code: "rolled-back",
+        meaning: "the service that ran before runs again",
+        remedy: "\
+The outcome of a word that failed; no worker is missing. The cause is the
+number of the call that failed: its answer in the block says why. Correct
+that and send the word again. Until then restore files that you replaced:
+workers that are started later use what is on the disk.",
+    },
+    Explanation {
+        code: "degraded",
+        meaning: "the service runs, but workers are missing",
+        remedy: "\
+The side follows, 'old' or 'target', and how many are missing in each group.
+Workers could not be started, or ended, more often than 'retries' allows. A
+tick starts missing ones again. The cause names the first call that failed;
+if workers go on ending, see their messages on standard error.",
+    },
+    Explanation {
+        code: "lost",
+        meaning: "the master that carried out the word is gone",
+        remedy: "\
+The outcome of a word after which the plan has no way on; what runs is not
+known. Look whether a master runs (the pid file has its number). If none
+does, start the service anew; workers end with their master.",
+    },
+    Explanation {
+        code: "nothing",
+        meaning: "the word needed no calls",
+        remedy: "The service is already as the word asks, or a beat was noted. Nothing to do.",
+    },
+    Explanation {
+        code: "unread",
+        meaning: "a line is not a control word",
+        remedy: "\
+W1 or W2 follows and says why. `supervise` prints it for a line of its input
+and goes on with the next. Correct the program that writes the lines.",
+    },
+    Explanation {
+        code: "cause",
+        meaning: "the first call that failed, by its number in the block",
+        remedy: "\
+It is the first that was not answered plainly, or whose census lacked a
+worker; or 'none'. Look at that line of the block, and explain its answer.",
+    },
+    Explanation {
+        code: "in-place",
+        meaning: "the pid file is at its path",
+        remedy: "And no file with the suffix .oldbin is there. Nothing to do.",
+    },
+    Explanation {
+        code: "at-oldbin",
+        meaning: "the pid file is at its path with the suffix .oldbin",
+        remedy: "\
+An upgrade was rolled back, and the file could not be moved back (io-fault).
+Remove the cause and move the file back by hand: mv PATH.oldbin PATH",
+    },
+    Explanation {
+        code: "oldbin-left",
+        meaning: "a file with the suffix .oldbin is left beside the pid file",
+        remedy: "\
+The upgrade could not remove it (io-fault). Remove it by hand; the master
+does not use it.",
+    },
+    Explanation {
+        code: "left",
+        meaning: "the pid file is left, and no master runs",
+        remedy: "\
+The stop could not remove it (io-fault). Remove it by hand, since its number
+may soon be that of another process.",
+    },
+    Explanation {
+        code: "no-file",
+        meaning: "there is no pid file",
+        remedy: "\
+The configuration names none. For one set the key pid, and start anew: a
+running master does not change its pid file.",
     },
 ];

@@ -27,6 +27,7 @@ pub fn tell<R: AllocGlobal + Files, E: Write>(
 pub fn tell_usage<E: Write>(alloc: Global, args: &[String], fault: &Fault, errors: &mut E) {
     if asks(args) {
         tell_complaint(alloc, args, errors);
+        tell_numbers(args, errors);
         tell_meanings(alloc, fault, errors);
     }
 }
@@ -47,6 +48,49 @@ fn tell_complaint<E: Write>(alloc: Global, args: &[String], errors: &mut E) {
             }
         }
     }
+}
+
+/// The options whose values are numbers.
+const COUNTS: [&str; 3] = ["--workers", "--events", "--limit"];
+
+/// The values of options that should be numbers, and are not.
+fn tell_numbers<E: Write>(args: &[String], errors: &mut E) {
+    for (place, arg) in args
+        .iter()
+        .take_while(|arg| arg.as_str() != "--")
+        .enumerate()
+    {
+        if COUNTS.contains(&arg.as_str()) {
+            if let Some(value) = args.get(place.saturating_add(1)) {
+                tell_number(arg.as_str(), value.as_str(), errors);
+            }
+        }
+    }
+}
+
+/// The value of an option, if it is no number.
+fn tell_number<E: Write>(option: &str, value: &str, errors: &mut E) {
+    if !is_number(value.as_bytes()) {
+        let _ = writeln!(
+            errors,
+            "  {option} {value}: numbers from 0 to 4294967295 are allowed, without leading zeros"
+        );
+    }
+}
+
+/// Whether a text is a decimal number of at most 32 bits without a leading zero.
+fn is_number(text: &[u8]) -> bool {
+    let mut value: u64 = 0;
+    for byte in text {
+        if !byte.is_ascii_digit() || value > u64::from(u32::MAX) {
+            return false;
+        }
+        value = value
+            .saturating_mul(10)
+            .saturating_add(u64::from(*byte - b'0'));
+    }
+    let has_zero = text.len() > 1 && text.first() == Some(&b'0');
+    !text.is_empty() && !has_zero && value <= u64::from(u32::MAX)
 }
 
 /// What each code in the line of a fault means.
