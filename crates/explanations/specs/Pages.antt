@@ -1,6 +1,6 @@
 -- What is printed of an explanation.
 use Rattle.std.specs.Prelude.{ℕ, List, [], ◌∷◌, ◌++◌, codes}
-use Rattle.explanations.specs.declared.explanation.Explanation.{Explanation}
+use Rattle.code_explanations.specs.declared.explanation.Explanation.{Explanation}
 
 -- its code, and what that means
 abbrev pub meaning_line : Explanation → List ℕ

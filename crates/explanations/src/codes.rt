@@ -3,7 +3,7 @@ ghost use Rattle.std.specs.Prelude.{◌≡◌, ◌++◌, ◌⊎◌, IfOk, IfErr,
 ghost use Rattle.explanations.specs.Pages.{meaning_line, page_text};
 ghost use Rattle.faults.specs.declared.fault.Fault.TheVariants.{Code, Memory};
 
-use crate::{ANSWERS, Explanation, FAULTS, WORDS, explanation_of};
+use code_explanations::{ANSWERS, Explanation, FAULTS, WORDS, explanation_of};
 use faults::Fault;
 use std::alloc::{AllocError, Global};
 

@@ -1,0 +1,8 @@
+//! What each code, answer and outcome means, and what to do about it. The sentences are here and nowhere else.
+#![tactic(auto)]
+
+mod explanation;
+mod sentences;
+
+pub use explanation::{Explanation, explanation_of};
+pub use sentences::{ANSWERS, FAULTS, WORDS};
