@@ -1,6 +1,7 @@
 //! `--why`: what is said of a fault after its line, for people.
+use crate::meaning_of;
 use crate::places::{Evidence, tell_place};
-use crate::{Explanation, meaning_of};
+use code_explanations::Explanation;
 use command_line::{Request, complaint};
 use faults::Fault;
 use std::alloc::Global;
