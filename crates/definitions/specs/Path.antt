@@ -123,7 +123,7 @@ outcome_at sides Done lacking = outcome.Done
 outcome_at sides RolledBack lacking = outcome.RolledBack
 outcome_at sides ShortOld lacking = outcome.Degraded Old (shortfalls_of sides.old lacking)
 outcome_at sides ShortTarget lacking = outcome.Degraded Target (shortfalls_of sides.target lacking)
--- a mark is no end of a plan: no path law asks for a reply there
+-- no run ends at a mark
 outcome_at sides _ lacking = outcome.Done
 
 -- the end that the path is at, or Lost where the last answer had no edge

@@ -17,7 +17,8 @@ fn same_next(one: Next, other: Next) -> bool
     match (one, other) {
         (Next::To(one), Next::To(other)) => one.0 == other.0,
         (Next::Over(one), Next::Over(other)) => one == other,
-        (Next::Both(one, two), Next::Both(other, another)) => one.0 == other.0 && two.0 == another.0,
+        (Next::Both(one, two), Next::Both(other, another)) => one.0 == other.0
+            && two.0 == another.0,
         _ => false,
     }
 }

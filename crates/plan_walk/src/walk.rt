@@ -135,10 +135,12 @@ impl<'a> Walk<'a> {
             return Outcome::Lost;
         };
         match cursor.end() {
-            Some(End::Done | End::Split | End::JoinReady | End::JoinBack | End::Join) => Outcome::Done,
+            Some(End::Done) => Outcome::Done,
             Some(End::RolledBack) => Outcome::RolledBack,
             Some(End::ShortOld) => self.degraded(Side::Old, &self.sides.old),
             Some(End::ShortTarget) => self.degraded(Side::Target, &self.sides.target),
+            // (marks: no plan has them yet)
+            Some(End::Split | End::JoinReady | End::JoinBack | End::Join) => Outcome::Done,
             None => unreachable!(),
         }
     }

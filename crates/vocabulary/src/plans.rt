@@ -28,13 +28,13 @@ pub enum End {
     ShortOld,
     /// The target's service runs, less what the last census lacked.
     ShortTarget,
-    /// Here two masters' parts begin: no end of a plan, and none of the next three is.
+    /// A mark: here the parts of two masters begin. No run ends at a mark.
     Split,
-    /// The new master's part has ended, and it is ready.
+    /// A mark: the new master's part has ended, and the new master is ready.
     JoinReady,
-    /// The new master's part has ended, and the plan goes back.
+    /// A mark: the new master's part has ended, and the plan goes back.
     JoinBack,
-    /// The old master's part has ended.
+    /// A mark: the old master's part has ended.
     Join,
 }
 
