@@ -99,6 +99,7 @@ class Service:
             say(f"the master is not started: {fault}")
             return
         self.starts += 1
+        self.record.forget_workers()
         self.events.register(self.master.output, selectors.EVENT_READ, self.hear_master)
         self.events.register(self.master.errors, selectors.EVENT_READ, self.hear_errors)
 

@@ -31,6 +31,10 @@ class Record:
         self.generation, self.workers = "", []
         self.last: Status | None = None
 
+    def forget_workers(self) -> None:
+        """A master has been started, and has counted nobody yet. Those of the one before are not its own."""
+        self.generation, self.workers = "", []
+
     def note(self, word: str, block: str) -> None:
         counted = CENSUS.findall(block)
         if counted:

@@ -25,6 +25,8 @@ class RecordTest(unittest.TestCase):
         self.assertEqual((record.last["word"], record.last["report"]), ("HUP", "done cause none pid no-file"))
         record.note("USR2", "word USR2\nrefused W5\n")
         self.assertEqual((record.generation, record.last["report"]), ("1.2", "refused W5"))
+        record.forget_workers()
+        self.assertEqual((record.generation, record.workers, record.last["word"]), ("", [], "USR2"))
 
 
 class ProcessesTest(unittest.TestCase):
