@@ -25,20 +25,12 @@ WORDS: dict[str, str] = {
 FOUND = re.compile("|".join(f"(?P<w{at}>{pattern})" for at, pattern in enumerate(WORDS)), re.I)
 INSTEAD = list(WORDS.values())
 
-# Pages in which some of these words are left, and why.
-EXCEPTIONS: dict[str, str] = {
-    "docs/PERFORMANCE.md": "not rewritten yet",
-    "examples/README.md": "not rewritten yet",
-}
-
 
 def faults(tree: Tree) -> Iterator[str]:
     """Where a page has such a word."""
     pages = [(path, without_code(text)) for path, text in tree.markdown()]
     pages += [(path, plain_man(text)) for path, text in tree.man()]
     for path, text in pages:
-        if path in EXCEPTIONS:
-            continue
         for found in FOUND.finditer(text):
             instead = INSTEAD[int((found.lastgroup or "w0")[1:])]
             yield f"{path}:{line_of(text, found.start())}: '{found[0]}': write {instead}"

@@ -225,6 +225,52 @@ fn goes_on_behind_63_lines_that_wait(rt: HostRuntime) -> Result<(), Fail> {
     Ok(())
 }
 
+/// 63 lines of two kinds by turns: those that wait come back in the order in which they came.
+#[test]
+fn lines_that_wait_keep_their_order(rt: HostRuntime) -> Result<(), Fail> {
+    let alloc = rt.alloc();
+    let lines = times(alloc, 31, b"what\nbeat 7 1\n")?;
+    let blocks = times(alloc, 31, b"unread W1\nword beat 7 1\nrefused T3\n")?;
+    let front = joined(alloc, &[ASK, lines.as_slice()])?;
+    let input = joined(alloc, &[front.as_slice(), b"what\n".as_slice(), GO, GO])?;
+    let upgrade = joined(alloc, &[TO_THE_FIRST, TO_THE_SECOND, GONE_OVER])?;
+    let last = b"unread W1\n".as_slice();
+    let parts = [upgrade.as_slice(), blocks.as_slice(), last, SECOND_QUITS];
+    assert!(rt; leads_to(alloc, &input, &parts, 1)?);
+    Ok(())
+}
+
+/// What comes of `TTIN`, and then of the end of the input.
+const ADDED: &[u8] = b"word TTIN\n\
+    1 m1 fork 1.1 1 : forked\n\
+    2 m1 await-ready 1.1 1 : ready\n\
+    3 m1 census 1.1 : counted 0-1\n\
+    done cause none pid no-file\n";
+
+const TWO_QUIT: &[u8] = b"word QUIT\n\
+    1 m1 quit 1.1 1 : ok\n\
+    2 m1 quit 1.1 0 : ok\n\
+    3 m1 await-gone 1.1 1 : gone\n\
+    4 m1 await-gone 1.1 0 : gone\n\
+    5 m1 leave : ok\n\
+    done cause none pid no-file\n";
+
+#[test]
+fn a_word_with_a_plan_waits(rt: HostRuntime) -> Result<(), Fail> {
+    let alloc = rt.alloc();
+    let back = [TO_THE_FIRST, BACK_AT_THE_FIRST, ADDED, TWO_QUIT];
+    assert!(rt; leads_to(alloc, b"USR2 attended\nTTIN\nHUP\n", &back, 3)?);
+    let late = [
+        TO_THE_FIRST,
+        TO_THE_SECOND,
+        BACK_AT_THE_SECOND,
+        ADDED,
+        TWO_QUIT,
+    ];
+    assert!(rt; leads_to(alloc, b"USR2 attended\nWINCH\nTTIN\nHUP\n", &late, 3)?);
+    Ok(())
+}
+
 /// What comes behind the 64th line is read when the lines that wait are done.
 #[test]
 fn goes_back_at_the_first_question_once_64_lines_wait(rt: HostRuntime) -> Result<(), Fail> {
@@ -345,6 +391,26 @@ fn the_second_master_asks_too(rt: HostRuntime) -> Result<(), Fail> {
     let input = b"USR2 attended\nQUIT\nWINCH\nUSR2 attended\nWINCH\nQUIT\n";
     let parts = [over[0], over[1], over[2], asks, went];
     assert!(rt; leads_to(alloc, input, &parts, 0)?);
+    Ok(())
+}
+
+#[test]
+fn the_second_master_goes_back_too(rt: HostRuntime) -> Result<(), Fail> {
+    let alloc = rt.alloc();
+    let over = joined(alloc, &[TO_THE_FIRST, TO_THE_SECOND, GONE_OVER])?;
+    let asks = b"word USR2 attended\n\
+        1 m2 spawn-master 3 : spawned\n\
+        2 m3 adopt : adopted\n\
+        3 m3 fork 3.3 0 : forked\n\
+        4 m3 await-ready 3.3 0 : ready\n\
+        5 m3 census 3.3 : counted 0\n\
+        6 m2 ask 1 : back\n\
+        7 m2 term-master 3 : ok\n\
+        8 m2 census 2.2 : counted 0\n\
+        rolled-back cause 6 pid no-file\n"
+        .as_slice();
+    let input = b"USR2 attended\nQUIT\nWINCH\nUSR2 attended\nHUP\n";
+    assert!(rt; leads_to(alloc, input, &[over.as_slice(), asks, SECOND_QUITS], 3)?);
     Ok(())
 }
 
