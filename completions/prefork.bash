@@ -8,7 +8,7 @@ _prefork() {
 
     COMPREPLY=()
     if ((COMP_CWORD == 1)); then
-        mapfile -t COMPREPLY < <(compgen -W 'enact plan explore certify supervise adopt child explain --help --version' -- "$cur")
+        mapfile -t COMPREPLY < <(compgen -W 'enact plan explore certify check supervise adopt child explain --help --version' -- "$cur")
         return
     fi
 
@@ -24,21 +24,26 @@ _prefork() {
             mapfile -t COMPREPLY < <(compgen -W 'degraded' -- "$cur")
             return
             ;;
+        --require)
+            mapfile -t COMPREPLY < <(compgen -W 'done' -- "$cur")
+            return
+            ;;
         --events)
             mapfile -t COMPREPLY < <(compgen -W '1 2' -- "$cur")
             return
             ;;
-        --workers | --held | --limit | :) return ;;
+        --workers | --held | --limit | --least | --answer-within | --ready-within | :) return ;;
     esac
     [[ $cur == : ]] && return
 
     case ${COMP_WORDS[1]} in
-        enact) options='--from --to --workers --bare --why --held --state --help' ;;
-        plan) options='--from --to --workers --bare --why --dot --help' ;;
-        explore) options='--from --to --workers --bare --why --held --events --limit --forbid --list --progress --help' ;;
-        certify) options='--from --to --workers --bare --why --held --help' ;;
-        supervise) options='--program --from --to --verbose --why --help' ;;
-        adopt) options='--program --help' ;;
+        enact) options='--from --to --workers --bare --json --why --held --state --help' ;;
+        plan) options='--from --to --workers --bare --json --why --dot --help' ;;
+        explore) options='--from --to --workers --bare --json --why --held --events --limit --forbid --require --least --list --progress --help' ;;
+        certify) options='--from --to --workers --bare --json --why --held --help' ;;
+        supervise) options='--program --from --to --answer-within --ready-within --verbose --why --help' ;;
+        adopt) options='--program --answer-within --ready-within --help' ;;
+        check) options='--help' ;;
         child) options='--help' ;;
         explain) options='--help' ;;
         *) return ;;
@@ -58,6 +63,10 @@ _prefork() {
     # Transcripts and words come on standard input, and the program itself knows the codes.
     case ${COMP_WORDS[1]} in
         certify | supervise | adopt | child) return ;;
+        check)
+            compopt -o default
+            return
+            ;;
         explain)
             [[ ${#before[@]} -gt 0 ]] && return
             mapfile -t COMPREPLY < <(compgen -W "$("${COMP_WORDS[0]}" explain 2>/dev/null | cut -d ' ' -f 1)" -- "$cur")

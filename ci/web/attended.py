@@ -1,7 +1,5 @@
 """Upgrades that ask their operator twice: who serves at each question, each answer, and who is killed meanwhile."""
-import math
 import os
-import re
 import signal
 import subprocess
 import time
@@ -9,6 +7,7 @@ import time
 from gate.addresses import answer_of, is_answered, is_refused
 from gate.waiting import SECONDS, until
 from web.site import CLIENTS, Scenario, Site
+from web.starts import status
 
 UPGRADE = "USR2 attended"
 # Longer than the time between two ticks, and than the `timeout` of a worker that must not count as hanging afterwards.
@@ -45,23 +44,18 @@ def versions(site: Site) -> set[str]:
     return {answer_of(site.first).split()[1] for _ in range(40)}
 
 
-def pauses() -> set[int]:
-    """Lets it ask for a while; the whole seconds that have passed, by the clock of the ticks."""
-    began = time.monotonic()
+def pauses(site: Site) -> None:
+    """Lets it ask for a while. No tick is told: the master would carry it out afterwards."""
+    before = status(site)["ticks"]
     time.sleep(PAUSE)
-    return set(range(math.ceil(began), math.floor(time.monotonic())))
-
-
-def told_no_tick(site: Site, asked: set[int]) -> None:
-    """No tick was told in the seconds in which it asked: the master would have carried it out afterwards."""
-    ticks = {int(number) for number in re.findall(r"^word tick (\d+)$", site.blocks(), re.M)}
-    site.check(f"ticks {ticks & asked} were told while it asked", asked and not ticks & asked)
+    told = status(site)["ticks"] - before
+    site.check(f"{told} ticks were told while it asked", not told)
 
 
 def ticks_twice(site: Site) -> None:
-    """Waits for two more ticks."""
-    wanted = site.blocks().count("word tick ") + 2
-    until("two ticks", lambda: site.blocks().count("word tick ") >= wanted)
+    """Waits for two more ticks: the third one is told once the second is done."""
+    wanted = status(site)["ticks"] + 3
+    until("two ticks", lambda: status(site)["ticks"] >= wanted)
 
 
 def attended_go(site: Site) -> None:
@@ -72,18 +66,17 @@ def attended_go(site: Site) -> None:
     site.check_workers("question 1", 4)
     until("answers of both versions", lambda: versions(site) == {"1", "2"})
     waits = site.sent("TTIN")
-    asked = pauses()
+    pauses(site)
     site.check("a word does not wait for the answer", waits.poll() is None and sent.poll() is None)
     answers(site, 1, "go")
     asks(site, 2)
     site.check_workers("question 2", 2)
     site.check("an old worker answers at question 2", versions(site) == {"2"})
-    asked |= pauses()
+    pauses(site)
     answers(site, 2, "go")
     block, _ = sent.communicate(timeout=SECONDS)
     site.check(f"{UPGRADE}: {block}", sent.returncode == 0 and "\ndone cause none " in block)
     site.heard(waits, "TTIN", 0, "done", 3)
-    told_no_tick(site, asked)
     refuses_answers(site)
     site.wants("HUP", 0, "done", 2)
     site.end("12")
@@ -97,11 +90,10 @@ def attended_back_at_1(site: Site) -> None:
     old = site.workers()
     sent = begin_upgrade(site)
     until("answers of both versions", lambda: versions(site) == {"1", "2"})
-    asked = pauses()
+    pauses(site)
     answers(site, 1, "back")
     site.heard(sent, UPGRADE, 3, "rolled-back", 2)
     ticks_twice(site)
-    told_no_tick(site, asked)
     site.check("the old workers are not those from before", site.workers() == old)
     site.check("a new worker answers", versions(site) == {"1"})
     refuses_answers(site)
@@ -117,14 +109,13 @@ def attended_back_at_2(site: Site) -> None:
     answers(site, 1, "go")
     asks(site, 2)
     new = site.workers()
-    asked = pauses()
+    pauses(site)
     site.install(site.app_text)
     answers(site, 2, "back")
     site.heard(sent, UPGRADE, 3, "rolled-back", 2)
     site.check("new workers are left", not site.workers() & new)
     site.check("a new worker answers", versions(site) == {"1"})
     ticks_twice(site)
-    told_no_tick(site, asked)
     sent = begin_upgrade(site)
     for question in (1, 2):
         asks(site, question)

@@ -41,6 +41,18 @@ def a_worker_hangs(site: Site) -> None:
     site.certify()
 
 
+def a_worker_owes_an_answer(site: Site) -> None:
+    """A worker that is stopped and has no guard: its master kills it in time, and starts another one."""
+    site.options = ["--answer-within", "3"]
+    site.begin()
+    victim = min(site.workers())
+    os.kill(victim, signal.SIGSTOP)
+    until("another worker", lambda: site.has_others({victim}))
+    site.wants("HUP", 0, "done", 2)
+    site.end("1", may_fail=CLIENTS)
+    site.certify()
+
+
 def a_master_is_killed(site: Site) -> None:
     """A master that is killed: its workers finish what they serve, and `serve` starts another one; requests wait."""
     site.begin()
@@ -220,7 +232,7 @@ def too_few_descriptors(site: Site) -> None:
 
 
 SCENARIOS: tuple[Scenario, ...] = (
-    a_worker_is_killed, a_worker_hangs, a_master_is_killed, a_reigning_master_is_killed, a_serve_is_killed,
-    both_are_killed, a_keeper_is_killed, a_keeper_hangs, a_serve_is_killed_whose_sockets_are_stored, silent_clients,
-    too_few_descriptors,
+    a_worker_is_killed, a_worker_hangs, a_worker_owes_an_answer, a_master_is_killed, a_reigning_master_is_killed,
+    a_serve_is_killed, both_are_killed, a_keeper_is_killed, a_keeper_hangs, a_serve_is_killed_whose_sockets_are_stored,
+    silent_clients, too_few_descriptors,
 )

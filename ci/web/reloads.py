@@ -169,6 +169,9 @@ def a_held_address(site: Site) -> None:
         other.bind((host, int(port)))
         other.listen()
         site.go_over_to(listeners=[site.first, site.second])
+        _, notes = site.sent("HUP").communicate(timeout=SECONDS)
+        wanted = f" await-ready 1.2 0 : gone: {site.second}: Address already in use\n"
+        site.check(f"the operator isn't told why: {notes}", wanted in notes)
         site.wants("HUP", 3, "rolled-back", 2)
     site.end("1")
     site.certify()

@@ -50,6 +50,11 @@ def is_guard(words: list[str]) -> bool:
     return str(BIN / "prefork-guard") in words[:2]
 
 
+def is_worker(words: list[str], own: list[str]) -> bool:
+    """Whether a process is a worker, and not what watches one."""
+    return words[-2:] == own and not any(word.startswith(f"{SERVICE}/") for word in words)
+
+
 class Site:
     """A service in a folder of its own, with the load on it, and what was wrong."""
 
@@ -58,10 +63,14 @@ class Site:
         # The program of masters, which a scenario can replace, and the one that certifies.
         self.prefork, self.certifier = str(self.room / "prefork"), prefork
         (self.room / "prefork").symlink_to(prefork)
-        self.mark, self.tally, self.slowest_rate = Mark("PREFORK_HTTP"), Tally(), math.inf
+        self.mark, self.tally, self.slowest_rate = Mark("SITE_MARK"), Tally(), math.inf
         # What starts `serve`: words before its own, and descriptors that it inherits.
         self.before: list[str] = []
         self.given: list[int] = []
+        # The program that runs in place of the double, with an adapter, if there is one.
+        self.program: list[str] = []
+        # Whether the blocks are where they usually are.
+        self.is_recorded = True
         # Processes, once they are started.
         self.load: Any = None
         self.serve: Any = None
@@ -83,9 +92,9 @@ class Site:
         """Writes a configuration: the first address and two workers, if nothing else or groups are said."""
         served = {} if "groups" in settings else {"listeners": [self.first], "workers": 2}
         command = [str(self.home / "app"), "child"]
-        settings = {**served, "command": command, "timeout": 60, **settings}
+        settings = {**served, "command": None if self.program else command, "timeout": 60, **settings}
         new = self.room / "new.toml"
-        new.write_text(configuration(**settings))
+        new.write_text(configuration(**{key: value for key, value in settings.items() if value is not None}))
         new.replace(self.room / file)
 
     def go_over_to(self, **settings: Any) -> None:
@@ -140,7 +149,8 @@ class Site:
         self.configure(**settings)
         self.serve = self.started()
         until("the pid file of serve", lambda: text_of(self.run / "serve.pid") == f"{self.serve.pid}\n")
-        until("the first block", lambda: "\ndone " in self.blocks() and is_answered(self.first))
+        until("the first block", lambda: "\ndone " in self.blocks() or not self.is_recorded)
+        until("the first answer", lambda: is_answered(self.first))
         self.load = subprocess.Popen(
             [
                 BIN / "prefork-load", "--json", "--clients", str(CLIENTS), "--rate", str(RATE), "--patience",
@@ -154,7 +164,7 @@ class Site:
 
     def started(self) -> subprocess.Popen:
         command: list[Any] = [*self.before, BIN / "prefork-serve", "--folder", self.run, "--prefork", self.prefork]
-        command += [*self.options, "site.toml"]
+        command += [*self.options, "site.toml", *(["--", *self.program] if self.program else [])]
         streams: dict[str, Any] = {"stdin": subprocess.DEVNULL, "stderr": self.said, "pass_fds": self.given}
         return subprocess.Popen(command, env=self.environment, cwd=self.room, **streams)
 
@@ -163,8 +173,8 @@ class Site:
 
     def workers(self) -> set[int]:
         """The processes that are workers."""
-        own = [str(self.home / "app"), "child"]
-        return {number for number, words in self.mark.processes().items() if words[-2:] == own and not is_guard(words)}
+        own = self.program or [str(self.home / "app"), "child"]
+        return {number for number, words in self.mark.processes().items() if is_worker(words, own)}
 
     def has_others(self, old: Collection[int], count: int = 2) -> bool:
         """Whether this number of workers runs and none of the old ones, in one look at the processes."""
@@ -185,7 +195,7 @@ class Site:
 
     def master(self) -> int | None:
         """The master that `serve` has started."""
-        return self.found(lambda words: words[:2] == [self.prefork, "supervise"])
+        return self.found(lambda words: words[:2] == [self.prefork, "supervise"] and words[2:] != ["--help"])
 
     def keeper(self) -> int | None:
         return self.found(lambda words: str(BIN / "prefork-keeper") in words[:2])
@@ -278,10 +288,11 @@ class Site:
         self.check(f"answers of {found['versions']}", set(found["versions"]) == set(versions))
 
     def nothing_left(self) -> None:
-        """No process, and no file but blocks, of it is left."""
+        """No process, and no file but records and journal, of it is left."""
         running = self.mark.left()
         self.check(f"processes are left: {running}", not running)
-        left = sorted(file.name for file in self.run.iterdir() if not file.name.startswith("blocks"))
+        kept = {"blocks", "records", "journal"}
+        left = sorted(file.name for file in self.run.iterdir() if file.name not in kept) if self.run.exists() else []
         self.check(f"files are left: {left}", not left)
 
     def certify(self, text: str | None = None) -> None:

@@ -5,7 +5,7 @@ _prefork_service() {
 
     COMPREPLY=()
     case $prev in
-        --folder | --prefork | --python | --chdir)
+        --folder | --prefork | --python | --chdir | --records | --metrics)
             compopt -o default
             return
             ;;
@@ -17,7 +17,19 @@ _prefork_service() {
             mapfile -t COMPREPLY < <(compgen -W 'HUP INT QUIT TERM USR1 USR2 WINCH' -- "$cur")
             return
             ;;
-        --wsgi | --threads | --timeout | --keep | --guard | --ready-within | --probe | --probe-within | --probe-limit | --env | --finish | --clients | --rate | --seconds | --patience | --path | --slow) return ;;
+        --socket-group)
+            mapfile -t COMPREPLY < <(compgen -g -- "$cur")
+            return
+            ;;
+        --events)
+            mapfile -t COMPREPLY < <(compgen -W '1 2' -- "$cur")
+            return
+            ;;
+        --forbid)
+            mapfile -t COMPREPLY < <(compgen -W 'degraded' -- "$cur")
+            return
+            ;;
+        --wsgi | --records-size | --page | --socket-mode | --threads | --timeout | --keep | --answer-within | --guard | --ready-within | --probe | --probe-within | --probe-limit | --env | --finish | --clients | --rate | --seconds | --patience | --path | --slow) return ;;
     esac
     case ${COMP_WORDS[0]##*/} in
         prefork-serve) 
@@ -25,9 +37,9 @@ _prefork_service() {
                 compopt -o default
                 return
             fi
-            options='--folder --prefork --guard --defer-accept --wsgi --python --threads --timeout --keep --chdir --ready --ready-within --probe --probe-within --probe-limit --stop --finish --usr1 --env --no-listen-fds --blocking --help'
+            options='--folder --prefork --records --records-size --metrics --page --answer-within --guard --defer-accept --socket-mode --socket-group --wsgi --python --threads --timeout --keep --chdir --ready --ready-within --probe --probe-within --probe-limit --stop --finish --usr1 --env --no-listen-fds --blocking --help'
             ;;
-        prefork-ctl) options='--folder --json --help' ;;
+        prefork-ctl) options='--folder --json --events --forbid --records --prefork --help' ;;
         prefork-guard) options='--finish --help' ;;
         prefork-checkworker) options='--path --slow --one --patience --help' ;;
         prefork-load) options='--clients --rate --seconds --patience --path --again --json --help' ;;
@@ -36,7 +48,7 @@ _prefork_service() {
     if [[ $cur == -* ]]; then
         mapfile -t COMPREPLY < <(compgen -W "$options" -- "$cur")
     elif [[ ${COMP_WORDS[0]##*/} == prefork-ctl ]]; then
-        mapfile -t COMPREPLY < <(compgen -W 'status HUP QUIT INT TERM USR1 USR2 attended WINCH TTIN TTOU go back' -- "$cur")
+        mapfile -t COMPREPLY < <(compgen -W 'status plan explore certify HUP QUIT INT TERM USR1 USR2 attended WINCH TTIN TTOU go back' -- "$cur")
     elif [[ ${COMP_WORDS[0]##*/} == prefork-serve ]]; then
         compopt -o default
     fi

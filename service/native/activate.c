@@ -324,12 +324,21 @@ static void turn(void) {
         hear_master();
 }
 
+/* What `ps -o comm` shows: the generation and the number of the worker. */
+static void show_name(void) {
+    char title[16];
+    const char *name = getenv("PREFORK_WORKER");
+    snprintf(title, sizeof title, "worker %.8s", name ? name : "");
+    prctl(PR_SET_NAME, title, 0, 0, 0);
+}
+
 int main(int count, char **words) {
     read_options(count, words, &options);
     if (options.is_check)
         return 0;
     move_pipes();
     signal(SIGPIPE, SIG_IGN);
+    show_name();
     for (;;)
         turn();
 }

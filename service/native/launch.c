@@ -12,6 +12,7 @@
  * workers do not belong into it: they go where those of the service go. The keeper gives that descriptor. */
 #define _GNU_SOURCE
 #include "ask.h"
+#include "reason.h"
 
 #include <errno.h>
 #include <fcntl.h>
@@ -28,6 +29,9 @@
 
 static void fail(const char *form, ...) __attribute__((format(printf, 1, 2), noreturn));
 
+/* Whom the service knows this process as, once that is clear. */
+static const char *known_as;
+
 static void fail(const char *form, ...) {
     char text[1024];
     va_list values;
@@ -35,6 +39,7 @@ static void fail(const char *form, ...) {
     vsnprintf(text, sizeof text, form, values);
     va_end(values);
     dprintf(2, "prefork-launch: %s\n", text);
+    note_reason(known_as, text);
     exit(1);
 }
 
@@ -123,6 +128,9 @@ int main(int count, char **words) {
     char generation[32], own[4096];
     if (count == 2 && !strcmp(words[1], "child")) {
         unsigned number = read_generation(generation, sizeof generation);
+        char name[64];
+        snprintf(name, sizeof name, "%s.%u", generation, number);
+        setenv("PREFORK_WORKER", name, 1);
         char **command = command_of(generation);
         note_process(generation, number);
         take_errors();
@@ -133,6 +141,7 @@ int main(int count, char **words) {
         ssize_t length = readlink("/proc/self/exe", own, sizeof own - 1);
         own[length > 0 ? length : 0] = 0;
         const char *program = setting("PREFORK_PROGRAM");
+        known_as = "adopt";
         take_errors();
         execlp(program, program, "adopt", "--program", own, (char *)0);
         fail("%s: %s", program, strerror(errno));

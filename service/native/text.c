@@ -1,4 +1,5 @@
 /* Messages, and the clock. */
+#include "reason.h"
 #include "worker.h"
 
 #include <stdarg.h>
@@ -11,6 +12,7 @@ static void print(const char *form, va_list values) {
     char text[1024];
     vsnprintf(text, sizeof text, form, values);
     dprintf(2, "prefork-activate: worker %d: %s\n", (int)getpid(), text);
+    note_reason(0, text);
 }
 
 void warn_of(const char *form, ...) {

@@ -169,6 +169,10 @@ class Commands:
         self.proposed = self.read(self.next)
         self.write_next(self.proposed)
 
+    def next_text(self) -> bytes:
+        """The configuration that the next word goes over to, as the master reads it."""
+        return self.next.read_bytes() if self.next.exists() else b""
+
     def settle(self, report: str) -> None:
         """Takes the new command if the new generation runs, and forgets it otherwise."""
         if not self.is_changing:

@@ -85,5 +85,18 @@ def clear_environment() -> None:
             del os.environ[name]
 
 
+# Where a worker notes why it ends, for the service, and its name there: the environment loses both.
+FOLDER, NAME = os.environ.get("PREFORK_FOLDER"), os.environ.get("PREFORK_WORKER")
+
+
 def warn(text: str) -> None:
     print(f"worker {os.getpid()}: {text}", file=sys.stderr, flush=True)
+    if not FOLDER or not NAME:
+        return
+    try:
+        file = os.open(f"{FOLDER}/reasons", os.O_WRONLY | os.O_APPEND | os.O_CLOEXEC)
+        os.write(file, f"{NAME} {text}".replace("\n", " ").encode()[:1000] + b"\n")
+        os.close(file)
+    except OSError:
+        # Nobody asks.
+        pass

@@ -1,8 +1,12 @@
 """prefork-ctl [--folder F] [--json] [WORD]
 prefork-ctl [--folder F] [--json] status
+prefork-ctl [--folder F] [--json] plan WORD
+prefork-ctl [--folder F] [--json] [--events K] [--forbid degraded] explore WORD
+prefork-ctl [--folder F] [--records FOLDER] [--prefork PROGRAM] [--json] certify
 
 Sends a word to the service in the folder F (`run`): HUP, USR1, USR2, "USR2 attended", WINCH, TTIN, TTOU, QUIT, INT or
-TERM. It waits for what comes of it, prints that block, and ends with the status of its report:
+TERM. It waits for what comes of it, prints that block and, on standard error, why calls of it failed and what runs now.
+It ends with the status of the report:
 
     0   done, or nothing was asked for
     1   refused or lost, or there is no service
@@ -15,19 +19,28 @@ alone. `go` goes on and `back` goes back; if nothing is asked, they are refused 
 prints whether the service asks, which question, and what to look at.
 
 `status` prints who runs: addresses, workers with their processes, ages and last beats, the masters and the keeper, the
-last word and its report, and what is being done now.
+last word, its report and why it went wrong, and what is being done now.
 
-With --json a word and the status are printed as JSON.
+`plan` and `explore` print what a word would do to the service as it runs now, with the configuration that its file has
+now; nothing is done. The status is that of `prefork plan` and `prefork explore`.
+
+`certify` compares the records with plans and model, master by master, and says from where on. It needs no service that
+runs. The status is 0 if all that could be compared is accepted, 5 if a block is not, and 1 if nothing was compared.
+
+With --json all of them print JSON.
 """
 import argparse
 import json
 import pathlib
 import socket
+import subprocess
 import sys
 
+from .certifying import certify
 from .questions import STATE
+from .rehearsing import rehearsal
 from .status import shown
-from .words import NOTE, STATUS
+from .words import NOTE, STATUS, WORDS
 
 ENDS = {"done": 0, "nothing": 0, "answered": 0, "rolled-back": 3, "degraded": 4, "unread": 2}
 
@@ -50,22 +63,46 @@ def asked(folder: str, word: str) -> tuple[str, str]:
     return block, notes
 
 
-def main() -> int:
+def arguments() -> argparse.Namespace:
     parser = argparse.ArgumentParser(
         prog="prefork-ctl", description="Sends a word to a service, and prints what came of it."
     )
     parser.add_argument("--folder", default="run", help="the folder of the service (run)")
     words = "status, HUP, USR1, USR2, 'USR2 attended', WINCH, TTIN, TTOU, QUIT, INT or TERM; go or back while it asks; " \
-        "without a word it prints whether it asks"
+        "plan WORD, explore WORD, certify; without a word it prints whether it asks"
     parser.add_argument("word", nargs="*", metavar="WORD", help=words)
     parser.add_argument("--json", action="store_true", help="print as JSON")
+    parser.add_argument("--events", metavar="K", help="of explore: at most K events in a run, 1 or 2 (1)")
+    forbid = "of explore: end with status 4 if a run ends degraded"
+    parser.add_argument("--forbid", choices=["degraded"], help=forbid)
+    records = "of certify: where the records are (those of the service)"
+    parser.add_argument("--records", metavar="FOLDER", help=records)
+    program = "of certify: the program of the master (that of the service, or prefork on the path)"
+    parser.add_argument("--prefork", metavar="PROGRAM", help=program)
     given = parser.parse_args()
-    word = " ".join(given.word) or STATE
+    if given.word[:1] != ["explore"] and (given.events or given.forbid):
+        parser.error("--events and --forbid are options of explore")
+    if given.word[:1] in (["plan"], ["explore"]) and " ".join(given.word[1:]) not in WORDS:
+        parser.error(f"{given.word[0]} takes a word: {', '.join(WORDS)}")
+    return given
+
+
+def main() -> int:
+    given = arguments()
     try:
-        block, notes = asked(given.folder, word)
+        if given.word == ["certify"]:
+            return certify_records(given)
+        if given.word[:1] in (["plan"], ["explore"]):
+            return rehearse(given)
+        return tell(given, " ".join(given.word) or STATE)
     except OSError as fault:
         print(f"prefork-ctl: no service in {given.folder}: {fault.strerror or fault}", file=sys.stderr)
         return 1
+
+
+def tell(given: argparse.Namespace, word: str) -> int:
+    """Tells the service a word, and prints what came of it."""
+    block, notes = asked(given.folder, word)
     if not block:
         print("prefork-ctl: the service has ended before it answered", file=sys.stderr)
         return 1
@@ -83,3 +120,31 @@ def as_json(block: str, notes: str, status: int) -> str:
     *lines, report = block.splitlines()
     told = [line.removeprefix("prefork-ctl: ") for line in notes.splitlines()]
     return json.dumps({"status": status, "report": report, "lines": lines, "notes": told}) + "\n"
+
+
+def rehearse(given: argparse.Namespace) -> int:
+    """Prints what a word would do to the service as it runs now."""
+    status = json.loads(asked(given.folder, STATUS)[0])
+    kind, word = given.word[0], " ".join(given.word[1:])
+    options = [*(["--events", given.events] if given.events else []), *(["--forbid", given.forbid] if given.forbid else [])]
+    found = subprocess.run(rehearsal(kind, word, status, options), capture_output=True, text=True)
+    if given.json:
+        said = {"status": found.returncode, "lines": found.stdout.splitlines(), "notes": found.stderr.splitlines()}
+        print(json.dumps(said))
+    else:
+        print(found.stdout, end="", flush=True)
+        print(found.stderr, end="", file=sys.stderr)
+    return found.returncode
+
+
+def certify_records(given: argparse.Namespace) -> int:
+    """Prints what certify says of the records."""
+    try:
+        service = json.loads(asked(given.folder, STATUS)[0])["service"]
+    except (OSError, ValueError):
+        service = {"records": str(pathlib.Path(given.folder) / "records"), "prefork": "prefork"}
+    place = pathlib.Path(given.records or service["records"])
+    lines, status = certify(place, given.prefork or service["prefork"])
+    text = json.dumps({"status": status, "lines": lines}) if given.json else "\n".join(lines)
+    print(text)
+    return status

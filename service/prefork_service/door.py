@@ -21,8 +21,10 @@ SHORT = (errno.EMFILE, errno.ENFILE, errno.ENOBUFS, errno.ENOMEM)
 class Door:
     """Clients that have connected and not said anything yet. `hear` is given one that has: it is not the door's then."""
 
-    def __init__(self, events: selectors.BaseSelector, listener: socket.socket, hear: Callable, say: Callable):
-        self.events, self.listener, self.hear, self.say = events, listener, hear, say
+    def __init__(
+        self, events: selectors.BaseSelector, listener: socket.socket, hear: Callable, say: Callable, most: int = MOST_SILENT
+    ):
+        self.events, self.listener, self.hear, self.say, self.most = events, listener, hear, say, most
         listener.setblocking(False)
         # The silent ones, oldest first, with the moments until which they may be so.
         self.silent: dict[socket.socket, float] = {}
@@ -40,7 +42,7 @@ class Door:
         client.setblocking(False)
         self.silent[client] = time.monotonic() + SILENT_SECONDS
         self.events.register(client, selectors.EVENT_READ, self.give)
-        if len(self.silent) > MOST_SILENT:
+        if len(self.silent) > self.most:
             self.drop_oldest()
 
     def give(self, client: socket.socket) -> None:

@@ -27,8 +27,8 @@ class Folder:
         self.path = pathlib.Path(path).absolute()
         self.pid, self.blocks = self.path / "serve.pid", self.path / "blocks"
         self.words, self.keeper = self.path / "ctl.sock", self.path / "keeper.sock"
-        # A file for each worker, with the number of its process.
-        self.workers = self.path / "workers"
+        # A file for each worker, with the number of its process, and one in which they note why they end.
+        self.workers, self.reasons = self.path / "workers", self.path / "reasons"
         self.path.mkdir(mode=0o700, parents=True, exist_ok=True)
         found = self.path.stat()
         if found.st_uid != os.geteuid() or found.st_mode & 0o077:
@@ -71,7 +71,7 @@ class Folder:
                 return False
 
     def clear(self) -> None:
-        for own in (self.words, self.keeper, self.pid):
+        for own in (self.words, self.keeper, self.pid, self.reasons):
             own.unlink(missing_ok=True)
         shutil.rmtree(self.workers, ignore_errors=True)
         # Of an adapter that was killed together with the process that holds its program.

@@ -1,4 +1,4 @@
-"""prefork-keeper [--defer-accept] PATH [LINGER]
+"""prefork-keeper [--defer-accept] [--socket-mode MODE] [--socket-group GROUP] PATH [LINGER]
 
 Keeps the listening sockets of a service, so that no connection that waits in a queue is lost while workers and
 masters change. It is asked on the Unix socket PATH: a worker connects, sends an address (`127.0.0.1:8080`, or the
@@ -11,6 +11,8 @@ the connections wait in the queues for the next one.
 
 With --defer-accept the system holds a TCP connection back until its first bytes are there, for a second or so: workers
 accept no connection that has not begun to ask.
+
+Unix sockets get the mode and the group that are named, and otherwise those that the umask and the user give.
 
 `errors` in place of an address is answered with the keeper's own standard error, where a worker's messages belong.
 
@@ -32,6 +34,7 @@ packet each:
     x           the keeper is to end, and Unix sockets are to be removed
 """
 import argparse
+import grp
 import io
 import os
 import resource
@@ -41,7 +44,8 @@ import stat
 import sys
 import time
 
-from .door import Door
+from .door import Door, has_said
+from .titles import set_title
 
 LINGER = 2.0
 # How long workers that hold a socket, and are not known to, may take to close it once they finish.
@@ -53,6 +57,8 @@ DEFER_SECONDS = 1
 # Asked for in place of an address: the standard error of the service.
 ERRORS = "errors"
 DEFER = "--defer-accept"
+# Of Unix sockets.
+MODE, GROUP = "--socket-mode", "--socket-group"
 # What the packets to and from prefork-serve begin with.
 OPENED, CLOSED, REFUSED, SETTLED, ASKS, ANSWERS, ENDS = "+-!=?.x"
 
@@ -86,12 +92,13 @@ class Kept:
         if self.address.startswith("/"):
             try:
                 os.unlink(self.address)
-            except FileNotFoundError:
+            except OSError:
+                # It has gone, or lies in a folder of another user: the socket of a unit is systemd's.
                 pass
 
 
-def listening(address: str, defers: bool) -> socket.socket:
-    """A socket that listens at an address."""
+def listening(address: str, defers: bool, group: int | None = None) -> socket.socket:
+    """A socket that listens at an address. Its mode, if it is a file, is that of the umask."""
     place: str | tuple[str, int] = address
     if address.startswith("/"):
         remove_stale(address)
@@ -102,6 +109,8 @@ def listening(address: str, defers: bool) -> socket.socket:
     try:
         opened.setsockopt(socket.SOL_SOCKET, socket.SO_REUSEADDR, 1)
         opened.bind(place)
+        if group is not None and place == address:
+            give_group(address, group)
         if defers and place != address:
             opened.setsockopt(socket.IPPROTO_TCP, socket.TCP_DEFER_ACCEPT, DEFER_SECONDS)
         opened.listen(QUEUE)
@@ -111,6 +120,15 @@ def listening(address: str, defers: bool) -> socket.socket:
     # All workers are woken by a connection, and one of them gets it: the others must not wait for the next one.
     opened.setblocking(False)
     return opened
+
+
+def give_group(path: str, group: int) -> None:
+    """Gives a Unix socket to a group, or removes it."""
+    try:
+        os.chown(path, -1, group)
+    except OSError:
+        os.unlink(path)
+        raise
 
 
 def remove_stale(path: str) -> None:
@@ -150,8 +168,10 @@ class Channel:
 class Keeper:
     """The sockets that are kept, by address, and who holds which."""
 
-    def __init__(self, door: socket.socket, linger: float, defers: bool, channel: Channel | None):
-        self.linger, self.defers, self.channel = linger, defers, channel
+    def __init__(
+        self, door: socket.socket, linger: float, defers: bool, channel: Channel | None, group: int | None = None
+    ):
+        self.linger, self.defers, self.channel, self.group = linger, defers, channel, group
         self.kept: dict[str, Kept] = {}
         self.held: dict[socket.socket, Kept] = {}
         self.events = selectors.DefaultSelector()
@@ -184,6 +204,7 @@ class Keeper:
         if address == ERRORS:
             self.give_errors(holder)
             return
+        self.take_given(address)
         try:
             kept = self.kept.get(address) or self.opened(address)
         except (OSError, OverflowError, ValueError) as refusal:
@@ -196,8 +217,14 @@ class Keeper:
         except OSError:
             self.let_go(holder)
 
+    def take_given(self, address: str) -> None:
+        """Hears what prefork-serve has said before it opens an address: the socket may be among those that are given,
+        and be in use."""
+        while self.channel and address not in self.kept and has_said(self.channel.socket):
+            self.hear_serve(self.channel.socket)
+
     def opened(self, address: str) -> Kept:
-        kept = self.kept[address] = Kept(address, listening(address, self.defers))
+        kept = self.kept[address] = Kept(address, listening(address, self.defers, self.group))
         kept.free_since = time.monotonic()
         if self.channel:
             self.channel.tell(OPENED + address, kept.socket)
@@ -274,9 +301,39 @@ def own_door(path: str) -> socket.socket:
     return door
 
 
+def mode_of(text: str) -> int:
+    """A mode in octal digits."""
+    mode = int(text, 8)
+    if not 0 <= mode <= 0o777:
+        raise ValueError(text)
+    return mode
+
+
+def group_of(text: str) -> int:
+    """The number of a group, by its name or as it is."""
+    try:
+        return int(text) if text.isdigit() else grp.getgrnam(text).gr_gid
+    except KeyError as fault:
+        raise argparse.ArgumentTypeError(f"there is no group {text}") from fault
+
+
+def add_socket_options(parser: argparse.ArgumentParser) -> None:
+    mode = "the mode of Unix sockets, such as 660"
+    parser.add_argument(MODE, type=mode_of, metavar="MODE", help=mode)
+    group = "the group of Unix sockets; the user must be in it"
+    parser.add_argument(GROUP, type=group_of, metavar="GROUP", help=group)
+
+
+def socket_options(given: argparse.Namespace) -> list[str]:
+    """The same options again, for a keeper."""
+    found = [MODE, f"{given.socket_mode:o}"] if given.socket_mode is not None else []
+    return found + ([GROUP, str(given.socket_group)] if given.socket_group is not None else [])
+
+
 def arguments() -> argparse.Namespace:
     parser = argparse.ArgumentParser(prog="prefork-keeper", description="Keeps the listening sockets of a service.")
     parser.add_argument(DEFER, action="store_true", help="accept a TCP connection once its first bytes are there")
+    add_socket_options(parser)
     door = "the number of the socket at PATH, as prefork-serve gives it; standard input is a socket to prefork-serve"
     parser.add_argument("--door", type=int, metavar="N", help=door)
     parser.add_argument("path", metavar="PATH", help="where workers ask")
@@ -293,8 +350,11 @@ def take_descriptors() -> None:
 
 def main() -> int:
     given = arguments()
+    set_title("prefork-keeper")
     take_descriptors()
+    if given.socket_mode is not None:
+        os.umask(0o777 & ~given.socket_mode)
     is_of_serve = given.door is not None
     door = socket.socket(fileno=given.door) if is_of_serve else own_door(given.path)
-    Keeper(door, given.linger, given.defer_accept, Channel() if is_of_serve else None).run()
+    Keeper(door, given.linger, given.defer_accept, Channel() if is_of_serve else None, given.socket_group).run()
     return 0

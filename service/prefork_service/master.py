@@ -3,56 +3,38 @@ import os
 import re
 import subprocess
 import sys
+from collections.abc import Callable
 from typing import Any
 
-from .folder import Folder, say
+from .folder import Folder
+from .limits import killed_by
 from .questions import ASKS, LOG
-
-# How the last line of a block begins.
-ENDS = ("done", "rolled-back", "degraded", "lost", "refused", "unread", "nothing")
+from .words import ENDS
 
 BEAT = re.compile(r"word beat (\d+) (\d+)")
 
 
 class Master:
-    """A master that runs. What it prints goes to the file `blocks` of the folder. Its standard error is read too, for
-    what it asks: `--verbose` says that there."""
+    """A master that runs. Each block that it prints is given to `keep`. Its standard error is read too, for what it
+    asks: `--verbose` says that there."""
 
-    def __init__(self, command: list[str], folder: Folder):
-        self.folder, self.unread, self.is_short = folder, "", False
+    def __init__(self, command: list[str], folder: Folder, keep: Callable[[str], None]):
+        self.keep, self.unread = keep, ""
+        # The lines of a block that is not complete yet.
         self.block: list[str] = []
         # The moment at which each worker has beaten last.
         self.beats: dict[int, int] = {}
+        # Whom it has killed since this was looked at, and why.
+        self.killed: dict[str, str] = {}
         # What was read of a line of its standard error, and whether that has ended.
         self.unread_errors, self.is_silent = b"", False
-        if folder.blocks.exists():
-            folder.blocks.replace(f"{folder.blocks}.1")
-        self.reopen()
         # In a session of its own: ^C in a terminal is a word to the service, and does not end its master.
         pipes: dict[str, Any] = {"stdin": subprocess.PIPE, "stdout": subprocess.PIPE, "stderr": subprocess.PIPE}
         self.process: Any = subprocess.Popen(command, **pipes, start_new_session=True, pass_fds=[folder.lock])
         self.output, self.errors = self.process.stdout.fileno(), self.process.stderr.fileno()
         os.set_blocking(self.errors, False)
 
-    def reopen(self) -> None:
-        """Appends to the file `blocks`, or to a new one if it was moved away."""
-        self.file = open(self.folder.blocks, "ab", 0, opener=lambda path, flags: os.open(path, flags, 0o600))
-
-    def keep(self, got: bytes) -> None:
-        """Writes to the file `blocks`. One that can't be written, on a full disk, is no reason to serve nobody: that is
-        said once, and what comes later is tried again."""
-        try:
-            while got:
-                got = got[self.file.write(got) :]
-            self.is_short = False
-        except OSError as fault:
-            if not self.is_short:
-                say(f"blocks are not written: {fault.strerror}")
-            self.is_short = True
-
     def tell(self, word: str) -> None:
-        if word == "USR1":
-            self.reopen()
         try:
             self.process.stdin.write(f"{word}\n".encode())
             self.process.stdin.flush()
@@ -65,7 +47,6 @@ class Master:
         got = os.read(self.output, 65536)
         if not got:
             return None
-        self.keep(got)
         *lines, self.unread = (self.unread + got.decode()).split("\n")
         return [block for line in lines if (block := self.take(line))]
 
@@ -75,10 +56,12 @@ class Master:
         if line.split(" ", 1)[0] not in ENDS:
             return None
         block, self.block = self.block, []
+        text = "".join(f"{line}\n" for line in block)
+        self.keep(text)
         beat = BEAT.fullmatch(block[0])
         if beat:
             self.beats[int(beat[1])] = int(beat[2])
-        return None if beat else "".join(f"{line}\n" for line in block)
+        return None if beat else text
 
     def hear_errors(self) -> list[int]:
         """The questions that it has asked. What is no line of its log is for people, and passed on."""
@@ -88,6 +71,9 @@ class Master:
             for line in lines:
                 logged = LOG.fullmatch(line.decode("latin-1"))
                 asked = ASKS.fullmatch(logged[1]) if logged else None
+                ended = killed_by(logged[1]) if logged else None
+                if ended:
+                    self.killed[ended[0]] = ended[1]
                 if asked:
                     found.append(int(asked[1]))
                 elif not logged:

@@ -11,6 +11,8 @@ import tomllib
 
 # Descriptors beside those of workers: of the keeper and of prefork-serve with clients at their doors, and of a master.
 KEEPER_REST, SERVE_REST, MASTER_REST, PIPES = 80, 160, 24, 2
+# Those of visitors of a page, or of metrics at an address.
+SITE = 40
 # prefork-serve, its keeper, two masters, and a word on its way.
 OWN_PROCESSES = 5
 
@@ -45,13 +47,13 @@ def addresses_of(text: bytes) -> list[str]:
         return []
 
 
-def needs_of(text: bytes, processes_each: int) -> Needs:
-    """What the configuration needs, whose workers are some processes each."""
+def needs_of(text: bytes, processes_each: int, sites: int = 0) -> Needs:
+    """What the configuration needs, whose workers are some processes each, where prefork-serve has some pages."""
     groups = groups_of(text)
     workers, listeners = sum(count for count, _ in groups), sum(count for _, count in groups)
     held = sum(workers * listeners for workers, listeners in groups)
     return Needs(
-        KEEPER_REST + 2 * held + listeners, SERVE_REST + listeners, MASTER_REST + 2 * PIPES * workers,
+        KEEPER_REST + 2 * held + listeners, SERVE_REST + listeners + SITE * sites, MASTER_REST + 2 * PIPES * workers,
         OWN_PROCESSES + 2 * processes_each * workers,
     )
 

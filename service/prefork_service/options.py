@@ -5,6 +5,8 @@ import sys
 from typing import Any
 
 from . import places
+from .keeper import add_socket_options
+from .limits import seconds_of
 
 USAGE = """prefork-serve [OPTIONS] CONFIG -- PROGRAM ARGUMENT..
        prefork-serve [OPTIONS] --wsgi MODULE:APP CONFIG
@@ -44,8 +46,17 @@ def parser() -> argparse.ArgumentParser:
     made.add_argument("--prefork", default="prefork", help="the program of the master (prefork on the path)")
     guard = "end a worker that does not answer its master within SECONDS"
     made.add_argument("--guard", type=float, metavar="SECONDS", help=guard)
+    answer = "kill a worker that owes its master an answer for SECONDS (60); 0 is without a limit"
+    made.add_argument("--answer-within", type=seconds_of, default=60, metavar="SECONDS", help=answer)
     defer = "accept a TCP connection once its first bytes are there"
     made.add_argument("--defer-accept", action="store_true", help=defer)
+    add_socket_options(made)
+    made.add_argument("--records", metavar="FOLDER", help="where the journal and the blocks are (the folder of the service)")
+    size = "how much the blocks may take together; the oldest go first (32)"
+    made.add_argument("--records-size", type=at_least_one, default=32, metavar="MEGABYTES", help=size)
+    measured = "write what Prometheus reads to this file, or answer it at HOST:PORT under /metrics"
+    made.add_argument("--metrics", metavar="FILE-OR-ADDRESS", help=measured)
+    made.add_argument("--page", metavar="ADDRESS", help="show the service on a page at HOST:PORT, or at a Unix socket")
     made.add_argument("--wsgi", metavar="MODULE:APP", help="a WSGI application; it is served by waitress")
     python = "the Python that runs it (that of prefork-serve)"
     made.add_argument("--python", default=sys.executable, metavar="PROGRAM", help=python)
@@ -59,6 +70,13 @@ def parser() -> argparse.ArgumentParser:
             group.add_argument(option, **kind, default=[], help=text)
     made.add_argument("config", metavar="CONFIG", help="the configuration, as prefork(1) has it")
     return made
+
+
+def at_least_one(text: str) -> float:
+    """A number of megabytes."""
+    if float(text) < 1:
+        raise argparse.ArgumentTypeError("it must be at least 1")
+    return float(text)
 
 
 def joined(words: list[str]) -> list[str]:

@@ -19,25 +19,32 @@ itself.
 - A start opens all addresses, and asks whether the limits allow a reload; if not, it ends with the reason.
 
 The folder F (`run`) belongs to its user alone. It has `serve.pid`, the sockets `ctl.sock` and `keeper.sock`,
-`config.toml`, what was accepted last, and `blocks`, what the master printed; `blocks.1` is that of the master before. After USR1 it writes to a new file if
-`blocks` was moved away. A second service in the same folder is refused. The status is 0 after a stop, and 1 if the
-service could not run.
+`config.toml`, what was accepted last, `journal`, each word with its time, its report and the reasons of failed calls, and
+`records`, what the masters printed, in parts and of a bounded size (`blocks` leads to the newest part). `prefork-ctl
+certify` checks them. A second service in the same folder is refused. The status is 0 after a stop, and 1 if the service
+could not run.
 """
 import argparse
 import os
+import pathlib
 import selectors
+import socket
 import sys
 
 from . import places
+from .chronicle import Chronicle
 from .commands import PID_OF_MASTER, Commands, refusal_of
 from .convention import Unfit
 from .folder import Folder, say
-from .keeper import DEFER
+from .keeper import DEFER, socket_options
 from .keeping import Keeping
+from .limits import limits_of
 from .needs import addresses_of, needs_of, shortages
 from .options import arguments, processes_each, worker_command
+from .records import MEGABYTE
 from .service import Service
 from .systemd import inherited, notify
+from .titles import set_title
 
 
 def commands_of(given: argparse.Namespace, folder: Folder) -> Commands | None:
@@ -54,18 +61,47 @@ def is_fit(given: argparse.Namespace, commands: Commands) -> bool:
     """Whether the configuration can be served; why not is said."""
     refusal = refusal_of(given.prefork, commands.now)
     text = commands.now.read_bytes() if commands.now.exists() else b""
-    faults = [refusal] if refusal else shortages(needs_of(text, processes_each(given)))
+    faults = [refusal] if refusal else shortages(needs_of(text, processes_each(given), bool(given.page) + bool(given.metrics)))
     faults += [PID_OF_MASTER] if commands.names_master() else []
     for fault in faults:
         say(f"{given.config}: {fault}")
     return bool(commands.current) and not faults
 
 
+def serve(given: argparse.Namespace, folder: Folder, commands: Commands, stored: dict[str, socket.socket]) -> None:
+    """Serves until the service is told to stop."""
+    configurations = ["--from", commands.now, "--to", commands.next]
+    supervise = [given.prefork, "supervise", "--verbose", "--program", places.LAUNCH, *configurations]
+    of_keeper = [*([DEFER] if given.defer_accept else []), *socket_options(given)]
+    keeping = Keeping(selectors.DefaultSelector(), folder, of_keeper, stored)
+    place = pathlib.Path(given.records or folder.path).absolute()
+    chronicle, service = Chronicle(folder, place, int(given.records_size * MEGABYTE)), None
+    try:
+        keeping.hold(addresses_of(commands.now.read_bytes()))
+        service = Service(keeping, supervise, commands, chronicle, limits_of(given))
+        service.telling.open(keeping.events, given.metrics, given.page)
+        service.run()
+    except (OSError, Unfit) as fault:
+        sys.exit(f"prefork-serve: {fault}")
+    finally:
+        notify("STOPPING=1")
+        if service:
+            service.telling.end()
+        keeping.end()
+        chronicle.end()
+        commands.clear()
+        folder.clear()
+
+
 def main() -> int:
     given = arguments(sys.argv[1:])
+    set_title("prefork-serve")
     places.check()
     stored = inherited()
-    folder = Folder(given.folder)
+    try:
+        folder = Folder(given.folder)
+    except OSError as fault:
+        sys.exit(f"prefork-serve: {fault}")
     os.environ |= {
         "PREFORK_KEEPER": str(folder.keeper), "PREFORK_PROGRAM": str(given.prefork), "PREFORK_FOLDER": str(folder.path)
     }
@@ -77,17 +113,5 @@ def main() -> int:
     if not commands:
         folder.clear()
         return 1
-    configurations = ["--from", commands.now, "--to", commands.next]
-    supervise = [given.prefork, "supervise", "--verbose", "--program", places.LAUNCH, *configurations]
-    keeping = Keeping(selectors.DefaultSelector(), folder, [DEFER] if given.defer_accept else [], stored)
-    try:
-        keeping.hold(addresses_of(commands.now.read_bytes()))
-        Service(keeping, supervise, commands).run()
-    except (OSError, Unfit) as fault:
-        sys.exit(f"prefork-serve: {fault}")
-    finally:
-        notify("STOPPING=1")
-        keeping.end()
-        commands.clear()
-        folder.clear()
+    serve(given, folder, commands, stored)
     return 0

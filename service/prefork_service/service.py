@@ -9,14 +9,18 @@ import sys
 import time
 from typing import Any
 
+from .chronicle import Chronicle
 from .commands import PID_OF_MASTER, Commands
 from .door import Door
 from .folder import Folder, say
 from .keeping import Keeping
+from .limits import known
 from .master import Master
 from .questions import ANSWERS, NOT_ASKED, STATE, line_of, state
+from .reasons import NEW_MASTER
 from .status import Record, Status, masters_of, started_workers, workers_of
 from .systemd import notify
+from .telling import Telling
 from .words import CHANGES, NOTE, SIGNALS, START, STATUS, STOPS, WORDS, Queue, Word
 
 TICK_SECONDS = 1.0
@@ -38,9 +42,9 @@ def is_broken(word: str, block: str) -> bool:
 class Service:
     """A master that is kept running, and the words that wait for it."""
 
-    def __init__(self, keeping: Keeping, command: list[str], commands: Commands):
+    def __init__(self, keeping: Keeping, command: list[str], commands: Commands, chronicle: Chronicle, limits: list[str]):
         self.keeping, self.folder, self.events = keeping, keeping.folder, keeping.events
-        self.command, self.commands = command, commands
+        self.command, self.commands, self.chronicle, self.limits = command, commands, chronicle, limits
         # The master, once it is started, the words that wait for it, and the one that it carries out.
         self.master: Any = None
         self.waiting = Queue()
@@ -48,8 +52,11 @@ class Service:
         # The question that the current word asks, or 0.
         self.question = 0
         self.begun, self.next_tick, self.is_stopped = 0.0, 0.0, False
+        # How many ticks masters were told.
+        self.ticks = 0
         self.has_heard, self.is_ready = False, False
         self.record, self.began, self.starts = Record(), time.monotonic(), 0
+        self.telling = Telling(self.status, self.brief, self.line, chronicle)
         self.take_signals()
         self.open_door()
 
@@ -77,12 +84,14 @@ class Service:
                 key.data(key.fileobj)
             self.door.tend()
             self.keeping.tend()
+            self.chronicle.tend()
+            self.telling.tend()
         while self.waiting:
             self.waiting.next().answer("lost: the service has stopped\n")
 
     def pause(self) -> float:
         """How long the loop may wait for something to happen."""
-        moments = [self.until_tick(), self.door.seconds(), PAUSE if self.master else SHORT_PAUSE, PAUSE]
+        moments = [self.until_tick(), self.door.seconds(), PAUSE if self.master else SHORT_PAUSE, self.telling.seconds()]
         return min(moment for moment in moments if moment is not None)
 
     def begin_master(self) -> None:
@@ -92,7 +101,8 @@ class Service:
         self.begun = time.monotonic()
         try:
             self.commands.begin()
-            self.master, self.current = Master(self.command, self.folder), Word(START)
+            command = [*self.command, *known(self.command[0], self.limits)]
+            self.master = Master(command, self.folder, self.chronicle.records.add)
         except OSError as fault:
             if not self.has_heard:
                 raise
@@ -100,8 +110,17 @@ class Service:
             return
         self.starts += 1
         self.record.forget_workers()
+        self.chronicle.begin_master(self.commands.now.read_bytes(), self.master.process.pid)
+        self.begin_word(Word(START))
         self.events.register(self.master.output, selectors.EVENT_READ, self.hear_master)
         self.events.register(self.master.errors, selectors.EVENT_READ, self.hear_errors)
+
+    def begin_word(self, word: Word) -> None:
+        self.current = word
+        self.chronicle.begin_word(word.text)
+        self.telling.begin_word(word.text in CHANGES)
+        if word.text in STOPS:
+            notify("STOPPING=1")
 
     def until_tick(self) -> float | None:
         return max(0.0, self.next_tick - time.monotonic()) if self.current is None else None
@@ -112,12 +131,13 @@ class Service:
             return
         now = time.monotonic()
         if self.waiting:
-            self.current = self.waiting.next()
+            self.begin_word(self.waiting.next())
         elif now >= self.next_tick:
-            self.current, self.next_tick = Word(f"tick {int(now)}"), now + TICK_SECONDS
+            self.next_tick, self.ticks = now + TICK_SECONDS, self.ticks + 1
+            self.begin_word(Word(f"tick {int(now)}"))
         else:
             return
-        if self.current.text not in CHANGES or self.has_read():
+        if self.current and (self.current.text not in CHANGES or self.has_read()):
             self.master.tell(self.current.text)
 
     def has_read(self) -> bool:
@@ -125,6 +145,7 @@ class Service:
         written."""
         try:
             self.commands.change()
+            self.chronicle.records.proposed = self.commands.next_text()
         except OSError as fault:
             self.refuse(NOT_READ, f"the configuration is not read: {fault}")
         else:
@@ -135,9 +156,11 @@ class Service:
     def refuse(self, report: str, reason: str) -> None:
         """Refuses the current word, which its master is not told."""
         word, self.current = self.current, None
+        self.telling.end_word()
         if word:
             say(f"{word.text}: {reason}")
             self.commands.settle(report)
+            self.chronicle.refuse_word(word.text, report, reason)
             word.answer(f"{NOTE}{reason}\nword {word.text}\n{report}\n")
 
     def hear_master(self, _: int) -> None:
@@ -145,6 +168,8 @@ class Service:
         if blocks is None:
             self.end_master()
             return
+        # Whom it has killed is said before the block that tells of it.
+        self.hear_errors(self.master.errors)
         for block in blocks:
             self.end_word(block)
 
@@ -154,7 +179,11 @@ class Service:
             return
         for question in self.master.hear_errors():
             self.ask(question)
-        if self.master.is_silent:
+        for name, why in self.master.killed.items():
+            say(f"{'the new master' if name == NEW_MASTER else f'worker {name}'} is {why}")
+        self.chronicle.noted |= self.master.killed
+        self.master.killed.clear()
+        if self.master.is_silent and self.master.errors in self.events.get_map():
             self.events.unregister(self.master.errors)
 
     def ask(self, question: int) -> None:
@@ -180,11 +209,14 @@ class Service:
             return
         report, self.has_heard = block.splitlines()[-1], True
         self.commands.settle(report)
-        self.record.note(word.text, block)
+        self.record.note(block)
         if word.text == START:
             self.commands.accept()
         for note in self.notes(word, block):
             word.tell(f"{NOTE}{note}\n")
+        self.telling.end_word()
+        if not word.text.startswith("tick ") or word.text == START:
+            self.telling.write()
         if word.text == START:
             self.keeping.release()
         if word.text in (*CHANGES, START) and report.startswith(("done", "degraded target")):
@@ -208,12 +240,21 @@ class Service:
 
     def notes(self, word: Word, block: str) -> list[str]:
         """What is said to people of a block: why addresses were not opened, and what workers are started from."""
-        found = list(dict.fromkeys(self.keeping.refusals))
+        refusals = list(dict.fromkeys(self.keeping.refusals))
         self.keeping.refusals.clear()
-        if is_broken(word.text, block) and not found:
+        found = [*self.chronicle.end_word(word.text, block, refusals)]
+        if is_broken(word.text, block) and not refusals:
             say(OLD_SERVES)
             found.append(OLD_SERVES)
+        if word.text not in (START, *STOPS) and not word.text.startswith("tick "):
+            found.append(self.runs_now())
         return found
+
+    def runs_now(self) -> str:
+        """Who serves what, in a line."""
+        count, generation = len(self.record.workers), self.record.generation or "none"
+        addresses = " ".join(sorted(self.keeping.held)) or "no address"
+        return f"runs now: {count} worker{'' if count == 1 else 's'} of generation {generation} at {addresses}"
 
     def end_master(self) -> None:
         """The master has ended without having been told to."""
@@ -221,9 +262,12 @@ class Service:
         if self.master.errors in self.events.get_map():
             self.events.unregister(self.master.errors)
         status = self.master.close()
+        if self.current:
+            self.chronicle.cut_word(self.current.text, self.master.block)
         if not self.has_heard:
             sys.exit("prefork-serve: the master does not start; its message is above")
         self.master, self.question = None, 0
+        self.telling.end_word()
         self.commands.settle("lost")
         say(f"the master has ended with status {status}, and is started again with the configuration that was accepted")
         if self.commands.has_changed():
@@ -256,25 +300,51 @@ class Service:
         else:
             word.answer("unread W1\n")
 
-    def status(self) -> Status:
-        """Who runs, what was done last, and what is being done now."""
-        running, process = started_workers(self.folder.workers), self.keeping.process
+    def doing(self) -> str | None:
+        """The word that is being carried out, if it is no tick."""
+        is_word = self.current and (self.current.text == START or not self.current.text.startswith("tick "))
+        return self.current.text if self.current and is_word else None
+
+    def line(self) -> str:
+        """What runs and what was done last, in a line."""
+        last = self.chronicle.last_word()
+        if self.doing():
+            asks = f", asks question {self.question}" if self.question else ""
+            return f"carries out {self.doing()}{asks}"
+        told = f"; last word {last.word}: {last.report}" if last else ""
+        return f"{self.runs_now().removeprefix('runs now: ')}{told}"
+
+    def brief(self) -> Status:
+        """The part of the status for which no process is looked at; of workers it has the numbers."""
+        last = self.chronicle.last_word()
         return {
             "service": {
-                "process": os.getpid(), "seconds": int(time.monotonic() - self.began), "folder": str(self.folder.path)
+                "process": os.getpid(), "seconds": int(time.monotonic() - self.began), "folder": str(self.folder.path),
+                "file": str(self.commands.config.absolute()), "prefork": str(self.command[0]),
+                "records": str(self.chronicle.records.place),
             },
             "addresses": sorted(self.keeping.held),
             "generation": self.record.generation,
-            "workers": workers_of(self.record, running, self.master.beats if self.master else {}),
-            "masters": masters_of(self.master.process.pid) if self.master else [],
+            "workers": self.record.workers,
             "master_restarts": max(0, self.starts - 1),
-            "keeper": {"process": process.pid if process else None, "restarts": self.keeping.restarts},
-            "last": self.record.last,
-            "doing": self.current.text if self.current and not self.current.text.startswith("tick ") else None,
+            "keeper": {
+                "process": self.keeping.process.pid if self.keeping.process else None, "restarts": self.keeping.restarts
+            },
+            "last": last.as_json() if last else None,
+            "counts": self.chronicle.counted(),
+            "ticks": self.ticks,
+            "doing": self.doing(),
             "question": self.question,
             "waiting": len(self.waiting),
             "file_has_changed": self.commands.has_changed(),
+            "records_waiting": self.chronicle.waiting(),
         }
+
+    def status(self) -> Status:
+        """Who runs, what was done last, and what is being done now."""
+        running, beats = started_workers(self.folder.workers), self.master.beats if self.master else {}
+        masters = masters_of(self.master.process.pid) if self.master else []
+        return {**self.brief(), "workers": workers_of(self.record, running, beats), "masters": masters}
 
     def take(self, word: Word) -> None:
         """Lets a word wait for its turn."""

@@ -1,5 +1,4 @@
 """The status of a service: who runs, what was done last, and what is being done now."""
-import datetime
 import os
 import pathlib
 import re
@@ -25,23 +24,19 @@ def numbers_of(counted: str) -> list[int]:
 
 
 class Record:
-    """What blocks have told: which workers there are, and the last word."""
+    """What blocks have told: which workers there are."""
 
     def __init__(self) -> None:
         self.generation, self.workers = "", []
-        self.last: Status | None = None
 
     def forget_workers(self) -> None:
         """A master has been started, and has counted nobody yet. Those of the one before are not its own."""
         self.generation, self.workers = "", []
 
-    def note(self, word: str, block: str) -> None:
+    def note(self, block: str) -> None:
         counted = CENSUS.findall(block)
         if counted:
             self.generation, self.workers = counted[-1][0], numbers_of(counted[-1][1])
-        if not word.startswith("tick "):
-            at = datetime.datetime.now().astimezone().isoformat(timespec="seconds")
-            self.last = {"word": word, "report": block.splitlines()[-1], "at": at}
 
 
 def fields_of(process: int) -> list[str]:
@@ -134,6 +129,7 @@ def shown(status: Status) -> str:
         *shown_masters(status["masters"], status["master_restarts"]),
         f"keeper      process {keeper['process'] or 'none'}, started again {times(keeper['restarts'])}",
         f"last word   {last['word']} at {last['at']}: {last['report']}" if last else "last word   none",
+        *(f"because     {why}" for why in (last["reasons"] if last else [])),
         f"now         {shown_doing(status)}",
     ]
     if status["file_has_changed"]:

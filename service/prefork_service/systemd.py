@@ -1,11 +1,14 @@
 """What systemd is told, if it has started the service, and the sockets that it has for it."""
 import os
 import socket
+import time
 from collections.abc import Iterable
 
 # What the system may take to accept a message.
 SECONDS = 1.0
 FIRST = 3
+# A watchdog that is not there; and one is told a little before half its time is over.
+LONG, SOON = 1e9, 0.9
 
 
 def notify(text: str, sockets: Iterable[socket.socket] = ()) -> None:
@@ -20,6 +23,21 @@ def notify(text: str, sockets: Iterable[socket.socket] = ()) -> None:
             socket.send_fds(told, [text.encode()], [one.fileno() for one in sockets])
     except OSError:
         pass
+
+
+class Watchdog:
+    """Tells systemd twice in its time (WatchdogSec) that the loop of the service goes round."""
+
+    def __init__(self) -> None:
+        micros, of = os.environ.pop("WATCHDOG_USEC", ""), os.environ.pop("WATCHDOG_PID", "")
+        is_ours = micros.isdigit() and int(micros) > 0 and of in ("", str(os.getpid()))
+        self.every, self.told = int(micros) / 2e6 if is_ours else LONG, -LONG
+
+    def tend(self) -> None:
+        now = time.monotonic()
+        if self.every < LONG and now - self.told >= self.every * SOON:
+            self.told = now
+            notify("WATCHDOG=1")
 
 
 def name_of(address: str) -> str:

@@ -13,7 +13,8 @@ STATUS = "status"
 START = "tick 0"
 # Words at which the configuration is read again.
 CHANGES = ("HUP", "USR2", ATTENDED)
-
+# How the last line of a block begins.
+ENDS = ("done", "rolled-back", "degraded", "lost", "refused", "unread", "nothing")
 
 # How a line begins that is for people, before a block.
 NOTE = "note "

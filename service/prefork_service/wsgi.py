@@ -23,6 +23,7 @@ from collections.abc import Callable
 from typing import Any
 
 from .convention import Pipes, Unfit, clear_environment, socket_of, warn
+from .titles import set_title
 
 
 class Worker:
@@ -51,6 +52,7 @@ class Worker:
     def obey(self, word: str, *rest: str) -> None:
         if word == "worker" and len(rest) == 3:
             self.start = rest[2]
+            set_title(f"worker {rest[0]}.{rest[1]}")
         elif word == "listener" and not self.going.is_set():
             self.sockets[rest[0]], self.holds[rest[0]] = socket_of(rest[0])
         elif word == "go" and self.sockets:

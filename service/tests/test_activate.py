@@ -142,7 +142,7 @@ class EndTest(WorkerTest):
         script = f"setsid sleep 1000 & (sleep 1001 &) ; exec {PAGE} 3"
         talk = self.started(ACTIVATE, "--", "sh", "-c", script, addresses=(free_address(),))
         talk.hear()
-        self.assertGreaterEqual(len(marked(self.mark)), 5)
+        self.assertTrue(until(lambda: len(marked(self.mark)) >= 5), marked(self.mark))
         talk.process.kill()
         talk.process.wait()
         self.assertTrue(until(lambda: not marked(self.mark)), marked(self.mark))

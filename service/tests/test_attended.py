@@ -65,7 +65,7 @@ class AttendedTest(unittest.TestCase):
         self.assertEqual(self.heard("go"), (0, "word go\nanswered 2 go\n"))
         block, asked = sent.communicate(timeout=20)
         self.assertEqual((sent.returncode, block), (0, f"word {UPGRADE}\ndone cause none pid no-file\n"))
-        self.assertEqual([line.split(": ")[1] for line in asked.splitlines()], ["it asks 1", "it asks 2"])
+        self.assertEqual([line.split(": ")[1] for line in asked.splitlines()], ["it asks 1", "it asks 2", "runs now"])
         self.assertTrue(self.answered().startswith("WINCH\nWINCH\n"))
         self.assertTrue(self.heard()[1].startswith("asks nothing"))
 

@@ -54,6 +54,22 @@ class KeeperTest(unittest.TestCase):
         with self.assertRaises(BlockingIOError):
             other.accept()
 
+    def test_a_unix_socket_has_the_mode_and_the_group(self) -> None:
+        self.end()
+        self.start("--socket-mode", "620", "--socket-group", str(os.getegid()))
+        place = self.room / "site.sock"
+        self.assertEqual(self.asked(str(place))[0], "ok")
+        found = place.stat()
+        self.assertEqual((found.st_mode & 0o777, found.st_gid), (0o620, os.getegid()))
+
+    @unittest.skipUnless(os.geteuid(), "root is in every group")
+    def test_a_group_of_others_is_refused(self) -> None:
+        self.end()
+        self.start("--socket-group", "0")
+        place = self.room / "site.sock"
+        self.assertTrue(self.asked(str(place))[0].startswith("no "))
+        self.assertFalse(place.exists())
+
     def test_an_address_that_is_taken_is_refused(self) -> None:
         with socket.socket() as other:
             other.bind(("127.0.0.1", 0))

@@ -146,6 +146,18 @@ class KeepingTest(unittest.TestCase):
         self.keeping.end()
         self.assertFalse(place.exists())
 
+    def test_a_keeper_opens_no_address_that_it_is_given(self) -> None:
+        places = [free_address() for _ in range(12)]
+        for place in places:
+            self.asked(place)
+        self.assertTrue(self.turn(lambda: len(self.keeping.held) == len(places)))
+        self.killed()
+        self.keeping.bury()
+        self.keeping.begin()
+        with mock.patch.dict(os.environ, PREFORK_KEEPER=str(self.folder.keeper)):
+            # The last one is asked for before the keeper has heard of it.
+            self.keeping.hold(places[::-1])
+
 
 class KeptTest(unittest.TestCase):
     def test_a_socket_that_strangers_may_hold_stays_until_they_have_finished(self) -> None:

@@ -25,6 +25,8 @@ class NeedsTest(unittest.TestCase):
         found = needs_of(SITE, 3)
         self.assertEqual(found.keeper, needs.KEEPER_REST + 2 * 200 * 4 + 4)
         self.assertEqual(found.master, needs.MASTER_REST + 2 * 200 * 2)
+        self.assertEqual(found.serve, needs.SERVE_REST + 4)
+        self.assertEqual(needs_of(SITE, 3, 2).serve, needs.SERVE_REST + 4 + 2 * needs.SITE)
         self.assertEqual(found.processes, needs.OWN_PROCESSES + 2 * 200 * 3)
 
     def limited(self, soft: int, hard: int, processes: int | None = None) -> list[str]:

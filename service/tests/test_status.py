@@ -17,16 +17,15 @@ class RecordTest(unittest.TestCase):
         for text, wanted in (("0-2,5", [0, 1, 2, 5]), ("none", []), ("7", [7])):
             self.assertEqual(numbers_of(text), wanted)
 
-    def test_the_last_census_and_the_last_word_that_is_no_tick(self) -> None:
+    def test_the_last_census(self) -> None:
         record = Record()
-        record.note("HUP", BLOCK)
-        record.note("tick 5", "word tick 5\n1 m1 census 1.2 : counted 0-1\ndone cause none pid no-file\n")
+        record.note(BLOCK)
+        record.note("word tick 5\n1 m1 census 1.2 : counted 0-1\ndone cause none pid no-file\n")
         self.assertEqual((record.generation, record.workers), ("1.2", [0, 1]))
-        self.assertEqual((record.last["word"], record.last["report"]), ("HUP", "done cause none pid no-file"))
-        record.note("USR2", "word USR2\nrefused W5\n")
-        self.assertEqual((record.generation, record.last["report"]), ("1.2", "refused W5"))
+        record.note("word USR2\nrefused W5\n")
+        self.assertEqual((record.generation, record.workers), ("1.2", [0, 1]))
         record.forget_workers()
-        self.assertEqual((record.generation, record.workers, record.last["word"]), ("", [], "USR2"))
+        self.assertEqual((record.generation, record.workers), ("", []))
 
 
 class ProcessesTest(unittest.TestCase):
@@ -71,7 +70,7 @@ class ProcessesTest(unittest.TestCase):
 
     def test_workers_that_have_ended_and_beats_of_others(self) -> None:
         record, process = Record(), self.started("sleep", "1000")
-        record.note("HUP", BLOCK)
+        record.note(BLOCK)
         now = int(time.monotonic())
         found = workers_of(record, {("1.2", 0): process.pid, ("1.1", 1): process.pid}, {0: now - 1000, 1: now})
         self.assertEqual([worker["number"] for worker in found], [0, 1, 3])
@@ -86,14 +85,14 @@ class ShownTest(unittest.TestCase):
             "service": {"process": 1, "seconds": 60, "folder": "/run/site"}, "addresses": ["127.0.0.1:8080"],
             "generation": "2.2", "workers": [worker, {**worker, "number": 1, "process": None}], "masters": [3, 4],
             "master_restarts": 1, "keeper": {"process": 5, "restarts": 0},
-            "last": {"word": "USR2", "report": "done", "at": "2026-01-01T00:00:00+00:00"}, "doing": "HUP", "question": 1,
+            "last": {"word": "USR2", "report": "done", "at": "2026-01-01T00:00:00+00:00", "reasons": ["2 m1 x: why"]}, "doing": "HUP", "question": 1,
             "waiting": 2, "file_has_changed": True,
         }
         said = shown(status)
         for wanted in (
             "worker 0    process 7, for 9 s, beat 1 s ago\n", "worker 1    has ended\n",
             "master      process 4, started again once\n", "old master  process 3: an upgrade has left it",
-            "last word   USR2 at 2026-01-01T00:00:00+00:00: done\n",
+            "last word   USR2 at 2026-01-01T00:00:00+00:00: done\n", "because     2 m1 x: why\n",
             "now         carries out HUP, asks 1: old and new workers serve, 2 more wait\n", "file        has changed",
         ):
             self.assertIn(wanted, said)

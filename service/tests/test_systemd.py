@@ -8,7 +8,7 @@ import unittest
 from unittest import mock
 
 from kit import PYTHON, SERVICE
-from prefork_service.systemd import notify, store, unstore
+from prefork_service.systemd import Watchdog, notify, store, unstore
 
 SHOWS = "from prefork_service.systemd import inherited; print(sorted(inherited()))"
 STARTS = 'exec 3<&"$1" 4<&"$2" 5<&"$3"; LISTEN_PID=${4:-$$} LISTEN_FDS=3 exec "$5" -c "$6"'
@@ -31,6 +31,22 @@ class SystemdTest(unittest.TestCase):
     def test_nobody_is_told_where_nobody_listens(self) -> None:
         with mock.patch.dict(os.environ, NOTIFY_SOCKET="/nowhere/notify"):
             notify("READY=1")
+
+    def test_a_watchdog_is_told_twice_in_its_time(self) -> None:
+        with mock.patch("prefork_service.systemd.notify") as told, mock.patch("time.monotonic") as clock:
+            for environment, wanted in (
+                ({"WATCHDOG_USEC": "2000000"}, 10), ({}, 0), ({"WATCHDOG_USEC": "2000000", "WATCHDOG_PID": "1"}, 0),
+                ({"WATCHDOG_USEC": "2000000", "WATCHDOG_PID": str(os.getpid())}, 10), ({"WATCHDOG_USEC": "x"}, 0),
+            ):
+                with mock.patch.dict(os.environ, environment):
+                    watchdog = Watchdog()
+                    self.assertNotIn("WATCHDOG_USEC", os.environ)
+                told.reset_mock()
+                for tenth in range(101):
+                    clock.return_value = tenth / 10
+                    watchdog.tend()
+                self.assertIn(told.call_count, range(wanted, wanted + 3 if wanted else 1), environment)
+                self.assertIn(watchdog.every, (1.0, 1e9))
 
     def shown(self, number: str) -> str:
         """The addresses that a start is given: of two that listen, one twice."""

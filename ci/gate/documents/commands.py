@@ -8,7 +8,7 @@ import subprocess
 import tempfile
 from collections.abc import Iterator
 
-from gate.documents.pages import Tree, plain_man
+from gate.documents.pages import CONVENTION, Tree, plain_man
 
 SECONDS = 60
 # The pages, and the folder of the tree in which each is read.
@@ -93,7 +93,7 @@ def faults(tree: Tree) -> Iterator[str]:
             if not commands:
                 yield f"{path}: no command"
             yield from page_faults(tree, path, commands, FOLDERS[path])
-    for path, text in tree.man():
+    for path, text in tree.man(*CONVENTION):
         commands = list(of_man(text))
         if not commands:
             yield f"{path}: no example"

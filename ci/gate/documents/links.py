@@ -2,7 +2,7 @@
 import re
 from collections.abc import Iterator
 
-from gate.documents.pages import Tree, line_of, without_blocks
+from gate.documents.pages import SERVICE, Tree, line_of, without_blocks
 
 LINK = re.compile(r"\]\(([^)\s]+)\)")
 
@@ -20,7 +20,7 @@ def anchors(text: str) -> set[str]:
 
 def faults(tree: Tree) -> Iterator[str]:
     """Links that lead nowhere."""
-    for path, text in tree.markdown():
+    for path, text in tree.markdown(*SERVICE):
         for link in LINK.finditer(without_blocks(text)):
             target, _, heading = link[1].partition("#")
             if re.match(r"[a-z]+:", target):

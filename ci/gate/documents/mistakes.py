@@ -16,6 +16,7 @@ CHECKS: dict[str, Check] = {
     "claims": claims.faults,
     "tables": shape.table_faults,
     "length": shape.length_faults,
+    "screens": shape.screen_faults,
     "versions": versions.faults,
     "words": words.faults,
 }
@@ -35,7 +36,7 @@ class Mistake:
 MISTAKES = (
     Mistake("names", "README.md", "`plan_executor::enact`", "`plan_performer::enact`", "plan_performer"),
     Mistake("names", "docs/TESTING.md", "`ci/limits`", "`ci/frontiers`", "ci/frontiers"),
-    Mistake("names", "docs/ARCHITECTURE.md", "rollback_plan/src/draft.rt", "rollback_plan/src/drift.rt", "drift.rt"),
+    Mistake("names", "docs/architecture/changes.md", "plan/src/draft.rt", "plan/src/drift.rt", "drift.rt"),
     Mistake("links", "README.md", "(docs/FORMATS.md)", "(docs/FORMS.md)", "docs/FORMS.md"),
     Mistake("links", "README.md", "docs/PROVED.md#the-headline", "docs/PROVED.md#the-deadline", "#the-deadline"),
     Mistake("options", "docs/prefork-enact.1", r"[\fB\-\-state\fP]", "", "enact lacks --state"),
@@ -55,11 +56,16 @@ MISTAKES = (
     Mistake("claims", "docs/PROVED.md", "(`Says`)", "(`SaysAll`)", "SaysAll"),
     Mistake("claims", "docs/PROVED.md", "[explorer](../crates/explorer/README.md)", "explorer", "no line for explorer"),
     Mistake("tables", "docs/PROVED.md", "| no: it kills first |", f"| {'no ' * 80} |", "a cell of"),
-    Mistake("length", "CONTRIBUTING.md", "## Names", "word " * 2_500, "split it"),
+    Mistake("length", "CONTRIBUTING.md", "## Names", "word " * 2_000, "split it"),
     Mistake("length", "README.md", "## The promise", "\n## The promise", "more than 110"),
+    Mistake("screens", "tests/cases/help_of_plan/stdout", "Options:\n", "Options:\n" + 40 * "\n", "more than 40"),
+    Mistake("screens", "tests/cases/help_of_enact/stdout", "Control words,", 80 * "word ", "more than 80"),
     Mistake("versions", "docs/prefork-plan.1", "prefork 0.", "prefork 9.", "docs/prefork-plan.1: the version is 9."),
     Mistake("versions", "CHANGELOG.md", "## 0.2.0 (", "## 9.9.9 (", "not 9.9.9"),
     Mistake("words", "README.md", "Status 0: the new service runs.", "Status 0: what it came to.", "came to"),
+    Mistake("words", "service/man/prefork-ctl.1", "prints who runs", "prints whoever runs", "whoever"),
+    Mistake("words", "tests/cases/help_of_child/stdout", "It shows", "It came to", "came to"),
+    Mistake("links", "service/guides/README.md", "(wsgi.md)", "(wsgy.md)", "wsgy.md"),
     Mistake("words", "docs/prefork-explore.1", "Standard input is not read.", "Lines are passed over.", "passed over"),
 )
 

@@ -9,12 +9,12 @@ from collections.abc import Iterator
 from gate.documents.pages import Tree, line_of, without_blocks
 
 # Where names come from. Pages themselves are no source of names, and nor is this check.
-SOURCES = ("crates.txt", "try", "prefork", "install", "crates/*/src/**/*", "crates/*/specs/**/*",
-           "crates/*/proofs/**/*", "ci/*", "ci/gate/*.py", "ci/web/*", "bench/*", "examples/*", "completions/*",
-           "tools/*", "service/bin/*", "service/native/*", "service/prefork_service/*.py", "service/double/*",
-           "service/examples/*",
-           "service/tests/**/*.py", "service/build", "service/man/*", "tests/cases/*/args", "tests/cases/*/stdin",
-           "tests/cases/*/stdout", "tests/cases/*/stderr", "tests/faults/*", "tests/children/**/*")
+SOURCES = ("crates.txt", "try", "prefork", "install", "package", "crates/*/src/**/*", "crates/*/specs/**/*",
+           "crates/*/proofs/**/*", "ci/*", "ci/gate/*.py", "ci/web/*", "ci/shipping/*", "bench/*", "examples/*",
+           "completions/*", "tools/*", "service/bin/*", "service/native/*", "service/prefork_service/*.py",
+           "service/double/*", "service/examples/*", "service/units/*", "fleet/**/*", "service/tests/**/*.py",
+           "service/build", "service/man/*", "tests/cases/*/args", "tests/cases/*/stdin", "tests/cases/*/stdout",
+           "tests/cases/*/stderr", "tests/faults/*", "tests/children/**/*")
 WORD = re.compile(r"[A-Za-z_][A-Za-z0-9_]*(?:-[A-Za-z0-9_]+)*")
 SPAN = re.compile(r"`([^`\n]+)`")
 # What looks like a file or a folder.

@@ -9,6 +9,13 @@ from collections.abc import Iterator
 MARKDOWN = ("README.md", "CHANGELOG.md", "CONTRIBUTING.md", "SECURITY.md", "docs/**/*.md", "crates/*/README.md",
             "examples/README.md")
 MAN = ("docs/*.1", "docs/*.5")
+# Those of the service, of which a check names the ones that it reads too.
+SERVICE = ("service/README.md", "service/guides/*.md")
+SERVICE_MAN = ("service/man/*.1",)
+CONVENTION = ("service/man/prefork-child.1",)
+# What --help prints, as ci/cases compares it with the program, and the sentences of `prefork explain`.
+HELP = "tests/cases/help_of_*/stdout"
+SAID = (HELP, "crates/code_explanations/src/*.rt")
 FENCE = re.compile(r"^```.*?^```$", re.M | re.S)
 
 
@@ -40,14 +47,14 @@ class Tree:
         names = sorted(str(path.relative_to(self.root)) for path in found)
         yield from (name for name in names if not self.planted or name == self.planted[0])
 
-    def markdown(self) -> Iterator[tuple[str, str]]:
-        """Each page in Markdown, with its text."""
-        for path in self.paths(*MARKDOWN):
+    def markdown(self, *more: str) -> Iterator[tuple[str, str]]:
+        """Each page in Markdown, with its text, and those of more patterns."""
+        for path in self.paths(*MARKDOWN, *more):
             yield path, self.text(path)
 
-    def man(self) -> Iterator[tuple[str, str]]:
-        """Each man page, with its text."""
-        for path in self.paths(*MAN):
+    def man(self, *more: str) -> Iterator[tuple[str, str]]:
+        """Each man page, with its text, and those of more patterns."""
+        for path in self.paths(*MAN, *more):
             yield path, self.text(path)
 
 

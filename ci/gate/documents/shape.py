@@ -1,13 +1,15 @@
-"""The shape of pages: short cells of tables, and pages that are read in ten minutes."""
+"""The shape of pages: short cells of tables, pages that are read in ten minutes, and help that fits on a screen."""
 from collections.abc import Iterator
 
-from gate.documents.pages import Tree, without_blocks
+from gate.documents.pages import HELP, Tree, without_blocks
 
 MOST_CELL = 200
-# What is read in ten minutes, at 250 words a minute.
-MOST_WORDS = 2_500
+# What is read in ten minutes, at 200 words a minute.
+MOST_WORDS = 2_000
 # The README is a screen and a tour.
 MOST_LINES = {"README.md": 110}
+# What help has at most.
+SCREEN_LINES, SCREEN_COLUMNS = 40, 80
 
 
 def cells(line: str) -> list[str]:
@@ -41,3 +43,14 @@ def length_faults(tree: Tree) -> Iterator[str]:
         lines = text.count("\n")
         if lines > MOST_LINES.get(path, lines):
             yield f"{path}: {lines} lines, more than {MOST_LINES[path]}"
+
+
+def screen_faults(tree: Tree) -> Iterator[str]:
+    """Help that does not fit on a screen."""
+    for path in tree.paths(HELP):
+        lines = tree.text(path).rstrip("\n").split("\n")
+        if len(lines) > SCREEN_LINES:
+            yield f"{path}: {len(lines)} lines, more than {SCREEN_LINES}"
+        for number, line in enumerate(lines, 1):
+            if len(line) > SCREEN_COLUMNS:
+                yield f"{path}:{number}: {len(line)} columns, more than {SCREEN_COLUMNS}"

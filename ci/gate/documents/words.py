@@ -2,7 +2,7 @@
 import re
 from collections.abc import Iterator
 
-from gate.documents.pages import Tree, line_of, plain_man, without_code
+from gate.documents.pages import SAID, SERVICE, SERVICE_MAN, Tree, line_of, plain_man, without_code
 
 # A pattern of what is not written, and what is written in its place.
 WORDS: dict[str, str] = {
@@ -28,8 +28,9 @@ INSTEAD = list(WORDS.values())
 
 def faults(tree: Tree) -> Iterator[str]:
     """Where a page has such a word."""
-    pages = [(path, without_code(text)) for path, text in tree.markdown()]
-    pages += [(path, plain_man(text)) for path, text in tree.man()]
+    pages = [(path, without_code(text)) for path, text in tree.markdown(*SERVICE)]
+    pages += [(path, plain_man(text)) for path, text in tree.man(*SERVICE_MAN)]
+    pages += [(path, tree.text(path)) for path in tree.paths(*SAID)]
     for path, text in pages:
         for found in FOUND.finditer(text):
             instead = INSTEAD[int((found.lastgroup or "w0")[1:])]

@@ -11,4 +11,3 @@ pub mod AnswerReading
 pub mod NameText
 pub mod NameReading
 pub mod ReportReading
-pub mod Codes

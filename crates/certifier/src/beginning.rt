@@ -3,8 +3,7 @@ ghost use Rattle.std.specs.Prelude.{◌≡◌, ◌⊎◌, ◌↔◌, ℕ, List, 
 ghost use Rattle.definitions.specs.Path.{begin};
 ghost use Rattle.definitions.specs.Run.{Moment};
 ghost use Rattle.definitions.specs.Target.{IsTarget};
-ghost use Rattle.definitions.specs.Tree.{height};
-ghost use Rattle.rollback_plan.specs.Plans.{tree_of, note_of, text_of};
+ghost use Rattle.rollback_plan.specs.Plans.{tree_of, length_of, note_of, text_of};
 ghost use Rattle.plan_executor.specs.Naming.{listed};
 ghost use Rattle.plan_executor.specs.Refusals.{IsPlannable};
 ghost use Rattle.certifier.specs.Places.{Shows, StopsBy};
@@ -32,7 +31,7 @@ fn show_all(
     heir: Option<u32>,
     log: &Transcript,
 ) -> Result<Pattern, Mismatch>
-    requires { kernel.room ≡ height (tree_of plan.now) }
+    requires { kernel.room ≡ length_of plan.now }
     ensures ok { IfOk result (Shows (text_of plan.now) (listed heir) (record { trail = begin (tree_of plan.now) (note_of plan.now); table = kernel.table; executing = image ∷ [] }) log.now.entries) }
     ensures err { IfErr result (StopsBy (text_of plan.now) (listed heir) (record { trail = begin (tree_of plan.now) (note_of plan.now); table = kernel.table; executing = image ∷ [] }) log.now.entries) }
 {

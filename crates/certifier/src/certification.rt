@@ -2,8 +2,7 @@
 ghost use Rattle.std.specs.Prelude.{◌≡◌, ◌+◌, ◌⊎◌, ◌↔◌, [], ◌∷◌, length, OnOk, IfOk, IfErr, IsErrOf};
 ghost use Rattle.definitions.specs.Path.{begin};
 ghost use Rattle.definitions.specs.Target.{IsTarget};
-ghost use Rattle.definitions.specs.Tree.{height};
-ghost use Rattle.rollback_plan.specs.Plans.{tree_of, note_of, sides_told, text_of};
+ghost use Rattle.rollback_plan.specs.Plans.{tree_of, length_of, note_of, sides_told, text_of};
 ghost use Rattle.plan_walk.specs.Walk.{sides_in};
 ghost use Rattle.plan_executor.specs.Naming.{listed};
 ghost use Rattle.plan_executor.specs.Refusals.{IsPlannable};
@@ -55,9 +54,9 @@ fn hold(
     log: &Transcript,
     report: &Report,
 ) -> Result<Certificate, Mismatch>
-    requires { kernel.room ≡ height (tree_of plan.now) }
+    requires { kernel.room ≡ length_of plan.now }
     ensures ok { IfOk result (λ it. Holds (text_of plan.now) (listed masters.heir) (sides_told plan.now) (record { trail = begin (tree_of plan.now) (note_of plan.now); table = kernel.table; executing = masters.image ∷ [] }) log.now.entries report.now it.pattern) }
-    ensures led { IfOk result (λ it. IsLed (text_of plan.now) (listed masters.heir) (height (tree_of plan.now)) (record { trail = begin (tree_of plan.now) (note_of plan.now); table = kernel.table; executing = masters.image ∷ [] }) log.now.entries it.kernel) }
+    ensures led { IfOk result (λ it. IsLed (text_of plan.now) (listed masters.heir) (length_of plan.now) (record { trail = begin (tree_of plan.now) (note_of plan.now); table = kernel.table; executing = masters.image ∷ [] }) log.now.entries it.kernel) }
     ensures err { IfErr result (FailsBy (text_of plan.now) (listed masters.heir) (sides_told plan.now) (record { trail = begin (tree_of plan.now) (note_of plan.now); table = kernel.table; executing = masters.image ∷ [] }) log.now.entries report.now) }
 {
     let mut replay = Replay::new(alloc, plan, kernel, masters.image, masters.heir);

@@ -1,8 +1,7 @@
 //! A transcript, replayed entry by entry.
 ghost use Rattle.std.specs.Prelude.{◌≡◌, ◌+◌, ◌↔◌, ◌⊎◌, [], ◌∷◌, IsTrue, IfOk, IfErr};
 ghost use Rattle.definitions.specs.Path.{Asks, IsOver, Reports, begin};
-ghost use Rattle.definitions.specs.Tree.{height};
-ghost use Rattle.rollback_plan.specs.Plans.{tree_of, note_of, sides_told, text_of};
+ghost use Rattle.rollback_plan.specs.Plans.{tree_of, length_of, note_of, sides_told, text_of};
 ghost use Rattle.plan_walk.specs.Walk.{trail_of, sides_in};
 ghost use Rattle.plan_executor.specs.Naming.{listed};
 ghost use Rattle.certifier.specs.Places.{place_of, HasRoom, HasTaken, IsNext, IsTaken};
@@ -58,7 +57,7 @@ impl<'a> Replay<'a> {
         image: u32,
         heir: Option<u32>,
     ) -> Replay<'a>
-        requires { kernel.room ≡ height (tree_of plan.now) }
+        requires { kernel.room ≡ length_of plan.now }
         ensures place { place_of result ≡ record { trail = begin (tree_of plan.now) (note_of plan.now); table = kernel.table; executing = image ∷ [] } }
         ensures text { result.text.now ≡ text_of plan.now }
         ensures heir { result.heir ≡ heir }

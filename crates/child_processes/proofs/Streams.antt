@@ -207,6 +207,11 @@ read_failed None m w u v h is c = tt
 read_failed (Some xs) None w u v h is c = absurd c
 read_failed (Some xs) (Some ys) w u v h is c = ap (λ x. due x ys) is ∙ ap (due u) c ∙ due_went w u xs h
 
+-- nothing can be told yet, and no byte was lost
+pub stays : (k : Option (List ℕ)) (w u : Unheard) → WentOn w u → Keeps (option_map (λ more. due w more) k) (option_map (λ more. due u more) k)
+stays None w u h = tt
+stays (Some xs) w u h = due_went w u xs h
+
 clean_whole : (bs : List ℕ) (d : Bool) → Clean (record { bytes = bs; drops = d }) → due (record { bytes = bs; drops = d }) [] ≡ bs
 clean_whole bs false c = append-nil bs
 clean_whole bs true c =

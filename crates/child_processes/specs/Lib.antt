@@ -1,2 +1,3 @@
 pub mod Unheard
 pub mod NextLine
+pub mod Limits

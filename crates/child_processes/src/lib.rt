@@ -2,9 +2,13 @@
 #![tactic(auto)]
 
 mod buffer;
+mod limits;
 mod os_family;
+mod patience;
 mod reader;
+mod watch;
 mod writing;
 
-pub use os_family::OsFamily;
+pub use limits::Limits;
+pub use os_family::{ANSWER_WITHIN, OsFamily, READY_WITHIN};
 pub use reader::LineReader;

@@ -1,44 +1,39 @@
 //! A family of processes of the system.
+use crate::limits::Limits;
 use crate::reader::LineReader;
-use crate::writing::{remove, rename, write_line, write_whole};
+use crate::watch::{Open, Watch};
+use crate::writing::{remove, rename, write_whole};
 use child_family::{Family, Heard, Role, StartFault};
 use listener_set::FilePath;
+use log::Log;
+use log::sink::Discard;
 use plain_text::Line;
 use std::alloc::{AllocError, Global};
 use std::io;
 use std::io::ErrorKind;
-use std::process::{Child, Command, OpenProcess, Processes, Stdio};
+use std::os::fd::AsRawFd;
+use std::process::{Command, OpenProcess, Processes, Stdio};
 use std::rt::Files;
+use std::time::{Clock, Duration};
 
-/// A child, with what is read of it.
-#[derive(Drop)]
-struct Open<P: OpenProcess + Drop> {
-    child: Child<P>,
-    heard: LineReader<P::Stdout>,
-    told_to_quit: bool,
-}
+/// The variable by which a new master is told the limit for an answer.
+pub const ANSWER_WITHIN: &str = "PREFORK_ANSWER_WITHIN";
 
-impl<P: OpenProcess + Drop> Open<P> {
-    /// Waits for its end. Its output is closed before, so that a child which says more than a pipe holds can end.
-    fn end(self) {
-        let Open {
-            mut child,
-            heard,
-            ..
-        } = self;
-        drop(heard);
-        let _ = child.wait();
-    }
-}
+/// The variable by which it is told the limit for readiness.
+
+pub const READY_WITHIN: &str = "PREFORK_READY_WITHIN";
 
 /// Children that are processes of the system, told and heard over pipes. It tells none of its calls.
 ///
 /// A child that was told `quit` and has ended is waited for of itself, at the start of another child or when another line
 /// is said; its pipes are closed then, and its number may come again. Not when others are told to quit: what it says last
 /// can be heard after that. A master that ends calls `finish`, which waits for all children.
+///
+/// With limits, a child that keeps its master waiting for too long is killed, and has ended by that. Without, as at first,
+/// it is waited for as long as it takes.
 #[derive(Drop)]
-pub struct OsFamily<R: Processes + Files + Drop> {
-    rt: R,
+pub struct OsFamily<R: Processes + Files + Drop, L: Drop> {
+    watch: Watch<R, L>,
     alloc: Global,
     program: String,
     command: Vec<String>,
@@ -49,7 +44,7 @@ pub struct OsFamily<R: Processes + Files + Drop> {
     next: usize,
 }
 
-impl<R: Processes + Files + Drop> OsFamily<R> {
+impl<R: Processes + Files + Drop> OsFamily<R, Discard> {
     /// `program` is the executable: a worker is started as it with the word `child`, a master with `adopt`. Where
     /// `command` has words, a worker is started as them. The only refusal is want of memory.
     pub fn new(
@@ -57,13 +52,21 @@ impl<R: Processes + Files + Drop> OsFamily<R> {
         rt: R,
         program: &str,
         command: &[String],
-    ) -> Result<OsFamily<R>, AllocError> {
+    ) -> Result<OsFamily<R, Discard>, AllocError> {
         let mut words = Vec::new(alloc);
         for word in command {
             words.push(word.clone()?)?;
         }
         Ok(OsFamily {
-            rt,
+            watch: Watch {
+                rt,
+                limits: Limits {
+                    answer: 0,
+                    ready: 0,
+                },
+                log: Discard,
+                waited: Duration::ZERO,
+            },
             alloc,
             program: String::from_str(alloc, program)?,
             command: words,
@@ -73,6 +76,45 @@ impl<R: Processes + Files + Drop> OsFamily<R> {
         })
     }
 
+    /// The same with limits, before it has children. Each child that is killed by them is a line of the log.
+    pub fn limited<L: Log + Drop>(self, limits: Limits, log: L) -> OsFamily<R, L> {
+        let OsFamily {
+            watch,
+            alloc,
+            program,
+            command,
+            children,
+            quitting,
+            next,
+        } = self;
+        let Watch {
+            rt,
+            limits: _,
+            log: _,
+            waited,
+        } = watch;
+        OsFamily {
+            watch: Watch {
+                rt,
+                limits,
+                log,
+                waited,
+            },
+            alloc,
+            program,
+            command,
+            children,
+            quitting,
+            next,
+        }
+    }
+}
+
+impl<R: Processes + Files + Clock + Drop, L: Log + Drop> OsFamily<R, L>
+where
+    <R::Started as OpenProcess>::Stdout: AsRawFd,
+    <R::Started as OpenProcess>::Stdin: AsRawFd,
+{
     /// How many children it has that were not waited for.
     pub fn count(&self) -> usize {
         let mut count = 0usize;
@@ -95,22 +137,52 @@ impl<R: Processes + Files + Drop> OsFamily<R> {
             _ => {
                 let mut command = Command::new(self.alloc, &self.program)?;
                 command.arg(if is_worker { "child" } else { "adopt" })?;
+                if !is_worker {
+                    self.tell_limits(&mut command)?;
+                }
                 Ok(command)
             }
         }
+    }
+
+    /// Tells a new master the limits, in its environment: a program that knows none can be started too.
+    fn tell_limits(&self, command: &mut Command) -> Result<(), AllocError> {
+        let Limits { answer, ready } = self.watch.limits;
+        for (name, seconds) in [(ANSWER_WITHIN, answer), (READY_WITHIN, ready)] {
+            if seconds > 0 {
+                let text = format!(in self.alloc; "{seconds}")?;
+                command.env(name, text.as_str())?;
+            }
+        }
+        Ok(())
     }
 
     fn spawn(&mut self, role: &Role) -> io::Result<Open<R::Started>> {
         let mut command = self.command_of(role)?;
         command.stdin(Stdio::piped());
         command.stdout(Stdio::piped());
-        let mut child = command.spawn(&self.rt)?;
+        let mut child = command.spawn(&self.watch.rt)?;
         match child.stdout.take() {
-            Some(stdout) => Ok(Open {
-                child,
-                heard: LineReader::new(stdout),
-                told_to_quit: false,
-            }),
+            Some(stdout) => {
+                let told_at = match child.stdin.as_ref() {
+                    Some(stdin) => stdin.as_raw_fd(),
+                    None => -1,
+                };
+                if self.watch.limits.answer > 0 {
+                    os::set_nonblocking(told_at, true);
+                }
+                Ok(Open {
+                    child,
+                    role: *role,
+                    said_at: stdout.as_raw_fd(),
+                    told_at,
+                    heard: LineReader::new(stdout),
+                    told_to_quit: false,
+                    has_spoken: false,
+                    is_killed: false,
+                    asked: self.watch.waited,
+                })
+            }
             None => {
                 let _ = child.kill();
                 let _ = child.wait();
@@ -222,14 +294,27 @@ impl<R: Processes + Files + Drop> OsFamily<R> {
     }
 
     /// Closes the input of every child that it has, and then waits for the end of each; no more is heard of them. It has no
-    /// children then. A child that does not end with its input is waited for as long as it runs.
+    /// children then. A child that does not end with its input is waited for as long as it runs, or as the limits say.
     pub fn finish(&mut self) {
         self.close_inputs();
+        let since = self.watch.waited;
         for place in 0..self.children.len() {
             if let Some(open) = self.take(place) {
-                open.end();
+                self.end(open, since);
             }
         }
+    }
+
+    /// Waits for the end of a child. Its output is closed before, so that one which says more than a pipe holds can end.
+    fn end(&mut self, open: Open<R::Started>, since: Duration) {
+        let Open {
+            mut child,
+            role,
+            heard,
+            ..
+        } = open;
+        drop(heard);
+        self.watch.await_end(&mut child, role, since);
     }
 }
 
@@ -241,7 +326,11 @@ fn fault_of(error: &io::Error) -> StartFault {
     }
 }
 
-impl<R: Processes + Files + Drop> Family for OsFamily<R> {
+impl<R: Processes + Files + Clock + Drop, L: Log + Drop> Family for OsFamily<R, L>
+where
+    <R::Started as OpenProcess>::Stdout: AsRawFd,
+    <R::Started as OpenProcess>::Stdin: AsRawFd,
+{
     fn start(&mut self, role: &Role) -> Result<u32, StartFault> {
         self.reap_all();
         self.start_at_free(role).map_err(|error| fault_of(&error))
@@ -253,19 +342,16 @@ impl<R: Processes + Files + Drop> Family for OsFamily<R> {
         } else {
             self.reap_next();
         }
-        let Some(open) = self.open_mut(id) else {
-            return false;
-        };
-        match open.child.stdin.as_mut() {
-            Some(stdin) => write_line(stdin, line).is_ok(),
-            None => false,
+        match self.children.get_mut(id as usize) {
+            Some(Some(open)) => self.watch.say(open, line),
+            _ => false,
         }
     }
 
     fn hear(&mut self, id: u32, line: &mut Line) -> Heard {
-        match self.open_mut(id) {
-            Some(open) => open.heard.hear(line).unwrap_or(Heard::Ended),
-            None => Heard::Ended,
+        match self.children.get_mut(id as usize) {
+            Some(Some(open)) => self.watch.hear(open, line),
+            _ => Heard::Ended,
         }
     }
 
@@ -278,20 +364,20 @@ impl<R: Processes + Files + Drop> Family for OsFamily<R> {
 
     fn gone(&mut self, id: u32) -> bool {
         match self.take(id as usize) {
-            Some(mut open) => open.child.wait().is_ok(),
+            Some(mut open) => self.watch.gone(&mut open),
             None => false,
         }
     }
 
     fn write_file(&mut self, path: &FilePath, contents: &[u8]) -> bool {
-        write_whole(&self.rt, path, contents).is_ok()
+        write_whole(&self.watch.rt, path, contents).is_ok()
     }
 
     fn rename_file(&mut self, from: &FilePath, to: &FilePath) -> bool {
-        rename(&self.rt, from, to).is_ok()
+        rename(&self.watch.rt, from, to).is_ok()
     }
 
     fn remove_file(&mut self, path: &FilePath) -> bool {
-        remove(&self.rt, path).is_ok()
+        remove(&self.watch.rt, path).is_ok()
     }
 }

@@ -7,10 +7,12 @@ ghost use Rattle.child_processes.specs.Unheard.{nothing};
 ghost use Rattle.child_processes.specs.NextLine.{heard_in, left_in, line_in, rest_in, unheard, IsNext, IsLast};
 
 use crate::buffer::LineBuffer;
+use crate::patience::{Patience, Wait};
 use child_family::Heard;
 use plain_text::Line;
 use std::io;
 use std::io::{ErrorKind, Read};
+use std::time::Clock;
 
 /// A reader's lines. It takes no memory. A line of more than 4,096 bytes is told once, and dropped; the next line is
 /// heard as ever.
@@ -55,6 +57,43 @@ impl<R: Read + Drop> LineReader<R> {
             Heard::Ended => Ok(self.buffer.take_rest(line)),
             heard => Ok(heard),
         }
+    }
+
+    /// The next line of a child, as `hear` gives it, where the wait for it lasts before each read. Nothing where it takes too
+    /// long; no byte is lost by that.
+    pub(crate) fn hear_in_time<T: Clock>(
+        &mut self,
+        line: &mut Line,
+        patience: &mut Patience<'_, T>,
+        wait: Wait,
+    ) -> io::Result<Option<Heard>>
+        ensures heard { IfOk result (λ o. IfSome o (λ h. IsNext heard_in left_in (unheard R.remaining self.old) (unheard R.remaining self.new) (heard_of h line.new))) }
+        ensures late { IfOk result (λ o. IsNone o → Keeps (unheard R.remaining self.old) (unheard R.remaining self.new)) }
+        ensures failed { OnErr result (Keeps (unheard R.remaining self.old) (unheard R.remaining self.new)) }
+    {
+        for _ in 0..u64::MAX {
+            if let Some(heard) = self.take(line) {
+                return Ok(Some(heard));
+            }
+            if !patience.lasts(wait) {
+                return Ok(None);
+            }
+            if let Some(heard) = self.turn(line)? {
+                return Ok(Some(heard));
+            }
+        }
+        Ok(None)
+    }
+
+    /// What can be told without reading on.
+    fn take(&mut self, line: &mut Line) -> Option<Heard>
+        ensures heard { IfSome result (λ h. IsNext heard_in left_in (unheard R.remaining self.old) (unheard R.remaining self.new) (heard_of h line.new)) }
+        ensures none { IsNone result → Keeps (unheard R.remaining self.old) (unheard R.remaining self.new) }
+    {
+        if let Some(heard) = self.buffer.take_line(line) {
+            return Some(heard);
+        }
+        None
     }
 
     /// The next line that has a newline. `Ended` at the end; what stands there without a newline is kept.

@@ -12,14 +12,16 @@ use Rattle.clap.specs.declared.parser.matches.ArgMatches.{ArgMatches}
 use Rattle.clap.specs.declared.error.kind.ErrorKind.{ErrorKind}
 use Rattle.clap.specs.declared.error.kind.ErrorKind.TheVariants.{DisplayHelp, DisplayVersion, OutOfMemory}
 use Rattle.command_line.specs.Number.{Spells}
+use Rattle.command_line.specs.declared.options.AdoptOptions.{AdoptOptions}
 use Rattle.command_line.specs.declared.options.CertifyOptions.{CertifyOptions}
 use Rattle.command_line.specs.declared.options.EnactOptions.{EnactOptions}
 use Rattle.command_line.specs.declared.options.PlanOptions.{PlanOptions}
 use Rattle.command_line.specs.declared.options.ExploreOptions.{ExploreOptions}
+use Rattle.command_line.specs.declared.options.LimitOptions.{LimitOptions}
 use Rattle.command_line.specs.declared.options.StartOptions.{StartOptions}
 use Rattle.command_line.specs.declared.options.SuperviseOptions.{SuperviseOptions}
 use Rattle.command_line.specs.declared.Request.{Request}
-use Rattle.command_line.specs.declared.Request.TheVariants.{Adopt, Certify, Child, Enact, Explain, Explore, Plan, Show, Supervise}
+use Rattle.command_line.specs.declared.Request.TheVariants.{Adopt, Certify, Check, Child, Enact, Explain, Explore, Plan, Show, Supervise}
 use Rattle.command_line.specs.declared.refusal.Refusal.{Refusal}
 use Rattle.command_line.specs.declared.refusal.Refusal.TheVariants.{Usage, Memory}
 
@@ -40,19 +42,23 @@ flag_rule name = record (new_rule name) {
   action = Some SetTrue;
 }
 
--- `WORD`, which must be there
+-- `VALUE`, which must be there
 abbrev pub required_rule : Text → Rule
 required_rule name = record (new_rule name) {
   required = true;
   value_names = 1;
 }
 
--- `WORD..`
-abbrev pub words_rule : Rule
-words_rule = record (required_rule (codes "words")) {
+-- `VALUE..`, of which one must be there
+abbrev pub several_rule : Text → Rule
+several_rule name = record (required_rule name) {
   range = Some (record { start_inclusive = 1; end_inclusive = usize_max });
   action = Some Append;
 }
+
+-- `WORD..`
+abbrev pub words_rule : Rule
+words_rule = several_rule (codes "words")
 
 -- `WORD`
 abbrev pub word_rule : Rule
@@ -71,39 +77,55 @@ code_rule = record (new_rule (codes "code")) {
 abbrev pub with_files : App → App
 with_files app = with_rule (with_rule app (option_rule (codes "from"))) (option_rule (codes "to"))
 
--- `[--from FILE] [--to FILE] [--workers N] [--bare] [--why]`
+-- `[--from FILE] [--to FILE] [--workers N] [--bare] [--why] [--json]`
 abbrev pub with_start : App → App
 with_start app = with_rule (with_rule (with_rule (with_files app) (option_rule (codes "workers"))) (flag_rule (codes "bare"))) (flag_rule (codes "why"))
 
+abbrev pub with_answer : App → App
+with_answer app = with_rule (with_start app) (flag_rule (codes "json"))
+
 abbrev pub enact_app : App
-enact_app = with_rule (with_rule (with_rule (with_start (new_app (codes "enact"))) (option_rule (codes "held"))) (flag_rule (codes "state"))) words_rule
+enact_app = with_rule (with_rule (with_rule (with_answer (new_app (codes "enact"))) (option_rule (codes "held"))) (flag_rule (codes "state"))) words_rule
 
 abbrev pub plan_app : App
-plan_app = with_rule (with_rule (with_start (new_app (codes "plan"))) (flag_rule (codes "dot"))) word_rule
+plan_app = with_rule (with_rule (with_answer (new_app (codes "plan"))) (flag_rule (codes "dot"))) word_rule
 
 -- those of a start, `[--held ADDRESS] [--list] [--progress]`
 abbrev pub with_list : App → App
-with_list app = with_rule (with_rule (with_rule (with_start app) (option_rule (codes "held"))) (flag_rule (codes "list"))) (flag_rule (codes "progress"))
+with_list app = with_rule (with_rule (with_rule (with_answer app) (option_rule (codes "held"))) (flag_rule (codes "list"))) (flag_rule (codes "progress"))
 
--- `[--events K] [--limit N] [--forbid END]`
+-- `[--events K] [--limit N] [--forbid END] [--require END] [--least N]`
 abbrev pub with_runs : App → App
 with_runs app = with_rule (with_rule (with_rule app (option_rule (codes "events"))) (option_rule (codes "limit"))) (option_rule (codes "forbid"))
 
+abbrev pub with_demands : App → App
+with_demands app = with_rule (with_rule app (option_rule (codes "require"))) (option_rule (codes "least"))
+
 abbrev pub explore_app : App
-explore_app = with_rule (with_runs (with_list (new_app (codes "explore")))) word_rule
+explore_app = with_rule (with_demands (with_runs (with_list (new_app (codes "explore"))))) word_rule
 
 abbrev pub certify_app : App
-certify_app = with_rule (with_start (new_app (codes "certify"))) (option_rule (codes "held"))
+certify_app = with_rule (with_answer (new_app (codes "certify"))) (option_rule (codes "held"))
+
+abbrev pub check_app : App
+check_app = with_rule (new_app (codes "check")) (several_rule (codes "files"))
 
 -- `--program PROGRAM`, which must be there
 abbrev pub program_rule : Rule
 program_rule = record (option_rule (codes "program")) { required = true }
 
+-- `[--answer-within SECONDS] [--ready-within SECONDS]`
+abbrev pub with_limits : App → App
+with_limits app = with_rule (with_rule app (option_rule (codes "answer-within"))) (option_rule (codes "ready-within"))
+
+abbrev pub with_family : App → App
+with_family app = with_limits (with_rule (with_files app) program_rule)
+
 abbrev pub supervise_app : App
-supervise_app = with_rule (with_rule (with_rule (with_files (new_app (codes "supervise"))) program_rule) (flag_rule (codes "verbose"))) (flag_rule (codes "why"))
+supervise_app = with_rule (with_rule (with_family (new_app (codes "supervise"))) (flag_rule (codes "verbose"))) (flag_rule (codes "why"))
 
 abbrev pub adopt_app : App
-adopt_app = with_rule (new_app (codes "adopt")) (option_rule (codes "program"))
+adopt_app = with_limits (with_rule (new_app (codes "adopt")) (option_rule (codes "program")))
 
 abbrev pub child_app : App
 child_app = new_app (codes "child")
@@ -127,8 +149,11 @@ with_words app = with_subcommand (with_subcommand (with_subcommand app enact_app
 abbrev pub with_children : App → App
 with_children app = with_subcommand (with_subcommand (with_subcommand app supervise_app.top) adopt_app.top) child_app.top
 
+abbrev pub with_readers : App → App
+with_readers app = with_subcommand (with_subcommand (with_subcommand app certify_app.top) check_app.top) explain_app.top
+
 abbrev pub prefork_app : App
-prefork_app = with_subcommand (with_subcommand (with_children (with_words bare_app)) certify_app.top) explain_app.top
+prefork_app = with_readers (with_children (with_words bare_app))
 
 -- ---- what a subcommand is given
 
@@ -139,6 +164,7 @@ pub record Start : Type 0 where
   pub workers : Option ℕ
   pub bare : Bool
   pub why : Bool
+  pub json : Bool
 
 -- what `enact` is given
 pub record Enactment : Type 0 where
@@ -160,6 +186,8 @@ pub record Exploration : Type 0 where
   pub events : Option ℕ
   pub limit : Option ℕ
   pub forbid : Option Text
+  pub require : Option Text
+  pub least : Option ℕ
   pub list : Bool
   pub progress : Bool
   pub word : Text
@@ -169,13 +197,24 @@ pub record Certification : Type 0 where
   pub start : Start
   pub held : Option Text
 
+-- how long a child may keep its master waiting, in seconds
+pub record Limiting : Type 0 where
+  pub answer_within : Option ℕ
+  pub ready_within : Option ℕ
+
 -- what `supervise` is given
 pub record Supervision : Type 0 where
   pub program : Text
   pub from : Option Text
   pub to : Option Text
+  pub limits : Limiting
   pub verbose : Bool
   pub why : Bool
+
+-- what `adopt` is given
+pub record Adoption : Type 0 where
+  pub program : Option Text
+  pub limits : Limiting
 
 abbrev pub start_of : StartOptions → Start
 start_of options = record {
@@ -184,6 +223,7 @@ start_of options = record {
   workers = options.workers;
   bare = options.bare;
   why = options.why;
+  json = options.json;
 }
 
 abbrev pub enactment_of : EnactOptions → Enactment
@@ -208,6 +248,8 @@ exploration_of options = record {
   events = options.events;
   limit = options.limit;
   forbid = option_map (λ text. text.now) options.forbid;
+  require = option_map (λ text. text.now) options.require;
+  least = options.least;
   list = options.list;
   progress = options.progress;
   word = options.word.now;
@@ -219,13 +261,26 @@ certification_of options = record {
   held = option_map (λ text. text.now) options.held;
 }
 
+abbrev pub limiting_of : LimitOptions → Limiting
+limiting_of options = record {
+  answer_within = options.answer_within;
+  ready_within = options.ready_within;
+}
+
 abbrev pub supervision_of : SuperviseOptions → Supervision
 supervision_of options = record {
   program = options.program.now;
   from = option_map (λ text. text.now) options.from;
   to = option_map (λ text. text.now) options.to;
+  limits = limiting_of options.limits;
   verbose = options.verbose;
   why = options.why;
+}
+
+abbrev pub adoption_of : AdoptOptions → Adoption
+adoption_of options = record {
+  program = option_map (λ text. text.now) options.program;
+  limits = limiting_of options.limits;
 }
 
 -- ---- what `clap` finds for a subcommand
@@ -247,6 +302,7 @@ pub record FindsStart (rows : List Row) (start : Start) : Type 0 where
   pub workers : IsNumber (first_of (codes "workers") rows) start.workers
   pub bare : start.bare ≡ is_given (first_of (codes "bare") rows)
   pub why : start.why ≡ is_given (first_of (codes "why") rows)
+  pub json : start.json ≡ is_given (first_of (codes "json") rows)
 
 pub record FindsEnactment (rows : List Row) (values : Enactment) : Type 0 where
   pub start : FindsStart rows values.start
@@ -265,6 +321,8 @@ pub record FindsExploration (rows : List Row) (values : Exploration) : Type 0 wh
   pub events : IsNumber (first_of (codes "events") rows) values.events
   pub limit : IsNumber (first_of (codes "limit") rows) values.limit
   pub forbid : values.forbid ≡ first_of (codes "forbid") rows
+  pub require : values.require ≡ first_of (codes "require") rows
+  pub least : IsNumber (first_of (codes "least") rows) values.least
   pub list : values.list ≡ is_given (first_of (codes "list") rows)
   pub progress : values.progress ≡ is_given (first_of (codes "progress") rows)
   pub word : first_of (codes "word") rows ≡ Some values.word
@@ -273,12 +331,24 @@ pub record FindsCertification (rows : List Row) (values : Certification) : Type 
   pub start : FindsStart rows values.start
   pub held : values.held ≡ first_of (codes "held") rows
 
+abbrev pub FindsFiles : List Row → List Text → Type 0
+FindsFiles rows files = all_of (codes "files") rows ≡ Some files
+
+pub record FindsLimiting (rows : List Row) (limits : Limiting) : Type 0 where
+  pub answer_within : IsNumber (first_of (codes "answer-within") rows) limits.answer_within
+  pub ready_within : IsNumber (first_of (codes "ready-within") rows) limits.ready_within
+
 pub record FindsSupervision (rows : List Row) (values : Supervision) : Type 0 where
   pub program : first_of (codes "program") rows ≡ Some values.program
   pub from : values.from ≡ first_of (codes "from") rows
   pub to : values.to ≡ first_of (codes "to") rows
+  pub limits : FindsLimiting rows values.limits
   pub verbose : values.verbose ≡ is_given (first_of (codes "verbose") rows)
   pub why : values.why ≡ is_given (first_of (codes "why") rows)
+
+pub record FindsAdoption (rows : List Row) (values : Adoption) : Type 0 where
+  pub program : values.program ≡ first_of (codes "program") rows
+  pub limits : FindsLimiting rows values.limits
 
 -- ---- what arguments ask for
 
@@ -301,12 +371,15 @@ AsksExplore arguments values = AsksFor (codes "explore") (λ rows. FindsExplorat
 abbrev pub AsksCertify : List Text → Certification → Type 0
 AsksCertify arguments values = AsksFor (codes "certify") (λ rows. FindsCertification rows values) arguments
 
+-- the files that are to be looked at
+abbrev pub AsksCheck : List Text → List Text → Type 0
+AsksCheck arguments files = AsksFor (codes "check") (λ rows. FindsFiles rows files) arguments
+
 abbrev pub AsksSupervise : List Text → Supervision → Type 0
 AsksSupervise arguments values = AsksFor (codes "supervise") (λ rows. FindsSupervision rows values) arguments
 
--- the program of the workers, where one is named
-abbrev pub AsksAdopt : List Text → Option Text → Type 0
-AsksAdopt arguments program = AsksFor (codes "adopt") (λ rows. program ≡ first_of (codes "program") rows) arguments
+abbrev pub AsksAdopt : List Text → Adoption → Type 0
+AsksAdopt arguments values = AsksFor (codes "adopt") (λ rows. FindsAdoption rows values) arguments
 
 abbrev pub AsksChild : List Text → Type 0
 AsksChild arguments = AsksFor (codes "child") (λ rows. ⊤) arguments
@@ -329,8 +402,9 @@ Asks arguments (Enact options) = AsksEnact arguments (enactment_of options)
 Asks arguments (Plan options) = AsksPlan arguments (planning_of options)
 Asks arguments (Explore options) = AsksExplore arguments (exploration_of options)
 Asks arguments (Certify options) = AsksCertify arguments (certification_of options)
+Asks arguments (Check options) = AsksCheck arguments (texts options.files.items)
 Asks arguments (Supervise options) = AsksSupervise arguments (supervision_of options)
-Asks arguments (Adopt options) = AsksAdopt arguments (option_map (λ text. text.now) options.program)
+Asks arguments (Adopt options) = AsksAdopt arguments (adoption_of options)
 Asks arguments Child = AsksChild arguments
 Asks arguments (Explain options) = AsksExplain arguments (option_map (λ text. text.now) options.code)
 Asks arguments (Show text) = AsksText arguments
@@ -338,7 +412,7 @@ Asks arguments (Show text) = AsksText arguments
 -- the arguments ask for no master that runs, nor for one of its children
 pub record AsksForNoChild (arguments : List Text) : Type 0 where
   pub no_supervise : (values : Supervision) → ¬ AsksSupervise arguments values
-  pub no_adopt : (program : Option Text) → ¬ AsksAdopt arguments program
+  pub no_adopt : (values : Adoption) → ¬ AsksAdopt arguments values
   pub no_child : ¬ AsksChild arguments
 
 -- the arguments ask for nothing: neither for a subcommand nor for a text alone
@@ -347,6 +421,7 @@ pub record IsUsageFault (arguments : List Text) : Type 0 where
   pub no_plan : (values : Planning) → ¬ AsksPlan arguments values
   pub no_explore : (values : Exploration) → ¬ AsksExplore arguments values
   pub no_certify : (values : Certification) → ¬ AsksCertify arguments values
+  pub no_check : (files : List Text) → ¬ AsksCheck arguments files
   pub no_child : AsksForNoChild arguments
   pub no_explain : (code : Option Text) → ¬ AsksExplain arguments code
   pub no_help : fault_of prefork_app arguments ≢ DisplayHelp ∷ []

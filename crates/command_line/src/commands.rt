@@ -2,12 +2,13 @@
 ghost use Rattle.std.specs.Prelude.{◌≡◌, IfOk, false};
 ghost use Rattle.clap.specs.Words.{app_of, rule_of};
 ghost use Rattle.clap.specs.declared.builder.command.Command.TheViews.{out-Command};
-ghost use Rattle.command_line.specs.Arguments.{adopt_app, bare_app, certify_app, child_app, code_rule, enact_app, explain_app, explore_app, flag_rule, option_rule, plan_app, prefork_app, program_rule, required_rule, supervise_app, with_children, with_files, with_list, with_runs, with_start, with_words, word_rule, words_rule};
+ghost use Rattle.command_line.specs.Arguments.{adopt_app, bare_app, certify_app, check_app, child_app, code_rule, enact_app, explain_app, explore_app, flag_rule, option_rule, plan_app, prefork_app, program_rule, required_rule, several_rule, supervise_app, with_answer, with_children, with_demands, with_family, with_files, with_limits, with_readers, with_list, with_runs, with_start, with_words, word_rule, words_rule};
 
 use crate::help::{
-    ADOPT_HELP, ADOPT_NOTES, BARE_HELP, CERTIFY_NOTES, CHILD_NOTES, CODE_HELP, DOT_HELP,
-    ENACT_NOTES, EVENTS_HELP, EXPLAIN_NOTES, EXPLORE_NOTES, FORBID_HELP, FROM_HELP, HELD_HELP,
-    LIMIT_HELP, LIST_HELP, PLAN_NOTES, PROGRAM_HELP, PROGRAM_NOTES, PROGRESS_HELP, STATE_HELP,
+    ADOPT_HELP, ADOPT_NOTES, ANSWER_HELP, BARE_HELP, CERTIFY_NOTES, CHECK_NOTES, CHILD_NOTES,
+    CODE_HELP, DOT_HELP, ENACT_NOTES, EVENTS_HELP, EXPLAIN_NOTES, EXPLORE_NOTES, FILES_HELP,
+    FORBID_HELP, FROM_HELP, HELD_HELP, JSON_HELP, LEAST_HELP, LIMIT_HELP, LIST_HELP, PLAN_NOTES,
+    PROGRAM_HELP, PROGRAM_NOTES, PROGRESS_HELP, READY_HELP, REQUIRE_HELP, STATE_HELP,
     SUPERVISE_NOTES, TO_HELP, VERBOSE_HELP, WHY_HELP, WORD_HELP, WORDS_HELP, WORKERS_HELP,
 };
 use clap::{Arg, ArgAction, Command};
@@ -17,9 +18,10 @@ use std::alloc::{AllocError, Global};
 pub fn program<'a>(alloc: Global) -> Result<Command<'a>, AllocError>
     ensures { IfOk result (λ command. app_of command ≡ prefork_app) }
 {
-    with_children(alloc, with_words(alloc, bare(alloc))?)?
-        .subcommand(certify(alloc)?)?
-        .subcommand(explain(alloc)?)
+    with_readers(
+        alloc,
+        with_children(alloc, with_words(alloc, bare(alloc))?)?,
+    )
 }
 
 /// The program without its subcommands.
@@ -27,7 +29,7 @@ fn bare<'a>(alloc: Global) -> Command<'a>
     ensures { app_of result ≡ bare_app }
 {
     Command::new(alloc, "prefork")
-        .about("Plan and rehearse the control words of a preforking master")
+        .about("Plan, rehearse, run and check the control words of a preforking master")
         .after_help(PROGRAM_NOTES)
         .version("0.2.0")
         .subcommand_required(true)
@@ -54,14 +56,24 @@ fn with_children<'a>(alloc: Global, command: Command<'a>) -> Result<Command<'a>,
         .subcommand(child(alloc))
 }
 
+/// The subcommands that read texts and say what they are.
+fn with_readers<'a>(alloc: Global, command: Command<'a>) -> Result<Command<'a>, AllocError>
+    ensures { IfOk result (λ more. app_of more ≡ with_readers (app_of command.entry)) }
+{
+    command
+        .subcommand(certify(alloc)?)?
+        .subcommand(check(alloc)?)?
+        .subcommand(explain(alloc)?)
+}
+
 fn enact<'a>(alloc: Global) -> Result<Command<'a>, AllocError>
     ensures app { IfOk result (λ command. app_of command ≡ enact_app) }
     ensures own { IfOk result (λ command. (out-Command command).has_globals ≡ false) }
 {
     let command = Command::new(alloc, "enact")
-        .about("Carry out control words on a modelled kernel; print calls and answers")
+        .about("Carry out control words on a modelled kernel")
         .after_help(ENACT_NOTES);
-    with_start(alloc, command)?
+    with_answer(alloc, command)?
         .arg(option(alloc, "held", "ADDRESS", HELD_HELP))?
         .arg(flag(alloc, "state", STATE_HELP))?
         .arg(words(alloc))
@@ -72,9 +84,9 @@ fn plan<'a>(alloc: Global) -> Result<Command<'a>, AllocError>
     ensures own { IfOk result (λ command. (out-Command command).has_globals ≡ false) }
 {
     let command = Command::new(alloc, "plan")
-        .about("Print a control word's plan: each step, and what follows each answer")
+        .about("Print the plan of a control word")
         .after_help(PLAN_NOTES);
-    with_start(alloc, command)?
+    with_answer(alloc, command)?
         .arg(flag(alloc, "dot", DOT_HELP))?
         .arg(word(alloc))
 }
@@ -84,9 +96,10 @@ fn explore<'a>(alloc: Global) -> Result<Command<'a>, AllocError>
     ensures own { IfOk result (λ command. (out-Command command).has_globals ≡ false) }
 {
     let command = Command::new(alloc, "explore")
-        .about("Carry out a control word under each event that can matter; count how it ends")
+        .about("Count how a control word can end")
         .after_help(EXPLORE_NOTES);
-    with_runs(alloc, with_list(alloc, command)?)?.arg(word(alloc))
+    let command = with_runs(alloc, with_list(alloc, command)?)?;
+    with_demands(alloc, command)?.arg(word(alloc))
 }
 
 /// The options of each subcommand that starts a master beside somebody else, `--list`
@@ -96,13 +109,13 @@ fn with_list<'a>(alloc: Global, command: Command<'a>) -> Result<Command<'a>, All
     ensures app { IfOk result (λ more. app_of more ≡ with_list (app_of command.entry)) }
     ensures own { IfOk result (λ more. (out-Command more).has_globals ≡ false) }
 {
-    with_start(alloc, command)?
+    with_answer(alloc, command)?
         .arg(option(alloc, "held", "ADDRESS", HELD_HELP))?
         .arg(flag(alloc, "list", LIST_HELP))?
         .arg(flag(alloc, "progress", PROGRESS_HELP))
 }
 
-/// The options that say which runs are tried, and which end is answered with a status of its own.
+/// The options that say which runs are tried, and how none may end.
 fn with_runs<'a>(alloc: Global, command: Command<'a>) -> Result<Command<'a>, AllocError>
     requires { (out-Command command).has_globals ≡ false }
     ensures app { IfOk result (λ more. app_of more ≡ with_runs (app_of command.entry)) }
@@ -114,27 +127,59 @@ fn with_runs<'a>(alloc: Global, command: Command<'a>) -> Result<Command<'a>, All
         .arg(option(alloc, "forbid", "END", FORBID_HELP))
 }
 
+/// The options that say what is demanded of the runs.
+fn with_demands<'a>(alloc: Global, command: Command<'a>) -> Result<Command<'a>, AllocError>
+    requires { (out-Command command).has_globals ≡ false }
+    ensures app { IfOk result (λ more. app_of more ≡ with_demands (app_of command.entry)) }
+    ensures own { IfOk result (λ more. (out-Command more).has_globals ≡ false) }
+{
+    command
+        .arg(option(alloc, "require", "END", REQUIRE_HELP))?
+        .arg(option(alloc, "least", "N", LEAST_HELP))
+}
+
 fn supervise<'a>(alloc: Global) -> Result<Command<'a>, AllocError>
     ensures app { IfOk result (λ command. app_of command ≡ supervise_app) }
     ensures own { IfOk result (λ command. (out-Command command).has_globals ≡ false) }
 {
     let command = Command::new(alloc, "supervise")
-        .about("Run a master and its workers; control words come on standard input")
+        .about("Run a master and its workers")
         .after_help(SUPERVISE_NOTES);
-    with_files(alloc, command)?
-        .arg(program_option(alloc))?
+    with_family(alloc, command)?
         .arg(flag(alloc, "verbose", VERBOSE_HELP))?
         .arg(flag(alloc, "why", WHY_HELP))
+}
+
+/// The options that say what a master's children are, and how long they may keep it waiting.
+fn with_family<'a>(alloc: Global, command: Command<'a>) -> Result<Command<'a>, AllocError>
+    requires { (out-Command command).has_globals ≡ false }
+    ensures app { IfOk result (λ more. app_of more ≡ with_family (app_of command.entry)) }
+    ensures own { IfOk result (λ more. (out-Command more).has_globals ≡ false) }
+{
+    let command = with_files(alloc, command)?.arg(program_option(alloc))?;
+    with_limits(alloc, command)
 }
 
 fn adopt<'a>(alloc: Global) -> Result<Command<'a>, AllocError>
     ensures app { IfOk result (λ command. app_of command ≡ adopt_app) }
     ensures own { IfOk result (λ command. (out-Command command).has_globals ≡ false) }
 {
-    Command::new(alloc, "adopt")
-        .about("Be the new master of an upgrade; started by the old one")
+    let command = Command::new(alloc, "adopt")
+        .about("Be the new master of an upgrade; the old master starts it")
         .after_help(ADOPT_NOTES)
-        .arg(option(alloc, "program", "PROGRAM", ADOPT_HELP))
+        .arg(option(alloc, "program", "PROGRAM", ADOPT_HELP))?;
+    with_limits(alloc, command)
+}
+
+/// The options that say how long a child may keep its master waiting.
+fn with_limits<'a>(alloc: Global, command: Command<'a>) -> Result<Command<'a>, AllocError>
+    requires { (out-Command command).has_globals ≡ false }
+    ensures app { IfOk result (λ more. app_of more ≡ with_limits (app_of command.entry)) }
+    ensures own { IfOk result (λ more. (out-Command more).has_globals ≡ false) }
+{
+    command
+        .arg(option(alloc, "answer-within", "S", ANSWER_HELP))?
+        .arg(option(alloc, "ready-within", "S", READY_HELP))
 }
 
 fn child<'a>(alloc: Global) -> Command<'a>
@@ -142,7 +187,7 @@ fn child<'a>(alloc: Global) -> Command<'a>
     ensures own { (out-Command result).has_globals ≡ false }
 {
     Command::new(alloc, "child")
-        .about("Be a worker that serves nothing; started by a master")
+        .about("Be a worker that answers its master and serves nothing")
         .after_help(CHILD_NOTES)
 }
 
@@ -151,9 +196,19 @@ fn certify<'a>(alloc: Global) -> Result<Command<'a>, AllocError>
     ensures own { IfOk result (λ command. (out-Command command).has_globals ≡ false) }
 {
     let command = Command::new(alloc, "certify")
-        .about("Check a transcript against plans and kernel; print what explains it")
+        .about("Check blocks against plans and model")
         .after_help(CERTIFY_NOTES);
-    with_start(alloc, command)?.arg(option(alloc, "held", "ADDRESS", HELD_HELP))
+    with_answer(alloc, command)?.arg(option(alloc, "held", "ADDRESS", HELD_HELP))
+}
+
+fn check<'a>(alloc: Global) -> Result<Command<'a>, AllocError>
+    ensures app { IfOk result (λ command. app_of command ≡ check_app) }
+    ensures own { IfOk result (λ command. (out-Command command).has_globals ≡ false) }
+{
+    Command::new(alloc, "check")
+        .about("Say whether configurations would be read, and why not")
+        .after_help(CHECK_NOTES)
+        .arg(several(alloc, "files", "FILE", FILES_HELP))
 }
 
 fn explain<'a>(alloc: Global) -> Result<Command<'a>, AllocError>
@@ -176,6 +231,15 @@ fn with_start<'a>(alloc: Global, command: Command<'a>) -> Result<Command<'a>, Al
         .arg(option(alloc, "workers", "N", WORKERS_HELP))?
         .arg(flag(alloc, "bare", BARE_HELP))?
         .arg(flag(alloc, "why", WHY_HELP))
+}
+
+/// The options of each subcommand that starts a master and prints an answer.
+fn with_answer<'a>(alloc: Global, command: Command<'a>) -> Result<Command<'a>, AllocError>
+    requires { (out-Command command).has_globals ≡ false }
+    ensures app { IfOk result (λ more. app_of more ≡ with_answer (app_of command.entry)) }
+    ensures own { IfOk result (λ more. (out-Command more).has_globals ≡ false) }
+{
+    with_start(alloc, command)?.arg(flag(alloc, "json", JSON_HELP))
 }
 
 /// The options that name the configurations.
@@ -220,31 +284,39 @@ fn flag<'a>(alloc: Global, name: &'a str, help: &'a str) -> Arg<'a>
         .help(help)
 }
 
-/// `WORD`, which must be there.
-fn required<'a>(alloc: Global, name: &'a str, help: &'a str) -> Arg<'a>
+/// `VALUE`, which must be there.
+fn required<'a>(alloc: Global, name: &'a str, value: &'a str, help: &'a str) -> Arg<'a>
     ensures rule { rule_of result ≡ required_rule name.entry.now }
     ensures own { result.global ≡ false }
 {
     Arg::new(alloc, name)
-        .value_name("WORD")
+        .value_name(value)
         .required(true)
         .help(help)
+}
+
+/// `VALUE..`, of which one must be there.
+fn several<'a>(alloc: Global, name: &'a str, value: &'a str, help: &'a str) -> Arg<'a>
+    ensures rule { rule_of result ≡ several_rule name.entry.now }
+    ensures own { result.global ≡ false }
+{
+    required(alloc, name, value, help)
+        .num_args(1..)
+        .action(ArgAction::Append)
 }
 
 fn words<'a>(alloc: Global) -> Arg<'a>
     ensures rule { rule_of result ≡ words_rule }
     ensures own { result.global ≡ false }
 {
-    required(alloc, "words", WORDS_HELP)
-        .num_args(1..)
-        .action(ArgAction::Append)
+    several(alloc, "words", "WORD", WORDS_HELP)
 }
 
 fn word<'a>(alloc: Global) -> Arg<'a>
     ensures rule { rule_of result ≡ word_rule }
     ensures own { result.global ≡ false }
 {
-    required(alloc, "word", WORD_HELP).action(ArgAction::Set)
+    required(alloc, "word", "WORD", WORD_HELP).action(ArgAction::Set)
 }
 
 fn code<'a>(alloc: Global) -> Arg<'a>

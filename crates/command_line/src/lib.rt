@@ -13,12 +13,12 @@ mod refusal;
 use clap::error::ErrorKind;
 use clap::{ArgMatches, Error};
 pub use options::{
-    AdoptOptions, CertifyOptions, EnactOptions, ExplainOptions, ExploreOptions, PlanOptions,
-    StartOptions, SuperviseOptions,
+    AdoptOptions, CertifyOptions, CheckOptions, EnactOptions, ExplainOptions, ExploreOptions,
+    LimitOptions, PlanOptions, StartOptions, SuperviseOptions,
 };
 use options::{
-    adopt_options, certify_options, enact_options, explain_options, explore_options, plan_options,
-    supervise_options,
+    adopt_options, certify_options, check_options, enact_options, explain_options, explore_options,
+    plan_options, supervise_options,
 };
 pub use refusal::Refusal;
 use refusal::UsageFault;
@@ -35,6 +35,8 @@ pub enum Request<'a> {
     Explore(ExploreOptions<'a>),
     /// `certify`: compare blocks with plans and kernel.
     Certify(CertifyOptions<'a>),
+    /// `check`: say of files whether they would be read as configurations.
+    Check(CheckOptions<'a>),
     /// `supervise`: run a master and its workers.
     Supervise(SuperviseOptions<'a>),
     /// `adopt`: be the new master of an upgrade.
@@ -107,6 +109,9 @@ fn request_of<'a>(alloc: Global, matches: &ArgMatches<'a>) -> Result<Request<'a>
     if let Some(found) = matches.subcommand_matches("certify") {
         return Ok(Request::Certify(certify_options(found)?));
     }
+    if let Some(found) = matches.subcommand_matches("check") {
+        return Ok(Request::Check(check_options(alloc, found)?));
+    }
     if let Some(found) = matches.subcommand_matches("explain") {
         return Ok(Request::Explain(explain_options(found)));
     }
@@ -124,7 +129,7 @@ fn child_request_of<'a>(matches: &ArgMatches<'a>) -> Result<Request<'a>, UsageFa
         return Ok(Request::Supervise(supervise_options(found)?));
     }
     if let Some(found) = matches.subcommand_matches("adopt") {
-        return Ok(Request::Adopt(adopt_options(found)));
+        return Ok(Request::Adopt(adopt_options(found)?));
     }
     match matches.subcommand_matches("child") {
         Some(_) => Ok(Request::Child),

@@ -1,7 +1,8 @@
 //! The options and words of the subcommands, as `clap` found them.
-ghost use Rattle.std.specs.Prelude.{◌≡◌, IfErr, IfOk, IsErrOf, Option, None, Some, ℕ, codes, option_map};
+ghost use Rattle.std.specs.Prelude.{◌≡◌, ◌≢◌, IfErr, IfOk, IsErrOf, List, Option, None, Some, ℕ, codes, option_map};
+ghost use Rattle.clap.specs.Walk.{Text, all_of, texts};
 ghost use Rattle.clap.specs.Words.{first_of, found_of, rows_of};
-ghost use Rattle.command_line.specs.Arguments.{Certification, Enactment, Exploration, FindsCertification, FindsEnactment, FindsExploration, FindsPlanning, FindsStart, FindsSupervision, IsNumber, Planning, Start, Supervision, certification_of, enactment_of, exploration_of, is_given, planning_of, start_of, supervision_of};
+ghost use Rattle.command_line.specs.Arguments.{Adoption, Certification, Enactment, Exploration, FindsAdoption, FindsCertification, FindsEnactment, FindsExploration, FindsFiles, FindsLimiting, FindsPlanning, FindsStart, FindsSupervision, IsNumber, Limiting, Planning, Start, Supervision, adoption_of, certification_of, enactment_of, exploration_of, is_given, limiting_of, planning_of, start_of, supervision_of};
 
 use crate::Refusal;
 use crate::refusal::UsageFault;
@@ -24,6 +25,8 @@ pub struct StartOptions<'a> {
     pub bare: bool,
     /// `--why`: behind the line of a fault more is said of it.
     pub why: bool,
+    /// `--json`: the answer is JSON.
+    pub json: bool,
 }
 
 /// The options and words of `enact`.
@@ -63,6 +66,10 @@ pub struct ExploreOptions<'a> {
     pub limit: Option<u32>,
     /// `--forbid`: the end that is to be answered with a status of its own.
     pub forbid: Option<&'a str>,
+    /// `--require`: the end without which the answer has a status of its own.
+    pub require: Option<&'a str>,
+    /// `--least`: how many ready workers each address that stays is to have at least.
+    pub least: Option<u32>,
     /// `--list`: each run is printed.
     pub list: bool,
     /// `--progress`: how many runs were counted is told while they are.
@@ -80,6 +87,22 @@ pub struct CertifyOptions<'a> {
     pub held: Option<&'a str>,
 }
 
+/// What `check` is asked.
+#[derive(Drop)]
+pub struct CheckOptions<'a> {
+    /// The files in their order, at least one.
+    pub files: Vec<&'a str>,
+}
+
+/// How long a child may keep its master waiting, in seconds; 0 is without a limit.
+#[derive(Clone, Copy)]
+pub struct LimitOptions {
+    /// `--answer-within`: for an answer.
+    pub answer_within: Option<u32>,
+    /// `--ready-within`: for its first line, and for its end.
+    pub ready_within: Option<u32>,
+}
+
 /// The options of `supervise`.
 #[derive(Clone, Copy)]
 pub struct SuperviseOptions<'a> {
@@ -89,6 +112,8 @@ pub struct SuperviseOptions<'a> {
     pub from: Option<&'a str>,
     /// `--to`: the file that HUP and USR2 read anew. Without it it is the start's.
     pub to: Option<&'a str>,
+    /// How long a child may keep the master waiting.
+    pub limits: LimitOptions,
     /// `--verbose`: a line for each block on standard error.
     pub verbose: bool,
     /// `--why`: behind the line of a fault more is said of it.
@@ -100,6 +125,8 @@ pub struct SuperviseOptions<'a> {
 pub struct AdoptOptions<'a> {
     /// `--program`: the executable of its workers. Without it it is the master's own.
     pub program: Option<&'a str>,
+    /// How long a child may keep it waiting.
+    pub limits: LimitOptions,
 }
 
 /// What `explain` is asked.
@@ -120,10 +147,7 @@ pub(crate) fn enact_options<'a>(
         → ¬ FindsEnactment (rows_of (found_of found.now)) values }
 {
     let start = start_options(found)?;
-    let Some(words) = found.get_strs("words") else {
-        return Err(Refusal::Usage);
-    };
-    let words = words.iter().copied().collect(alloc)?;
+    let words = texts_of(alloc, found, "words")?;
     Ok(EnactOptions {
         start,
         held: text_of(found, "held"),
@@ -150,7 +174,7 @@ pub(crate) fn plan_options<'a>(found: &ArgMatches<'a>) -> Result<PlanOptions<'a>
     }
 }
 
-/// The options of `explore`, unless `--workers`, `--events` or `--limit` has no number.
+/// The options of `explore`, unless `--workers`, `--events`, `--limit` or `--least` has no number.
 pub(crate) fn explore_options<'a>(found: &ArgMatches<'a>) -> Result<ExploreOptions<'a>, UsageFault>
     ensures found { IfOk result (λ options.
         FindsExploration (rows_of (found_of found.now)) (exploration_of options)) }
@@ -160,6 +184,7 @@ pub(crate) fn explore_options<'a>(found: &ArgMatches<'a>) -> Result<ExploreOptio
     let start = start_options(found)?;
     let events = number_of(found, "events")?;
     let limit = number_of(found, "limit")?;
+    let least = number_of(found, "least")?;
     let address = text_of(found, "held");
     Ok(ExploreOptions {
         start,
@@ -167,6 +192,8 @@ pub(crate) fn explore_options<'a>(found: &ArgMatches<'a>) -> Result<ExploreOptio
         events,
         limit,
         forbid: text_of(found, "forbid"),
+        require: text_of(found, "require"),
+        least,
         list: has_flag(found, "list"),
         progress: has_flag(found, "progress"),
         word: word_of(found)?,
@@ -196,7 +223,21 @@ pub(crate) fn certify_options<'a>(found: &ArgMatches<'a>) -> Result<CertifyOptio
     Ok(CertifyOptions { start, held })
 }
 
-/// The options of `supervise`; a fault only where no program is given.
+/// What `check` is asked.
+pub(crate) fn check_options<'a>(
+    alloc: Global,
+    found: &ArgMatches<'a>,
+) -> Result<CheckOptions<'a>, Refusal>
+    ensures found { IfOk result (λ options.
+        FindsFiles (rows_of (found_of found.now)) (texts options.files.items)) }
+    ensures usage { IsErrOf result Refusal.Usage → (files : List Text)
+        → ¬ FindsFiles (rows_of (found_of found.now)) files }
+{
+    let files = texts_of(alloc, found, "files")?;
+    Ok(CheckOptions { files })
+}
+
+/// The options of `supervise`; a fault only where no program is given, or a limit has no number.
 pub(crate) fn supervise_options<'a>(
     found: &ArgMatches<'a>,
 ) -> Result<SuperviseOptions<'a>, UsageFault>
@@ -208,24 +249,44 @@ pub(crate) fn supervise_options<'a>(
     let Some(program) = text_of(found, "program") else {
         return Err(UsageFault);
     };
+    let limits = limit_options(found)?;
     let (from, to) = (text_of(found, "from"), text_of(found, "to"));
     let (verbose, why) = (has_flag(found, "verbose"), has_flag(found, "why"));
     Ok(SuperviseOptions {
         program,
         from,
         to,
+        limits,
         verbose,
         why,
     })
 }
 
-/// The options of `adopt`.
-pub(crate) fn adopt_options<'a>(found: &ArgMatches<'a>) -> AdoptOptions<'a>
-    ensures { option_map (λ text. text.now) result.program ≡ first_of (codes "program") (rows_of (found_of found.now)) }
+/// The options of `adopt`, unless a limit has no number.
+pub(crate) fn adopt_options<'a>(found: &ArgMatches<'a>) -> Result<AdoptOptions<'a>, UsageFault>
+    ensures found { IfOk result (λ options.
+        FindsAdoption (rows_of (found_of found.now)) (adoption_of options)) }
+    ensures usage { IfErr result (λ _. (values : Adoption)
+        → ¬ FindsAdoption (rows_of (found_of found.now)) values) }
 {
-    AdoptOptions {
-        program: text_of(found, "program"),
-    }
+    let limits = limit_options(found)?;
+    let program = text_of(found, "program");
+    Ok(AdoptOptions { program, limits })
+}
+
+/// The limits, unless one has no number.
+fn limit_options(found: &ArgMatches<'_>) -> Result<LimitOptions, UsageFault>
+    ensures found { IfOk result (λ options.
+        FindsLimiting (rows_of (found_of found.now)) (limiting_of options)) }
+    ensures usage { IfErr result (λ _. (values : Limiting)
+        → ¬ FindsLimiting (rows_of (found_of found.now)) values) }
+{
+    let answer_within = number_of(found, "answer-within")?;
+    let ready_within = number_of(found, "ready-within")?;
+    Ok(LimitOptions {
+        answer_within,
+        ready_within,
+    })
 }
 
 /// What `explain` is asked.
@@ -250,6 +311,7 @@ fn start_options<'a>(found: &ArgMatches<'a>) -> Result<StartOptions<'a>, UsageFa
         workers,
         bare: has_flag(found, "bare"),
         why: has_flag(found, "why"),
+        json: has_flag(found, "json"),
     })
 }
 
@@ -258,6 +320,18 @@ fn text_of<'a>(found: &ArgMatches<'a>, id: &str) -> Option<&'a str>
     ensures { option_map (λ text. text.now) result ≡ first_of id.now (rows_of (found_of found.now)) }
 {
     found.get_str(id)
+}
+
+/// The texts of an argument that takes several; `Usage` where it is not given.
+fn texts_of<'a>(alloc: Global, found: &ArgMatches<'a>, id: &str) -> Result<Vec<&'a str>, Refusal>
+    ensures found { IfOk result (λ given. all_of id.now (rows_of (found_of found.now)) ≡ Some (texts given.items)) }
+    ensures usage { IsErrOf result Refusal.Usage → (values : List Text)
+        → all_of id.now (rows_of (found_of found.now)) ≢ Some values }
+{
+    let Some(given) = found.get_strs(id) else {
+        return Err(Refusal::Usage);
+    };
+    Ok(given.iter().copied().collect(alloc)?)
 }
 
 /// Whether a flag is given, which `clap` keeps as the text of a `bool`.

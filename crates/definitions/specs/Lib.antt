@@ -16,3 +16,4 @@ pub mod After
 pub mod Manner
 pub mod Claims
 pub mod Settling
+pub mod Parts

@@ -1,15 +1,20 @@
-//! What `explain` and `--why` say: the pages of codes, answers and outcomes, and what is said of a fault for people.
+//! What `explain`, `--why` and `check` say: the pages of codes, answers and outcomes, and what is said of faults and files
+//! for people.
 #![tactic(auto)]
 
 mod asking;
+mod checking;
 mod codes;
 mod keys;
 mod lines;
 mod places;
+mod programs;
 mod why;
 
 pub use asking::is_asked;
+pub use checking::{check_file, check_text};
 pub use codes::explain;
 use codes::meaning_of;
 pub use places::Evidence;
-pub use why::{tell, tell_usage};
+pub use programs::tell_program;
+pub use why::{has_why, tell, tell_refusals, tell_usage};

@@ -2,10 +2,10 @@
 use crate::asking::{files_of, start_of};
 use crate::keys::{UnknownKey, is_of_configuration, nearest, unknown_key};
 use crate::lines::{FoundLine, line_of_block, line_of_byte, line_of_refusal};
-use call_text::TextRefusal;
 use certifier::Mismatch;
 use command_line::Request;
 use faults::Fault;
+use lines_text::TextRefusal;
 use master_config::{ConfigRefusal, GroupFault};
 use std::alloc::Global;
 use std::fs;
@@ -46,8 +46,16 @@ pub fn tell_place<R: AllocGlobal + Files, E: Write>(
     }
 }
 
-/// The values that no option has.
+/// The values that no option has, and what does not go with `--json`.
 fn tell_values<E: Write>(request: &Request<'_>, errors: &mut E) {
+    let beside = match request {
+        Request::Plan(options) if options.start.json && options.dot => Some("--dot"),
+        Request::Explore(options) if options.start.json && options.list => Some("--list"),
+        _ => None,
+    };
+    if let Some(option) = beside {
+        let _ = writeln!(errors, "  --json {option}: give one of the two");
+    }
     if let Request::Explore(options) = request {
         if let Some(events) = options.events {
             if events != 1 && events != 2 {
@@ -57,6 +65,11 @@ fn tell_values<E: Write>(request: &Request<'_>, errors: &mut E) {
         if let Some(end) = options.forbid {
             if end != "degraded" {
                 let _ = writeln!(errors, "  --forbid {end}: only degraded is allowed");
+            }
+        }
+        if let Some(end) = options.require {
+            if end != "done" {
+                let _ = writeln!(errors, "  --require {end}: only done is allowed");
             }
         }
     }
@@ -176,7 +189,8 @@ fn tell_refusal<E: Write>(alloc: Global, text: &[u8], refusal: &ConfigRefusal, e
     match unknown_in(text, refusal) {
         Some(unknown) => {
             tell_rest(Some(unknown.line), errors);
-            tell_unknown(alloc, unknown.key, group_of(refusal), errors);
+            let _ = errors.write_all(b"  unknown key: ");
+            tell_key(alloc, unknown.key, group_of(refusal), errors);
         }
         None => tell_rest(line_of_refusal(text, refusal), errors),
     }
@@ -196,7 +210,7 @@ fn tell_broken<E: Write>(alloc: Global, text: &[u8], errors: &mut E) {
 }
 
 /// Why a file is not read, on the rest of the line.
-fn tell_unread<E: Write>(kind: ErrorKind, errors: &mut E) {
+pub fn tell_unread<E: Write>(kind: ErrorKind, errors: &mut E) {
     let _ = match kind {
         ErrorKind::NotFound => writeln!(errors, ": it cannot be read: no such file"),
         kind => writeln!(errors, ": it cannot be read: {kind}"),
@@ -233,7 +247,7 @@ fn tell_rest<E: Write>(line: Option<FoundLine<'_>>, errors: &mut E) {
 const SHOWN: usize = 400;
 
 /// A line for people, cut where it is long, with a question mark for each byte that a terminal could take for a command.
-fn tell_shown<E: Write>(line: &[u8], errors: &mut E) {
+pub fn tell_shown<E: Write>(line: &[u8], errors: &mut E) {
     let is_text = str::from_utf8(line).is_ok();
     let shown = &line[..line.len().min(SHOWN)];
     let mut is_first = true;
@@ -259,7 +273,7 @@ fn is_odd(byte: u8, is_text: bool) -> bool {
 }
 
 /// The group that a refusal is about, counted from 0, where it is about one.
-fn group_of(refusal: &ConfigRefusal) -> Option<usize> {
+pub fn group_of(refusal: &ConfigRefusal) -> Option<usize> {
     match refusal {
         ConfigRefusal::Group(index, _) => Some(*index),
         _ => None,
@@ -267,7 +281,7 @@ fn group_of(refusal: &ConfigRefusal) -> Option<usize> {
 }
 
 /// The key that is unknown, where that is what is refused.
-fn unknown_in<'a>(text: &'a [u8], refusal: &ConfigRefusal) -> Option<UnknownKey<'a>> {
+pub fn unknown_in<'a>(text: &'a [u8], refusal: &ConfigRefusal) -> Option<UnknownKey<'a>> {
     match refusal {
         ConfigRefusal::UnknownKey | ConfigRefusal::Group(_, GroupFault::UnknownKey) => {
             unknown_key(text, group_of(refusal))
@@ -276,9 +290,8 @@ fn unknown_in<'a>(text: &'a [u8], refusal: &ConfigRefusal) -> Option<UnknownKey<
     }
 }
 
-/// An unknown key, and where it belongs or which one may be meant.
-fn tell_unknown<E: Write>(alloc: Global, key: &[u8], group: Option<usize>, errors: &mut E) {
-    let _ = errors.write_all(b"  unknown key: ");
+/// An unknown key, and where it belongs or which one may be meant, to the end of the line.
+pub fn tell_key<E: Write>(alloc: Global, key: &[u8], group: Option<usize>, errors: &mut E) {
     let _ = errors.write_all(key);
     let _ = match nearest(alloc, key, group) {
         _ if is_of_configuration(key) => writeln!(

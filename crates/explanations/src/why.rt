@@ -22,19 +22,16 @@ pub fn tell<R: AllocGlobal + Files, E: Write>(
     tell_meanings(rt.alloc(), fault, errors);
 }
 
-/// Where arguments that ask for nothing have a `--why`, says what `clap` says of them, and what the codes of the fault
-/// mean.
+/// Says of arguments that ask for nothing what `clap` says of them, and what the codes of the fault mean.
 #[inline(never)]
 pub fn tell_usage<E: Write>(alloc: Global, args: &[String], fault: &Fault, errors: &mut E) {
-    if asks(args) {
-        tell_complaint(alloc, args, errors);
-        tell_numbers(args, errors);
-        tell_meanings(alloc, fault, errors);
-    }
+    tell_complaint(alloc, args, errors);
+    tell_numbers(args, errors);
+    tell_meanings(alloc, fault, errors);
 }
 
 /// Whether arguments have a `--why`, before any `--`.
-fn asks(args: &[String]) -> bool {
+pub fn has_why(args: &[String]) -> bool {
     args.iter()
         .take_while(|arg| arg.as_str() != "--")
         .any(|arg| arg.as_str() == "--why")
@@ -52,7 +49,14 @@ fn tell_complaint<E: Write>(alloc: Global, args: &[String], errors: &mut E) {
 }
 
 /// The options whose values are numbers.
-const COUNTS: [&str; 3] = ["--workers", "--events", "--limit"];
+const COUNTS: [&str; 6] = [
+    "--workers",
+    "--events",
+    "--limit",
+    "--least",
+    "--answer-within",
+    "--ready-within",
+];
 
 /// The values of options that should be numbers, and are not.
 fn tell_numbers<E: Write>(args: &[String], errors: &mut E) {
@@ -97,12 +101,39 @@ fn is_number(text: &[u8]) -> bool {
 /// What each code in the line of a fault means.
 fn tell_meanings<E: Write>(alloc: Global, fault: &Fault, errors: &mut E) {
     if let Ok(text) = format!(in alloc; "{fault}") {
-        for word in text.as_str().split(' ') {
-            if let Some(explanation) = meaning_of(word) {
-                tell_meaning(&explanation, errors);
+        tell_codes(text.as_str(), errors);
+    }
+}
+
+/// What each code of a line means.
+fn tell_codes<E: Write>(line: &str, errors: &mut E) {
+    for word in line.split(' ') {
+        if let Some(explanation) = meaning_of(word) {
+            tell_meaning(&explanation, errors);
+        }
+    }
+}
+
+/// How a line of a block begins whose word was refused.
+const REFUSED: &[u8] = b"refused ";
+
+/// What the codes of refused words mean: each line that says `refused` is explained where it comes first.
+#[inline(never)]
+pub fn tell_refusals<E: Write>(text: &[u8], errors: &mut E) {
+    for (place, line) in text.split(|byte| *byte == b'\n').enumerate() {
+        if line.starts_with(REFUSED) && !has_before(text, place, line) {
+            if let Ok(line) = str::from_utf8(line) {
+                tell_codes(line, errors);
             }
         }
     }
+}
+
+/// Whether a text has a line before the one at a place, counted from 0.
+fn has_before(text: &[u8], place: usize, line: &[u8]) -> bool {
+    text.split(|byte| *byte == b'\n')
+        .take(place)
+        .any(|before| before == line)
 }
 
 /// A line for the meaning, and the lines of the remedy.

@@ -7,14 +7,14 @@ use Rattle.definitions.specs.Table.{Table}
 use Rattle.definitions.specs.Record.{Record}
 use Rattle.definitions.specs.Exits.{after_exits}
 use Rattle.definitions.specs.Path.{rest_after}
-use Rattle.definitions.specs.Tree.{Tree, Ends, Does, branch, reply_of}
+use Rattle.definitions.specs.Tree.{Tree, Ends, Does, branch, reply_of, height}
 use Rattle.definitions.specs.Plans.{plan_tree}
 use Rattle.definitions.specs.Target.{sides_of, text_handed}
 use Rattle.definitions.specs.Run.{Moment, quiet, Pattern, Progress, start_at, Ran, Lost, ends_at, run_with, after_moment, after_call, answered, noted}
 use Rattle.definitions.specs.Claims.{run_of, heirs_of}
 use Rattle.kernel_pattern.specs.Pattern.{with_exit}
 use Rattle.rollback_plan.specs.declared.plan.Plan.{Plan}
-use Rattle.rollback_plan.specs.Plans.{tree_of, note_of, sides_told, text_of}
+use Rattle.rollback_plan.specs.Plans.{tree_of, length_of, note_of, sides_told, text_of}
 use Rattle.plan_walk.specs.Fit.{height_next}
 use Rattle.plan_walk.specs.Walk.{trail_of, sides_in}
 use Rattle.plan_walk.specs.declared.walk.Due.{Due}
@@ -121,6 +121,7 @@ pub record IsLater (before : Position) (due : Due) (moment : Moment) (after : Po
 pub record IsPlanOf (r : Record) (target : Target) (plan : Plan) : Type 0 where
   pub has_plan : HasPlan r target
   pub tree : tree_of plan ≡ plan_tree r target
+  pub longest : length_of plan ≡ height (plan_tree r target)
   pub note : note_of plan ≡ r.note
   pub sides : sides_told plan ≡ sides_of r target
   pub text : text_of plan ≡ text_handed r target

@@ -16,9 +16,9 @@ use Rattle.listener_set.specs.Codes.{address_code}
 use Rattle.master_config.specs.Codes.{config_text}
 use Rattle.master_config.specs.declared.refusal.ConfigRefusal.{ConfigRefusal}
 use Rattle.master_config.specs.declared.refusal.ConfigRefusal.TheVariants as config
-use Rattle.call_text.specs.Codes.{refusal_text}
-use Rattle.call_text.specs.declared.refusal.TextRefusal.{TextRefusal}
-use Rattle.call_text.specs.declared.refusal.TextRefusal.TheVariants as pattern
+use Rattle.lines_text.specs.Codes.{refusal_text}
+use Rattle.lines_text.specs.declared.refusal.TextRefusal.{TextRefusal}
+use Rattle.lines_text.specs.declared.refusal.TextRefusal.TheVariants as pattern
 use Rattle.faults.specs.declared.fault.Fault.{Fault}
 use Rattle.certifier.specs.Codes.{mismatch_code}
 use Rattle.certifier.specs.declared.mismatch.Mismatch.{Mismatch}

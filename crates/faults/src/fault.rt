@@ -4,11 +4,11 @@ ghost use Rattle.std.specs.IoError.{error_kind};
 ghost use Rattle.faults.specs.Faults.{command_fault, config_fault, boot_fault, foreign_fault, pattern_fault, transcript_fault, block_fault, IsOfKind, fault_text, fault_status};
 ghost use Rattle.faults.specs.declared.fault.Fault.TheVariants.{Memory};
 
-use call_text::TextRefusal;
 use certifier::Mismatch;
 use command_line::Refusal;
 use control_words::WordRefusal;
 use kernel_model::{BootRefusal, ForeignRefusal};
+use lines_text::TextRefusal;
 use listener_set::AddressRefusal;
 use master_config::ConfigRefusal;
 use std::alloc::AllocError;

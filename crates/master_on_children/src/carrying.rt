@@ -77,7 +77,7 @@ fn carry_out<F: Family + Drop, I: Read + Drop, L: Log + Drop>(
     if world.reserve(longest, plan.text()).is_err() {
         return Err(TargetRefusal::Memory);
     }
-    let report = execute(&plan, world, &mut log);
+    let report = execute(&plan, world, &[], &mut log);
     let after = state.after(target, &report, state.pid);
     Ok(Enacted { log, report, after })
 }

@@ -13,17 +13,17 @@ use Rattle.vocabulary.specs.declared.calls.Fate.TheVariants as fate
 use Rattle.definitions.specs.Run.{Moment, quiet, Pattern}
 use Rattle.kernel_pattern.specs.Pattern.{moment_at, with_exit, with_fate, RiseFrom}
 use Rattle.plain_text.proofs.CutTexts.{lacks, lacks-append}
-use Rattle.plain_text.specs.Lines.{lines_of}
 use Rattle.call_text.specs.Words.{fate_text}
 use Rattle.call_text.specs.NameText.{worker_name, name_text}
 use Rattle.call_text.specs.Ranges.{IsWorker, IsName, IsCount}
-use Rattle.call_text.specs.declared.refusal.TextRefusal.TheVariants.{Order}
+use Rattle.lines_text.specs.declared.refusal.TextRefusal.TheVariants.{Order}
+use Rattle.lines_text.specs.Reading.{unless_refused}
+use Rattle.lines_text.proofs.Lines.{Gives, gives_line}
 use Rattle.call_text.proofs.PartTexts.{number_lacks}
-use Rattle.plain_text.proofs.TextLines.{lines_line}
 use Rattle.pattern_text.specs.declared.pattern_line.PatternLine.{PatternLine}
 use Rattle.pattern_text.specs.declared.pattern_line.PatternLine.TheVariants.{Exit, Fail, Next}
 use Rattle.pattern_text.specs.LineText.{line_text, IsLine}
-use Rattle.pattern_text.specs.PatternsText.{Reading, may_follow, may_stand, with_exit_at, with_fate_at, with_line, after_line, if_formed, reading_of, patterns_of}
+use Rattle.pattern_text.specs.PatternsText.{Reading, may_follow, may_stand, with_exit_at, with_fate_at, with_line, if_formed, taken, finished, patterns_of}
 use Rattle.pattern_text.specs.PatternsWriting.{ended_line, exits_text, fail_text, moment_text, section_text, sections_behind, patterns_text}
 use Rattle.pattern_text.specs.Written.{IsNoted, IsSection, AreSections}
 use Rattle.pattern_text.proofs.PatternLines.{line_reads}
@@ -128,22 +128,21 @@ moment-more (x ∷ xs) e h k =
 
 ---- Line by line
 
--- what is read of a text from there on, whatever the number of its first line
-abbrev Gives : Reading → List ℕ → List Pattern → Type 0
-Gives r written ps = (number : ℕ) → reading_of number r (lines_of written) ≡ Ok ps
-
-gives_line : (r : Reading) (v : PatternLine) (rest : List ℕ) (ps : List Pattern) → IsLine v → may_stand v r ≡ true → Gives (with_line v r) rest ps → Gives r (ended_line v ++ rest) ps
-gives_line r v rest ps is stands more number =
-    ap (λ t. reading_of number r (lines_of t)) (append_assoc (line_text v) (10 ∷ []) rest)
-    ∙ ap (λ lines. reading_of number r lines) (lines_line (line_text v) rest (line_lacks v is))
-    ∙ ap (λ o. after_line (if_formed number r o) r (λ next. reading_of (number + 1) next (lines_of rest))) (line_reads.only v is)
-    ∙ ap (λ b. after_line (cond b (Ok v) (Err (Order number))) r (λ next. reading_of (number + 1) next (lines_of rest))) stands
-    ∙ more (number + 1)
+-- a line that may stand there, and what the rest gives
+gives_written : (r : Reading) (v : PatternLine) (rest : List ℕ) (ps : List Pattern) → IsLine v → may_stand v r ≡ true → Gives taken finished (with_line v r) rest ps → Gives taken finished r (ended_line v ++ rest) ps
+gives_written r v rest ps is stands more =
+    subst (λ t. Gives taken finished r t ps) (sym (append_assoc (line_text v) (10 ∷ []) rest))
+    (gives_line taken finished r (with_line v r) (line_text v) rest ps (line_lacks v is) (λ number. takes number) more)
+  where
+    takes : (number : ℕ) → taken number r (line_text v) ≡ Ok (with_line v r)
+    takes number =
+        ap (λ o. unless_refused (if_formed number r o) (λ line. Ok (with_line line r))) (line_reads.only v is)
+        ∙ ap (λ b. unless_refused (cond b (Ok v) (Err (Order number))) (λ line. Ok (with_line line r))) stands
 
 module _ (done ps : List Pattern) where
   -- what is read of a text within a section, of which this much is known
   abbrev Goes : Pattern → ℕ → Bool → List ℕ → Type 0
-  Goes p last failed written = Gives (record { done = done; section = p; last = last; failed = failed }) written ps
+  Goes p last failed written = Gives taken finished (record { done = done; section = p; last = last; failed = failed }) written ps
 
   goes-as : (p q : Pattern) (last : ℕ) (failed : Bool) (written : List ℕ) → ((k : ℕ) → q k ≡ p k) → Goes q last failed written → Goes p last failed written
   goes-as p q last failed written same h = subst (λ (x : Pattern). Goes x last failed written) (λ i k. same k i) h
@@ -160,7 +159,7 @@ module _ (done ps : List Pattern) where
       goes_exits n p rest count xs (with_exit x m) n false are.1 next (omega arith)
       (λ l f fits le. subst (λ (es : List Name). Goes (put n (record { exits = es; fate = m.fate }) p) l f rest) (sym (append_assoc m.exits (x ∷ []) xs)) (more l f fits le)) in
       subst (λ t. Goes (put n m p) last failed t) (sym (append_assoc (ended_line (Exit n x)) (exits_text n xs) rest))
-      (gives_line (record { done = done; section = put n m p; last = last; failed = failed }) (Exit n x) (exits_text n xs ++ rest) ps (count, are.0) follows
+      (gives_written (record { done = done; section = put n m p; last = last; failed = failed }) (Exit n x) (exits_text n xs ++ rest) ps (count, are.0) follows
       (goes-as (with_exit_at n x (put n m p)) (put n (with_exit x m) p) n false (exits_text n xs ++ rest) (λ k. sym (exit-put n x m p k)) later))
 
   goes_fate : (n : ℕ) (p : Pattern) (rest : List ℕ) → IsCount n → (es : List Name) (f : Option Fate) (last : ℕ) (failed : Bool) → may_follow last failed n ≡ true → last ≤ n →
@@ -169,7 +168,7 @@ module _ (done ps : List Pattern) where
   goes_fate n p rest count es None last failed follows le more = more last failed le
   goes_fate n p rest count es (Some f) last failed follows le more =
       let before : Moment = record { exits = es; fate = None } in
-      gives_line (record { done = done; section = put n before p; last = last; failed = failed }) (Fail n f) rest ps count follows
+      gives_written (record { done = done; section = put n before p; last = last; failed = failed }) (Fail n f) rest ps count follows
       (goes-as (with_fate_at n f (put n before p)) (put n (with_fate f before) p) n true rest (λ k. sym (fate-put n f before p k)) (more n true (omega arith)))
 
   goes_moment : (n : ℕ) (m : Moment) (p : Pattern) (rest : List ℕ) (last : ℕ) (failed : Bool) → IsCount n → AllByRecursion IsName m.exits → p n ≡ quiet → last < n →
@@ -199,14 +198,14 @@ module _ (done ps : List Pattern) where
 ---- Section by section
 
 gives_behind : (ps : List (List (ℕ × Moment))) (done : List Pattern) (p : Pattern) (last : ℕ) (failed : Bool) → AllByRecursion IsSection ps →
-    Gives (record { done = done; section = p; last = last; failed = failed }) (sections_behind ps) (done ++ p ∷ map moment_at ps)
+    Gives taken finished (record { done = done; section = p; last = last; failed = failed }) (sections_behind ps) (done ++ p ∷ map moment_at ps)
 gives_behind [] done p last failed are = λ number. refl
 gives_behind (q ∷ ps) done p last failed are =
     let all : List Pattern = done ++ p ∷ map moment_at (q ∷ ps) in
     let more = done ++ p ∷ [] in
-    gives_line (record { done = done; section = p; last = last; failed = failed }) Next (section_text q ++ sections_behind ps) all tt refl
+    gives_written (record { done = done; section = p; last = last; failed = failed }) Next (section_text q ++ sections_behind ps) all tt refl
     (goes_section more all q [] 1 (sections_behind ps) 0 false are.0.0 are.0.1 tt (omega arith)
-    (λ l f. subst (λ (x : List Pattern). Gives (record { done = more; section = moment_at q; last = l; failed = f }) (sections_behind ps) x)
+    (λ l f. subst (λ (x : List Pattern). Gives taken finished (record { done = more; section = moment_at q; last = l; failed = f }) (sections_behind ps) x)
     (append_assoc done (p ∷ []) (moment_at q ∷ map moment_at ps)) (gives_behind ps more (moment_at q) l f are.1)))
 
 pub read_written : (ps : List (List (ℕ × Moment))) → ps ≢ [] → AreSections ps → patterns_of (patterns_text ps) ≡ Ok (map moment_at ps)

@@ -1,5 +1,5 @@
 -- Texts of several patterns: a section of lines for each.
-use Rattle.std.specs.Prelude.{ℕ, ◌+◌, ◌==◌, nat_lt, Bool, true, false, ◌&&◌, ◌||◌, not, List, [], ◌∷◌, ◌++◌, Option, Some, None, Result, Ok, Err, if◌then◌else◌}
+use Rattle.std.specs.Prelude.{ℕ, ◌==◌, nat_lt, Bool, true, false, ◌&&◌, ◌||◌, not, List, [], ◌∷◌, ◌++◌, Option, Some, None, Result, Ok, Err, if◌then◌else◌}
 use Rattle.vocabulary.specs.declared.names.Name.{Name}
 use Rattle.vocabulary.specs.declared.calls.Fate.{Fate}
 use Rattle.definitions.specs.Run.{quiet, Pattern}
@@ -8,8 +8,9 @@ use Rattle.pattern_text.specs.declared.pattern_line.PatternLine.{PatternLine}
 use Rattle.pattern_text.specs.declared.pattern_line.PatternLine.TheVariants.{Exit, Fail, Next}
 use Rattle.plain_text.specs.Lines.{lines_of}
 use Rattle.pattern_text.specs.LineReading.{line_of}
-use Rattle.call_text.specs.declared.refusal.TextRefusal.{TextRefusal}
-use Rattle.call_text.specs.declared.refusal.TextRefusal.TheVariants.{Line, Order}
+use Rattle.lines_text.specs.Reading.{unless_refused, reading_of}
+use Rattle.lines_text.specs.declared.refusal.TextRefusal.{TextRefusal}
+use Rattle.lines_text.specs.declared.refusal.TextRefusal.TheVariants.{Line, Order}
 
 ---- One line
 
@@ -62,17 +63,16 @@ if_formed number r (Some line) = if may_stand line r then Ok line else Err (Orde
 abbrev pub line_here : ℕ → Reading → List ℕ → Result PatternLine TextRefusal
 line_here number r text = if_formed number r (line_of text)
 
+-- what is known after a line, or why the line is refused
+abbrev pub taken : ℕ → Reading → List ℕ → Result Reading TextRefusal
+taken number r text = unless_refused (line_here number r text) (λ line. Ok (with_line line r))
+
 ---- All lines
 
-abbrev pub after_line : Result PatternLine TextRefusal → Reading → (Reading → Result (List Pattern) TextRefusal) → Result (List Pattern) TextRefusal
-after_line (Err e) r rest = Err e
-after_line (Ok line) r rest = rest (with_line line r)
+-- a text may end anywhere
+abbrev pub finished : ℕ → Reading → Result (List Pattern) TextRefusal
+finished number r = Ok (r.done ++ r.section ∷ [])
 
--- what the lines give, the first of which has this number: the patterns, or the first faulty line
-abbrev pub reading_of : ℕ → Reading → List (List ℕ) → Result (List Pattern) TextRefusal
-reading_of number r [] = Ok (r.done ++ r.section ∷ [])
-reading_of number r (line ∷ lines) = after_line (line_here number r line) r (λ next. reading_of (number + 1) next lines)
-
--- what a text gives; the empty one is one quiet section
+-- what a text gives: the patterns, or its first faulty line; the empty one is one quiet section
 abbrev pub patterns_of : List ℕ → Result (List Pattern) TextRefusal
-patterns_of text = reading_of 1 (begun []) (lines_of text)
+patterns_of text = reading_of taken finished 1 (begun []) (lines_of text)

@@ -7,7 +7,6 @@ mod pattern_line;
 mod patterns;
 mod writing;
 
-pub use call_text::TextRefusal;
 pub use pattern_line::PatternLine;
 pub use patterns::read_patterns;
 pub use writing::write_patterns;

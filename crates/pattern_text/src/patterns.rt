@@ -8,9 +8,8 @@ ghost use Rattle.pattern_text.specs.PatternsWriting.{patterns_text};
 ghost use Rattle.pattern_text.specs.Written.{AreSections};
 
 use crate::PatternLine;
-use call_text::TextRefusal;
 use kernel_pattern::Pattern;
-use plain_text::first_line;
+use lines_text::{TakesLines, TextRefusal, read_lines};
 use std::alloc::{AllocError, Global};
 use std::mem;
 use vocabulary::{Fate, Name};
@@ -105,8 +104,8 @@ impl PatternsReader {
         }
     }
 
-    /// Takes a line in. The only refusal is want of memory.
-    fn take(&mut self, alloc: Global, line: &PatternLine) -> Result<(), AllocError>
+    /// Adds a line. The only refusal is want of memory.
+    fn add(&mut self, alloc: Global, line: &PatternLine) -> Result<(), AllocError>
         requires { IsLine line.now }
         ensures { OnOk result (seen self.new ≡ with_line line.now (seen self.old)) }
     {
@@ -118,7 +117,7 @@ impl PatternsReader {
     }
 
     /// The patterns of all sections.
-    fn finish(self) -> Result<Vec<Pattern>, AllocError>
+    fn all(self) -> Result<Vec<Pattern>, AllocError>
         ensures { IfOk result (λ patterns. map moment_at patterns.items ≡ (seen self).done ++ (seen self).section ∷ []) }
     {
         let PatternsReader {
@@ -129,6 +128,38 @@ impl PatternsReader {
         } = self;
         patterns.push(section)?;
         Ok(patterns)
+    }
+}
+
+impl TakesLines for PatternsReader {
+    ghost use Rattle.std.specs.Prelude.{List, map};
+    ghost use Rattle.definitions.specs.Run.{Pattern};
+    ghost use Rattle.kernel_pattern.specs.Pattern.{moment_at};
+    ghost use Rattle.pattern_text.specs.PatternsText.{Reading, taken, finished};
+    ghost use Rattle.pattern_text.specs.Reader.{seen};
+
+    type Value = Vec<Pattern>;
+
+    ghost Reading = { Reading };
+
+    ghost seen = { seen };
+
+    ghost taken = { taken };
+
+    ghost Meaning = { List Pattern };
+
+    ghost meaning = { λ patterns. map moment_at patterns.items };
+
+    ghost finished = { finished };
+
+    fn take(&mut self, alloc: Global, number: usize, line: &[u8]) -> Result<(), TextRefusal> {
+        let line = self.read_here(number, line)?;
+        self.add(alloc, &line)?;
+        Ok(())
+    }
+
+    fn finish(self, _number: usize) -> Result<Vec<Pattern>, TextRefusal> {
+        Ok(self.all()?)
     }
 }
 
@@ -147,15 +178,5 @@ pub fn read_patterns(alloc: Global, text: &[u8]) -> Result<Vec<Pattern>, TextRef
     // What is written of one pattern or more is read as these.
     ensures again { (written : List (List (ℕ × Events))) → written ≢ [] → AreSections written → text.now ≡ patterns_text written → patterns_of text.now ≡ Ok (map moment_at written) }
 {
-    let mut reader = PatternsReader::new(alloc);
-    let mut rest = text;
-    let mut number = 0;
-    while !rest.is_empty() {
-        let (line, behind) = first_line(rest);
-        number += 1;
-        let line = reader.read_here(number, line)?;
-        reader.take(alloc, &line)?;
-        rest = behind;
-    }
-    Ok(reader.finish()?)
+    read_lines(alloc, PatternsReader::new(alloc), text)
 }

@@ -4,9 +4,8 @@ ghost use Rattle.definitions.specs.Claims.{refusal_of};
 ghost use Rattle.definitions.specs.Path.{KeepsPathLaw};
 ghost use Rattle.definitions.specs.Run.{Replays};
 ghost use Rattle.definitions.specs.Target.{IsTarget};
-ghost use Rattle.definitions.specs.Tree.{height};
 ghost use Rattle.kernel_model.specs.Pattern.{moment_at};
-ghost use Rattle.rollback_plan.specs.Plans.{tree_of, note_of, sides_told, text_of};
+ghost use Rattle.rollback_plan.specs.Plans.{tree_of, length_of, note_of, sides_told, text_of};
 ghost use Rattle.plan_executor.specs.Enacted.{IsEnacted};
 ghost use Rattle.plan_executor.specs.Prepared.{IsReady};
 
@@ -29,15 +28,15 @@ pub(crate) fn run(
     pattern: &Pattern,
     log: &mut Transcript,
 ) -> Report
-    requires calls { height (tree_of plan.now) ≤ kernel.old.room }
-    requires room { height (tree_of plan.now) ≤ log.old.room }
+    requires calls { length_of plan.now ≤ kernel.old.room }
+    requires room { length_of plan.now ≤ log.old.room }
     requires empty { log.old.entries ≡ [] }
     ensures path_law { KeepsPathLaw (tree_of plan.now) (note_of plan.now) (sides_told plan.now) log.new.entries result }
     ensures replays { Replays (text_of plan.now) (moment_at pattern.now) 0 kernel.old.table log.new.entries kernel.new.table }
     ensures room_left { kernel.new.room + length log.new.entries ≡ kernel.old.room }
 {
     let mut calls = Patterned::new(kernel, pattern, plan.text());
-    execute(plan, &mut calls, log)
+    execute(plan, &mut calls, &[], log)
 }
 
 /// Carries a plan out on a kernel that has room for it, under a pattern that spares the executing masters. Nothing can be

@@ -7,7 +7,8 @@ ghost use Rattle.definitions.specs.Plans.{plan_tree};
 ghost use Rattle.definitions.specs.Target.{IsTarget, sides_of, text_handed};
 ghost use Rattle.kernel_model.specs.Pattern.{moment_at};
 ghost use Rattle.kernel_model.specs.Room.{LacksNumbers};
-ghost use Rattle.rollback_plan.specs.Plans.{tree_of, note_of, sides_told, text_of};
+ghost use Rattle.definitions.specs.Tree.{height};
+ghost use Rattle.rollback_plan.specs.Plans.{tree_of, length_of, note_of, sides_told, text_of};
 ghost use Rattle.reload_planner.specs.declared.refusal.PlanRefusal.{PlanRefusal as Unplannable};
 ghost use Rattle.plan_executor.specs.Enacted.{IsEnacted};
 ghost use Rattle.plan_executor.specs.Prepared.{IsReady};
@@ -136,6 +137,7 @@ pub fn plan_of(alloc: Global, state: &Record, target: &Target) -> Result<Plan, E
     requires { IsTarget target.now }
     ensures planned { IfOk result (λ _. HasPlan state.now target.now) }
     ensures tree { IfOk result (λ plan. tree_of plan ≡ plan_tree state.now target.now) }
+    ensures longest { IfOk result (λ plan. length_of plan ≡ height (tree_of plan)) }
     ensures note { IfOk result (λ plan. note_of plan ≡ state.now.note) }
     ensures sides { IfOk result (λ plan. sides_told plan ≡ sides_of state.now target.now) }
     ensures text { IfOk result (λ plan. text_of plan ≡ text_handed state.now target.now) }

@@ -2,10 +2,9 @@
 ghost use Rattle.std.specs.Prelude.{◌≡◌, ◌⊎◌, [], None, OnOk, IfErr};
 ghost use Rattle.definitions.specs.Claims.{refusal_of};
 ghost use Rattle.definitions.specs.Record.{Agrees};
-ghost use Rattle.definitions.specs.Tree.{height};
 ghost use Rattle.kernel_model.specs.Pattern.{moment_at};
 ghost use Rattle.kernel_model.specs.Room.{LacksNumbers};
-ghost use Rattle.rollback_plan.specs.Plans.{tree_of};
+ghost use Rattle.rollback_plan.specs.Plans.{length_of};
 ghost use Rattle.plan_executor.specs.Prepared.{IsPlanFor};
 ghost use Rattle.plan_executor.specs.Refusals.{IsRefused};
 
@@ -55,9 +54,9 @@ fn spare_on(
 ) -> Result<(), EnactRefusal>
     requires agrees { Agrees copy.old.table state.now }
     requires plan { IsPlanFor state.now target.now plan.now }
-    requires numbers { LacksNumbers copy.old.table (height (tree_of plan.now)) → ⊥ }
-    requires room { copy.old.room ≡ height (tree_of plan.now) }
-    requires empty { log.old ≡ record { entries = []; room = height (tree_of plan.now) } }
+    requires numbers { LacksNumbers copy.old.table (length_of plan.now) → ⊥ }
+    requires room { copy.old.room ≡ length_of plan.now }
+    requires empty { log.old ≡ record { entries = []; room = length_of plan.now } }
     ensures spared { OnOk result (refusal_of state.now target.now (moment_at pattern.now) copy.old.table ≡ None) }
     ensures refused { IfErr result (IsRefused copy.old.table state.now target.now (moment_at pattern.now)) }
 {

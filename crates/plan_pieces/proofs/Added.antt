@@ -5,7 +5,7 @@ use Rattle.rollback_plan.specs.declared.draft.Draft.{Draft}
 use Rattle.rollback_plan.specs.declared.draft.DraftRefusal.{DraftRefusal}
 use Rattle.rollback_plan.specs.declared.draft.DraftRefusal.TheVariants.{TooLarge}
 use Rattle.rollback_plan.specs.declared.draft.TheConstants.{MOST_STEPS}
-use Rattle.rollback_plan.specs.declared.step.Place.{Place}
+use Rattle.plan_steps.specs.declared.step.Place.{Place}
 use Rattle.rollback_plan.specs.Drafts.{trees_of, tree_at, IsMade, Keeps, Grows}
 use Rattle.rollback_plan.proofs.DraftTrees.{keeps_on}
 use Rattle.plan_pieces.specs.Pieces.{anyway, anyway_steps, all_anyway}

@@ -5,9 +5,9 @@ use Rattle.definitions.specs.Calls.{Call, OpenAt, CloseAt, AwaitReady, Quit, Kil
 use Rattle.definitions.specs.Crew.{fork_of}
 use Rattle.definitions.specs.Tree.{Tree}
 use Rattle.definitions.specs.Plans.{quits, forks_any, awaits_any, kills, usr1s, awaits_gone, closes}
-use Rattle.rollback_plan.specs.declared.batch.Errand.TheVariants as asked
-use Rattle.rollback_plan.specs.declared.batch.Batch.{Batch}
-use Rattle.rollback_plan.specs.declared.batch.Batch.TheVariants.{Workers, Forks, Opens, Closes}
+use Rattle.plan_steps.specs.declared.batch.Errand.TheVariants as asked
+use Rattle.plan_steps.specs.declared.batch.Batch.{Batch}
+use Rattle.plan_steps.specs.declared.batch.Batch.TheVariants.{Workers, Forks, Opens, Closes}
 use Rattle.rollback_plan.proofs.Lists.{drop_at, reverse-map}
 use Rattle.plan_pieces.specs.Pieces.{anyway, anyway_steps, all_anyway, in_turn, made_calls, steps_in}
 

@@ -3,7 +3,7 @@ use Rattle.std.proofs.Common.{◌≡◌, ℕ, zero, suc, ◌<◌, true, List, []
 use Rattle.std.proofs.lemmas.Bool.{and_parts, and_from, ltb-true, lt-ltb}
 use Rattle.definitions.specs.Tree.{Tree}
 use Rattle.rollback_plan.specs.declared.draft.Draft.{Draft}
-use Rattle.rollback_plan.specs.declared.step.Place.{Place}
+use Rattle.plan_steps.specs.declared.step.Place.{Place}
 use Rattle.rollback_plan.specs.Drafts.{trees_of, Keeps, are_places}
 use Rattle.rollback_plan.specs.Back.{AreMade}
 use Rattle.rollback_plan.proofs.DraftTrees.{longer}

@@ -4,11 +4,11 @@ use Rattle.listener_set.specs.declared.generation.Generation.{Generation}
 use Rattle.definitions.specs.Calls.{Call, OpenAt, AwaitReady, Kill, AwaitGone}
 use Rattle.definitions.specs.Tree.{Tree, Nothing, plain_reply, replies_to}
 use Rattle.definitions.specs.Plans.{on, does, then_edge, await_any_edges, gone_edges, others, quits, forks_any, awaits_any, kills, usr1s, awaits_gone, closes}
-use Rattle.rollback_plan.specs.declared.batch.Errand.{Errand}
-use Rattle.rollback_plan.specs.declared.batch.Errand.TheVariants as asked
-use Rattle.rollback_plan.specs.declared.batch.Batch.{Batch}
-use Rattle.rollback_plan.specs.declared.batch.Batch.TheVariants.{Workers, Forks, Opens, Closes}
-use Rattle.rollback_plan.specs.Batches.{calls_of}
+use Rattle.plan_steps.specs.declared.batch.Errand.{Errand}
+use Rattle.plan_steps.specs.declared.batch.Errand.TheVariants as asked
+use Rattle.plan_steps.specs.declared.batch.Batch.{Batch}
+use Rattle.plan_steps.specs.declared.batch.Batch.TheVariants.{Workers, Forks, Opens, Closes}
+use Rattle.plan_steps.specs.Batches.{calls_of}
 
 ---- Whatever is answered
 

@@ -3,7 +3,7 @@ ghost use Rattle.std.specs.Prelude.{◌≡◌, ◌+◌, ◌*◌, ◌<◌, Some, 
 ghost use Rattle.rollback_plan.specs.declared.draft.DraftRefusal.TheVariants.{TooLarge};
 ghost use Rattle.rollback_plan.specs.declared.draft.TheConstants.{MOST_STEPS};
 ghost use Rattle.definitions.specs.Plans.{starts_any};
-ghost use Rattle.rollback_plan.specs.Batches.{size_of};
+ghost use Rattle.plan_steps.specs.Batches.{size_of};
 ghost use Rattle.rollback_plan.specs.Drafts.{trees_of, tree_at, IsMade, Keeps, Grows};
 ghost use Rattle.plan_pieces.specs.Pieces.{anyway, anyway_steps, in_turn, goes_back, made_calls, steps_in};
 

@@ -4,7 +4,7 @@ ghost use Rattle.std.specs.Prelude.{◌≡◌, ◌+◌, ◌<◌, length, IfOk, I
 ghost use Rattle.rollback_plan.specs.declared.draft.DraftRefusal.TheVariants.{TooLarge};
 ghost use Rattle.rollback_plan.specs.declared.draft.TheConstants.{MOST_STEPS};
 ghost use Rattle.definitions.specs.Plans as plans;
-ghost use Rattle.rollback_plan.specs.Batches.{calls_of, size_of};
+ghost use Rattle.plan_steps.specs.Batches.{calls_of, size_of};
 ghost use Rattle.rollback_plan.specs.Drafts.{trees_of, tree_at, IsMade, Keeps};
 
 use call_replies::{other_replies, plain_replies};

@@ -3,8 +3,8 @@ use Rattle.std.specs.Prelude.{ℕ, ◌+◌, ◌==◌, Bool, true, false, ◌||�
 use Rattle.std.specs.Fmt.{decimal}
 use Rattle.vocabulary.specs.declared.plans.PidNote.{PidNote}
 use Rattle.vocabulary.specs.declared.calls.Reply.{Reply}
-use Rattle.rollback_plan.specs.declared.step.PlanEdge.{PlanEdge}
-use Rattle.rollback_plan.specs.declared.step.Step.{Step}
+use Rattle.plan_steps.specs.declared.step.PlanEdge.{PlanEdge}
+use Rattle.plan_steps.specs.declared.step.Step.{Step}
 use Rattle.call_text.specs.CallText.{order_line}
 use Rattle.call_text.specs.Words.{note_text}
 use Rattle.plan_text.specs.PlanText.{replies_of, goes, reply_words, place_text, edge_text, texts_of, set_part}

@@ -10,11 +10,11 @@ use Rattle.vocabulary.specs.declared.plans.PidNote.{PidNote}
 use Rattle.vocabulary.specs.declared.plans.Order.{Order}
 use Rattle.vocabulary.specs.declared.plans.Order.TheVariants.{Make}
 use Rattle.definitions.specs.Tree.{order_replies}
-use Rattle.rollback_plan.specs.declared.step.Next.{Next}
-use Rattle.rollback_plan.specs.declared.step.Next.TheVariants.{To, Over, Both}
-use Rattle.rollback_plan.specs.declared.step.PlanEdge.{PlanEdge}
-use Rattle.rollback_plan.specs.declared.step.Step.{Step}
-use Rattle.rollback_plan.specs.Steps.{edge_for}
+use Rattle.plan_steps.specs.declared.step.Next.{Next}
+use Rattle.plan_steps.specs.declared.step.Next.TheVariants.{To, Over, Both}
+use Rattle.plan_steps.specs.declared.step.PlanEdge.{PlanEdge}
+use Rattle.plan_steps.specs.declared.step.Step.{Step}
+use Rattle.plan_steps.specs.Steps.{edge_for}
 use Rattle.call_text.specs.SetText.{set_text}
 use Rattle.call_text.specs.CallText.{order_line}
 use Rattle.call_text.specs.Words.{reply_text, end_text, note_text}

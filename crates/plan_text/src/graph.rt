@@ -1,8 +1,8 @@
 //! Pictures of plans.
 ghost use Rattle.std.specs.Prelude.{◌≡◌, ◌++◌, IfOk};
 ghost use Rattle.std.specs.Fmt.{decimal};
-ghost use Rattle.rollback_plan.specs.Plans.{steps_of};
-ghost use Rattle.rollback_plan.specs.Numbering.{IsNumberedPlan};
+ghost use Rattle.rollback_plan.specs.Plans.{parts_of, steps_of};
+ghost use Rattle.plan_steps.specs.Woven.{IsNumberedWith};
 ghost use Rattle.plan_text.specs.Graph.{quoted, is_plain, note_line, style_part, way_text, arrow_text, opening, box_text, step_line, drawn_step, drawn_steps, graph_text};
 
 use crate::edges::{EdgeForm, goes, write_edges, write_place, write_replies};
@@ -157,7 +157,7 @@ fn draw_steps(alloc: Global, out: &mut Vec<u8>, steps: &[Step]) -> Result<(), Al
 /// `pid NOTE` where it sets the pid note. An arrow leads to a step or to the end of the plan. The
 /// plain answers' arrows are bold, and are drawn straight. The only refusal is want of memory.
 pub fn write_graph(alloc: Global, plan: &Plan) -> Result<Vec<u8>, AllocError>
-    ensures numbered { ∥ IsNumberedPlan (steps_of plan.now) ∥₁ }
+    ensures numbered { ∥ IsNumberedWith (steps_of plan.now) (parts_of plan.now) ∥₁ }
     ensures text { IfOk result (λ out. out.items ≡ graph_text (steps_of plan.now)) }
 {
     let mut out = Vec::new(alloc);

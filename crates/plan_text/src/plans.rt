@@ -1,8 +1,7 @@
 //! Texts of plans.
 ghost use Rattle.std.specs.Prelude.{◌≡◌, ◌++◌, IfOk};
-ghost use Rattle.definitions.specs.Tree.{height};
-ghost use Rattle.rollback_plan.specs.Plans.{tree_of, steps_of};
-ghost use Rattle.rollback_plan.specs.Numbering.{IsNumberedPlan};
+ghost use Rattle.rollback_plan.specs.Plans.{length_of, parts_of, steps_of};
+ghost use Rattle.plan_steps.specs.Woven.{IsNumberedWith};
 ghost use Rattle.plan_text.specs.PlanText.{set_part, step_text, steps_text, plan_text};
 
 use crate::edges::{EdgeForm, write_edges};
@@ -60,8 +59,8 @@ fn write_steps(out: &mut Vec<u8>, steps: &[Step]) -> Result<(), AllocError>
 /// answers of an edge are those whose note and rest of the plan are the same. The only refusal is
 /// want of memory.
 pub fn write_plan(alloc: Global, plan: &Plan) -> Result<Vec<u8>, AllocError>
-    ensures numbered { ∥ IsNumberedPlan (steps_of plan.now) ∥₁ }
-    ensures text { IfOk result (λ out. out.items ≡ plan_text (height (tree_of plan.now)) (steps_of plan.now)) }
+    ensures numbered { ∥ IsNumberedWith (steps_of plan.now) (parts_of plan.now) ∥₁ }
+    ensures text { IfOk result (λ out. out.items ≡ plan_text (length_of plan.now) (steps_of plan.now)) }
 {
     let mut out = Vec::new(alloc);
     let steps = plan.steps();

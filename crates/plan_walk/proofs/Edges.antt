@@ -15,10 +15,12 @@ use Rattle.vocabulary.specs.declared.plans.PidNote.{PidNote}
 use Rattle.vocabulary.specs.declared.plans.Order.{Order}
 use Rattle.vocabulary.specs.declared.plans.Order.TheVariants.{Make, ForkLacking, AwaitLacking, KillLacking}
 use Rattle.vocabulary.specs.declared.reports.Entry.{Entry}
-use Rattle.definitions.specs.Tree.{Tree, Ends, Does, Branches, Nothing, Branch, branch, among, same_reply, reply_of, full_or_short, replies_to, is_listed, height, highest, is_fit, are_fit, short_after, order_replies, call_of}
+use Rattle.definitions.specs.Tree.{Tree, Ends, Does, Branches, Nothing, Branch, branch, among, same_reply, reply_of, full_or_short, replies_to, is_listed, height, highest, order_replies, call_of}
 use Rattle.definitions.specs.Path.{Trail, advance, Asks, follow, ready_after, lacking_after, Lack, lacked_by, lacked_after, first_cause, went_wrong}
-use Rattle.rollback_plan.specs.Bounds.{is_short}
-use Rattle.plan_walk.specs.Fit.{is_fit_next}
+use Rattle.plan_steps.specs.declared.step.Step.{Step}
+use Rattle.plan_steps.specs.Woven.{answers, all_answer}
+use Rattle.rollback_plan.specs.Places.{begins}
+use Rattle.plan_walk.specs.Fit.{answers_next}
 
 and_left : (a b : Bool) → (a && b) ≡ true → a ≡ true
 and_left true b h = refl
@@ -60,15 +62,15 @@ among_has p (x ∷ replies) r h all =
 abbrev pub chosen : Bool → Option (Option PidNote × Tree) → Option (Option PidNote × Tree) → Option (Option PidNote × Tree)
 chosen b found others = elim b as (λ _. Option (Option PidNote × Tree)) [ true ↦ found | false ↦ others ]
 
--- a branch that is found is fit
-fit_branch : (short : Bool) (bs : Branches) (r : Reply) (found : Option PidNote × Tree) → are_fit short bs ≡ true → branch bs r ≡ Some found → is_fit (short_after short r) found.1 ≡ true
-fit_branch short Nothing r found h e = cc
-fit_branch short (Branch replies said rest more) r found h e =
-    elim (among replies r) as (λ b. among replies r ≡ b → chosen b (Some (said, rest)) (branch more r) ≡ Some found → is_fit (short_after short r) found.1 ≡ true) [
+-- a branch that is found answers
+answers_branch : (bs : Branches) (r : Reply) (found : Option PidNote × Tree) → all_answer bs ≡ true → branch bs r ≡ Some found → answers found.1 ≡ true
+answers_branch Nothing r found h e = cc
+answers_branch (Branch replies said rest more) r found h e =
+    elim (among replies r) as (λ b. among replies r ≡ b → chosen b (Some (said, rest)) (branch more r) ≡ Some found → answers found.1 ≡ true) [
       | true ↦ λ is e.
           let same : rest ≡ found.1 = ap (λ x. x.1) (some_one e) in
-          subst (λ (t : Tree). is_fit (short_after short r) t ≡ true) same (among_has (λ x. is_fit (short_after short x) rest) replies r is (and_left _ (are_fit short more) h))
-      | false ↦ λ _ e. fit_branch short more r found (and_right _ (are_fit short more) h) e
+          subst (λ (t : Tree). answers t ≡ true) same (among_has (λ x. answers rest) replies r is (and_left _ (all_answer more) h))
+      | false ↦ λ _ e. answers_branch more r found (and_right _ (all_answer more) h) e
     ] refl e
 
 -- and lower
@@ -139,53 +141,24 @@ replies_of_order lacking (KillLacking g) = refl
 
 ---- A step that is next
 
-short_full : (ks : List ℕ) (b : Bool) → is_short ks ≡ short_after b (full_or_short ks)
-short_full [] b = refl
-short_full (k ∷ ks) b = refl
-
--- a number is lacking exactly after a short census
-pub short_then : (set lacking : List ℕ) (a : Answer) → is_short (lacking_after set a lacking) ≡ short_after (is_short lacking) (reply_of set a)
-short_then set lacking (answer.Counted c) = short_full (lacks set c) (is_short lacking)
-short_then set lacking answer.MasterGone = refl
-short_then set lacking (answer.Opened fd) = refl
-short_then set lacking answer.InUse = refl
-short_then set lacking answer.TooMany = refl
-short_then set lacking answer.Denied = refl
-short_then set lacking answer.NoMemory = refl
-short_then set lacking answer.Fine = refl
-short_then set lacking answer.Forked = refl
-short_then set lacking answer.Again = refl
-short_then set lacking answer.IsReady = refl
-short_then set lacking answer.Gone = refl
-short_then set lacking answer.Late = refl
-short_then set lacking answer.Spawned = refl
-short_then set lacking answer.NoImage = refl
-short_then set lacking answer.Adopted = refl
-short_then set lacking answer.Refused = refl
-short_then set lacking answer.IoFault = refl
-short_then set lacking answer.IsAlive = refl
-short_then set lacking answer.Go = refl
-short_then set lacking answer.Back = refl
-
--- after an answer that an edge takes, the rest is fit, and lower
-pub fit_after : (t : Tree) (lacking set : List ℕ) (a : Answer) (found : Option PidNote × Tree) → SetIs t set → is_fit (is_short lacking) t ≡ true → follow (Some t) a ≡ Some found → is_fit (is_short (lacking_after set a lacking)) found.1 ≡ true
-fit_after (Ends end) lacking set a found s h e = cc
-fit_after (Does by order own branches) lacking set a found s h e =
-    rw (short_then set lacking a, s) (fit_branch (is_short lacking) branches (reply_of own a) found (and_right _ (are_fit (is_short lacking) branches) (and_right _ _ h)) e)
+-- after an answer that an edge takes, the rest answers, and is lower
+pub answers_after : (t : Tree) (a : Answer) (found : Option PidNote × Tree) → answers t ≡ true → follow (Some t) a ≡ Some found → answers found.1 ≡ true
+answers_after (Ends end) a found h e = cc
+answers_after (Does by order own branches) a found h e = answers_branch branches (reply_of own a) found (and_right _ (all_answer branches) h) e
 
 pub lower_after : (t : Tree) (a : Answer) (found : Option PidNote × Tree) → follow (Some t) a ≡ Some found → height found.1 + 1 ≤ height t
 lower_after (Ends end) a found e = cc
 lower_after (Does by order set branches) a found e = omega (arith, height_branch branches (reply_of set a) found e)
 
 -- an answer that no edge takes is that the master is gone
-pub lost_after : (t : Tree) (lacked : List Lack) (by : ℕ) (c : Call) (a : Answer) (short : Bool) → AsksOne t lacked by c → is_fit short t ≡ true → is_listed c a ≡ true → follow (Some t) a ≡ None → a ≡ answer.MasterGone
-lost_after (Ends end) lacked by c a short h fit listed e = absurd h
-lost_after (Does own order set branches) lacked by c a short h fit listed e =
+pub lost_after : (t : Tree) (lacked : List Lack) (by : ℕ) (c : Call) (a : Answer) → AsksOne t lacked by c → answers t ≡ true → is_listed c a ≡ true → follow (Some t) a ≡ None → a ≡ answer.MasterGone
+lost_after (Ends end) lacked by c a h on listed e = absurd h
+lost_after (Does own order set branches) lacked by c a h on listed e =
     elim (listed_reply c set a listed) [
       | inl gone ↦ gone
       | inr reply ↦
           let of_order = subst (λ (replies : List Reply). among replies (reply_of set a) ≡ true) (ap replies_to h.1 ∙ replies_of_order (lacked_by own lacked) order) reply in
-          let has = among_has (λ r. is_some (branch branches r)) (order_replies order) (reply_of set a) of_order (and_left _ (are_fit short branches) (and_right _ _ fit)) in
+          let has = among_has (λ r. is_some (branch branches r)) (order_replies order) (reply_of set a) of_order (and_left _ (all_answer branches) on) in
           absurd (true≢false (sym has ∙ ap is_some e))
     ]
 
@@ -215,8 +188,27 @@ asks_one None t lacked e is asks = absurd asks
 asks_one (Some (Ends end)) t lacked e is asks = absurd asks
 asks_one (Some (Does by order set branches)) t lacked e is asks = subst (λ (x : Tree). AsksOne x lacked e.by e.call) (some_one is) asks
 
-pub fit_one : (short : Bool) (rest : Option Tree) (t : Tree) → rest ≡ Some t → is_fit_next short rest ≡ true → is_fit short t ≡ true
-fit_one short rest t is fit = subst (λ (x : Option Tree). is_fit_next short x ≡ true) is fit
+pub answers_one : (rest : Option Tree) (t : Tree) → rest ≡ Some t → answers_next rest ≡ true → answers t ≡ true
+answers_one rest t is on = subst (λ (x : Option Tree). answers_next x ≡ true) is on
+
+-- a tree that begins with a step has its set and its master
+pub begins_set : (t : Tree) (s : Step) → begins t s → SetIs t s.set
+begins_set (Ends end) s h = h
+begins_set (Does by order set branches) s h = h.2
+
+pub begins_by : (t : Tree) (s : Step) → begins t s → ByIs t s.by
+begins_by (Ends end) s h = h
+begins_by (Does by order set branches) s h = h.0
+
+-- where a step is next, a call is left
+pub begun_height : (t : Tree) (s : Step) → begins t s → 1 ≤ height t
+begun_height (Ends end) s h = absurd h
+begun_height (Does by order set branches) s h = omega arith
+
+-- the entry of a step that is next is its master's
+pub begun_by : (t : Tree) (s : Step) (lacked : List Lack) (e : Entry) → begins t s → Asks (Some t) lacked e → e.by ≡ s.by
+begun_by (Ends end) s lacked e h asks = absurd asks
+begun_by (Does by order set branches) s lacked e h asks = asks.0 ∙ sym h.0
 
 pub causes_of : (before first : Option ℕ) (number : ℕ) (plain : Bool) (r q r' q' : Reply) → first ≡ first_cause before (not plain) number → plain ≡ same_reply r q → r ≡ r' → q ≡ q' → first ≡ first_cause before (not (same_reply r' q')) number
 causes_of before first number plain r q r' q' e p a b = e ∙ ap (λ x. first_cause before (not x) number) (p ∙ (ap (λ x. same_reply x q) a ∙ ap (same_reply r') b))

@@ -6,8 +6,8 @@ use Rattle.std.proofs.lemmas.Bool.{and_parts, and_from, lt-ltb, ltb-true}
 use Rattle.std.proofs.lemmas.Option.{slice_get_read, slice_get-map, get_or_from_slice_get}
 use Rattle.std.proofs.lemmas.List.Folds.{list_all-append}
 use Rattle.std.proofs.lemmas.List.{get_or_append_left, map-append}
-use Rattle.rollback_plan.proofs.Numbers.{all_at}
-use Rattle.rollback_plan.proofs.StepTrees.{all_weaker}
+use Rattle.plan_steps.proofs.Numbers.{all_at}
+use Rattle.plan_steps.proofs.StepTrees.{all_weaker}
 use Rattle.vocabulary.specs.declared.reports.Entry.{Entry}
 use Rattle.plan_walk.specs.declared.slot.Slot.{Slot}
 use Rattle.plan_walk.specs.declared.slot.Slot.TheVariants.{Worker, Whole}

@@ -1,11 +1,12 @@
 -- What keeps an execution going.
 use Rattle.std.specs.Prelude.{ℕ, Bool, true, Option, None, Some}
-use Rattle.definitions.specs.Tree.{Tree, is_fit, height}
+use Rattle.definitions.specs.Tree.{Tree, height}
+use Rattle.plan_steps.specs.Woven.{answers}
 
--- the rest is fit; where there is none, it is
-abbrev pub is_fit_next : Bool → Option Tree → Bool
-is_fit_next short None = true
-is_fit_next short (Some tree) = is_fit short tree
+-- each step of the rest has an edge for each reply; where there is no rest, so it is
+abbrev pub answers_next : Option Tree → Bool
+answers_next None = true
+answers_next (Some tree) = answers tree
 
 -- how many more calls there are at most
 abbrev pub height_next : Option Tree → ℕ

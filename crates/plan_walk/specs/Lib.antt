@@ -2,4 +2,5 @@ pub mod Log
 pub mod Fit
 pub mod WorkerAnswers
 pub mod Slots
+pub mod Rests
 pub mod Walk

@@ -1,17 +1,17 @@
 //! How far the execution of a plan has come.
-ghost use Rattle.std.specs.Prelude.{◌≡◌, ◌+◌, ◌<◌, ◌≤◌, ◌^◌, IsTrue, IfSome, IfNone, None, is_none};
-ghost use Rattle.std.specs.Option.{option_map};
+ghost use Rattle.std.specs.Prelude.{◌≡◌, ◌+◌, ◌<◌, ◌≤◌, ◌^◌, true, false, List, IsTrue, IfSome, IfNone, None, is_none};
+ghost use Rattle.definitions.specs.Parts.{Turn};
 ghost use Rattle.vocabulary.specs.declared.calls.Answer.TheVariants.{MasterGone};
 ghost use Rattle.definitions.specs.Crew.{shortfalls_of};
+ghost use Rattle.definitions.specs.Tree.{height};
 ghost use Rattle.definitions.specs.Path.{first_cause};
-ghost use Rattle.rollback_plan.specs.Bounds.{is_short, lacking_in};
-ghost use Rattle.rollback_plan.specs.Cursors.{rest_of};
-ghost use Rattle.rollback_plan.specs.Plans.{tree_of, note_of, sides_told};
-ghost use Rattle.plan_walk.specs.Fit.{is_fit_next, height_next};
+ghost use Rattle.rollback_plan.specs.Plans.{tree_under, length_of, note_of, sides_told};
+ghost use Rattle.plan_walk.specs.Fit.{answers_next, height_next};
+ghost use Rattle.plan_walk.specs.Rests.{rest_in};
 
 use call_replies::{plain_reply, reply_to};
 use rollback_plan::{Bound, Cursor, Plan};
-use vocabulary::{Actor, Call, End, Entry, Outcome, PidNote, Report, Side, Sides};
+use vocabulary::{Actor, Call, End, Entry, Outcome, PidNote, Report, Side, Sides, Turn};
 use worker_groups::{Groups, Shortfalls};
 
 /// A call that is due, and the master that makes it.
@@ -31,19 +31,22 @@ pub struct Walk<'a> {
     cause: Option<u32>,
     made: u32,
     sides: &'a Sides,
-    ghost fit: { IsTrue (is_fit_next (is_short (lacking_in bound)) (option_map rest_of rest)) },
-    ghost countable: { made + height_next (option_map rest_of rest) < 2 ^ 32 },
+    ghost answers: { (turns : List Turn) → IsTrue (answers_next (rest_in rest turns)) },
+    ghost countable: { (turns : List Turn) → made + height_next (rest_in rest turns) < 2 ^ 32 },
 }
 
 impl<'a> Walk<'a> {
     ghost use Rattle.definitions.specs.Tree.{is_listed};
     ghost use Rattle.definitions.specs.Path.{begin, advance, Asks, IsOver, IsOutcome, Reports};
-    ghost use Rattle.plan_walk.specs.Walk.{trail_of, sides_in, AsksFor};
+    ghost use Rattle.rollback_plan.specs.Places.{without_first};
+    ghost use Rattle.plan_walk.specs.Walk.{trail_under, trail_of, left_by, sides_in, IsTurnOf, IsAsked, IsDue, AsksFor};
 
     /// Before the first call.
     pub fn new(plan: &'a Plan) -> Walk<'a>
-        ensures trail { trail_of result ≡ begin (tree_of plan.now) (note_of plan.now) }
+        ensures trail { (turns : List Turn) → trail_under result turns ≡ begin (tree_under plan.now turns) (note_of plan.now) }
         ensures sides { sides_in result ≡ sides_told plan.now }
+        ensures counted { length_of plan.now < 2 ^ 32 }
+        ensures longest { (turns : List Turn) → height (tree_under plan.now turns) ≤ length_of plan.now }
     {
         Walk {
             rest: Some(plan.start()),
@@ -55,31 +58,50 @@ impl<'a> Walk<'a> {
         }
     }
 
-    /// The call that is due; none where the walk is over.
-    pub fn due(&self) -> Option<Due>
-        ensures some { IfSome result (λ due. AsksFor (trail_of self.now) due.by due.call) }
-        ensures none { IfNone result (IsOver (trail_of self.now).rest) }
+    /// The call that is due where it is this master's turn; none where the walk is over.
+    pub fn due_at(&self, turn: Turn) -> Option<Due>
+        ensures some { IfSome result (λ due. IsDue self.now turn due.by due.call) }
+        ensures none { IfNone result ((turns : List Turn) → IsOver (trail_under self.now turns).rest) }
     {
-        let step = self.rest?.step()?;
+        let step = self.rest?.step(turn)?;
         Some(Due {
             by: step.by,
             call: self.bound.call(step),
         })
     }
 
-    /// The walk after a call and its answer.
-    pub fn after(&self, entry: &Entry) -> Walk<'a>
-        requires asks { Asks (trail_of self.now).rest (trail_of self.now).lacked entry.now }
+    /// The call that is due where the new master goes on until its part has ended; none where the walk is over.
+    pub fn due(&self) -> Option<Due>
+        ensures some { IfSome result (λ due. AsksFor (trail_of self.now) due.by due.call) }
+        ensures none { IfNone result (IsOver (trail_of self.now).rest) }
+    {
+        self.due_at(Turn::New)
+    }
+
+    /// Whether both masters have a step, so that a call uses up a turn.
+    pub fn takes_turns(&self) -> bool
+        ensures both { result ≡ true → (turns : List Turn) → left_by self.now turns ≡ without_first turns }
+        ensures alone { result ≡ false → (turns : List Turn) → left_by self.now turns ≡ turns }
+    {
+        match self.rest {
+            Some(cursor) => cursor.takes_turns(),
+            None => false,
+        }
+    }
+
+    /// The walk after the call that is due at this turn, and its answer.
+    pub fn after_at(&self, turn: Turn, entry: &Entry) -> Walk<'a>
+        requires asks { IsAsked self.now turn entry.now }
         requires listed { IsTrue (is_listed entry.now.call entry.now.answer) }
-        ensures trail { trail_of result ≡ advance (trail_of self.now) entry.now }
+        ensures trail { (turns : List Turn) → IsTurnOf self.now turn turns → trail_under result (left_by self.now turns) ≡ advance (trail_under self.now turns) entry.now }
         ensures sides { sides_in result ≡ sides_in self.now }
         ensures lost { (trail_of result).rest ≡ None → entry.now.answer ≡ MasterGone }
-        ensures lower { height_next (trail_of result).rest + 1 ≤ height_next (trail_of self.now).rest }
+        ensures lower { (turns : List Turn) → IsTurnOf self.now turn turns → height_next (trail_under result (left_by self.now turns)).rest + 1 ≤ height_next (trail_under self.now turns).rest }
     {
         let Some(cursor) = self.rest else {
             unreachable!()
         };
-        let Some(step) = cursor.step() else {
+        let Some(step) = cursor.step(turn) else {
             unreachable!()
         };
         let made = self.made + 1;
@@ -87,7 +109,7 @@ impl<'a> Walk<'a> {
         let mut bound = self.bound;
         bound.take(step, &entry.answer);
         let cause = first_cause(self.cause, !plain, made);
-        let Some(edge) = cursor.edge(&entry.answer) else {
+        let Some(way) = cursor.follow(turn, &entry.answer) else {
             return Walk {
                 rest: None,
                 bound,
@@ -98,18 +120,30 @@ impl<'a> Walk<'a> {
             };
         };
         Walk {
-            rest: Some(cursor.next(&entry.answer, &bound)),
+            rest: Some(way.rest),
             bound,
-            note: edge.note.unwrap_or(self.note),
+            note: way.note.unwrap_or(self.note),
             cause,
             made,
             sides: self.sides,
         }
     }
 
+    /// The walk after the call that is due where the new master goes on until its part has ended, and its answer.
+    pub fn after(&self, entry: &Entry) -> Walk<'a>
+        requires asks { Asks (trail_of self.now).rest (trail_of self.now).lacked entry.now }
+        requires listed { IsTrue (is_listed entry.now.call entry.now.answer) }
+        ensures trail { trail_of result ≡ advance (trail_of self.now) entry.now }
+        ensures sides { sides_in result ≡ sides_in self.now }
+        ensures lost { (trail_of result).rest ≡ None → entry.now.answer ≡ MasterGone }
+        ensures lower { height_next (trail_of result).rest + 1 ≤ height_next (trail_of self.now).rest }
+    {
+        self.after_at(Turn::New, entry)
+    }
+
     /// Whether the last answer had no edge.
     pub fn is_lost(&self) -> bool
-        ensures { result ≡ is_none (trail_of self.now).rest }
+        ensures { (turns : List Turn) → result ≡ is_none (trail_under self.now turns).rest }
     {
         self.rest.is_none()
     }
@@ -117,7 +151,7 @@ impl<'a> Walk<'a> {
     /// What the report says of a walk that is over.
     pub fn report(&self) -> Report
         requires { IsOver (trail_of self.now).rest }
-        ensures { Reports (sides_in self.now) (trail_of self.now) result }
+        ensures { (turns : List Turn) → Reports (sides_in self.now) (trail_under self.now turns) result }
     {
         Report {
             outcome: self.outcome(),
@@ -129,7 +163,7 @@ impl<'a> Walk<'a> {
 
     fn outcome(&self) -> Outcome
         requires { IsOver (trail_of self.now).rest }
-        ensures { IsOutcome (sides_in self.now) (trail_of self.now).rest (trail_of self.now).lacking result }
+        ensures { (turns : List Turn) → IsOutcome (sides_in self.now) (trail_under self.now turns).rest (trail_under self.now turns).lacking result }
     {
         let Some(cursor) = self.rest else {
             return Outcome::Lost;

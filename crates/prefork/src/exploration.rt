@@ -6,8 +6,9 @@ ghost use Rattle.faults.specs.Faults.{IsOfFile};
 
 use command_line::ExploreOptions;
 use exploration_text::write_run;
-use explorer::{Audience, Tried};
+use explorer::{Audience, Findings, Tried};
 use faults::Fault;
+use master_on_kernel::Explored;
 use std::alloc::Global;
 use std::io::Write;
 use vocabulary::Report;
@@ -91,6 +92,22 @@ impl<O: Write, E: Write> Audience for Listing<'_, O, E> {
                 false
             }
         }
+    }
+}
+
+/// Says for people what the counts of runs show that is easily overlooked.
+pub fn tell_findings<E: Write>(explored: &Explored, found: &Findings, errors: &mut E) {
+    if let Explored::Told(_) = explored {
+        return;
+    }
+    if let Explored::Cut = explored {
+        let _ = errors.write_all(b"  cut: the counts say nothing of the runs that are left\n");
+    }
+    if found.tally.done.count == 0 {
+        let _ = errors.write_all(b"  done 0: no run was done\n");
+    }
+    if found.least.is_some_and(|least| least.ready == 0) {
+        let _ = errors.write_all(b"  least ready 0: an address that stays had no ready worker\n");
     }
 }
 

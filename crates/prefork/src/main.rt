@@ -1,15 +1,16 @@
 //! `prefork`: a preforking master, whose plans are proved.
 #![tactic(auto)]
 
+mod checking;
 mod exploration;
-mod instead;
 mod program;
 mod serving;
 mod setup;
 
 use faults::Fault;
-pub use program::run;
+pub use program::{Surroundings, run};
 use std::env::Env;
+use std::io::IsTerminal;
 use std::process::ExitCode;
 use std::{env, io, process};
 
@@ -23,10 +24,14 @@ fn main(rt: HostRuntime) -> ExitCode {
     };
     let mut input = rt.reader();
     let mut output = io::writer(&stdout);
-    let number = process::id(rt.process());
+    let around = Surroundings {
+        number: process::id(rt.process()),
+        asks: rt.stdin().is_terminal() && stderr.is_terminal(),
+        explains: stderr.is_terminal(),
+    };
     ExitCode::from(run(
         &rt,
-        number,
+        &around,
         args.as_slice(),
         &mut input,
         &mut output,

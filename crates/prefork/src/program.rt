@@ -7,23 +7,42 @@ ghost use Rattle.std.specs.Io.KnownBytes.{Appends};
 ghost use Rattle.faults.specs.Faults.{IsOfFile};
 ghost use Rattle.prefork.specs.Input.{IsOfPatterns, IsOfBlocks};
 
-use crate::exploration::Listing;
-use crate::instead::line_instead;
+use crate::checking::check;
+use crate::exploration::{Listing, tell_findings};
 use crate::serving::{adopt, child, supervise};
 use crate::setup::{begin, setup_of};
 use command_line::{CertifyOptions, EnactOptions, ExploreOptions, PlanOptions, Request};
 use control_words::Word;
-use explanations::{Evidence, explain, is_asked, tell, tell_usage};
+use explanations::{
+    Evidence, explain, has_why, is_asked, tell, tell_program, tell_refusals, tell_usage,
+};
 use explorer::Findings;
 use faults::Fault;
+use json_text::{blocks_json, exploration_json, patterns_json, plan_json};
 use kernel_model::Pattern;
-use master_on_kernel::{Form, Start, certify_all, look_ahead, rehearse, show_state, summary};
+use master_on_kernel::{
+    Demands, Form, Start, certify_all, line_instead, look_ahead, rehearse, show_state, summary,
+};
 use std::alloc::{AllocError, Global};
+use std::env::Env;
 use std::io::{Read, Write};
-use std::process::Processes;
+use std::os::fd::AsRawFd;
+use std::process::{OpenProcess, Processes};
 use std::rt::Files;
+use std::time::Clock;
 use transcript::read_transcripts;
 use word_runner::Block;
+
+/// What the program runs in.
+#[derive(Clone, Copy)]
+pub struct Surroundings {
+    /// The number of its own process.
+    pub number: u32,
+    /// Standard input and standard error are a terminal: somebody is to be told what is waited for.
+    pub asks: bool,
+    /// Standard error is a terminal: more is said of faults, as with `--why`.
+    pub explains: bool,
+}
 
 /// Standard input.
 #[derive(Drop)]
@@ -37,43 +56,53 @@ struct Input<'a, I> {
 ///
 /// Faults are one line on standard error; blocks of words that were done are written first. `number` is that of its own
 /// process.
-pub fn run<R: AllocGlobal + Files + Processes, I: Read, O: Write, E: Write>(
+pub fn run<R: AllocGlobal + Files + Processes + Clock + Env, I: Read, O: Write, E: Write>(
     rt: &R,
-    number: u32,
+    around: &Surroundings,
     args: &[String],
     input: &mut I,
     output: &mut O,
     errors: &mut E,
-) -> u8 {
+) -> u8
+where
+    <R::Started as OpenProcess>::Stdout: AsRawFd,
+    <R::Started as OpenProcess>::Stdin: AsRawFd,
+{
     match command_line::read(rt.alloc(), args) {
-        Ok(request) => serve(rt, number, &request, input, output, errors),
+        Ok(request) => serve(rt, around, &request, input, output, errors),
         Err(refusal) => {
             let fault = Fault::from(refusal);
             let status = fault.tell(errors);
-            tell_usage(rt.alloc(), args, &fault, errors);
+            if around.explains || has_why(args) {
+                tell_usage(rt.alloc(), args, &fault, errors);
+            }
             status
         }
     }
 }
 
 /// Answers a request, or tells its fault.
-fn serve<R: AllocGlobal + Files + Processes, I: Read, O: Write, E: Write>(
+fn serve<R: AllocGlobal + Files + Processes + Clock + Env, I: Read, O: Write, E: Write>(
     rt: &R,
-    number: u32,
+    around: &Surroundings,
     request: &Request<'_>,
     input: &mut I,
     output: &mut O,
     errors: &mut E,
-) -> u8 {
+) -> u8
+where
+    <R::Started as OpenProcess>::Stdout: AsRawFd,
+    <R::Started as OpenProcess>::Stdin: AsRawFd,
+{
     let mut input = Input {
         reader: input,
         given: Vec::new(rt.alloc()),
     };
-    match answer(rt, number, request, &mut input, output, errors) {
+    match answer(rt, around, request, &mut input, output, errors) {
         Ok(status) => status,
         Err(fault) => {
             let status = fault.tell(errors);
-            if is_asked(request) {
+            if around.explains || is_asked(request) {
                 tell_more(rt, request, input.given.as_slice(), &fault, errors);
             }
             status
@@ -90,10 +119,16 @@ fn tell_more<R: AllocGlobal + Files, E: Write>(
     fault: &Fault,
     errors: &mut E,
 ) {
-    let found = line_instead(rt, request, given, fault);
+    let found = match (request, fault) {
+        (Request::Certify(options), Fault::Certify(number, mismatch)) => {
+            let setup = setup_of(&options.start);
+            line_instead(rt, &setup, options.held, given, (*number, mismatch))
+        }
+        _ => Ok(None),
+    };
     let instead = match &found {
-        Some(line) => Some(line.as_slice()),
-        None => None,
+        Ok(Some(line)) => Some(line.as_slice()),
+        _ => None,
     };
     tell(rt, request, &evidence_of(given, instead), fault, errors);
 }
@@ -107,23 +142,38 @@ fn evidence_of<'a>(given: &'a [u8], instead: Option<&'a [u8]>) -> Evidence<'a> {
 ///
 /// No subcommand is inlined here, nor what tells of faults above: settings have 8 KB each, so that the frames of all of
 /// them would take 0.15 MB of each run.
-fn answer<R: AllocGlobal + Files + Processes, I: Read, O: Write, E: Write>(
+fn answer<R: AllocGlobal + Files + Processes + Clock + Env, I: Read, O: Write, E: Write>(
     rt: &R,
-    number: u32,
+    around: &Surroundings,
     request: &Request<'_>,
     input: &mut Input<'_, I>,
     output: &mut O,
     errors: &mut E,
-) -> Result<u8, Fault> {
+) -> Result<u8, Fault>
+where
+    <R::Started as OpenProcess>::Stdout: AsRawFd,
+    <R::Started as OpenProcess>::Stdin: AsRawFd,
+{
     match request {
-        Request::Enact(options) => enact(rt, options, input, output),
-        Request::Plan(options) => plan(rt, options, output),
-        Request::Explore(options) => explore(rt, options, output, errors),
-        Request::Certify(options) => certify(rt, options, input, output),
+        Request::Enact(options) => enact(rt, around, options, input, output, errors),
+        Request::Plan(options) => plan(rt, around, options, output, errors),
+        Request::Explore(options) => explore(rt, around, options, output, errors),
+        Request::Certify(options) => certify(rt, around, options, input, output, errors),
+        Request::Check(options) => check(rt, options, output),
         Request::Supervise(options) => {
-            supervise(rt, number, options, &mut *input.reader, output, errors)
+            if around.explains {
+                tell_program(rt, options, errors);
+            }
+            supervise(
+                rt,
+                around.number,
+                options,
+                &mut *input.reader,
+                output,
+                errors,
+            )
         }
-        Request::Adopt(options) => adopt(rt, number, options, &mut *input.reader, output),
+        Request::Adopt(options) => adopt(rt, around.number, options, &mut *input.reader, output),
         Request::Child => Ok(child(&mut *input.reader, output)),
         Request::Explain(options) => {
             let text = explain(rt.alloc(), options.code)?;
@@ -138,7 +188,7 @@ fn answer<R: AllocGlobal + Files + Processes, I: Read, O: Write, E: Write>(
 }
 
 /// One write of a whole text, so that a reader never sees half of it unless the write fails.
-fn write<O: Write>(output: &mut O, text: &[u8]) -> Result<(), Fault>
+pub fn write<O: Write>(output: &mut O, text: &[u8]) -> Result<(), Fault>
     ensures ok { OnOk result (Appends (O.contents output.old) (O.contents output.new) text.now) }
     ensures err { IfErr result IsOfFile }
 {
@@ -147,19 +197,29 @@ fn write<O: Write>(output: &mut O, text: &[u8]) -> Result<(), Fault>
     Ok(())
 }
 
+/// Says at a terminal what is waited for.
+fn ask_for<E: Write>(around: &Surroundings, texts: &str, errors: &mut E) {
+    if around.asks {
+        let _ = writeln!(errors, "prefork: enter {texts}; Ctrl-D ends them");
+    }
+}
+
 /// `enact`: carries the words out on a modelled kernel under the patterns of standard input, the
 /// i-th pattern with the i-th word, and writes a block for each, and the state last where it is
 /// asked for.
 #[inline(never)]
-fn enact<R: AllocGlobal + Files, I: Read, O: Write>(
+fn enact<R: AllocGlobal + Files, I: Read, O: Write, E: Write>(
     rt: &R,
+    around: &Surroundings,
     options: &EnactOptions<'_>,
     input: &mut Input<'_, I>,
     output: &mut O,
+    errors: &mut E,
 ) -> Result<u8, Fault> {
     let alloc = rt.alloc();
     let words = read_words(alloc, &options.words)?;
     let mut rehearsal = begin(rt, &options.start, options.held)?;
+    ask_for(around, "patterns, lines such as '3 fail again'", errors);
     let patterns = read_patterns(alloc, &mut *input.reader, &mut input.given)?;
     let mut text = Vec::new(alloc);
     let done = rehearse(alloc, &mut rehearsal, &words, &patterns, &mut text);
@@ -167,47 +227,83 @@ fn enact<R: AllocGlobal + Files, I: Read, O: Write>(
         Ok(_) => show_state(&rehearsal, options.state, &mut text),
         Err(_) => Ok(()),
     };
-    write(output, text.as_slice())?;
+    // (as JSON there is no beginning of an answer)
+    if options.start.json && done.is_ok() {
+        write(output, blocks_json(alloc, text.as_slice())?.as_slice())?;
+    } else {
+        write(output, text.as_slice())?;
+    }
     shown?;
-    Ok(done?)
+    let status = done?;
+    if around.explains || options.start.why {
+        tell_refusals(text.as_slice(), errors);
+    }
+    Ok(status)
 }
 
 /// `certify`: compares the blocks of standard input with plans and kernel, and writes the patterns
 /// that explain them, a section for each.
 #[inline(never)]
-fn certify<R: AllocGlobal + Files, I: Read, O: Write>(
+fn certify<R: AllocGlobal + Files, I: Read, O: Write, E: Write>(
     rt: &R,
+    around: &Surroundings,
     options: &CertifyOptions<'_>,
     input: &mut Input<'_, I>,
     output: &mut O,
+    errors: &mut E,
 ) -> Result<u8, Fault> {
     let alloc = rt.alloc();
     let mut rehearsal = begin(rt, &options.start, options.held)?;
+    ask_for(around, "blocks, as enact prints them", errors);
     let blocks = read_blocks(alloc, &mut *input.reader, &mut input.given)?;
-    let text = certify_all(alloc, &mut rehearsal, blocks.as_slice())?;
+    let mut text = certify_all(alloc, &mut rehearsal, blocks.as_slice())?;
+    if options.start.json {
+        text = patterns_json(alloc, blocks.len(), text.as_slice())?;
+    }
     write(output, text.as_slice())?;
+    if around.explains {
+        let _ = match blocks.len() {
+            1 => writeln!(errors, "prefork: accepted 1 block"),
+            number => writeln!(errors, "prefork: accepted {number} blocks"),
+        };
+    }
     Ok(0)
 }
 
 /// `plan`: writes what a word would do.
 #[inline(never)]
-fn plan<R: AllocGlobal + Files, O: Write>(
+fn plan<R: AllocGlobal + Files, O: Write, E: Write>(
     rt: &R,
+    around: &Surroundings,
     options: &PlanOptions<'_>,
     output: &mut O,
+    errors: &mut E,
 ) -> Result<u8, Fault> {
     let alloc = rt.alloc();
     let word = control_words::read(options.word.as_bytes()).map_err(|refusal| Fault::Word(
         1, refusal,
     ))?;
     let start = Start::read(rt, &setup_of(&options.start))?;
+    if options.dot && options.start.json {
+        return Err(Fault::Usage);
+    }
     let form = if options.dot {
         Form::Picture
     } else {
         Form::Text
     };
     let outlook = look_ahead(alloc, &start, word, form)?;
-    write(output, outlook.text.as_slice())?;
+    if options.start.json {
+        write(
+            output,
+            plan_json(alloc, outlook.text.as_slice())?.as_slice(),
+        )?;
+    } else {
+        write(output, outlook.text.as_slice())?;
+    }
+    if around.explains || options.start.why {
+        tell_refusals(outlook.text.as_slice(), errors);
+    }
     Ok(outlook.status)
 }
 
@@ -215,12 +311,16 @@ fn plan<R: AllocGlobal + Files, O: Write>(
 #[inline(never)]
 fn explore<R: AllocGlobal + Files, O: Write, E: Write>(
     rt: &R,
+    around: &Surroundings,
     options: &ExploreOptions<'_>,
     output: &mut O,
     errors: &mut E,
 ) -> Result<u8, Fault> {
     let alloc = rt.alloc();
-    let is_forbidden = forbids(options.forbid)?;
+    if options.list && options.start.json {
+        return Err(Fault::Usage);
+    }
+    let demands = demands_of(options)?;
     let pairs = asks_for_pairs(options.events)?;
     let word = control_words::read(options.word.as_bytes()).map_err(|refusal| Fault::Word(
         1, refusal,
@@ -230,8 +330,19 @@ fn explore<R: AllocGlobal + Files, O: Write, E: Write>(
     let mut listing = Listing::new(alloc, output, errors, options);
     let explored = rehearsal.explore(alloc, word, pairs, &mut found, &mut listing)?;
     listing.finish()?;
-    let outlook = summary(alloc, &explored, &found, is_forbidden)?;
-    write(output, outlook.text.as_slice())?;
+    let outlook = summary(alloc, &explored, &found, &demands)?;
+    if options.start.json {
+        write(
+            output,
+            exploration_json(alloc, outlook.text.as_slice())?.as_slice(),
+        )?;
+    } else {
+        write(output, outlook.text.as_slice())?;
+    }
+    if around.explains || options.start.why {
+        tell_findings(&explored, &found, errors);
+        tell_refusals(outlook.text.as_slice(), errors);
+    }
     Ok(outlook.status)
 }
 
@@ -246,13 +357,23 @@ fn asks_for_pairs(events: Option<u32>) -> Result<bool, Fault>
     }
 }
 
-/// Whether an end is forbidden that is degraded; no other can be.
-fn forbids(end: Option<&str>) -> Result<bool, Fault> {
-    match end {
-        None => Ok(false),
-        Some("degraded") => Ok(true),
-        Some(_) => Err(Fault::Usage),
-    }
+/// What is demanded of the runs: only degraded ends can be forbidden, and only done ones required.
+fn demands_of(options: &ExploreOptions<'_>) -> Result<Demands, Fault> {
+    let forbids_degraded = match options.forbid {
+        None => false,
+        Some("degraded") => true,
+        Some(_) => return Err(Fault::Usage),
+    };
+    let requires_done = match options.require {
+        None => false,
+        Some("done") => true,
+        Some(_) => return Err(Fault::Usage),
+    };
+    Ok(Demands {
+        forbids_degraded,
+        requires_done,
+        least: options.least,
+    })
 }
 
 /// The control words of the command line; the first that is none is the fault.

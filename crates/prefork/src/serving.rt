@@ -1,23 +1,28 @@
 //! `supervise`, `adopt` and `child`: masters and workers that run.
 ghost use Rattle.std.specs.Prelude.{◌≡◌, option_map};
 ghost use Rattle.prefork.specs.Faults.{supervisor_fault};
+ghost use Rattle.prefork.specs.Limits.{limits_of};
 ghost use Rattle.prefork.specs.Refusals.{IsDeclined, IsNext};
 
-use child_processes::OsFamily;
+use child_processes::{ANSWER_WITHIN, Limits, OsFamily, READY_WITHIN};
 use child_programs::{ServedMaster, serve_master, serve_worker};
-use command_line::{AdoptOptions, SuperviseOptions};
+use command_line::{AdoptOptions, LimitOptions, SuperviseOptions};
 use faults::Fault;
-use log::sink::Writer;
+use log::sink::{Discard, Writer};
 use log::{LevelFilter, Logged};
 use master_config::{ConfigRefusal, config_in, settings_in};
 use master_on_children::{
     NextRefusal, NextSettings, Operator, SupervisorFault, SupervisorStart, supervise_on,
 };
+use plain_text::read_number;
 use std::alloc::Global;
 use std::env;
+use std::env::{Env, VarError};
 use std::io::{Read, Write};
-use std::process::Processes;
+use std::os::fd::AsRawFd;
+use std::process::{OpenProcess, Processes};
 use std::rt::Files;
+use std::time::Clock;
 use vocabulary::Settings;
 use word_runner::CodeText;
 
@@ -58,14 +63,18 @@ fn declined(alloc: Global, refusal: &ConfigRefusal) -> NextRefusal
 /// `supervise`: a master whose workers and new masters are processes. What is left of its children when it ends is ended
 /// with it. `number` is that of its own process; the system counts processes from 1.
 #[inline(never)]
-pub fn supervise<R: AllocGlobal + Files + Processes, I: Read, O: Write, E: Write>(
+pub fn supervise<R: AllocGlobal + Files + Processes + Clock, I: Read, O: Write, E: Write>(
     rt: &R,
     number: u32,
     options: &SuperviseOptions<'_>,
     input: &mut I,
     output: &mut O,
     errors: &mut E,
-) -> Result<u8, Fault> {
+) -> Result<u8, Fault>
+where
+    <R::Started as OpenProcess>::Stdout: AsRawFd,
+    <R::Started as OpenProcess>::Stdin: AsRawFd,
+{
     let alloc = rt.alloc();
     let config = config_in(rt, options.from)?;
     let family = OsFamily::new(alloc, rt, options.program, &config.command)?;
@@ -75,6 +84,7 @@ pub fn supervise<R: AllocGlobal + Files + Processes, I: Read, O: Write, E: Write
         LevelFilter::Off
     };
     let log = Logged::new((), level, Writer::new(&mut *errors));
+    let family = family.limited(limits_of(&options.limits), Discard);
     let mut next = NextFile {
         rt,
         path: options.to.or(options.from),
@@ -99,27 +109,75 @@ fn fault_of(fault: SupervisorFault) -> Fault
     }
 }
 
+/// How long a child may keep its master waiting. Without a limit of its own it has eight times as long to be ready.
+fn limits_of(options: &LimitOptions) -> Limits
+    ensures { result ≡ limits_of options.now }
+{
+    let answer = options.answer_within.unwrap_or(0);
+    let ready = options.ready_within.unwrap_or(answer.saturating_mul(8));
+    Limits { answer, ready }
+}
+
+/// What is given, and otherwise what the old master told by the environment.
+fn limits_told<R: AllocGlobal + Env>(rt: &R, given: &LimitOptions) -> Result<Limits, Fault> {
+    let answer_within = match given.answer_within {
+        None => variable(rt, ANSWER_WITHIN)?,
+        seconds => seconds,
+    };
+    let ready_within = match given.ready_within {
+        None => variable(rt, READY_WITHIN)?,
+        seconds => seconds,
+    };
+    Ok(limits_of(&LimitOptions {
+        answer_within,
+        ready_within,
+    }))
+}
+
+/// The number in a variable, if it is set.
+fn variable<R: AllocGlobal + Env>(rt: &R, name: &str) -> Result<Option<u32>, Fault> {
+    match env::var(rt, name) {
+        Ok(text) => match read_number(text.as_bytes()) {
+            None => Err(Fault::Usage),
+            number => Ok(number),
+        },
+        Err(VarError::OutOfMemory) => Err(Fault::Memory),
+        Err(VarError::NotPresent) => Ok(None),
+        Err(_) => Err(Fault::Usage),
+    }
+}
+
 /// `adopt`: the new master of an upgrade. Its workers are the program that is named, or its own executable. `number` is
 /// that of its own process.
 #[inline(never)]
-pub fn adopt<R: AllocGlobal + Files + Processes, I: Read, O: Write>(
+pub fn adopt<R: AllocGlobal + Files + Processes + Clock + Env, I: Read, O: Write>(
     rt: &R,
     number: u32,
     options: &AdoptOptions<'_>,
     input: &mut I,
     output: &mut O,
-) -> Result<u8, Fault> {
+) -> Result<u8, Fault>
+where
+    <R::Started as OpenProcess>::Stdout: AsRawFd,
+    <R::Started as OpenProcess>::Stdin: AsRawFd,
+{
     let alloc = rt.alloc();
+    let limits = limits_told(rt, &options.limits)?;
     let family = match options.program {
         Some(program) => OsFamily::new(alloc, rt, program, &[])?,
         None => OsFamily::new(alloc, rt, env::current_exe(rt)?.as_str(), &[])?,
     };
+    let family = family.limited(limits, Discard);
     let served = serve_master(alloc, family, number.max(1), &mut *input, output);
     Ok(finished(served))
 }
 
 /// Ends what is left of a new master's children, and gives its status.
-fn finished<F: Processes + Files + Drop>(served: ServedMaster<OsFamily<F>>) -> u8 {
+fn finished<R: Processes + Files + Clock + Drop>(served: ServedMaster<OsFamily<R, Discard>>) -> u8
+where
+    <R::Started as OpenProcess>::Stdout: AsRawFd,
+    <R::Started as OpenProcess>::Stdin: AsRawFd,
+{
     let ServedMaster { status, family } = served;
     if let Some(mut family) = family {
         family.finish();

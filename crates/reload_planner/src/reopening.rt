@@ -5,7 +5,8 @@ ghost use Rattle.vocabulary.specs.declared.plans.Side.TheVariants as side;
 ghost use Rattle.rollback_plan.specs.declared.draft.DraftRefusal.TheVariants.{TooLarge};
 ghost use Rattle.rollback_plan.specs.declared.draft.TheConstants.{MOST_STEPS};
 ghost use Rattle.rollback_plan.specs.Drafts.{trees_of, IsMade};
-ghost use Rattle.rollback_plan.specs.Plans.{tree_of, note_of, sides_told, text_of, trees_in};
+ghost use Rattle.definitions.specs.Tree.{height};
+ghost use Rattle.rollback_plan.specs.Plans.{tree_of, length_of, note_of, sides_told, text_of, trees_in};
 
 use crate::{PlanRefusal, Scene};
 use plan_pieces::{add_each, listed};
@@ -30,6 +31,7 @@ fn add_reopening(draft: &mut Draft, scene: &Scene, ready: &[u32]) -> Result<Plac
 pub fn plan_reopen(alloc: Global, scene: &Scene, note: PidNote) -> Result<Plan, PlanRefusal>
     requires rounds { scene.now.rounds ≤ 8 }
     ensures tree { IfOk result (λ plan. tree_of plan ≡ reopen_tree scene.now.by scene.now.crew scene.now.ready scene.now.rounds) }
+    ensures longest { IfOk result (λ plan. length_of plan ≡ height (tree_of plan)) }
     ensures note { IfOk result (λ plan. note_of plan ≡ note) }
     ensures sides { IfOk result (λ plan. sides_told plan ≡ scene.now.sides) }
     ensures text { IfOk result (λ plan. text_of plan ≡ []) }

@@ -10,11 +10,12 @@ use Rattle.definitions.specs.Calls.{Call}
 use Rattle.definitions.specs.Tree.{Tree}
 use Rattle.definitions.specs.Plans.{does, then_edge, quits, closes}
 use Rattle.rollback_plan.specs.declared.draft.Draft.{Draft}
-use Rattle.rollback_plan.specs.declared.step.Place.{Place}
+use Rattle.plan_steps.specs.declared.step.Place.{Place}
 use Rattle.rollback_plan.specs.Drafts.{IsMade, Keeps}
 use Rattle.rollback_plan.specs.Back.{tells, told_back, quits_back, closes_back, AreMade}
 use Rattle.rollback_plan.proofs.Lists.{take_at, reverse-map}
-use Rattle.rollback_plan.proofs.DraftTrees.{made_kept, slice_get-append, slice_get-seam}
+use Rattle.plan_steps.proofs.Trees.{slice_get-append, slice_get-seam}
+use Rattle.rollback_plan.proofs.DraftTrees.{made_kept}
 
 -- one call more
 pub told_more : (by : ℕ) (calls : List Call) (rest : Tree) (i : ℕ) (call : Call) → slice_get calls i ≡ Some call → does by call (then_edge (told_back by calls rest i)) ≡ told_back by calls rest (i + 1)

@@ -1,23 +1,16 @@
 -- Trees that stand in a draft.
-use Rattle.std.proofs.Common.{◌≡◌, ℕ, zero, suc, ◌-◌, ◌<◌, ◌≤◌, true, List, [], ◌∷◌, ◌++◌, length, refl, ◌∙◌, ap, arith, length-append, append_assoc, Some, slice_get, unwrap_or}
-use Rattle.std.proofs.lemmas.Bool.{ltb-true, lt-ltb}
+use Rattle.std.proofs.Common.{◌≡◌, ◌-◌, ◌<◌, ◌≤◌, true, List, [], ◌++◌, length, ◌∙◌, ap, arith, length-append, append_assoc, slice_get, unwrap_or}
+use Rattle.std.proofs.lemmas.Bool.{lt-ltb}
 use Rattle.vocabulary.specs.declared.plans.End.TheVariants.{Done}
 use Rattle.definitions.specs.Tree.{Tree, Ends}
 use Rattle.rollback_plan.specs.declared.draft.Draft.{Draft}
-use Rattle.rollback_plan.specs.declared.step.Place.{Place}
-use Rattle.rollback_plan.specs.declared.step.Next.{Next}
-use Rattle.rollback_plan.specs.declared.step.Next.TheVariants.{To, Over, Both}
-use Rattle.rollback_plan.specs.Steps.{tree_among, is_below}
+use Rattle.plan_steps.specs.declared.step.Place.{Place}
+use Rattle.plan_steps.specs.declared.step.Next.{Next}
+use Rattle.plan_steps.specs.declared.step.Next.TheVariants.{To}
+use Rattle.plan_steps.specs.declared.step.Step.{Step}
+use Rattle.plan_steps.specs.Steps.{at_place, trees_after, tree_among, is_below}
+use Rattle.plan_steps.proofs.Trees.{tree_more}
 use Rattle.rollback_plan.specs.Drafts.{trees_of, tree_at, IsMade, Keeps}
-
-pub slice_get-append : {X : Type 0} (xs ys : List X) (k : ℕ) → k < length xs → slice_get (xs ++ ys) k ≡ slice_get xs k
-slice_get-append [] ys k h = absurd (omega arith)
-slice_get-append (x ∷ xs) ys zero h = refl
-slice_get-append (x ∷ xs) ys (suc k) h = slice_get-append xs ys k (omega arith)
-
-pub slice_get-seam : {X : Type 0} (xs : List X) (y : X) (ys : List X) → slice_get (xs ++ y ∷ ys) (length xs) ≡ Some y
-slice_get-seam [] y ys = refl
-slice_get-seam (x ∷ xs) y ys = slice_get-seam xs y ys
 
 -- ---- what a draft keeps
 
@@ -28,11 +21,9 @@ keeps_on old mid new k l =
       is = l.is ∙ (ap (λ ts. ts ++ l.more) k.is ∙ append_assoc (trees_of old) k.more l.more);
     }
 
--- the tree behind an edge among more trees
-pub tree_more : (trees more : List Tree) (next : Next) → is_below (length trees) next ≡ true → tree_among 0 (trees ++ more) next ≡ tree_among 0 trees next
-tree_more trees more (Over end) h = refl
-tree_more trees more (Both new old) h = refl
-tree_more trees more (To place) h = ap (λ o. unwrap_or o (Ends Done)) (slice_get-append trees more (place.0 - 0) (omega (arith, ltb-true place.0 (length trees) h)))
+-- the tree at a place of a draft, counted from 0
+pub at_place_is : (steps : List Step) (place : Place) → at_place steps place.0 ≡ tree_among 0 (trees_after [] steps) (To place)
+at_place_is steps place = ap (λ k. unwrap_or (slice_get (trees_after [] steps) k) (Ends Done)) (let same : place.0 ≡ place.0 - 0 = omega arith in same)
 
 pub longer : (old new : Draft) → Keeps old new → length (trees_of old) ≤ length (trees_of new)
 longer old new k = omega (arith, ap length k.is, length-append (trees_of old) k.more)

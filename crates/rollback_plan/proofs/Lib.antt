@@ -1,15 +1,5 @@
-pub mod StepTrees
 pub mod DraftTrees
 pub mod Lists
 pub mod BackTrees
-pub mod Heights
-pub mod Depths
-pub mod Walks
-pub mod Walked
-pub mod Numbers
-pub mod LayerLists
-pub mod Ordered
-pub mod Unfolded
-pub mod Finished
-pub mod Distinct
 pub mod PlanTrees
+pub mod CursorTrees

@@ -1,5 +1,5 @@
 -- The trees of a plan's steps.
-use Rattle.std.proofs.Common.{◌≡◌, ℕ, zero, suc, ◌+◌, ◌-◌, ◌<◌, Bool, true, false, List, [], ◌∷◌, length, refl, ◌∙◌, ap, subst, arith, Option, Some, None, IfSome, option_map, slice_get, unwrap_or, nat_lt, cond}
+use Rattle.std.proofs.Common.{◌≡◌, ℕ, zero, suc, ◌+◌, ◌-◌, ◌<◌, Bool, true, false, List, [], ◌∷◌, length, refl, ◌∙◌, ap, subst, arith, Option, Some, IfSome, option_map, slice_get, unwrap_or, nat_lt, cond}
 use Rattle.std.proofs.lemmas.Bool.{ltb-true, lt-ltb, and_parts, and_from}
 use Rattle.std.specs.List.{list_all, find}
 use Rattle.vocabulary.specs.declared.calls.Reply.{Reply}
@@ -8,14 +8,13 @@ use Rattle.vocabulary.specs.declared.plans.PidNote.{PidNote}
 use Rattle.vocabulary.specs.declared.plans.End.TheVariants.{Done}
 use Rattle.definitions.specs.Tree.{Tree, Ends, Does, Branch, branch, among, reply_of}
 use Rattle.definitions.specs.Path.{follow}
-use Rattle.rollback_plan.specs.declared.step.Step.{Step}
-use Rattle.rollback_plan.specs.declared.step.PlanEdge.{PlanEdge}
-use Rattle.rollback_plan.specs.declared.step.Next.{Next}
-use Rattle.rollback_plan.specs.declared.step.Next.TheVariants.{To, Over, Both}
-use Rattle.rollback_plan.specs.declared.step.Place.{Place}
-use Rattle.rollback_plan.specs.Steps.{step_tree, trees_from, all_lead_on, is_past, branches_among, tree_among, edge_for, tree_here, tree_behind, is_within}
-use Rattle.rollback_plan.specs.Cursors.{end_of}
-use Rattle.rollback_plan.proofs.StepTrees.{all_weaker}
+use Rattle.plan_steps.specs.declared.step.Step.{Step}
+use Rattle.plan_steps.specs.declared.step.PlanEdge.{PlanEdge}
+use Rattle.plan_steps.specs.declared.step.Next.{Next}
+use Rattle.plan_steps.specs.declared.step.Next.TheVariants.{To, Over, Both}
+use Rattle.plan_steps.specs.declared.step.Place.{Place}
+use Rattle.plan_steps.specs.Steps.{step_tree, trees_from, all_lead_on, is_past, branches_among, tree_among, edge_for, tree_here, tree_behind, is_within}
+use Rattle.plan_steps.proofs.StepTrees.{all_weaker}
 
 -- an edge that leads past n finds its tree one place further on
 past_tree : (n more : ℕ) (t : Tree) (trees : List Tree) (next : Next) → is_past n more next ≡ true → tree_among (suc n) trees next ≡ tree_among n (t ∷ trees) next
@@ -112,13 +111,7 @@ within_at steps next place e h =
     let parts = and_parts (nat_lt 0 place.0) (nat_lt place.0 (suc (0 + length steps))) w in
     omega (arith, ltb-true 0 place.0 parts.0, ltb-true place.0 (suc (0 + length steps)) parts.1)
 
-some_at : {X : Type 0} (xs : List X) (k : ℕ) → k < length xs → (x : X) × (slice_get xs k ≡ Some x)
+pub some_at : {X : Type 0} (xs : List X) (k : ℕ) → k < length xs → (x : X) × (slice_get xs k ≡ Some x)
 some_at [] k h = absurd (omega arith)
 some_at (x ∷ xs) zero h = (x, refl)
 some_at (x ∷ xs) (suc k) h = some_at xs k (omega arith)
-
--- a place is no end
-pub no_end : (steps : List Step) (next : Next) (place : Place) → all_lead_on 1 steps ≡ true → next ≡ To place → is_within steps next ≡ true → end_of (tree_behind steps next) ≡ None
-no_end steps next place on e h =
-    let found = some_at steps (place.0 - 1) (within_at steps next place e h) in
-    ap (λ x. end_of (tree_behind steps x)) e ∙ ap end_of (tree_at_place steps place.0 found.0 on found.1)

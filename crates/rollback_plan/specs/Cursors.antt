@@ -1,38 +1,37 @@
 -- What a contract sees of a cursor.
-use Rattle.std.specs.Prelude.{Bool, Option, None, Some}
+use Rattle.std.specs.Prelude.{◌≡◌, true, List, [], Some}
+use Rattle.std.specs.Option.{option_map}
 use Rattle.std.specs.List.{list_all}
-use Rattle.vocabulary.specs.declared.plans.End.{End}
-use Rattle.definitions.specs.Tree.{Tree, Ends, Does}
+use Rattle.vocabulary.specs.declared.calls.Answer.{Answer}
+use Rattle.definitions.specs.Tree.{Tree, reply_of}
+use Rattle.definitions.specs.Path.{follow}
+use Rattle.definitions.specs.Parts.{Turn}
+use Rattle.plan_steps.specs.declared.step.Step.{Step}
+use Rattle.plan_steps.specs.declared.step.Next.{Next}
+use Rattle.plan_steps.specs.Steps.{edge_for, is_within}
 use Rattle.rollback_plan.specs.declared.cursor.Cursor.{Cursor}
-use Rattle.rollback_plan.specs.declared.step.Step.{Step}
-use Rattle.rollback_plan.specs.declared.step.Next.{Next}
-use Rattle.rollback_plan.specs.Steps.{tree_behind, tree_here, is_within}
+use Rattle.rollback_plan.specs.Places.{tree_at, turn_of, left_at, led_at, begins, is_both}
 
--- the rest of the tree
+-- the rest of the tree, where the two masters take these turns
+abbrev pub rest_under : Cursor → List Turn → Tree
+rest_under c turns = tree_at c.plan.now.steps.items c.plan.now.parts c.at turns
+
+-- the rest where the new master goes on until its part has ended
 abbrev pub rest_of : Cursor → Tree
-rest_of c = tree_behind c.plan.now.steps.items c.at
+rest_of c = rest_under c []
 
--- the tree of a step of its plan
-abbrev pub tree_here_of : Cursor → Step → Tree
-tree_here_of c s = tree_here c.plan.now.steps.items s
+abbrev pub left_after : Cursor → List Turn → List Turn
+left_after c turns = left_at c.at turns
 
--- the tree to which an edge of its plan leads
-abbrev pub tree_to : Cursor → Next → Tree
-tree_to c next = tree_behind c.plan.now.steps.items next
+abbrev pub led_to : Cursor → Turn → Next → List Turn → Tree
+led_to c turn next turns = led_at c.plan.now.steps.items c.plan.now.parts c.at turn next turns
 
--- an edge leads to a place of its plan, or to an end
-abbrev pub is_within_plan : Cursor → Next → Bool
-is_within_plan c next = is_within c.plan.now.steps.items next
+-- A turn is the first of the turns. Only where both parts go on does it make a difference.
+abbrev pub IsTurn : Cursor → Turn → List Turn → Type 0
+IsTurn c turn turns = is_both c.at ≡ true → turn_of turns ≡ turn
 
--- a step's edges lead to places of its plan, or to ends
-abbrev pub leads_within : Cursor → Step → Bool
-leads_within c s = list_all (λ e. is_within_plan c e.next) s.edges.items
-
--- the end that a tree is
-abbrev pub end_of : Tree → Option End
-end_of (Ends end) = Some end
-end_of (Does by order set branches) = None
-
-abbrev pub IsEnd : Tree → Type 0
-IsEnd (Ends end) = Unit {0}
-IsEnd (Does by order set branches) = ⊥
+-- A step is next at a turn: the rest begins with it, and its edges lead on.
+pub record IsNextStep (c : Cursor) (turn : Turn) (s : Step) : Type 0 where
+  pub first : (turns : List Turn) → IsTurn c turn turns → begins (rest_under c turns) s
+  pub leads : (turns : List Turn) (answer : Answer) → IsTurn c turn turns → follow (Some (rest_under c turns)) answer ≡ option_map (λ e. (e.note, led_to c turn e.next (left_after c turns))) (edge_for s.edges.items (reply_of s.set answer))
+  pub within : list_all (λ e. is_within c.plan.now.steps.items e.next) s.edges.items ≡ true

@@ -1,16 +1,17 @@
 -- What a contract sees of a draft.
-use Rattle.std.specs.Prelude.{◌≡◌, ℕ, ◌+◌, ◌<◌, ◌≤◌, Bool, List, [], ◌++◌, length, nat_lt, Result, OnOk, IsErrOf}
+use Rattle.std.specs.Prelude.{◌≡◌, ℕ, ◌+◌, ◌<◌, ◌≤◌, Bool, true, false, List, [], ◌++◌, length, nat_lt, Result, OnOk, IsErrOf}
 use Rattle.std.specs.List.{list_all}
-use Rattle.definitions.specs.Tree.{Tree, Branches}
-use Rattle.rollback_plan.specs.declared.step.PlanEdge.{PlanEdge}
-use Rattle.rollback_plan.specs.declared.step.Step.{Step}
-use Rattle.rollback_plan.specs.declared.step.Place.{Place}
-use Rattle.rollback_plan.specs.declared.step.Next.TheVariants.{To}
+use Rattle.definitions.specs.Tree.{Tree, Branches, is_fit}
+use Rattle.plan_steps.specs.declared.parts.Parts.{Parts}
+use Rattle.plan_steps.specs.declared.step.PlanEdge.{PlanEdge}
+use Rattle.plan_steps.specs.declared.step.Step.{Step}
+use Rattle.plan_steps.specs.declared.step.Place.{Place}
+use Rattle.plan_steps.specs.declared.step.Next.TheVariants.{To}
 use Rattle.rollback_plan.specs.declared.draft.Draft.{Draft}
 use Rattle.rollback_plan.specs.declared.draft.DraftRefusal.{DraftRefusal}
 use Rattle.rollback_plan.specs.declared.draft.DraftRefusal.TheVariants.{TooLarge}
 use Rattle.rollback_plan.specs.declared.draft.TheConstants.{MOST_STEPS}
-use Rattle.rollback_plan.specs.Steps.{trees_after, branches_among, tree_among}
+use Rattle.plan_steps.specs.Steps.{trees_after, branches_among, tree_among}
 
 -- its steps in order
 abbrev pub steps_in : Draft → List Step
@@ -53,3 +54,11 @@ branches_in d edges = branches_among 0 (trees_of d) edges
 -- each of these is a place of the draft
 abbrev pub are_places : Draft → List Place → Bool
 are_places d places = list_all (λ place. nat_lt place.0 (length (trees_of d))) places
+
+-- the trees of a plan with parts are fit, from where nothing is lacking
+pub record AreFit (d : Draft) (first : Place) (parts : Parts) : Type 0 where
+  pub before : is_fit false (tree_at d first) ≡ true
+  pub new : is_fit false (tree_at d parts.new) ≡ true
+  pub old : is_fit false (tree_at d parts.old) ≡ true
+  pub ready : is_fit false (tree_at d parts.ready) ≡ true
+  pub back : is_fit false (tree_at d parts.back) ≡ true

@@ -1,11 +1,7 @@
-pub mod Batches
-pub mod WorkerCalls
-pub mod Compact
-pub mod Steps
 pub mod Drafts
 pub mod Back
 pub mod Ways
 pub mod Plans
+pub mod Places
 pub mod Cursors
 pub mod Bounds
-pub mod Numbering

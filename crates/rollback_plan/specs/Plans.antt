@@ -1,19 +1,34 @@
 -- What a contract sees of a plan.
-use Rattle.std.specs.Prelude.{ℕ, List}
+use Rattle.std.specs.Prelude.{ℕ, List, [], Option}
 use Rattle.definitions.specs.Tree.{Tree}
+use Rattle.definitions.specs.Parts.{Turn}
 use Rattle.vocabulary.specs.declared.plans.PidNote.{PidNote}
 use Rattle.vocabulary.specs.declared.plans.Sides.{Sides}
+use Rattle.plan_steps.specs.declared.parts.Parts.{Parts}
+use Rattle.plan_steps.specs.declared.step.Step.{Step}
+use Rattle.plan_steps.specs.Steps.{trees_from}
+use Rattle.plan_steps.specs.Woven.{woven, length_in}
 use Rattle.rollback_plan.specs.declared.plan.Plan.{Plan}
-use Rattle.rollback_plan.specs.declared.step.Step.{Step}
-use Rattle.rollback_plan.specs.Steps.{first_tree, trees_from}
 
 -- its steps in order
 abbrev pub steps_of : Plan → List Step
 steps_of p = p.steps.items
 
--- the tree that a plan stands for
+-- the places of its parts, where it has parts
+abbrev pub parts_of : Plan → Option Parts
+parts_of p = p.parts
+
+-- the tree that a plan stands for, where the two masters take these turns
+abbrev pub tree_under : Plan → List Turn → Tree
+tree_under p turns = woven p.steps.items p.parts turns
+
+-- the tree that it stands for where the new master goes on until its part has ended
 abbrev pub tree_of : Plan → Tree
-tree_of p = first_tree p.steps.items
+tree_of p = tree_under p []
+
+-- the number of steps on its longest path; with parts, the sum over its four stretches
+abbrev pub length_of : Plan → ℕ
+length_of p = length_in p.steps.items p.parts
 
 -- the note of the record that it was planned for
 abbrev pub note_of : Plan → PidNote

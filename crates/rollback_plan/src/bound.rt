@@ -6,9 +6,8 @@ ghost use Rattle.definitions.specs.Path.{ready_after, lacking_after, lacked_by, 
 ghost use Rattle.definitions.specs.Path as path;
 ghost use Rattle.rollback_plan.specs.Bounds.{newest_of, lacking_in, lacked_in};
 
-use crate::Step;
-use crate::batch::fork_of;
 use listener_set::Numbers;
+use plan_steps::{Step, fork_of};
 use vocabulary::{Actor, Answer, Call, Lack, Order};
 
 /// The last census, and what the last census of each master lacked of its step's set. A plan has

@@ -1,11 +1,10 @@
 //! A plan that is built from its ends up.
 ghost use Rattle.std.specs.Prelude.{◌≡◌, ◌++◌, ◌∷◌, [], ◌+◌, ◌<◌, ◌≤◌, ◌↔◌, length, IsTrue, IfOk, IsErrOf, OnOk, OnErr, vec_len, vec_capacity, take};
 ghost use Rattle.definitions.specs.Tree.{Does};
-ghost use Rattle.rollback_plan.specs.Steps.{step_tree, leads_back, all_lead_back, all_below};
+ghost use Rattle.plan_steps.specs.Steps.{step_tree, leads_back, all_lead_back, all_below};
 
-use crate::compact::{CompactOrder, CompactSet};
-use crate::{Place, PlanEdge, Step};
 use listener_set::Numbers;
+use plan_steps::{Place, PlanEdge, Step};
 use std::alloc::{AllocError, AllocFailed, Global};
 use thiserror::Error;
 use vocabulary::{Actor, Order};
@@ -119,13 +118,7 @@ impl Draft {
             return Err(DraftRefusal::TooLarge);
         }
         let alloc = *self.steps.allocator();
-        let edges = Vec::from_slice(alloc, edges)?;
-        self.step(Step {
-            by,
-            order: CompactOrder::new(alloc, &order)?,
-            set: CompactSet::new(alloc, set)?,
-            edges,
-        })
+        self.step(Step::new(alloc, by, &order, set, edges)?)
     }
 
     /// Takes all steps out but the first so many.

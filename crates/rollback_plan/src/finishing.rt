@@ -1,22 +1,19 @@
 //! A plan out of a draft.
-ghost use Rattle.std.specs.Prelude.{◌≡◌, ◌+◌, ◌≤◌, ◌<◌, ◌^◌, IfOk, IsTrue, false, length, map, nat_eq};
-ghost use Rattle.std.specs.List.{list_all, IsDistinct};
-ghost use Rattle.definitions.specs.Tree.{is_fit};
-ghost use Rattle.rollback_plan.specs.Steps.{all_below, all_lead_back};
-ghost use Rattle.rollback_plan.specs.Numbering.{edge_numbered, all_within};
-ghost use Rattle.rollback_plan.specs.Numbering.{IsOrder, CanBeOrder, IsInOrder, AreNumbers, IsNumbered, AllNumbered, IsNumbering};
+ghost use Rattle.std.specs.Prelude.{◌≡◌, ◌<◌, ◌≤◌, List, None, IfOk, IsTrue, false, length};
+ghost use Rattle.definitions.specs.Parts.{Turn};
+ghost use Rattle.definitions.specs.Tree.{is_fit, height};
+ghost use Rattle.plan_steps.specs.Numbering.{IsNumbering};
+ghost use Rattle.plan_steps.specs.Stretches.{AreParts, longest_at};
+ghost use Rattle.plan_steps.specs.Woven.{woven_at, IsNumberedInParts};
 
-use crate::layers::by_depth;
-use crate::numbering::{depths_from, heights_of};
-use crate::walking::walk;
-use crate::{Draft, Next, Place, Plan, PlanEdge, Step};
-use std::alloc::{AllocError, Global};
-use std::mem;
+use crate::{Draft, Plan};
+use plan_steps::{Parts, Place, number_in_parts, number_steps};
+use std::alloc::AllocError;
 use vocabulary::{PidNote, Sides};
 
 impl Draft {
-    ghost use Rattle.rollback_plan.specs.Drafts.{steps_in, trees_of, tree_at};
-    ghost use Rattle.rollback_plan.specs.Plans.{steps_of, tree_of, note_of, sides_told, text_of, trees_in};
+    ghost use Rattle.rollback_plan.specs.Drafts.{steps_in, trees_of, tree_at, AreFit};
+    ghost use Rattle.rollback_plan.specs.Plans.{steps_of, tree_of, tree_under, parts_of, length_of, note_of, sides_told, text_of, trees_in};
 
     /// The plan that begins at a place. Steps that the first one doesn't lead to are not
     /// in it; the others are numbered from 1 by the greatest number of steps on a path to them, equal ones in
@@ -35,118 +32,56 @@ impl Draft {
         ensures sides { IfOk result (λ plan. sides_told plan ≡ sides.now) }
         ensures text { IfOk result (λ plan. text_of plan ≡ text.items) }
         ensures few { IfOk result (λ plan. length (trees_in plan) ≤ length (trees_of self)) }
+        ensures longest { IfOk result (λ plan. length_of plan ≡ height (tree_of plan)) }
+        ensures alone { IfOk result (λ plan. parts_of plan ≡ None) }
         ensures numbered { IfOk result (λ plan. IsNumbering (steps_in self) first.0 (steps_of plan)) }
     {
         let Draft { steps } = self;
         let alloc = *steps.allocator();
-        let heights = heights_of(alloc, &steps)?;
-        let order = order_from(alloc, &steps, &[first.0])?;
-        let plan = in_order(alloc, steps, &order)?;
+        let numbered = number_steps(alloc, steps, first)?;
         Ok(Plan {
-            steps: plan,
-            longest: heights[first.0 as usize],
+            steps: numbered.steps,
+            longest: numbered.longest,
+            parts: None,
             note,
             sides: *sides,
             text,
         })
     }
-}
 
-/// The places that a walk to some places meets, by their depth.
-fn order_from(alloc: Global, steps: &[Step], roots: &[u32]) -> Result<Vec<u32>, AllocError>
-    requires few { length steps.now ≤ 65536 }
-    requires back { IsTrue (all_lead_back 0 steps.now) }
-    requires roots { IsTrue (all_within (length steps.now) roots.now) }
-    ensures { IfOk result (λ order. IsOrder steps.now roots.now order.items) }
-{
-    let depths = depths_from(alloc, steps, roots)?;
-    let met = walk(alloc, steps, roots)?;
-    by_depth(alloc, &met, &depths)
-}
-
-/// The steps of a draft in this order, with their places numbered.
-fn in_order(alloc: Global, steps: Vec<Step>, order: &[u32]) -> Result<Vec<Step>, AllocError>
-    requires order { CanBeOrder (length steps.items) order.now }
-    requires back { IsTrue (list_all (λ s. all_below (length steps.items) s.edges.items) steps.items) }
-    ensures { IfOk result (λ plan. IsInOrder steps.items order.now plan.items) }
-{
-    let numbers = numbers_of(alloc, order, steps.len())?;
-    numbered(alloc, steps, order, &numbers)
-}
-
-/// The number, from 1, that each place in the order gets.
-fn numbers_of(alloc: Global, order: &[u32], places: usize) -> Result<Vec<u32>, AllocError>
-    requires few { length order.now < 2 ^ 32 }
-    requires within { IsTrue (all_within places order.now) }
-    ensures { IfOk result (λ numbers. AreNumbers order.now places numbers.items) }
-{
-    let mut numbers = vec![in alloc; 0; places]?;
-    for (i, place) in order.iter().enumerate() {
-        numbers[*place as usize] = i as u32 + 1;
+    /// The plan that begins at a place and has parts of two masters. It stands for the two trees at their places, woven
+    /// by whatever turns the masters take. Four stretches are numbered one after another: the steps that lead to the
+    /// parts, the new master's part, the old one's, and the rest.
+    pub fn finish_in_parts(
+        self,
+        first: Place,
+        parts: &Parts,
+        note: PidNote,
+        sides: &Sides,
+        text: Vec<u8>,
+    ) -> Result<Plan, AllocError>
+        requires made { first.0 < length (trees_of self) }
+        requires parts { AreParts (steps_in self) first.0 parts.now }
+        requires fit { AreFit self first parts.now }
+        ensures tree { IfOk result (λ plan. (turns : List Turn) → tree_under plan turns ≡ woven_at (steps_in self) first.0 parts.now turns) }
+        ensures note { IfOk result (λ plan. note_of plan ≡ note) }
+        ensures sides { IfOk result (λ plan. sides_told plan ≡ sides.now) }
+        ensures text { IfOk result (λ plan. text_of plan ≡ text.items) }
+        ensures few { IfOk result (λ plan. length (trees_in plan) ≤ length (trees_of self)) }
+        ensures longest { IfOk result (λ plan. length_of plan ≡ longest_at (steps_in self) first.0 parts.now) }
+        ensures numbered { IfOk result (λ plan. IsNumberedInParts (steps_in self) first.0 parts.now (steps_of plan) (parts_of plan)) }
+    {
+        let Draft { steps } = self;
+        let alloc = *steps.allocator();
+        let numbered = number_in_parts(alloc, steps, first, parts)?;
+        let sides = *sides;
+        Ok(Plan {
+            steps: numbered.steps,
+            longest: numbered.longest,
+            parts: Some(numbered.parts),
+            note,
+            sides,
+            text,
+        })
     }
-    Ok(numbers)
-}
-
-/// The steps in this order, taken out of a draft, with these numbers for their places.
-fn numbered(
-    alloc: Global,
-    mut steps: Vec<Step>,
-    order: &[u32],
-    numbers: &[u32],
-) -> Result<Vec<Step>, AllocError>
-    requires within { IsTrue (all_within (length steps.items) order.now) }
-    requires distinct { IsDistinct nat_eq order.now }
-    requires numbers { length numbers.now ≡ length steps.items }
-    requires back { IsTrue (list_all (λ s. all_below (length steps.items) s.edges.items) steps.items) }
-    ensures { IfOk result (λ plan. AllNumbered numbers.now steps.items order.now plan.items) }
-{
-    let mut plan = Vec::with_capacity(alloc, order.len())?;
-    for place in order {
-        let step = &mut steps[*place as usize];
-        plan.push(take_numbered(alloc, step, numbers)?)?;
-    }
-    Ok(plan)
-}
-
-/// This step, with these numbers for its places. Its edges are taken out of it: they are gone before those of the
-/// next one are numbered, so that no more than one step's stand in memory twice.
-fn take_numbered(alloc: Global, step: &mut Step, numbers: &[u32]) -> Result<Step, AllocError>
-    requires { IsTrue (all_below (length numbers.now) step.old.edges.items) }
-    ensures { IfOk result (IsNumbered numbers.now step.old) }
-{
-    let edges = mem::replace(&mut step.edges, Vec::new(alloc));
-    Ok(Step {
-        by: step.by,
-        order: step.order.copy(alloc)?,
-        set: step.set.copy(alloc)?,
-        edges: edges_numbered(alloc, &edges, numbers)?,
-    })
-}
-
-/// These edges, with these numbers for their places.
-fn edges_numbered(
-    alloc: Global,
-    edges: &[PlanEdge],
-    numbers: &[u32],
-) -> Result<Vec<PlanEdge>, AllocError>
-    requires { IsTrue (all_below (length numbers.now) edges.now) }
-    ensures { IfOk result (λ numbered. numbered.items ≡ map (edge_numbered numbers.now) edges.now) }
-{
-    let mut numbered = Vec::with_capacity(alloc, edges.len())?;
-    for edge in edges {
-        let next = match edge.next {
-            Next::To(place) => Next::To(Place(numbers[place.0 as usize])),
-            Next::Over(end) => Next::Over(end),
-            Next::Both(new, old) => Next::Both(
-                Place(numbers[new.0 as usize]),
-                Place(numbers[old.0 as usize]),
-            ),
-        };
-        numbered.push(PlanEdge {
-            replies: edge.replies,
-            note: edge.note,
-            next,
-        })?;
-    }
-    Ok(numbered)
 }

@@ -5,25 +5,16 @@
 //! only the last census can name.
 #![tactic(auto)]
 
-mod batch;
 mod bound;
-mod compact;
 mod cursor;
 mod draft;
 mod finishing;
-mod layers;
-mod numbering;
 mod plan;
 mod settling;
-mod step;
-mod walking;
-mod worker_call;
 
-pub use batch::{Batch, Errand};
 pub use bound::Bound;
 pub use cursor::Cursor;
 pub use draft::{Draft, DraftRefusal, MOST_STEPS};
 pub use plan::Plan;
+pub use plan_steps::{Batch, Errand, Next, Place, PlanEdge, Step, WorkerCall};
 pub use settling::{Undone, WaysBack};
-pub use step::{Next, Place, PlanEdge, Step};
-pub use worker_call::WorkerCall;

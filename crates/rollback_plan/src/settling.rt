@@ -4,8 +4,8 @@ ghost use Rattle.vocabulary.specs.declared.plans.Side.TheVariants.{Old};
 ghost use Rattle.definitions.specs.Tree.{Ends};
 ghost use Rattle.definitions.specs.Plans as plans;
 ghost use Rattle.rollback_plan.specs.declared.draft.TheConstants.{MOST_STEPS};
-ghost use Rattle.rollback_plan.specs.Steps.{is_below, tree_among};
-ghost use Rattle.rollback_plan.specs.Batches.{calls_of, size_of};
+ghost use Rattle.plan_steps.specs.Steps.{is_below, tree_among};
+ghost use Rattle.plan_steps.specs.Batches.{calls_of, size_of};
 ghost use Rattle.rollback_plan.specs.Back.{told_back, quits_back, closes_back, AreMade};
 
 use crate::{Batch, Draft, DraftRefusal, Errand, Next, Place, PlanEdge};

@@ -17,5 +17,7 @@ mod processes;
 mod recorded;
 #[cfg(test)]
 mod setup;
+#[cfg(test)]
+mod silent;
 
 pub use recorded::{FamilyCall, Recorded};

@@ -4,6 +4,7 @@ use child_edge::Edge;
 use child_family::Family;
 use child_processes::OsFamily;
 use listener_set::Numbers;
+use log::sink::Discard;
 use std::alloc::{AllocError, Global};
 use std::test::Fail;
 use vocabulary::{Answer, Call};
@@ -76,7 +77,7 @@ pub(crate) fn edge_on<'a>(
     rt: &'a HostRuntime,
     word: &str,
     instead: &str,
-) -> Result<Edge<OsFamily<&'a HostRuntime>>, Fail> {
+) -> Result<Edge<OsFamily<&'a HostRuntime, Discard>>, Fail> {
     let alloc = rt.alloc();
     let command = worker(alloc, word, instead)?;
     let family = OsFamily::new(alloc, rt, "none", command.as_slice())?;

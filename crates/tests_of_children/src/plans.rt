@@ -29,7 +29,7 @@ fn carry_out(
     if edge.room() < longest {
         return Ok((Outcome::Lost, None));
     }
-    let report = execute(&plan, edge, &mut log);
+    let report = execute(&plan, edge, &[], &mut log);
     Ok((report.outcome, known.after(target, &report, known.pid)))
 }
 

@@ -13,17 +13,19 @@ use Rattle.word_runner.specs.declared.block.Body.{Body}
 use Rattle.word_runner.specs.declared.block.Body.TheVariants as body
 use Rattle.plain_text.specs.Lines.{lines_of}
 use Rattle.call_text.specs.ReportText.{report_text, entry_line, entries_text}
-use Rattle.call_text.specs.declared.refusal.TextRefusal.{TextRefusal}
-use Rattle.call_text.specs.declared.refusal.TextRefusal.TheVariants as text
+use Rattle.lines_text.specs.declared.refusal.TextRefusal.{TextRefusal}
+use Rattle.lines_text.specs.declared.refusal.TextRefusal.TheVariants as text
+use Rattle.lines_text.specs.Reading.{unless_refused, reading_of}
+use Rattle.lines_text.proofs.Lines.{Gives, gives_line}
 use Rattle.plain_text.proofs.CutTexts.{lacks}
 use Rattle.transcript.specs.EntryReading.{IsEntry}
 use Rattle.transcript.specs.BlockLine.{Line, Heard, Unread, Nothing, Refused, Made, Ended, line_text, IsLine}
 use Rattle.transcript.specs.LineReading.{line_of}
-use Rattle.transcript.specs.Reading.{last_count, with_ready, Opened, Reading, begun, if_first, fault_of, if_fitting, if_formed, ran, with_line, after_line, finished, reading_of, blocks_of}
+use Rattle.transcript.specs.Reading.{last_count, with_ready, Opened, Reading, begun, if_first, fault_of, if_fitting, if_formed, ran, with_line, taken, ended, finished, blocks_of}
 use Rattle.transcript.specs.Block.{body_text, block_text, transcript_text, IsBody, IsBlock, AreBlocks, body_read, block_read, IsTextOf}
 use Rattle.transcript.proofs.OneLine.{line_lacks}
 use Rattle.transcript.proofs.BlockLines.{block_line_reads}
-use Rattle.plain_text.proofs.TextLines.{ended_lines, lines_ended, lines_line, lines_lack}
+use Rattle.plain_text.proofs.TextLines.{ended_lines, lines_ended, lines_lack}
 
 abbrev AreEntries : List Entry → Type 0
 AreEntries es = AllByRecursion IsEntry es
@@ -135,10 +137,10 @@ step number v r is fits so = at r.current v is fits so.0 so.1
 no_error : {A : Type 0} (r : TextRefusal) (blocks : List Block) → Err r ≡ Ok blocks → A
 no_error {A = A} r blocks e = let err : Result (List Block) TextRefusal = Err r in let no : err ≡ Ok blocks = e in absurd cc
 
-read_all : (lines : List (List ℕ)) (number : ℕ) (r : Reading) (blocks : List Block) → reading_of number r lines ≡ Ok blocks → IsSoFar r → AreBlocks blocks × (text_so_far r ++ ended_lines lines ≡ transcript_text blocks)
+read_all : (lines : List (List ℕ)) (number : ℕ) (r : Reading) (blocks : List Block) → reading_of taken finished number r lines ≡ Ok blocks → IsSoFar r → AreBlocks blocks × (text_so_far r ++ ended_lines lines ≡ transcript_text blocks)
 read_all [] number r blocks e so = at r.current e
   where
-    at : (c : Option Opened) → finished number r.done c ≡ Ok blocks → AreBlocks blocks × ((transcript_text r.done ++ current_text c) ++ [] ≡ transcript_text blocks)
+    at : (c : Option Opened) → ended number r.done c ≡ Ok blocks → AreBlocks blocks × ((transcript_text r.done ++ current_text c) ++ [] ≡ transcript_text blocks)
     at None e =
         let same : Ok r.done ≡ Ok blocks = e in
         let is : r.done ≡ blocks = cc in
@@ -146,13 +148,17 @@ read_all [] number r blocks e so = at r.current e
     at (Some o) e = no_error (text.Line number) blocks e
 read_all (line ∷ lines) number r blocks e so = formed (line_of line) refl e (read_all lines (number + 1))
   where
-    formed : (l : Option Line) → line_of line ≡ l → after_line (if_formed number r.current l) r (λ next. reading_of (number + 1) next lines) ≡ Ok blocks →
-        ((r : Reading) (blocks : List Block) → reading_of (number + 1) r lines ≡ Ok blocks → IsSoFar r → AreBlocks blocks × (text_so_far r ++ ended_lines lines ≡ transcript_text blocks)) →
+    -- the rest, after a line or its refusal
+    then : Result Line TextRefusal → Result (List Block) TextRefusal
+    then one = unless_refused (unless_refused one (λ v. Ok (with_line v r))) (λ next. reading_of taken finished (number + 1) next lines)
+
+    formed : (l : Option Line) → line_of line ≡ l → then (if_formed number r.current l) ≡ Ok blocks →
+        ((r : Reading) (blocks : List Block) → reading_of taken finished (number + 1) r lines ≡ Ok blocks → IsSoFar r → AreBlocks blocks × (text_so_far r ++ ended_lines lines ≡ transcript_text blocks)) →
         AreBlocks blocks × (text_so_far r ++ ended_lines (line ∷ lines) ≡ transcript_text blocks)
     formed None k e again = no_error (text.Line number) blocks e
     formed (Some v) k e again = fitting (fault_of number v r.current) refl e
       where
-        fitting : (f : Option TextRefusal) → fault_of number v r.current ≡ f → after_line (if_fitting v f) r (λ next. reading_of (number + 1) next lines) ≡ Ok blocks → AreBlocks blocks × (text_so_far r ++ ended_lines (line ∷ lines) ≡ transcript_text blocks)
+        fitting : (f : Option TextRefusal) → fault_of number v r.current ≡ f → then (if_fitting v f) ≡ Ok blocks → AreBlocks blocks × (text_so_far r ++ ended_lines (line ∷ lines) ≡ transcript_text blocks)
         fitting (Some refusal) j e = no_error refusal blocks e
         fitting None j e =
             let got = block_line_reads.found line v k in
@@ -171,16 +177,17 @@ blocks_found written blocks e =
     (got.0, elim (lines_ended written) [ inl h ↦ inl (h ∙ got.1) | inr h ↦ inr (h ∙ got.1) ])
 
 -- ---- whatever has the text is read
--- what is read of a text from there on, whatever the number of its first line
-abbrev Gives : Reading → List ℕ → List Block → Type 0
-Gives r written blocks = (number : ℕ) → reading_of number r (lines_of written) ≡ Ok blocks
+abbrev Goes : Reading → List ℕ → List Block → Type 0
+Goes = Gives taken finished
 
-gives_line : (r : Reading) (v : Line) (rest : List ℕ) (blocks : List Block) → IsLine v → ((number : ℕ) → fault_of number v r.current ≡ None) → Gives (with_line v r) rest blocks → Gives r (line_text v ++ 10 ∷ rest) blocks
-gives_line r v rest blocks is fits more number =
-    ap (λ lines. reading_of number r lines) (lines_line (line_text v) rest (line_lacks v is))
-    ∙ ap (λ o. after_line (if_formed number r.current o) r (λ next. reading_of (number + 1) next (lines_of rest))) (block_line_reads.only v is)
-    ∙ ap (λ f. after_line (if_fitting v f) r (λ next. reading_of (number + 1) next (lines_of rest))) (fits number)
-    ∙ more (number + 1)
+-- a line that may stand there, and what the rest gives
+goes_line : (r : Reading) (v : Line) (rest : List ℕ) (blocks : List Block) → IsLine v → ((number : ℕ) → fault_of number v r.current ≡ None) → Goes (with_line v r) rest blocks → Goes r (line_text v ++ 10 ∷ rest) blocks
+goes_line r v rest blocks is fits more = gives_line taken finished r (with_line v r) (line_text v) rest blocks (line_lacks v is) (λ number. takes number) more
+  where
+    takes : (number : ℕ) → taken number r (line_text v) ≡ Ok (with_line v r)
+    takes number =
+        ap (λ o. unless_refused (if_formed number r.current o) (λ line. Ok (with_line line r))) (block_line_reads.only v is)
+        ∙ ap (λ f. unless_refused (if_fitting v f) (λ line. Ok (with_line line r))) (fits number)
 
 abbrev within : List Block → Word → List Entry → Reading
 within done word made = record { done = done; current = Some (record { word = word; made = made }) }
@@ -189,57 +196,57 @@ within done word made = record { done = done; current = Some (record { word = wo
 split_line : (line rest : List ℕ) → (line ++ 10 ∷ []) ++ rest ≡ line ++ 10 ∷ rest
 split_line line rest = append_assoc line (10 ∷ []) rest
 
-gives_entries : (es made : List Entry) (done : List Block) (word : Word) (rest : List ℕ) (blocks : List Block) (n : ℕ) → n ≡ length made + 1 → AreEntries es → length made + length es < 2 ^ 32 →
-    Gives (within done word (made ++ es)) rest blocks → Gives (within done word made) (entries_text n es ++ rest) blocks
-gives_entries [] made done word rest blocks n is are small more = subst (λ es. Gives (within done word es) rest blocks) (append-nil made) more
-gives_entries (e ∷ es) made done word rest blocks n is are small more =
+goes_entries : (es made : List Entry) (done : List Block) (word : Word) (rest : List ℕ) (blocks : List Block) (n : ℕ) → n ≡ length made + 1 → AreEntries es → length made + length es < 2 ^ 32 →
+    Goes (within done word (made ++ es)) rest blocks → Goes (within done word made) (entries_text n es ++ rest) blocks
+goes_entries [] made done word rest blocks n is are small more = subst (λ es. Goes (within done word es) rest blocks) (append-nil made) more
+goes_entries (e ∷ es) made done word rest blocks n is are small more =
     let number : n < 2 ^ 32 = omega (arith, is, small) in
     let count : length (made ++ e ∷ []) ≡ length made + 1 = length-append made (e ∷ []) in
     let right : eqb n (length made + 1) ≡ true = grind (arith, nat_tests) in
     let later =
-    gives_entries es (made ++ e ∷ []) done word rest blocks (n + 1) (omega (arith, is, count)) are.1 (omega (arith, small, count))
-    (subst (λ es. Gives (within done word es) rest blocks) (sym (append_assoc made (e ∷ []) es)) more) in
+    goes_entries es (made ++ e ∷ []) done word rest blocks (n + 1) (omega (arith, is, count)) are.1 (omega (arith, small, count))
+    (subst (λ es. Goes (within done word es) rest blocks) (sym (append_assoc made (e ∷ []) es)) more) in
     let whole : (entry_line n e ++ 10 ∷ []) ++ entries_text (n + 1) es ++ rest ≡ entry_line n e ++ 10 ∷ (entries_text (n + 1) es ++ rest) =
     append_assoc (entry_line n e ++ 10 ∷ []) (entries_text (n + 1) es) rest ∙ split_line (entry_line n e) (entries_text (n + 1) es ++ rest) in
-    subst (λ t. Gives (within done word made) t blocks) (sym whole)
-    (gives_line (within done word made) (Made n e) (entries_text (n + 1) es ++ rest) blocks (number, are.0) (λ number. ap (λ b. cond b None (Some (text.Order number))) right) later)
+    subst (λ t. Goes (within done word made) t blocks) (sym whole)
+    (goes_line (within done word made) (Made n e) (entries_text (n + 1) es ++ rest) blocks (number, are.0) (λ number. ap (λ b. cond b None (Some (text.Order number))) right) later)
 
-gives_body : (b : Body) (done : List Block) (word : Word) (rest : List ℕ) (blocks : List Block) → IsBody b → Gives (record { done = done ++ block.Heard word (body_read b) ∷ []; current = None }) rest blocks → Gives (within done word []) (body_text b ++ rest) blocks
-gives_body body.Nothing done word rest blocks is more = gives_line (within done word []) Nothing rest blocks tt (λ number. refl) more
-gives_body (body.Refused code) done word rest blocks is more =
-    subst (λ t. Gives (within done word []) t blocks) (sym (split_line (codes "refused " ++ code) rest))
-    (gives_line (within done word []) (Refused code) rest blocks is (λ number. refl) more)
-gives_body (body.Ran log report) done word rest blocks is more =
+goes_body : (b : Body) (done : List Block) (word : Word) (rest : List ℕ) (blocks : List Block) → IsBody b → Goes (record { done = done ++ block.Heard word (body_read b) ∷ []; current = None }) rest blocks → Goes (within done word []) (body_text b ++ rest) blocks
+goes_body body.Nothing done word rest blocks is more = goes_line (within done word []) Nothing rest blocks tt (λ number. refl) more
+goes_body (body.Refused code) done word rest blocks is more =
+    subst (λ t. Goes (within done word []) t blocks) (sym (split_line (codes "refused " ++ code) rest))
+    (goes_line (within done word []) (Refused code) rest blocks is (λ number. refl) more)
+goes_body (body.Ran log report) done word rest blocks is more =
     let entries : List ℕ = entries_text 1 log.entries in
     let whole : (entries ++ report_text report ++ 10 ∷ []) ++ rest ≡ entries ++ (report_text report ++ 10 ∷ rest) =
     append_assoc (entries ++ report_text report) (10 ∷ []) rest ∙ append_assoc entries (report_text report) (10 ∷ rest) in
     let ready : report.ready ≡ last_count log.entries = is.2.2 in
     let kept : ran (with_ready [] report) (record { word = word; made = log.entries }) ≡ body.Ran (record { entries = log.entries; room = 0 }) report =
     ap (λ ns. body.Ran (record { entries = log.entries; room = 0 }) (with_ready ns report)) (sym ready) in
-    subst (λ t. Gives (within done word []) t blocks) (sym whole)
-    (gives_entries log.entries [] done word (report_text report ++ 10 ∷ rest) blocks 1 refl is.0 (let small : length log.entries < 2 ^ 32 = is.1 in omega (arith, small))
-    (gives_line (within done word log.entries) (Ended (with_ready [] report)) rest blocks (is.2.0, is.2.1, refl) (λ number. refl)
-    (subst (λ b. Gives (record { done = done ++ block.Heard word b ∷ []; current = None }) rest blocks) (sym kept) more)))
+    subst (λ t. Goes (within done word []) t blocks) (sym whole)
+    (goes_entries log.entries [] done word (report_text report ++ 10 ∷ rest) blocks 1 refl is.0 (let small : length log.entries < 2 ^ 32 = is.1 in omega (arith, small))
+    (goes_line (within done word log.entries) (Ended (with_ready [] report)) rest blocks (is.2.0, is.2.1, refl) (λ number. refl)
+    (subst (λ b. Goes (record { done = done ++ block.Heard word b ∷ []; current = None }) rest blocks) (sym kept) more)))
 
-gives_blocks : (bs done : List Block) → AreBlocks bs → Gives (record { done = done; current = None }) (transcript_text bs) (done ++ map block_read bs)
-gives_blocks [] done are = λ number. ap (λ bs. Ok bs) (sym (append-nil done))
-gives_blocks (block.Unread refusal ∷ bs) done are =
+goes_blocks : (bs done : List Block) → AreBlocks bs → Goes (record { done = done; current = None }) (transcript_text bs) (done ++ map block_read bs)
+goes_blocks [] done are = λ number. ap (λ bs. Ok bs) (sym (append-nil done))
+goes_blocks (block.Unread refusal ∷ bs) done are =
     let between : Reading = record { done = done; current = None } in
-    let rest = gives_blocks bs (done ++ block.Unread refusal ∷ []) are.1 in
-    subst (λ t. Gives between t (done ++ map block_read (block.Unread refusal ∷ bs))) (sym (split_line (codes "unread " ++ refusal_code refusal) (transcript_text bs)))
-    (gives_line between (Unread refusal) (transcript_text bs) (done ++ map block_read (block.Unread refusal ∷ bs)) are.0 (λ number. refl)
-    (subst (λ all. Gives (record { done = done ++ block.Unread refusal ∷ []; current = None }) (transcript_text bs) all) (append_assoc done (block.Unread refusal ∷ []) (map block_read bs)) rest))
-gives_blocks (block.Heard word b ∷ bs) done are =
+    let rest = goes_blocks bs (done ++ block.Unread refusal ∷ []) are.1 in
+    subst (λ t. Goes between t (done ++ map block_read (block.Unread refusal ∷ bs))) (sym (split_line (codes "unread " ++ refusal_code refusal) (transcript_text bs)))
+    (goes_line between (Unread refusal) (transcript_text bs) (done ++ map block_read (block.Unread refusal ∷ bs)) are.0 (λ number. refl)
+    (subst (λ all. Goes (record { done = done ++ block.Unread refusal ∷ []; current = None }) (transcript_text bs) all) (append_assoc done (block.Unread refusal ∷ []) (map block_read bs)) rest))
+goes_blocks (block.Heard word b ∷ bs) done are =
     let between : Reading = record { done = done; current = None } in
     let made : Block = block.Heard word (body_read b) in
     let all : List Block = done ++ map block_read (block.Heard word b ∷ bs) in
-    let rest = gives_blocks bs (done ++ made ∷ []) are.1 in
+    let rest = goes_blocks bs (done ++ made ∷ []) are.1 in
     let whole : (codes "word " ++ word_text word ++ codes "\n" ++ body_text b) ++ transcript_text bs ≡ (codes "word " ++ word_text word) ++ 10 ∷ (body_text b ++ transcript_text bs) =
     append_assoc (codes "word " ++ word_text word ++ codes "\n") (body_text b) (transcript_text bs) ∙ split_line (codes "word " ++ word_text word) (body_text b ++ transcript_text bs) in
-    subst (λ t. Gives between t all) (sym whole)
-    (gives_line between (Heard word) (body_text b ++ transcript_text bs) all are.0.0 (λ number. refl)
-    (gives_body b done word (transcript_text bs) all are.0.1
-    (subst (λ all. Gives (record { done = done ++ made ∷ []; current = None }) (transcript_text bs) all) (append_assoc done (made ∷ []) (map block_read bs)) rest)))
+    subst (λ t. Goes between t all) (sym whole)
+    (goes_line between (Heard word) (body_text b ++ transcript_text bs) all are.0.0 (λ number. refl)
+    (goes_body b done word (transcript_text bs) all are.0.1
+    (subst (λ all. Goes (record { done = done ++ made ∷ []; current = None }) (transcript_text bs) all) (append_assoc done (made ∷ []) (map block_read bs)) rest)))
 
 -- ---- a text without its very last newline
 -- some blocks' text ends with a line that is not empty
@@ -296,6 +303,6 @@ same_lines written (b ∷ bs) are e =
 pub blocks_only : (written : List ℕ) (blocks : List Block) → AreBlocks blocks → IsTextOf blocks written → blocks_of written ≡ Ok (map block_read blocks)
 blocks_only written blocks are is =
     elim is [
-      | inl same ↦ ap (λ t. reading_of 1 begun (lines_of t)) same ∙ gives_blocks blocks [] are 1
-      | inr longer ↦ ap (λ lines. reading_of 1 begun lines) (same_lines written blocks are longer) ∙ gives_blocks blocks [] are 1
+      | inl same ↦ ap (λ t. reading_of taken finished 1 begun (lines_of t)) same ∙ goes_blocks blocks [] are 1
+      | inr longer ↦ ap (λ lines. reading_of taken finished 1 begun lines) (same_lines written blocks are longer) ∙ goes_blocks blocks [] are 1
     ]

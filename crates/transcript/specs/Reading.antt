@@ -9,8 +9,9 @@ use Rattle.word_runner.specs.declared.block.Block.TheVariants as block
 use Rattle.word_runner.specs.declared.block.Body.{Body}
 use Rattle.word_runner.specs.declared.block.Body.TheVariants as body
 use Rattle.plain_text.specs.Lines.{lines_of}
-use Rattle.call_text.specs.declared.refusal.TextRefusal.{TextRefusal}
-use Rattle.call_text.specs.declared.refusal.TextRefusal.TheVariants as text
+use Rattle.lines_text.specs.Reading.{unless_refused, reading_of}
+use Rattle.lines_text.specs.declared.refusal.TextRefusal.{TextRefusal}
+use Rattle.lines_text.specs.declared.refusal.TextRefusal.TheVariants as text
 use Rattle.transcript.specs.BlockLine.{Line, Heard, Unread, Nothing, Refused, Made, Ended}
 use Rattle.transcript.specs.LineReading.{line_of}
 
@@ -102,21 +103,20 @@ with_line (Refused code) r = with_block (λ _. body.Refused code) r
 with_line (Made n e) r = record { done = r.done; current = option_map (with_entry e) r.current }
 with_line (Ended report) r = with_block (ran report) r
 
+-- what is known after a line, or why the line is refused
+abbrev pub taken : ℕ → Reading → List ℕ → Result Reading TextRefusal
+taken number r text = unless_refused (line_here number r text) (λ line. Ok (with_line line r))
+
 ---- All lines
 
-abbrev pub after_line : Result Line TextRefusal → Reading → (Reading → Result (List Block) TextRefusal) → Result (List Block) TextRefusal
-after_line (Err e) r rest = Err e
-after_line (Ok line) r rest = rest (with_line line r)
-
 -- a text does not end within a block
-abbrev pub finished : ℕ → List Block → Option Opened → Result (List Block) TextRefusal
-finished number done None = Ok done
-finished number done (Some o) = Err (text.Line number)
+abbrev pub ended : ℕ → List Block → Option Opened → Result (List Block) TextRefusal
+ended number done None = Ok done
+ended number done (Some o) = Err (text.Line number)
 
--- what the lines give, the first of which has this number: the blocks, or the first faulty line
-abbrev pub reading_of : ℕ → Reading → List (List ℕ) → Result (List Block) TextRefusal
-reading_of number r [] = finished number r.done r.current
-reading_of number r (line ∷ lines) = after_line (line_here number r line) r (λ next. reading_of (number + 1) next lines)
+abbrev pub finished : ℕ → Reading → Result (List Block) TextRefusal
+finished number r = ended number r.done r.current
 
+-- what a text gives: the blocks, or its first faulty line
 abbrev pub blocks_of : List ℕ → Result (List Block) TextRefusal
-blocks_of text = reading_of 1 begun (lines_of text)
+blocks_of text = reading_of taken finished 1 begun (lines_of text)

@@ -3,15 +3,14 @@ ghost use Rattle.std.specs.Prelude.{◌≡◌, ◌≢◌, List, map, Ok, Err, On
 ghost use Rattle.definitions.specs.Path.{ready_after};
 ghost use Rattle.transcript.specs.BlockLine.{seen as seen_line, IsLine};
 ghost use Rattle.transcript.specs.Block.{AreBlocks, IsTextOf, block_read};
-ghost use Rattle.transcript.specs.Reading.{fault_within, fault_of, line_here, last_count, with_entry, with_block, with_line, ran, begun, finished, blocks_of};
+ghost use Rattle.transcript.specs.Reading.{fault_within, fault_of, line_here, last_count, with_entry, with_block, with_line, ran, begun, blocks_of};
 ghost use Rattle.word_runner.specs.declared.block.Block.{Block as Done};
 
 use crate::block_line::BlockLine;
 use crate::codes::code_of;
-use call_text::TextRefusal;
 use control_words::Word;
+use lines_text::{TakesLines, TextRefusal, read_lines};
 use listener_set::Numbers;
-use plain_text::first_line;
 use plan_walk::Transcript;
 use std::alloc::{AllocError, Global};
 use vocabulary::{Answer, Entry, Report};
@@ -148,8 +147,8 @@ impl BlocksReader {
         }
     }
 
-    /// Takes a line in. The only refusal is want of memory.
-    fn take(&mut self, alloc: Global, line: &BlockLine<'_>) -> Result<(), AllocError>
+    /// Adds a line. The only refusal is want of memory.
+    fn add_line(&mut self, alloc: Global, line: &BlockLine<'_>) -> Result<(), AllocError>
         requires { IsLine (seen_line line.now) }
         ensures { OnOk result (seen self.new ≡ with_line (seen_line line.now) (seen self.old)) }
     {
@@ -174,36 +173,45 @@ impl BlocksReader {
             BlockLine::Ended(report) => self.report(report),
         }
     }
+}
 
-    /// The blocks, where the text ends before the line with this number.
+impl TakesLines for BlocksReader {
+    ghost use Rattle.std.specs.Prelude.{◌≡◌, List, Ok, Err, IfOk, IfErr};
+    ghost use Rattle.word_runner.specs.declared.block.Block.{Block};
+    ghost use Rattle.transcript.specs.Reading.{Reading, taken, finished};
+    ghost use Rattle.transcript.specs.Reader.{seen};
+
+    type Value = Vec<Block>;
+
+    ghost Reading = { Reading };
+
+    ghost seen = { seen };
+
+    ghost taken = { taken };
+
+    ghost Meaning = { List Block };
+
+    ghost meaning = { λ blocks. blocks.items };
+
+    ghost finished = { finished };
+
+    fn take(&mut self, alloc: Global, number: usize, line: &[u8]) -> Result<(), TextRefusal> {
+        match self.read_here(number, line) {
+            Ok(line) => self.add_line(alloc, &line)?,
+            Err(refusal) => return Err(refusal),
+        }
+        Ok(())
+    }
+
     fn finish(self, number: usize) -> Result<Vec<Block>, TextRefusal>
-        ensures ok { IfOk result (λ blocks. finished number (seen self).done (seen self).current ≡ Ok blocks.items) }
-        ensures err { IfErr result (λ e. finished number (seen self).done (seen self).current ≡ Err e) }
+        ensures ok { IfOk result (λ blocks. finished number (seen self) ≡ Ok blocks.items) }
+        ensures err { IfErr result (λ e. finished number (seen self) ≡ Err e) }
     {
         match self.current {
             Some(_) => Err(TextRefusal::Line(number)),
             None => Ok(self.done),
         }
     }
-}
-
-fn read_lines(alloc: Global, text: &[u8]) -> Result<Vec<Block>, TextRefusal>
-    ensures ok { IfOk result (λ blocks. blocks_of text.now ≡ Ok blocks.items) }
-    ensures err { IfErr result (λ e. e ≢ TextRefusal.Memory → blocks_of text.now ≡ Err e) }
-{
-    let mut reader = BlocksReader::new(alloc);
-    let mut rest = text;
-    let mut number = 0;
-    while !rest.is_empty() {
-        let (line, behind) = first_line(rest);
-        number += 1;
-        match reader.read_here(number, line) {
-            Ok(line) => reader.take(alloc, &line)?,
-            Err(refusal) => return Err(refusal),
-        }
-        rest = behind;
-    }
-    reader.finish(number + 1)
 }
 
 /// Reads blocks one after another, each as `write_transcript` writes it, and no other text. The very
@@ -221,5 +229,5 @@ pub fn read_transcripts(alloc: Global, text: &[u8]) -> Result<Vec<Block>, TextRe
     ensures found { IfOk result (λ blocks. AreBlocks blocks.items × IsTextOf blocks.items text.now) }
     ensures only { (blocks : List Done) → AreBlocks blocks → IsTextOf blocks text.now → blocks_of text.now ≡ Ok (map block_read blocks) }
 {
-    read_lines(alloc, text)
+    read_lines(alloc, BlocksReader::new(alloc), text)
 }

@@ -7,7 +7,7 @@ use Rattle.definitions.specs.Crew.{Crew, fork_of}
 use Rattle.definitions.specs.Tree.{Tree}
 use Rattle.definitions.specs.Plans.{tries, tries_all, pid_calls}
 use Rattle.rollback_plan.specs.declared.draft.Draft.{Draft}
-use Rattle.rollback_plan.specs.declared.step.Place.{Place}
+use Rattle.plan_steps.specs.declared.step.Place.{Place}
 use Rattle.rollback_plan.specs.Drafts.{trees_of, tree_at, IsMade, Keeps}
 use Rattle.rollback_plan.proofs.DraftTrees.{keeps_on, at_kept}
 use Rattle.plan_pieces.proofs.TriedTrees.{tried_before, tried_on}

@@ -14,7 +14,7 @@ mod targets;
 pub use calls::{Answer, Call, Fate, Reply};
 pub use handover::{HandoverRefusal, HandoverVersion};
 pub use names::{Actor, Name};
-pub use plans::{End, Lack, Order, PidNote, Side, Sides};
+pub use plans::{End, Lack, Order, PidNote, Side, Sides, Turn};
 pub use reports::{Entry, Outcome, Report};
 pub use settings::Settings;
 pub use table::{Limits, Listener, Stance};

@@ -17,6 +17,13 @@ pub struct Sides {
     pub target: Groups,
 }
 
+/// Which master makes the next call, where the parts of both have one.
+#[derive(Clone, Copy, Debug, PartialEq, Eq)]
+pub enum Turn {
+    New,
+    Old,
+}
+
 /// How a plan ends.
 #[derive(Clone, Copy, Debug, PartialEq, Eq)]
 pub enum End {

@@ -46,7 +46,7 @@ returns-in_err-copy-clause-exact c =
     let why = c.in_err-copy.field-0.0 in
     let same : p.0 ≡ mismatch_of why = cc in
     exact-short t r target (IsNoBeginning t r target es) (plain-beginnings t r target es) c.from_residual-in_err-copy.result why (p.1 ∙ ap Err same)
-    (subst (λ n. (why ≡ Memory) ⊎ ((why ≡ NoNumbers) × LacksNumbers t n)) (c.longest.ensures ∙ ap height c.in_ok-plan.ensures.tree) c.in_err-copy.ensures.refused)
+    (subst (λ n. (why ≡ Memory) ⊎ ((why ≡ NoNumbers) × LacksNumbers t n)) (c.longest.ensures ∙ (c.in_ok-plan.ensures.longest ∙ ap height c.in_ok-plan.ensures.tree)) c.in_err-copy.ensures.refused)
 
 ---- What begins a run
 
@@ -72,7 +72,7 @@ returns c =
     let es = c.args.log.now.entries in
     let agrees : Agrees t r = c.agrees.ensures.agrees.0 (search rules) in
     let plan = c.in_ok-plan.ensures.planned in
-    let longest : c.longest.result ≡ height (plan_tree r target) = c.longest.ensures ∙ ap height c.in_ok-plan.ensures.tree in
+    let longest : c.longest.result ≡ height (plan_tree r target) = c.longest.ensures ∙ (c.in_ok-plan.ensures.longest ∙ ap height c.in_ok-plan.ensures.tree) in
     let ready : IsReady t r target = record { agrees = agrees; has_plan = plan; numbers = subst (λ n. LacksNumbers t n → ⊥) longest c.in_ok-copy.ensures.numbers } in
     let image : c.state.inside.generation.image ≡ r.generation.image = ap (λ (x : Record). x.generation.image) c.state.view_is in
     let same : listed c.heir_of-heir.result ≡ heirs_of r target = c.heir_of-heir.ensures in

@@ -1,7 +1,6 @@
 use Rattle.std.proofs.Common.{◌≡◌, [], ◌∷◌, ◌∙◌, ap, subst}
 use Rattle.definitions.specs.Path.{begin}
-use Rattle.definitions.specs.Tree.{height}
-use Rattle.rollback_plan.specs.Plans.{tree_of, note_of, sides_told, text_of}
+use Rattle.rollback_plan.specs.Plans.{tree_of, length_of, note_of, sides_told, text_of}
 use Rattle.plan_executor.specs.Naming.{listed}
 use Rattle.certifier.specs.Places.{Place, HasTaken}
 use Rattle.certifier.proofs.Holding.{ends-led}
@@ -17,4 +16,4 @@ returns-clause-led c =
     let heirs : listed c.new-replay.result.heir ≡ listed c.args.masters.heir = ap listed before.heir in
     let taken : HasTaken (text_of plan) (listed c.args.masters.heir) (sides_told plan) from entries x =
     subst (λ (X : Type 0). X) (λ i. HasTaken (before.text i) (heirs i) (before.sides i) (before.place i) entries x) c.in_ok-replay_all.ensures.ok in
-    ends-led (text_of plan) (listed c.args.masters.heir) (sides_told plan) from entries c.args.report.now x taken (height (tree_of plan)) (c.in_ok-replay_all.ensures.left ∙ (before.room ∙ c.requires)) c.end.result c.end.ensures.kernel
+    ends-led (text_of plan) (listed c.args.masters.heir) (sides_told plan) from entries c.args.report.now x taken (length_of plan) (c.in_ok-replay_all.ensures.left ∙ (before.room ∙ c.requires)) c.end.result c.end.ensures.kernel

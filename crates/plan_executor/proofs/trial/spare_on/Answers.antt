@@ -1,5 +1,4 @@
 use Rattle.std.proofs.Common.{◌≡◌, None, Some, [], ◌∷◌, sym, ◌∙◌, ap, subst, rules}
-use Rattle.definitions.specs.Tree.{height}
 use Rattle.definitions.specs.Claims.{refused_among}
 use Rattle.kernel_model.specs.Pattern.{moment_at}
 use Rattle.kernel_model.specs.Room.{LacksNumbers}
@@ -34,7 +33,7 @@ returns-in-Some-clause-refused c =
     record {
       agrees = c.requires.agrees;
       has_plan = c.requires.plan.has_plan;
-      numbers = subst (λ n. LacksNumbers c.args.copy.now.table n → ⊥) (ap height c.requires.plan.tree) c.requires.numbers;
+      numbers = subst (λ n. LacksNumbers c.args.copy.now.table n → ⊥) c.requires.plan.longest c.requires.numbers;
       first =
           found-is r target pattern c.args.copy.now.table c.run.new.kernel.table entries c.run.result (Some c.in-Some.moment) (tried (goal.at.returns-in-Some-clause-refused c).After-heir_of-heir)
           (ap (λ images. refused_among (r.generation.image ∷ []) images pattern 0 entries) (sym c.heir_of-heir.ensures) ∙ found);

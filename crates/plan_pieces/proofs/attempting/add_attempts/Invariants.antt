@@ -1,6 +1,6 @@
 use Rattle.std.proofs.Common.{◌≡◌, ℕ, ◌+◌, ◌<◌, length}
 use Rattle.definitions.specs.Tree.{Tree}
-use Rattle.rollback_plan.specs.Batches.{calls_of, size_of}
+use Rattle.plan_steps.specs.Batches.{calls_of, size_of}
 use Rattle.rollback_plan.specs.Drafts.{trees_of, tree_at, IsMade, Keeps}
 use Rattle.rollback_plan.specs.Back.{AreMade}
 use Rattle.plan_pieces.specs.Pieces.{IsAttempted}

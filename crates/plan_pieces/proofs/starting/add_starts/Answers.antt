@@ -5,7 +5,7 @@ use Rattle.std.proofs.lemmas.Result.{IfOk-weaker}
 use Rattle.listener_set.specs.declared.generation.Generation.{Generation}
 use Rattle.definitions.specs.Crew.{Crew}
 use Rattle.definitions.specs.Plans.{awaits}
-use Rattle.rollback_plan.specs.declared.step.Place.{Place}
+use Rattle.plan_steps.specs.declared.step.Place.{Place}
 use Rattle.rollback_plan.specs.Drafts.{tree_at}
 use Rattle.rollback_plan.proofs.BackTrees.{all_kept}
 use Rattle.plan_pieces.proofs.AttemptTrees.{forks_attempted}

@@ -1,6 +1,6 @@
 use Rattle.std.proofs.Common.{◌≡◌, ◌-◌, ◌+◌, ℕ, drop, subst, arith}
 use Rattle.definitions.specs.Plans.{tries_all}
-use Rattle.rollback_plan.specs.Batches.{calls_of}
+use Rattle.plan_steps.specs.Batches.{calls_of}
 use Rattle.rollback_plan.specs.Drafts.{tree_at, IsMade}
 use Rattle.rollback_plan.proofs.DraftTrees.{keeps_on}
 use Rattle.plan_pieces.proofs.TriedTrees.{tried_more}

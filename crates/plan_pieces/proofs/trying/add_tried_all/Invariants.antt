@@ -1,6 +1,6 @@
 use Rattle.std.proofs.Common.{◌≡◌, ◌+◌, length, drop}
 use Rattle.definitions.specs.Plans.{tries_all}
-use Rattle.rollback_plan.specs.Batches.{calls_of, size_of}
+use Rattle.plan_steps.specs.Batches.{calls_of, size_of}
 use Rattle.rollback_plan.specs.Drafts.{trees_of, tree_at, IsMade, Keeps}
 use Rattle.plan_pieces.proofs.trying.add_tried_all.Given as goal
 

@@ -7,7 +7,7 @@ use Rattle.definitions.specs.Crew.{Crew}
 use Rattle.vocabulary.specs.declared.plans.Side.TheVariants.{Old}
 use Rattle.definitions.specs.Plans.{quits, closes, settle}
 use Rattle.rollback_plan.specs.declared.draft.Draft.{Draft}
-use Rattle.rollback_plan.specs.declared.step.Place.{Place}
+use Rattle.plan_steps.specs.declared.step.Place.{Place}
 use Rattle.rollback_plan.specs.Drafts.{are_places}
 use Rattle.rollback_plan.specs.Back.{AreMade, quits_back, closes_back}
 use Rattle.rollback_plan.proofs.DraftTrees.{made_kept}

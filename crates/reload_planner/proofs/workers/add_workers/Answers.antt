@@ -5,7 +5,7 @@ use Rattle.vocabulary.specs.declared.plans.Side.TheVariants.{Old}
 use Rattle.definitions.specs.Crew.{Crew}
 use Rattle.definitions.specs.Tree.{Tree}
 use Rattle.definitions.specs.Plans.{quits, settle, starts}
-use Rattle.rollback_plan.specs.declared.step.Place.{Place}
+use Rattle.plan_steps.specs.declared.step.Place.{Place}
 use Rattle.rollback_plan.specs.Drafts.{tree_at, IsMade, are_places}
 use Rattle.rollback_plan.specs.Back.{AreMade}
 use Rattle.rollback_plan.proofs.DraftTrees.{made_kept}

@@ -1,4 +1,4 @@
-use Rattle.std.proofs.Common.{inl, refl, subst}
+use Rattle.std.proofs.Common.{[], inl, refl, subst}
 use Rattle.std.specs.Option.{option_map}
 use Rattle.rollback_plan.specs.Cursors.{rest_of}
 use Rattle.vocabulary.specs.declared.calls.Answer.TheVariants.{MasterGone}
@@ -13,4 +13,4 @@ returns-in-Some-clause-err c = inl (refl, λ over. asked-left (option_map rest_o
 
 pub returns-clause-ok : goal.returns-clause-ok
 returns-clause-ok c =
-    (refl, c.in_default.ensures.none, subst (λ (report : Report). Reports (sides_in c.args.self.walk) (trail_of c.args.self.walk) report) (c.is_same_report.ensures.0 c.if-not-is_same_report.false) c.report.ensures)
+    (refl, c.in_default.ensures.none, subst (λ (report : Report). Reports (sides_in c.args.self.walk) (trail_of c.args.self.walk) report) (c.is_same_report.ensures.0 c.if-not-is_same_report.false) (c.report.ensures []))

@@ -1,4 +1,4 @@
-use Rattle.std.proofs.Common.{◌≡◌, ◌+◌, true, false, not, nat_eq, sym, ◌∙◌, ap, subst, arith}
+use Rattle.std.proofs.Common.{[], ◌≡◌, ◌+◌, true, false, not, nat_eq, sym, ◌∙◌, ap, subst, arith}
 use Rattle.std.specs.Prelude.{if◌then◌else◌, is_none}
 use Rattle.std.specs.Option.{option_map}
 use Rattle.std.proofs.lemmas.Bool.Decides.{nat_tests}
@@ -42,7 +42,7 @@ returns-clause-next c =
     ap (λ (x : Moment). names_any (executing_at e.call (listed old.executing) (listed old.heir)) x.exits) (sym shown) ∙ (sym c.names_executing.ensures ∙ c.if-names_executing.false) in
     let asks = c.asks.ensures.0 c.if-not-asks.false in
     let found = follow (option_map rest_of old.walk.rest) e.answer in
-    let left : c.is_lost.result ≡ is_none (rest_after found) = c.is_lost.ensures ∙ ap (λ (t : Trail). is_none t.rest) c.after-self.ensures.trail in (
+    let left : c.is_lost.result ≡ is_none (rest_after found) = c.is_lost.ensures [] ∙ ap (λ (t : Trail). is_none t.rest) c.after-self.ensures.trail in (
       λ there. record { asks = asks; edge = edge-there found (ap not (sym left) ∙ there); gives = sym gave ∙ same; spares = spared },
       λ next. ap not left ∙ edge-leads found next.edge,
     )

@@ -1,4 +1,4 @@
-use Rattle.std.proofs.Common.{◌≡◌, ◌+◌, refl, ap, subst, ◌∙◌, arith}
+use Rattle.std.proofs.Common.{[], ◌≡◌, ◌+◌, refl, ap, subst, ◌∙◌, arith}
 use Rattle.definitions.specs.Path.{Reports}
 use Rattle.definitions.specs.Run.{quiet}
 use Rattle.definitions.specs.Target.{sides_of, text_handed}
@@ -45,5 +45,5 @@ returns-clause-report c = λ p at.
     let text = text_handed run.state.now run.target.now in
     let over = c.in_default.ensures.none in
     let whole : c.report.result ≡ report_under run.state.now run.target.now run.first.now.table run.tried =
-    reported text (sides_of run.state.now run.target.now) (trail_of run.walk) (pattern_of run.tried) q.0 (run_of run.state.now run.target.now (pattern_of run.tried) run.first.now.table) c.report.result over q.1.trail (q.1.come.ends (pattern_of run.tried) (λ m le. refl)) (subst (λ sides. Reports sides (trail_of run.walk) c.report.result) q.1.sides c.report.ensures) in
+    reported text (sides_of run.state.now run.target.now) (trail_of run.walk) (pattern_of run.tried) q.0 (run_of run.state.now run.target.now (pattern_of run.tried) run.first.now.table) c.report.result over q.1.trail (q.1.come.ends (pattern_of run.tried) (λ m le. refl)) (subst (λ sides. Reports sides (trail_of run.walk) c.report.result) q.1.sides (c.report.ensures [])) in
     whole ∙ (λ i. report_under (kept.state i) (kept.target i) (kept.first i).table (kept.tried i))

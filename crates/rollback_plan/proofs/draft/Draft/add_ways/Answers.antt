@@ -1,6 +1,6 @@
 use Rattle.std.proofs.Common.{◌+◌, ◌∙◌, ap, subst, arith}
 use Rattle.definitions.specs.Plans.{does, then_edge}
-use Rattle.rollback_plan.specs.Batches.{calls_of}
+use Rattle.plan_steps.specs.Batches.{calls_of}
 use Rattle.rollback_plan.specs.Back.{told_back}
 use Rattle.rollback_plan.specs.Drafts.{IsMade, tree_at}
 use Rattle.rollback_plan.proofs.DraftTrees.{keeps_on}

@@ -1,5 +1,5 @@
 use Rattle.std.proofs.Common.{◌≡◌, ◌+◌, length}
-use Rattle.rollback_plan.specs.Batches.{calls_of}
+use Rattle.plan_steps.specs.Batches.{calls_of}
 use Rattle.rollback_plan.specs.Drafts.{trees_of, tree_at, IsMade, Keeps}
 use Rattle.rollback_plan.specs.Back.{told_back, AreMade}
 use Rattle.rollback_plan.proofs.draft.Draft.add_ways.Given as goal

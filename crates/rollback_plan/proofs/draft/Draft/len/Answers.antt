@@ -1,5 +1,5 @@
 use Rattle.std.proofs.Common.{arith}
-use Rattle.rollback_plan.proofs.StepTrees.{length-trees}
+use Rattle.plan_steps.proofs.StepTrees.{length-trees}
 use Rattle.rollback_plan.proofs.draft.Draft.len.Goals as goal
 
 pub returns-clause-count : goal.returns-clause-count

@@ -1,6 +1,6 @@
 use Rattle.std.proofs.Common.{◌∙◌, [], ap}
-use Rattle.rollback_plan.specs.Steps.{trees_after}
-use Rattle.rollback_plan.proofs.StepTrees.{trees_after-nil}
+use Rattle.plan_steps.specs.Steps.{trees_after}
+use Rattle.plan_steps.proofs.StepTrees.{trees_after-nil}
 use Rattle.rollback_plan.proofs.draft.Draft.new.Goals as goal
 
 pub returns : goal.returns

@@ -1,7 +1,7 @@
 use Rattle.std.proofs.Common.{[], ◌∙◌, sym, ap, arith, true, ◌≡◌, subst, List}
-use Rattle.rollback_plan.specs.declared.step.Step.{Step}
-use Rattle.rollback_plan.specs.Steps.{trees_after, all_lead_back}
-use Rattle.rollback_plan.proofs.StepTrees.{trees-take, all_lead_back-take}
+use Rattle.plan_steps.specs.declared.step.Step.{Step}
+use Rattle.plan_steps.specs.Steps.{trees_after, all_lead_back}
+use Rattle.plan_steps.proofs.StepTrees.{trees-take, all_lead_back-take}
 use Rattle.rollback_plan.proofs.draft.Draft.shorten.Goals as goal
 
 pub invariant_of-self : goal.invariant_of-self

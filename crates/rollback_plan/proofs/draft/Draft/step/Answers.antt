@@ -1,11 +1,11 @@
 use Rattle.std.proofs.Common.{◌≡◌, ◌+◌, ◌≤◌, ℕ, Bool, true, false, cond, [], ◌∷◌, ◌++◌, List, length, arith, refl, zero-add, ◌∙◌, ap, subst, is_ok, IsErrOf, IsErrAnd, ◌↔◌, Ok, Err, Result}
-use Rattle.rollback_plan.proofs.StepTrees.{length-trees, trees_after-push, all_lead_back-push}
+use Rattle.plan_steps.proofs.StepTrees.{length-trees, trees_after-push, all_lead_back-push}
 use Rattle.std.proofs.lemmas.Bool.{and_from}
-use Rattle.rollback_plan.specs.Steps.{leads_back, all_lead_back, trees_after}
+use Rattle.plan_steps.specs.Steps.{leads_back, all_lead_back, trees_after}
 use Rattle.rollback_plan.specs.declared.draft.DraftRefusal.{DraftRefusal}
 use Rattle.rollback_plan.specs.declared.draft.DraftRefusal.TheVariants.{TooLarge, Memory}
-use Rattle.rollback_plan.specs.declared.step.Place.{Place}
-use Rattle.rollback_plan.specs.declared.step.Step.{Step}
+use Rattle.plan_steps.specs.declared.step.Place.{Place}
+use Rattle.plan_steps.specs.declared.step.Step.{Step}
 use Rattle.rollback_plan.proofs.draft.Draft.step.Goals as goal
 
 few_more : (ok : Bool) (old new : ℕ) → new ≡ cond ok (old + 1) old → old + 1 ≤ 65536 → new ≤ 65536

@@ -1,5 +1,5 @@
 use Rattle.std.proofs.Common.{[], ap}
-use Rattle.rollback_plan.specs.Steps.{trees_after}
+use Rattle.plan_steps.specs.Steps.{trees_after}
 use Rattle.rollback_plan.proofs.draft.Draft.with_room.Goals as goal
 
 pub returns-clause-none : goal.returns-clause-none

@@ -1,5 +1,5 @@
 use Rattle.std.proofs.Common.{arith}
-use Rattle.rollback_plan.proofs.StepTrees.{length-trees_from}
+use Rattle.plan_steps.proofs.StepTrees.{length-trees_from}
 use Rattle.rollback_plan.proofs.plan.Plan.len.Goals as goal
 
 pub returns : goal.returns

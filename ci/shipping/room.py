@@ -1,0 +1,49 @@
+"""A part of the checks: its folder, the package that it is about, and what was wrong."""
+import os
+import pathlib
+import shutil
+import subprocess
+from typing import Any
+
+from gate.tally import ROOT, Tally
+
+SECONDS = 400.0
+SERVICE = ROOT / "service"
+
+
+class Missing(Exception):
+    """The machine lacks what a part needs."""
+
+
+class Room:
+    """The folder of a part, and what was wrong."""
+
+    def __init__(self, name: str, path: pathlib.Path, prefork: str, package: pathlib.Path | None):
+        self.name, self.path, self.prefork, self.package = name, path, prefork, package
+        self.tally, self.skipped = Tally(), []
+
+    def check(self, what: str, holds: Any) -> None:
+        self.tally.check([] if holds else [f"{self.name}: {what}"])
+
+    def the_package(self) -> pathlib.Path:
+        if not self.package:
+            raise Missing("dpkg-deb is not on the path")
+        return self.package
+
+
+def needs(*commands: str) -> None:
+    """Skips a part whose commands are not there."""
+    for command in commands:
+        if not shutil.which(command):
+            raise Missing(f"{command} is not on the path")
+
+
+def needs_root() -> None:
+    if os.geteuid():
+        raise Missing("only root can install into a scratch root and be other users")
+
+
+def ran(*command: Any, **more: Any) -> subprocess.CompletedProcess:
+    """A command that has ended, and what it said."""
+    streams: dict[str, Any] = {"stdin": subprocess.DEVNULL, "stdout": subprocess.PIPE, "stderr": subprocess.STDOUT}
+    return subprocess.run([str(word) for word in command], **{**streams, **more}, text=True, timeout=SECONDS)

@@ -1,0 +1,91 @@
+"""Much at a time: words in a burst, upgrades in a row, and workers that flood the pipe to their master."""
+import time
+
+from gate.waiting import SECONDS, comes
+from web.site import CLIENTS, Scenario, Site
+from web.starts import answer_to, asks, status
+
+UPGRADES, HUPS = 10, 20
+# A burst is one if all words are sent in this time.
+BURST_SECONDS = 0.01
+# Goes into the application: lines that nobody asked for, without an end, from a moment on.
+NOISE = """
+import threading
+def flood():
+    while True:
+        os.write(1, b"noise\\n" * 1000)
+"""
+FROM_THE_START = f'{NOISE}if sys.argv[1:] == ["child"]:\n    threading.Thread(target=flood, daemon=True).start()\n'
+AT_ITS_END = f"{NOISE}worker.Server.finish = lambda self: flood()\n"
+
+
+def hups_in_a_burst(site: Site) -> None:
+    """Twenty HUPs that come at a time: each sender has a block, and fewer reloads are made."""
+    site.begin()
+    for _ in range(20):
+        begun = time.monotonic()
+        askers = [asks(site, "HUP") for _ in range(HUPS)]
+        took = time.monotonic() - begun
+        answers = [answer_to(asker) for asker in askers]
+        wrong = [answer for answer in answers if not answer.rpartition("\ndone ")[1]]
+        site.check(f"HUPs were not done: {wrong}", not wrong)
+        if took < BURST_SECONDS:
+            break
+    site.check(f"twenty HUPs took {took} seconds to send", took < BURST_SECONDS)
+    site.check("each HUP was a reload of its own", len(set(answers)) < HUPS)
+    site.check_workers("HUP", 2)
+    site.end("1")
+    site.certify()
+
+
+def upgrades_in_a_row(site: Site) -> None:
+    """Ten upgrades, one after another: each is done, the status names the old masters, and all end with the service."""
+    site.begin()
+    for number in range(2, UPGRADES + 2):
+        site.install(site.version(number))
+        site.wants("USR2", 0, "done", 2)
+        site.answered_by(number)
+    found = status(site)
+    site.check(f"the masters: {found['masters']}", len(set(found["masters"])) == UPGRADES + 1)
+    site.check(f"the generation: {found['generation']}", found["generation"].startswith(f"{UPGRADES + 1}."))
+    said = site.sent("status").communicate(timeout=SECONDS)[0]
+    site.check(f"the old masters are not named: {said}", said.count("old master  process ") == UPGRADES)
+    site.end([str(number) for number in range(1, UPGRADES + 2)])
+    site.certify()
+
+
+def a_worker_floods_from_its_start(site: Site) -> None:
+    """HUP to a version that says what nobody asked for, without an end: it is rolled back, and the next one is done. A
+    worker that floods while nobody reads ends with the service at the latest."""
+    site.begin()
+    old = site.workers()
+    site.install(site.app_text.replace('VERSION = "1"', f'VERSION = "1"{FROM_THE_START}'))
+    block, faults = site.sent("HUP").communicate(timeout=SECONDS)
+    site.check(f"HUP: {block}{faults}", "\nrolled-back " in block)
+    site.check("the old workers are not those from before", old <= site.workers())
+    site.install(site.version(2))
+    block, faults = site.sent("HUP").communicate(timeout=SECONDS)
+    site.check(f"HUP: {block}{faults}", "\ndone " in block)
+    site.check("an old worker is left", comes(lambda: not old & site.workers()))
+    site.end("12")
+    site.certify()
+
+
+def a_worker_floods_after_quit(site: Site) -> None:
+    """HUP from a version that floods its pipe once it is told to quit: the reload is done. Such a worker ends with the
+    service at the latest."""
+    site.install(site.app_text.replace('VERSION = "1"', f'VERSION = "1"{AT_ITS_END}'))
+    site.begin()
+    old = site.workers()
+    site.install(site.version(2))
+    block, faults = site.sent("HUP").communicate(timeout=SECONDS)
+    site.check(f"HUP: {block}{faults}", "\ndone " in block)
+    site.answered_by(2)
+    site.check("there are no new workers", comes(lambda: len(site.workers() - old) == 2))
+    site.end("12", may_fail=CLIENTS)
+    site.certify()
+
+
+SCENARIOS: tuple[Scenario, ...] = (
+    hups_in_a_burst, upgrades_in_a_row, a_worker_floods_from_its_start, a_worker_floods_after_quit,
+)

@@ -1,0 +1,14 @@
+//! The answers of the program as JSON, by `serde_json`: each is read from the text that is printed without it, so that both
+//! say the same.
+#![tactic(auto)]
+
+mod blocks;
+mod explorations;
+mod patterns;
+mod plans;
+mod values;
+
+pub use blocks::blocks_json;
+pub use explorations::exploration_json;
+pub use patterns::patterns_json;
+pub use plans::plan_json;

@@ -1,0 +1,17 @@
+pub mod StepTrees
+pub mod Trees
+pub mod Heights
+pub mod Depths
+pub mod Walks
+pub mod Walked
+pub mod Numbers
+pub mod LayerLists
+pub mod Ordered
+pub mod Unfolded
+pub mod Finished
+pub mod Distinct
+pub mod Endings
+pub mod Later
+pub mod Parted
+pub mod Asides
+pub mod Woven

@@ -1,0 +1,7 @@
+pub mod Batches
+pub mod WorkerCalls
+pub mod Compact
+pub mod Steps
+pub mod Numbering
+pub mod Stretches
+pub mod Woven

@@ -1,6 +1,0 @@
-use Rattle.std.proofs.Common.{◌≡◌, map, take}
-use Rattle.rollback_plan.specs.Numbering.{edge_numbered}
-use Rattle.rollback_plan.proofs.finishing.edges_numbered.Given as goal
-
-abbrev pub invariant-loop-edge : goal.invariant-loop-edge
-invariant-loop-edge l = l.numbered.items ≡ map (edge_numbered l.numbers) (take l.edge-index l.edges)

@@ -1,6 +1,0 @@
-use Rattle.std.proofs.Common.{arith}
-use Rattle.rollback_plan.proofs.Numbers.{numbered_more, within_at}
-use Rattle.rollback_plan.proofs.finishing.numbers_of.Goals as goal
-
-pub loop-i-preserved : goal.loop-i-preserved
-loop-i-preserved c = numbered_more c.args.order.now c.args.places c.loop-i.i c.loop-i.numbers.items c.loop-i.invariant (omega arith) (within_at c.args.places c.args.order.now c.loop-i.i c.requires.within (omega arith))

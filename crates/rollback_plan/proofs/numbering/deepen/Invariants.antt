@@ -1,6 +1,0 @@
-use Rattle.std.proofs.Common.{◌≡◌, drop}
-use Rattle.rollback_plan.specs.Numbering.{deepened}
-use Rattle.rollback_plan.proofs.numbering.deepen.Given as goal
-
-abbrev pub invariant-loop-edge : goal.invariant-loop-edge
-invariant-loop-edge l = deepened l.depth (drop l.edge-index l.edges) l.depths ≡ deepened l.depth l.edges l.fn.depths

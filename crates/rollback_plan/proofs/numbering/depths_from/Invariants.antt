@@ -1,9 +1,0 @@
-use Rattle.std.proofs.Common.{length, take}
-use Rattle.rollback_plan.proofs.Depths.{AreDeepened, AreLaid}
-use Rattle.rollback_plan.proofs.numbering.depths_from.Given as goal
-
-abbrev pub invariant-loop-root : goal.invariant-loop-root
-invariant-loop-root l = AreLaid (length l.steps) (take l.root-index l.roots) l.depths.items
-
-abbrev pub invariant-loop-place : goal.invariant-loop-place
-invariant-loop-place l = AreDeepened l.steps l.roots l.place l.depths.items

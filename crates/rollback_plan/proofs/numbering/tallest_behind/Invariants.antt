@@ -1,6 +1,0 @@
-use Rattle.std.proofs.Common.{◌≡◌, max, drop}
-use Rattle.rollback_plan.specs.Numbering.{highest_behind}
-use Rattle.rollback_plan.proofs.numbering.tallest_behind.Given as goal
-
-abbrev pub invariant-loop-edge : goal.invariant-loop-edge
-invariant-loop-edge l = max l.tallest (highest_behind l.heights (drop l.edge-index l.edges)) ≡ highest_behind l.heights l.edges

@@ -1,0 +1,108 @@
+"""The status of a service in the text format that Prometheus reads."""
+import os
+import pathlib
+from collections.abc import Iterator
+from typing import Any
+
+from .folder import say
+
+Status = dict[str, Any]
+KIND = "text/plain; version=0.0.4; charset=utf-8"
+# What each metric means, and its type.
+METRICS = {
+    "prefork_workers": ("gauge", "Workers that were counted last."),
+    "prefork_workers_ended": ("gauge", "Workers that have ended since they were counted."),
+    "prefork_worker_seconds": ("gauge", "For how long a worker has run."),
+    "prefork_worker_last_beat_seconds": ("gauge", "How long ago a worker has beaten."),
+    "prefork_addresses": ("gauge", "Open addresses."),
+    "prefork_masters": ("gauge", "Masters: the one that reigns, and those that upgrades have left."),
+    "prefork_master_restarts_total": ("counter", "How often a master was started again."),
+    "prefork_keeper_up": ("gauge", "Whether the keeper runs."),
+    "prefork_keeper_restarts_total": ("counter", "How often the keeper was started again."),
+    "prefork_words_total": ("counter", "Words, by how they ended."),
+    "prefork_ticks_total": ("counter", "Ticks that masters were told."),
+    "prefork_last_word_done": ("gauge", "Whether the last word was done."),
+    "prefork_busy": ("gauge", "Whether a word is being carried out."),
+    "prefork_question": ("gauge", "The question that is asked, or 0."),
+    "prefork_words_waiting": ("gauge", "Words that wait."),
+    "prefork_file_has_changed": ("gauge", "Whether the configuration's file is another one than was accepted."),
+    "prefork_records_waiting": ("gauge", "Texts of the records and the journal that could not be written yet."),
+    "prefork_service_seconds": ("counter", "For how long the service has run."),
+}
+
+
+def quoted(text: str) -> str:
+    escaped = text.replace("\\", r"\\").replace('"', r"\"").replace("\n", r"\n")
+    return f'"{escaped}"'
+
+
+def labelled(name: str, value: float, **labels: object) -> str:
+    """A line of a metric."""
+    told = ",".join(f"{key}={quoted(str(label))}" for key, label in labels.items())
+    return f"{name}{{{told}}} {value}" if told else f"{name} {value}"
+
+
+def values_of(status: Status) -> Iterator[tuple[str, float, dict[str, object]]]:
+    """Each metric with its value and its labels."""
+    workers, last = status["workers"], status["last"]
+    yield "prefork_workers", len(workers), {"generation": status["generation"] or "none"}
+    yield "prefork_workers_ended", sum(not worker["process"] for worker in workers), {}
+    for worker in workers:
+        labels = {"generation": worker["generation"], "number": worker["number"]}
+        if worker["process"]:
+            yield "prefork_worker_seconds", worker["seconds"], labels
+        if worker["last_beat_seconds"] is not None:
+            yield "prefork_worker_last_beat_seconds", worker["last_beat_seconds"], labels
+    yield "prefork_addresses", len(status["addresses"]), {}
+    yield "prefork_masters", len(status["masters"]), {}
+    yield "prefork_master_restarts_total", status["master_restarts"], {}
+    yield "prefork_keeper_up", int(status["keeper"]["process"] is not None), {}
+    yield "prefork_keeper_restarts_total", status["keeper"]["restarts"], {}
+    for count in status["counts"]:
+        yield "prefork_words_total", count["count"], {"word": count["word"], "outcome": count["outcome"]}
+    yield "prefork_ticks_total", status["ticks"], {}
+    if last:
+        yield "prefork_last_word_done", int(last["report"].startswith(("done", "nothing"))), {"word": last["word"]}
+    yield "prefork_busy", int(status["doing"] is not None), {}
+    yield "prefork_question", status["question"], {}
+    yield "prefork_words_waiting", status["waiting"], {}
+    yield "prefork_file_has_changed", int(status["file_has_changed"]), {}
+    yield "prefork_records_waiting", status["records_waiting"], {}
+    yield "prefork_service_seconds", status["service"]["seconds"], {}
+
+
+def metrics_of(status: Status) -> str:
+    """The whole text, each metric's lines together."""
+    lines: dict[str, list[str]] = {}
+    for name, value, labels in values_of(status):
+        lines.setdefault(name, []).append(labelled(name, value, **labels))
+    found = []
+    for name, (kind, meaning) in METRICS.items():
+        if name in lines:
+            found += [f"# HELP {name} {meaning}", f"# TYPE {name} {kind}", *lines[name]]
+    return "".join(f"{line}\n" for line in found)
+
+
+class MetricsFile:
+    """A file that has the metrics, for collectors that read files; it is replaced as a whole."""
+
+    def __init__(self, path: pathlib.Path):
+        self.path, self.is_short = path, False
+
+    def write(self, text: str) -> None:
+        new = self.path.with_name(f".{self.path.name}.{os.getpid()}")
+        try:
+            new.write_text(text)
+            new.replace(self.path)
+            self.is_short = False
+        except OSError as fault:
+            if not self.is_short:
+                say(f"the metrics are not written: {self.path}: {fault.strerror}")
+            self.is_short = True
+
+    def end(self) -> None:
+        """A file that stays would tell of a service that runs."""
+        try:
+            self.path.unlink(missing_ok=True)
+        except OSError:
+            pass

@@ -1,0 +1,10 @@
+"""The names of processes, as `ps -o comm` and `top` show them."""
+import ctypes
+
+SET_NAME = 15
+LONGEST = 15
+
+
+def set_title(text: str) -> None:
+    """Names this process."""
+    ctypes.CDLL(None).prctl(SET_NAME, text.encode()[:LONGEST], 0, 0, 0)

@@ -1,0 +1,49 @@
+#!/usr/bin/env python3
+"""A master for tests of the service: it answers each word of its input with a block, and starts nothing.
+
+    master.py plan|explore|certify ..     prints its arguments
+    master.py supervise --help            prints what HELP has
+    master.py supervise ..                blocks: of the file BLOCKS/WORD if there is one, or else a plain one
+
+Before a block that has a file it says what the file BLOCKS/errors has, if there is one. If there is a file
+BLOCKS/arguments, it writes its arguments there.
+"""
+import os
+import pathlib
+import sys
+
+COUNT = int(os.environ.get("WORKERS", "2"))
+PLACE = pathlib.Path(os.environ.get("BLOCKS", "/nowhere"))
+
+
+def block_of(word: str) -> str:
+    file = PLACE / word.split()[0]
+    if file.exists() and (PLACE / "errors").exists():
+        print((PLACE / "errors").read_text(), end="", file=sys.stderr, flush=True)
+    if file.exists():
+        return f"word {word}\n{file.read_text()}"
+    census = f"1 m1 census 1.1 : counted 0-{COUNT - 1}"
+    return f"word {word}\n{census}\ndone cause none pid no-file\n"
+
+
+def supervise() -> None:
+    if (PLACE / "arguments").exists():
+        (PLACE / "arguments").write_text(" ".join(sys.argv[1:]))
+    print(block_of("tick 0"), end="", flush=True)
+    for line in sys.stdin:
+        word = line.rstrip("\n")
+        if word.startswith("tick "):
+            for number in range(COUNT):
+                print(f"word beat {number} {word.split()[1]}\nnothing")
+        print(block_of(word), end="", flush=True)
+        if word in ("QUIT", "INT", "TERM"):
+            return
+
+
+if __name__ == "__main__":
+    if sys.argv[1:] == ["supervise", "--help"]:
+        print(os.environ.get("HELP", ""))
+    elif sys.argv[1:2] == ["supervise"]:
+        supervise()
+    else:
+        print(" ".join(sys.argv[1:]))

@@ -1,0 +1,90 @@
+"""Records that are certified: what is joined, what is compared, and what is said."""
+import pathlib
+import tempfile
+import unittest
+
+from prefork_service.certifying import certify
+
+DONE = "done cause none pid no-file\n"
+START, HUP, TTIN = f"word tick 0\n{DONE}", f"word HUP\n{DONE}", f"word TTIN\n{DONE}"
+REFUSED = "word HUP\nrefused C1\n"
+# In place of `prefork certify`: keeps what it is given, and refuses the block that the file `wrong` names.
+PROGRAM = """#!/bin/sh
+here=$(dirname "$0")
+echo "$@" >"$here/arguments"
+cat "$4" "$6" >"$here/configurations" 2>/dev/null
+cat >"$here/given"
+[ -f "$here/wrong" ] || exit 0
+cat "$here/wrong" >&2
+exit 5
+"""
+
+
+class CertifyingTest(unittest.TestCase):
+    def setUp(self) -> None:
+        room = tempfile.TemporaryDirectory()
+        self.addCleanup(room.cleanup)
+        self.room = pathlib.Path(room.name)
+        self.place, self.program = self.room / "records", self.room / "prefork"
+        self.program.write_text(PROGRAM)
+        self.program.chmod(0o755)
+
+    def keep(self, master: str, **files: str) -> None:
+        folder = self.place / master
+        folder.mkdir(parents=True)
+        for name, text in files.items():
+            (folder / name.replace("_", ".")).write_text(text)
+
+    def said(self, status: int) -> list[str]:
+        lines, found = certify(self.place, str(self.program))
+        self.assertEqual(found, status, lines)
+        return lines
+
+    def given(self, name: str = "given") -> str:
+        return (self.room / name).read_text()
+
+    def test_parts_are_joined_in_their_order(self) -> None:
+        parts = {f"blocks_{number}": f"word TTIN {number}\n{DONE}" for number in range(2, 12)}
+        self.keep("1", from_toml="a", blocks_1=START, **parts)
+        line = self.said(0)[0]
+        self.assertRegex(line, r"^1, since \d{4}-\d\d-\d\dT\S+: 11 blocks are accepted, from the first on$")
+        self.assertEqual(self.given(), START + "".join(parts.values()))
+        self.assertIn("certify --bare --from ", self.given("arguments"))
+
+    def test_a_block_that_is_not_accepted_is_named_by_its_place_in_the_records(self) -> None:
+        self.keep("1", from_toml="a", blocks_1=START + REFUSED + HUP)
+        (self.room / "wrong").write_text("prefork: certify 2 Y1 3\n")
+        self.assertIn(": block 3, word HUP, is not accepted: Y1 3", self.said(5)[0])
+        self.assertEqual(self.given(), START + HUP)
+
+    def test_a_master_is_compared_up_to_another_configuration(self) -> None:
+        files = {"to_2_toml": "b", "to_4_toml": "b", "to_5_toml": "c"}
+        self.keep("1", from_toml="a", blocks_1=START + HUP + TTIN + HUP + HUP + TTIN, **files)
+        self.assertIn("4 blocks are accepted, from the first on; 2 more, from block 5 on, word HUP, go over", self.said(0)[0])
+        self.assertEqual((self.given(), self.given("configurations")), (START + HUP + TTIN + HUP, "ab"))
+
+    def test_a_beginning_that_is_gone(self) -> None:
+        self.keep("1", from_toml="a", blocks_2=HUP)
+        self.assertIn("its beginning is no longer there; 1 blocks are not compared", self.said(1)[0])
+        self.keep("2", from_toml="a", blocks_1=START)
+        self.assertEqual(len(self.said(0)), 2)
+
+    def test_a_gap(self) -> None:
+        self.keep("1", from_toml="a", blocks_1=START + HUP, blocks_2_gap=TTIN)
+        self.assertIn("2 blocks are accepted, from the first on; blocks after these could not be written", self.said(0)[0])
+        self.assertEqual(self.given(), START + HUP)
+
+    def test_masters_in_their_order_and_no_records(self) -> None:
+        self.assertIn("no records", self.said(1)[0])
+        for master in ("10", "9"):
+            self.keep(master, from_toml="a", blocks_1=START)
+        self.assertEqual([line.split(",")[0] for line in self.said(0)], ["9", "10"])
+
+    def test_a_program_that_compares_nothing(self) -> None:
+        self.keep("1", from_toml="a", blocks_1=START)
+        (self.room / "wrong").write_text("prefork: config C1\n")
+        self.assertIn("nothing was compared: prefork: config C1", self.said(1)[0])
+
+
+if __name__ == "__main__":
+    unittest.main()

@@ -1,0 +1,60 @@
+"""The limits for answers that masters are told."""
+import os
+import pathlib
+import stat
+import tempfile
+import unittest
+from unittest import mock
+
+from prefork_service.limits import MOST, killed_by, known, limits_of
+from prefork_service.options import arguments
+
+
+class LimitsTest(unittest.TestCase):
+    def limits(self, *words: str) -> list[str]:
+        return limits_of(arguments([*words, "a.toml"]))
+
+    def test_what_a_master_is_told(self) -> None:
+        self.assertEqual(self.limits(), ["--answer-within", "60"])
+        self.assertEqual(self.limits("--answer-within", "0"), [])
+        self.assertEqual(self.limits("--answer-within", "+9"), ["--answer-within", "9"])
+        self.assertEqual(self.limits("--answer-within", str(MOST)), ["--answer-within", str(MOST)])
+
+    def test_an_adapter_ends_its_program_before_the_master_does(self) -> None:
+        self.assertEqual(self.limits("--answer-within", "2"), ["--answer-within", "2", "--ready-within", "60"])
+        for option in ("--ready-within", "--finish"):
+            self.assertEqual(self.limits(option, "450"), ["--answer-within", "60"])
+            self.assertEqual(self.limits(option, "450.5"), ["--answer-within", "60", "--ready-within", "481"])
+            self.assertEqual(self.limits(option, "1e300")[2:], ["--ready-within", str(MOST)])
+            self.assertEqual(self.limits(option, "soon"), ["--answer-within", "60"])
+
+    def test_what_is_refused(self) -> None:
+        for text in ("-1", "1.5", "", "x", str(MOST + 1)):
+            with self.assertRaises(SystemExit), open(os.devnull, "w") as nowhere:
+                with mock.patch("sys.stderr", nowhere):
+                    self.limits(f"--answer-within={text}")
+
+    def test_whether_a_program_knows_them(self) -> None:
+        limits = ["--answer-within", "60"]
+        with tempfile.TemporaryDirectory() as room:
+            program = pathlib.Path(room) / "prefork"
+            for script, wanted in (
+                ("echo '  --answer-within <S>  Kill'", limits), ("echo '  --other'", []), ("false", []),
+                ("sleep 1000", []),
+            ):
+                program.write_text(f"#!/bin/sh\n[ \"$*\" = 'supervise --help' ] && exec {script}\n")
+                program.chmod(stat.S_IRWXU)
+                self.assertEqual(known(str(program), limits), wanted, script)
+                self.assertEqual(known(str(program), []), [])
+        self.assertEqual(known("/nonexistent", limits), [])
+
+    def test_whom_it_has_killed(self) -> None:
+        worker = "killed worker 1.2 3, process 45: no room in its input within 60 s"
+        self.assertEqual(killed_by(worker), ("1.2.3", "killed by its master: no room in its input within 60 s"))
+        master = "killed master 2, process 45: no answer within 3840 s"
+        self.assertEqual(killed_by(master), ("adopt", "killed by its master: no answer within 3840 s"))
+        self.assertIsNone(killed_by("HUP: done"))
+
+
+if __name__ == "__main__":
+    unittest.main()

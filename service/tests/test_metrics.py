@@ -1,0 +1,73 @@
+"""What Prometheus reads."""
+import pathlib
+import re
+import tempfile
+import unittest
+from unittest import mock
+
+from prefork_service.metrics import METRICS, MetricsFile, metrics_of
+
+WORKER = {"generation": "1.2", "number": 0, "process": 7, "seconds": 9, "last_beat_seconds": 1}
+STATUS = {
+    "service": {"process": 1, "seconds": 60, "folder": "/run/site"}, "addresses": ["127.0.0.1:8080"], "generation": "1.2",
+    "workers": [WORKER, {**WORKER, "number": 1, "process": None, "seconds": None, "last_beat_seconds": None}],
+    "masters": [3, 4], "master_restarts": 1, "keeper": {"process": 5, "restarts": 2},
+    "last": {"word": "HUP", "report": "rolled-back cause 2 pid no-file"}, "doing": None, "question": 0, "waiting": 3,
+    "counts": [{"word": "USR2 attended", "outcome": "done", "count": 4}], "file_has_changed": True, "records_waiting": 0,
+    "ticks": 59,
+}
+
+
+class MetricsTest(unittest.TestCase):
+    def test_each_value(self) -> None:
+        lines = metrics_of(STATUS).splitlines()
+        for line in (
+            'prefork_workers{generation="1.2"} 2', "prefork_workers_ended 1",
+            'prefork_worker_seconds{generation="1.2",number="0"} 9',
+            'prefork_worker_last_beat_seconds{generation="1.2",number="0"} 1', "prefork_masters 2",
+            "prefork_master_restarts_total 1", "prefork_keeper_up 1", "prefork_keeper_restarts_total 2",
+            'prefork_words_total{word="USR2 attended",outcome="done"} 4', 'prefork_last_word_done{word="HUP"} 0',
+            "prefork_busy 0", "prefork_words_waiting 3", "prefork_file_has_changed 1", "prefork_service_seconds 60",
+            "prefork_addresses 1", "prefork_ticks_total 59",
+        ):
+            self.assertIn(line, lines)
+        self.assertFalse([line for line in lines if "number=\"1\"" in line])
+
+    def test_the_form(self) -> None:
+        """Each line is one of a metric that was described before it, and all lines of a metric are together."""
+        seen: list[str] = []
+        for line in metrics_of(STATUS).splitlines():
+            comment = re.fullmatch(r"# (HELP|TYPE) (\w+) .+", line)
+            sample = re.fullmatch(r'(\w+)(\{\w+="[^"]*"(,\w+="[^"]*")*\})? -?\d+(\.\d+)?', line)
+            self.assertTrue(comment or sample, line)
+            if comment and comment[1] == "HELP":
+                self.assertNotIn(comment[2], seen)
+                seen.append(comment[2])
+            elif sample:
+                self.assertEqual(sample[1], seen[-1])
+        self.assertEqual(set(seen), set(METRICS))
+
+    def test_labels_are_quoted(self) -> None:
+        status = {**STATUS, "generation": 'a"b\\c\nd'}
+        self.assertIn('prefork_workers{generation="a\\"b\\\\c\\nd"} 2\n', metrics_of(status))
+
+    def test_a_file_is_replaced_as_a_whole_and_goes_with_the_service(self) -> None:
+        with tempfile.TemporaryDirectory() as room, mock.patch("prefork_service.metrics.say") as said:
+            path = pathlib.Path(room) / "metrics"
+            file = MetricsFile(path)
+            file.write("one\n")
+            with open(path) as reader:
+                file.write("other\n")
+                self.assertEqual(reader.read(), "one\n")
+            self.assertEqual([path.read_text()], [other.read_text() for other in path.parent.iterdir()])
+            file.end()
+            file.end()
+            self.assertFalse(path.exists())
+            lost = MetricsFile(path / "nowhere")
+            lost.write("x")
+            lost.write("x")
+            said.assert_called_once()
+
+
+if __name__ == "__main__":
+    unittest.main()

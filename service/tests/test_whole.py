@@ -1,0 +1,186 @@
+"""prefork-serve and prefork-ctl together, over a master that answers each word and starts nothing."""
+import json
+import os
+import pathlib
+import re
+import signal
+import socket
+import subprocess
+import tempfile
+import unittest
+from typing import Any
+
+from kit import BIN, PROGRAMS, answer_of, built, free_address, until
+
+SECONDS = 60
+BACK = "1 m1 fork 1.2 0 : forked\n2 m1 await-ready 1.2 0 : gone\n3 m1 census 1.1 : counted 0-1\nrolled-back cause 2 pid no-file\n"
+
+
+class WholeTest(unittest.TestCase):
+    @classmethod
+    def setUpClass(cls) -> None:
+        built()
+
+    def setUp(self) -> None:
+        room = tempfile.TemporaryDirectory(prefix="whole-")
+        self.addCleanup(room.cleanup)
+        self.room = pathlib.Path(room.name)
+        self.folder, self.blocks, self.said = self.room / "run", self.room / "blocks", self.room / "said"
+        self.blocks.mkdir()
+        self.address = free_address()
+        self.configure(2)
+        self.environment = {**os.environ, "BLOCKS": str(self.blocks)}
+        self.serve: Any = None
+        self.addCleanup(self.end)
+
+    def configure(self, workers: int) -> None:
+        text = f'listeners = ["{self.address}"]\nworkers = {workers}\ncommand = ["true"]\n'
+        (self.room / "site.toml").write_text(text)
+
+    def start(self, *options: str) -> None:
+        command = [BIN / "prefork-serve", "--prefork", PROGRAMS / "master.py", *options, "site.toml"]
+        with open(self.said, "a") as said:
+            self.serve = subprocess.Popen(command, cwd=self.room, env=self.environment, stderr=said)
+        self.assertTrue(until(lambda: self.status() and self.status()["generation"]), self.said.read_text())
+
+    def end(self) -> None:
+        if self.serve:
+            self.serve.send_signal(signal.SIGQUIT)
+            self.serve.wait(SECONDS)
+
+    def ctl(self, *words: str) -> subprocess.CompletedProcess:
+        command = [BIN / "prefork-ctl", *words]
+        return subprocess.run(command, cwd=self.room, env=self.environment, capture_output=True, text=True, timeout=SECONDS)
+
+    def status(self) -> Any:
+        said = self.ctl("--json", "status").stdout
+        return json.loads(said) if said else None
+
+    def test_records_and_journal(self) -> None:
+        self.start("--records", str(self.room / "kept"))
+        (self.blocks / "HUP").write_text(BACK)
+        with open(self.folder / "reasons", "a") as file:
+            file.write("1.2.0 prefork-launch: /x: Permission denied\n1.1.1 it has ended by itself\n")
+        sent = self.ctl("HUP")
+        self.assertEqual((sent.returncode, sent.stdout), (3, f"word HUP\n{BACK}"))
+        why = "2 m1 await-ready 1.2 0 : gone: prefork-launch: /x: Permission denied"
+        self.assertIn(f"prefork-ctl: {why}\n", sent.stderr)
+        self.assertIn(f"prefork-ctl: runs now: 2 workers of generation 1.1 at {self.address}\n", sent.stderr)
+        last = self.status()["last"]
+        self.assertEqual((last["reasons"], last["cause"]), ([why], "2 m1 await-ready 1.2 0 : gone"))
+        self.ctl("TTIN")
+        status = self.status()
+        self.assertEqual(status["service"]["records"], str(self.room / "kept" / "records"))
+        self.assertTrue(until(lambda: self.status()["service"]["seconds"] > 3))
+        self.serve.kill()
+        self.serve.wait()
+        self.start("--records", str(self.room / "kept"))
+        self.end()
+        journal = re.sub(r"^\S+ ", "", (self.room / "kept" / "journal").read_text(), flags=re.M)
+        for line in ("HUP begins", "HUP: rolled-back cause 2 pid no-file", f"HUP: {why}", "TTIN: done cause none pid no-file",
+                     "worker 1.1.1: it has ended by itself", "the service ends"):
+            self.assertEqual(journal.count(f"{line}\n"), 1, line)
+        self.assertEqual(journal.count(" starts; its blocks are in "), 2)
+        self.assertEqual(journal.count("tick 0: done"), 2)
+        texts = [(self.room / "kept" / "records" / number / "blocks.1").read_text() for number in "12"]
+        words = [re.findall(r"^word ((?!beat)\S+)", text, re.M) for text in texts]
+        self.assertEqual(words, [["tick", "HUP", "TTIN"], ["tick", "QUIT"]])
+        self.assertEqual(os.path.realpath(self.folder / "blocks"), str(self.room / "kept" / "records" / "2" / "blocks.1"))
+
+    def test_words_are_rehearsed_as_the_service_runs_now(self) -> None:
+        self.start()
+        config, site = str(self.folder / "config.toml"), str(self.room / "site.toml")
+        self.assertEqual(self.ctl("plan", "HUP").stdout, f"plan --why --from {config} --to {site} HUP\n")
+        self.assertEqual(self.ctl("plan", "TTIN").stdout, f"plan --why --from {config} TTIN\n")
+        (self.blocks / "TTIN").write_text("1 m1 census 1.1 : counted 0-2\ndone cause none pid no-file\n")
+        (self.blocks / "tick").write_text("nothing\n")
+        self.ctl("TTIN")
+        found = json.loads(self.ctl("--json", "--events", "2", "--forbid", "degraded", "explore", "USR2", "attended").stdout)
+        options = "--workers 3 --events 2 --forbid degraded"
+        wanted = f"explore --why --from {config} --to {site} {options} USR2 attended"
+        self.assertEqual(found, {"status": 0, "lines": [wanted], "notes": []})
+        (self.blocks / "WINCH").write_text("1 m1 census 1.1 : counted none\ndone cause none pid no-file\n")
+        self.ctl("WINCH")
+        self.assertEqual(self.ctl("plan", "TTIN").stdout, f"plan --why --from {config} --workers 0 TTIN\n")
+        for words in (("plan",), ("plan", "XX"), ("plan", "HUP", "HUP"), ("--events", "2", "HUP")):
+            self.assertEqual(self.ctl(*words).returncode, 2, words)
+        self.assertEqual(self.ctl("--folder", "nowhere", "plan", "HUP").returncode, 1)
+
+    def test_a_master_that_knows_limits_is_told_them(self) -> None:
+        told = self.blocks / "arguments"
+        for knows, options, wanted in (
+            ("--other", (), ""), ("--answer-within <S>", (), " --answer-within 60"),
+            ("--answer-within <S>", ("--answer-within", "0"), ""),
+        ):
+            told.touch()
+            self.environment["HELP"] = knows
+            self.start(*options)
+            self.assertEqual(told.read_text().partition("next.toml")[2], wanted)
+            self.end()
+
+    def test_whom_a_master_has_killed_is_a_reason(self) -> None:
+        self.start()
+        (self.blocks / "HUP").write_text(BACK)
+        (self.blocks / "errors").write_text("[INFO  prefork] killed worker 1.2 0, process 7: not ready within 480 s\n")
+        self.assertIn(": gone: killed by its master: not ready within 480 s\n", self.ctl("HUP").stderr)
+        self.assertIn("prefork-serve: worker 1.2.0 is killed by its master", self.said.read_text())
+
+    def answer(self, address: str, path: str) -> str:
+        return answer_of(address, path, SECONDS)
+
+    def test_systemd_is_told(self) -> None:
+        place = self.room / "notify"
+        with socket.socket(socket.AF_UNIX, socket.SOCK_DGRAM) as systemd:
+            systemd.bind(str(place))
+            systemd.settimeout(SECONDS)
+            self.environment |= {"NOTIFY_SOCKET": str(place), "WATCHDOG_USEC": "1000000"}
+            said: list[str] = []
+
+            def comes(text: str) -> int:
+                """How many messages came up to one that begins so."""
+                begin = len(said)
+                while not said[begin:] or not said[-1].startswith(text):
+                    said.append(systemd.recv(4096).decode())
+                return len(said) - 1
+
+            self.start()
+            comes("READY=1")
+            runs = f"STATUS=2 workers of generation 1.1 at {self.address}"
+            comes(runs)
+            (self.blocks / "HUP").write_text(BACK)
+            self.ctl("HUP")
+            reloading = comes("RELOADING=1\nMONOTONIC_USEC=")
+            self.assertTrue(reloading < comes("READY=1") < comes(f"{runs}; last word HUP: rolled-back cause 2 pid no-file"))
+            self.ctl("TTIN")
+            comes(f"{runs}; last word TTIN: done")
+            self.assertEqual([text for text in said[reloading + 1 :] if text.startswith("RELOADING")], [])
+            beats = [comes("WATCHDOG=1") for _ in range(3)]
+            self.assertEqual(len(set(beats)), 3)
+            sent = subprocess.Popen([BIN / "prefork-ctl", "QUIT"], cwd=self.room, stdout=subprocess.DEVNULL, stderr=subprocess.DEVNULL)
+            # Once as the word begins, and once at the very end.
+            self.assertLess(comes("STOPPING=1"), comes("STOPPING=1"))
+            sent.wait(SECONDS)
+            self.serve.wait(SECONDS)
+
+    def test_metrics_and_page_agree_with_the_status(self) -> None:
+        measured, seen, file = free_address(), free_address(), self.room / "metrics"
+        self.start("--metrics", measured, "--page", seen)
+        (self.blocks / "HUP").write_text(BACK)
+        self.ctl("HUP")
+        self.assertIn('prefork_words_total{word="HUP",outcome="rolled-back"} 1\n', self.answer(measured, "/metrics"))
+        self.assertTrue(until(lambda: "plan --why --from" in self.answer(seen, "/"), SECONDS))
+        page = self.answer(seen, "/")
+        for wanted in ("2 workers of generation 1.1", "rolled-back cause 2 pid no-file", "2 m1 await-ready 1.2 0 : gone"):
+            self.assertIn(wanted, page)
+        self.assertIn("prefork_workers", self.answer(seen, "/metrics"))
+        self.end()
+        self.start("--metrics", str(file))
+        self.assertTrue(until(file.exists))
+        self.ctl("TTIN")
+        self.assertIn('prefork_words_total{word="TTIN",outcome="done"} 1\n', file.read_text())
+        self.end()
+        self.assertFalse(file.exists())
+
+
+if __name__ == "__main__":
+    unittest.main()
