@@ -6,8 +6,6 @@ mod closings;
 #[cfg(test)]
 mod edges;
 #[cfg(test)]
-mod endings;
-#[cfg(test)]
 mod lives;
 mod obeying;
 #[cfg(test)]
@@ -17,7 +15,5 @@ mod processes;
 mod recorded;
 #[cfg(test)]
 mod setup;
-#[cfg(test)]
-mod silent;
 
 pub use recorded::{FamilyCall, Recorded};

@@ -1,33 +1,13 @@
-//! Workers that are shells on a script, and what an edge hears of one in its life.
+//! What an edge hears of one worker in its life, where that is a shell on a script.
 use crate::setup::{FIRST, ask, below, edge_of, start};
 use child_edge::Edge;
 use child_family::Family;
 use child_processes::OsFamily;
 use listener_set::Numbers;
 use log::sink::Discard;
-use std::alloc::{AllocError, Global};
 use std::test::Fail;
+use tests_of_processes::worker;
 use vocabulary::{Answer, Call};
-
-/// The words that start a shell on a script.
-pub(crate) fn shell(alloc: Global, script: &str) -> Result<Vec<String>, AllocError> {
-    let mut command = Vec::new(alloc);
-    for word in ["sh", "-c", script] {
-        command.push(String::from_str(alloc, word)?)?;
-    }
-    Ok(command)
-}
-
-/// A worker that obeys, but for one word, at which it does something else.
-pub(crate) fn worker(alloc: Global, word: &str, instead: &str) -> Result<Vec<String>, AllocError> {
-    let script = format!(in alloc;
-        "while read line; do set -- $line; \
-        if [ $1 = {word} ]; then {instead}; continue; fi; \
-        case $1 in worker) start=$4;; go) echo ready;; ping) echo pong;; \
-        tick) echo beat $2 $start;; quit) echo gone; exit 0;; esac; done"
-    )?;
-    shell(alloc, script.as_str())
-}
 
 /// What an edge hears of one worker in its life.
 #[derive(Clone, Copy)]

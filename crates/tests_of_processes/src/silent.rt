@@ -1,18 +1,12 @@
 //! Children that keep their master waiting, under a limit of three seconds: what it hears, and that it goes on.
-use crate::lives::shell;
-use crate::setup::FIRST;
+use crate::setup::WORKER;
+use crate::shells::shell;
 use child_family::{Family, Heard, Role};
 use child_processes::{Limits, OsFamily};
 use log::sink::{Discard, Memory};
 use plain_text::Line;
 use std::alloc::AllocError;
 use std::test::Fail;
-
-const WORKER: Role = Role::Worker {
-    generation: FIRST,
-    nr: 0,
-    start: 1,
-};
 
 const SHORT: Limits = Limits {
     answer: 3,

@@ -1,18 +1,12 @@
 //! As what children are started, and how they end with their master.
-use crate::lives::{shell, worker};
-use crate::setup::FIRST;
+use crate::setup::{FIRST, WORKER};
+use crate::shells::{shell, worker};
 use child_family::{Family, Heard, Role, StartFault};
 use child_processes::OsFamily;
 use plain_text::Line;
 use std::alloc::{AllocError, Global};
 use std::process;
 use std::test::Fail;
-
-const WORKER: Role = Role::Worker {
-    generation: FIRST,
-    nr: 0,
-    start: 1,
-};
 
 const MASTER: Role = Role::Master { image: 2 };
 

@@ -1,0 +1,12 @@
+//! Tests of children that are processes of the system, with no edge over them.
+#![tactic(auto)]
+
+#[cfg(test)]
+mod endings;
+#[cfg(test)]
+mod setup;
+mod shells;
+#[cfg(test)]
+mod silent;
+
+pub use shells::{shell, worker};
