@@ -7,17 +7,30 @@ import threading
 PORTS = range(15000, 32000)
 SECONDS = 60.0
 PICKING = threading.Lock()
-PICKED: set[int] = set()
+# The ports that this process has given, each with what keeps other scripts off it as long as this process lives.
+PICKED: dict[int, socket.socket] = {}
 
 
 def free_address() -> str:
-    """An address that nobody listens on, and that this process has not given before."""
+    """An address that nobody listens on, and that neither this process nor another script has given."""
     with PICKING:
         while True:
             port = random.choice(PORTS)
-            if port not in PICKED and is_free(port):
-                PICKED.add(port)
+            claim = claim_of(port) if port not in PICKED else None
+            if claim and is_free(port):
+                PICKED[port] = claim
                 return f"127.0.0.1:{port}"
+
+
+def claim_of(port: int) -> socket.socket | None:
+    """A name in the system's list of names without files, which one process has at a time; none if another has it."""
+    claim = socket.socket(socket.AF_UNIX)
+    try:
+        claim.bind(f"\0prefork-gate-port-{port}")
+    except OSError:
+        claim.close()
+        return None
+    return claim
 
 
 def is_free(port: int) -> bool:
