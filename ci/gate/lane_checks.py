@@ -1,0 +1,120 @@
+"""Checks of how scripts run side by side, on scripts that are made up."""
+import pathlib
+import tempfile
+import time
+from collections.abc import Callable, Iterator
+
+from gate.scripts import BY_ITSELF, SCRIPTS, WITHOUT_PROGRAM, Scripts, lanes
+from gate.waiting import comes
+
+PROCESSORS = (1, 2, 4, 8)
+# A script that notes when it begins and when it ends.
+NOTES = '#!/bin/sh\nname=${0##*/}\necho "begins $name" >> "$1"\nsleep 0.05\necho "ends $name" >> "$1"\n'
+PASSES = 'echo "1 passed, 0 failed"\n'
+FAILS = 'echo "what is wrong"\necho "1 passed, 2 failed"\nexit 1\n'
+BREAKS_OFF = "exit 1\n"
+# One that starts a process in a session of its own, and waits for it.
+LASTS = '#!/bin/sh\nsetsid sleep 1000 &\necho "begins lasting" >> "$1"\nwait\n'
+
+
+def put(path: pathlib.Path, text: str) -> None:
+    path.write_text(text)
+    path.chmod(0o755)
+
+
+def laid_out(room: pathlib.Path, processors: int, **others: str) -> Scripts:
+    """A run of scripts that pass, but for these others. They note in the file `notes`, in the place of the program."""
+    for name in SCRIPTS:
+        put(room / name, others.get(name, NOTES + PASSES))
+    return Scripts(room, room / "notes", lambda line: None, processors)
+
+
+def each_is_in_a_lane(room: pathlib.Path) -> Iterator[str]:
+    for processors in PROCESSORS:
+        names = [name for lane in lanes(processors) for name in lane.left]
+        if sorted([*names, *BY_ITSELF, *WITHOUT_PROGRAM]) != sorted(SCRIPTS):
+            yield f"the lanes of {processors} processors have {names}"
+
+
+def most_at_a_time(notes: list[list[str]]) -> int:
+    """How many scripts ran side by side, at most."""
+    count = most = 0
+    for what, _ in notes:
+        count += 1 if what == "begins" else -1
+        most = max(most, count)
+    return most
+
+
+def run_side_by_side(room: pathlib.Path) -> Iterator[str]:
+    """On four processors three run at a time, on one processor one, and `json` before all of these."""
+    for processors, wanted in ((1, 1), (2, 2), (4, 3)):
+        scripts = laid_out(room, processors)
+        with scripts:
+            scripts.begin()
+            scripts.run()
+        notes = [line.split() for line in (room / "notes").read_text().splitlines() if "selftest" not in line]
+        (room / "notes").unlink()
+        most = most_at_a_time(notes)
+        if not min(2, wanted) <= most <= wanted:
+            yield f"{most} scripts run side by side on {processors} processors: {notes}"
+        at = notes.index(["begins", "json"])
+        if notes[at + 1] != ["ends", "json"] or most_at_a_time(notes[:at]) > 0:
+            yield f"json does not run by itself: {notes}"
+        if scripts.counted != dict.fromkeys(SCRIPTS, (1, 0)) or scripts.wrong():
+            yield f"{scripts.counted}, {scripts.wrong()}"
+
+
+def tell_what_failed(room: pathlib.Path) -> Iterator[str]:
+    """What failed is told in the order of the scripts, and counted as each says."""
+    scripts = laid_out(room, 4, documents=NOTES + FAILS, adapters=NOTES + BREAKS_OFF, cases=NOTES + FAILS)
+    (room / "pictures").unlink()
+    with scripts:
+        scripts.begin()
+        scripts.run()
+    failed = {name: counted for name, counted in scripts.counted.items() if counted[1]}
+    if failed != {"cases": (1, 2), "pictures": (0, 1), "adapters": (0, 1), "documents": (1, 2)}:
+        yield f"counted as failed: {failed}"
+    told = [line.partition(": ")[0] for line in scripts.wrong()]
+    if list(dict.fromkeys(told)) != ["cases", "pictures", "adapters", "documents"]:
+        yield f"told in the order {told}"
+    if "documents: what is wrong" not in scripts.wrong():
+        yield f"told: {scripts.wrong()}"
+
+
+def leave_none_behind(room: pathlib.Path) -> Iterator[str]:
+    """A run that is broken off ends its scripts and what they started, and begins no more of them."""
+    scripts = laid_out(room, 4, adapters=LASTS, hostile=LASTS)
+    try:
+        with scripts:
+            scripts.started(lanes(4))
+            if not comes(lambda: (room / "notes").exists() and (room / "notes").read_text().count("lasting") == 2):
+                yield "the scripts do not begin"
+            raise KeyboardInterrupt
+    except KeyboardInterrupt:
+        pass
+    if scripts.mark.processes():
+        yield f"processes are left: {scripts.mark.processes()}"
+    noted = (room / "notes").read_text()
+    time.sleep(0.3)
+    if (room / "notes").read_text() != noted:
+        yield "scripts go on"
+
+
+def leave_out_the_rest(room: pathlib.Path) -> Iterator[str]:
+    """Where not all is proved, no script runs, and each counts as failed."""
+    scripts = laid_out(room, 4)
+    with scripts:
+        scripts.leave_out()
+    if scripts.counted != dict.fromkeys(SCRIPTS, (0, 1)) or (room / "notes").exists():
+        yield f"{scripts.counted}"
+
+
+CHECKS: tuple[Callable[[pathlib.Path], Iterator[str]], ...] = (
+    each_is_in_a_lane, run_side_by_side, tell_what_failed, leave_none_behind, leave_out_the_rest,
+)
+
+
+def faults(check: Callable[[pathlib.Path], Iterator[str]]) -> list[str]:
+    """What a check finds wrong."""
+    with tempfile.TemporaryDirectory(prefix="prefork-lanes-") as folder:
+        return [f"scripts {check.__name__}: {fault}" for fault in check(pathlib.Path(folder))]

@@ -1,0 +1,187 @@
+"""The scripts that try the program, side by side in lanes, and what each counted."""
+import collections
+import os
+import pathlib
+import re
+import signal
+import subprocess
+import threading
+import time
+import traceback
+from collections.abc import Callable, Iterable
+from typing import Any
+
+from gate.processes import Mark
+from gate.spare import spare
+
+# The scripts, and what each counts, in the order in which that is told.
+SCRIPTS = {
+    "cases": "cases",
+    "limits": "limits",
+    "rehearsals": "rehearsals",
+    "terminals": "runs at a terminal",
+    "json": "answers as JSON",
+    "deployments": "deployments",
+    "pictures": "pictures of plans",
+    "explorations": "explorations",
+    "roundtrips": "round trips and altered transcripts",
+    "hostile": "hostile runs",
+    "children": "runs of real children",
+    "soak": "words of a soak",
+    "service": "checks of a web service",
+    "adapters": "checks of applications as they are",
+    "package": "checks of the package and of a roll-out",
+    "documents": "checks of documents",
+    "selftest": "runs of the gate itself",
+}
+# Needs no program: it begins beside the proofs, once these leave it room.
+WITHOUT_PROGRAM = ("selftest",)
+# Compares two times that a processor takes, so it runs before the lanes begin.
+BY_ITSELF = ("json",)
+# What mostly waits, for services under load and for real children: the longest first.
+WAITING = ("adapters", "service", "children", "package", "soak")
+# What computes, on all processors: it gives way to the others, whose loads and time limits are those of an operator.
+COMPUTING = tuple(name for name in SCRIPTS if name not in (*WITHOUT_PROGRAM, *BY_ITSELF, *WAITING))
+NICE = 10
+# From so many processors on, two of those that wait run side by side.
+MANY = 4
+# For how many seconds the proofs must leave room for a script beside them, and which part of the processors that is.
+LOOKS, ROOM = 10, 0.45
+# How long scripts may take to end once they are told to.
+END_SECONDS = 10.0
+# What a script came to: how much it counts as passed and as failed.
+Counted = tuple[int, int]
+
+
+class Lane:
+    """Scripts that are run one after another, each by one of the lane's runners."""
+
+    def __init__(self, names: Iterable[str], runners: int = 1, nice: int = 0):
+        self.left, self.runners, self.nice = collections.deque(names), runners, nice
+
+    def next(self) -> str | None:
+        try:
+            return self.left.popleft()
+        except IndexError:
+            return None
+
+
+def lanes(processors: int) -> list[Lane]:
+    """The lanes of what needs the program, on so many processors."""
+    if processors == 1:
+        return [Lane([*WAITING, *COMPUTING])]
+    return [Lane(WAITING, 2 if processors >= MANY else 1), Lane(COMPUTING, nice=NICE)]
+
+
+class Scripts:
+    """A run of all scripts: what each counted, how long it took, and what it said if it failed. Where the run is broken
+    off, all that they started is ended."""
+
+    def __init__(self, folder: pathlib.Path, program: pathlib.Path, say: Callable[[str], None], processors: int):
+        self.folder, self.program, self.say, self.processors = folder, program, say, processors
+        self.counted: dict[str, Counted] = {}
+        self.seconds: dict[str, float] = {}
+        self.failed: dict[str, list[str]] = {}
+        self.mark, self.telling = Mark("PREFORK_GATE"), threading.Lock()
+        self.proofs_ended, self.is_left_out = threading.Event(), False
+        self.beside: list[threading.Thread] = []
+
+    def __enter__(self) -> "Scripts":
+        return self
+
+    def __exit__(self, kind: Any, *_: Any) -> None:
+        if kind:
+            self.is_left_out = True
+            self.end_all()
+
+    def begin(self) -> None:
+        """Runs what needs no program, once the proofs leave room for it or have ended."""
+        self.beside = self.started([Lane(WITHOUT_PROGRAM)], self.wait_for_room)
+
+    def wait_for_room(self) -> None:
+        """Waits until about half of the processors are spare, or the proofs have ended."""
+        seen = 0
+        while seen < LOOKS and not self.proofs_ended.is_set():
+            seen = seen + 1 if spare(1.0) >= ROOM * self.processors else 0
+
+    def run(self) -> None:
+        """Runs the others, once all is proved, and waits for all."""
+        self.proofs_ended.set()
+        join(self.started([Lane(BY_ITSELF)]))
+        join(self.started(lanes(self.processors)))
+        join(self.beside)
+
+    def leave_out(self) -> None:
+        """Runs no more of them."""
+        self.is_left_out = True
+        self.proofs_ended.set()
+        join(self.beside)
+        for name in SCRIPTS:
+            if name not in self.counted:
+                self.counted[name], self.failed[name] = (0, 1), ["not run, since not all is proved"]
+
+    def started(self, chosen: list[Lane], waits: Callable[[], None] = lambda: None) -> list[threading.Thread]:
+        """Runners of these lanes, which wait for something first."""
+        runners = [threading.Thread(target=self.go_along, args=(lane, waits), daemon=True)
+                   for lane in chosen for _ in range(lane.runners)]
+        for runner in runners:
+            runner.start()
+        return runners
+
+    def go_along(self, lane: Lane, waits: Callable[[], None]) -> None:
+        waits()
+        while not self.is_left_out and (name := lane.next()) is not None:
+            self.try_one(name, lane.nice)
+
+    def try_one(self, name: str, nice: int) -> None:
+        """Runs a script, and tells what it said."""
+        began = time.monotonic()
+        try:
+            lines, counted = self.heard(name, nice)
+        except Exception:
+            # (this script fails, and the others go on)
+            lines, counted = traceback.format_exc().rstrip().split("\n"), (0, 1)
+        self.seconds[name], self.counted[name] = time.monotonic() - began, counted
+        if counted[1]:
+            self.failed[name] = lines
+        with self.telling:
+            for line in lines:
+                self.say(f"{name}: {line}")
+
+    def heard(self, name: str, nice: int) -> tuple[list[str], Counted]:
+        """What a script says of the program, and what it counts."""
+        lowered = ["nice", "-n", str(nice)] if nice else []
+        command = [*lowered, str(self.folder / name), str(self.program)]
+        streams: dict[str, Any] = {"stdin": subprocess.DEVNULL, "stdout": subprocess.PIPE, "stderr": subprocess.STDOUT}
+        ended = subprocess.run(command, **streams, errors="replace", env=self.mark.environment())
+        lines = ended.stdout.rstrip("\n").split("\n")
+        found = re.fullmatch(r"(\d+) passed, (\d+) failed", lines[-1])
+        if found and ended.returncode == (found[2] != "0"):
+            return lines, (int(found[1]), int(found[2]))
+        return lines, (0, 1)
+
+    def end_all(self) -> None:
+        """Ends the scripts and all that they have started: by a signal first, so that each can end its own."""
+        for number in self.mark.processes():
+            try:
+                os.kill(number, signal.SIGTERM)
+            except ProcessLookupError:
+                pass
+        self.mark.left(END_SECONDS)
+        self.mark.end_all()
+
+    def wrong(self) -> list[str]:
+        """What was said by those that failed, in a fixed order."""
+        return [f"{name}: {line}" for name in SCRIPTS for line in self.failed.get(name, [])]
+
+    def took(self) -> str:
+        """How long each took."""
+        return ", ".join(f"{name} {self.seconds[name]:.0f} s" for name in SCRIPTS if name in self.seconds)
+
+    def counts(self) -> str:
+        return "; ".join(f"{what}: {sum(self.counted[name])}" for name, what in SCRIPTS.items())
+
+
+def join(runners: list[threading.Thread]) -> None:
+    for runner in runners:
+        runner.join()
