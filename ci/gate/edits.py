@@ -2,18 +2,23 @@
 import hashlib
 import os
 import shutil
+import signal
 import tempfile
 import threading
 import time
 import traceback
 
 from gate import kit
+from gate.giving_way import give_way, tell
 from gate.ledger import Ledger, key
 from gate.refusals import Trial
+from gate.spare import spare, waiting
 
 # What a check may take, and what stays free for the proofs beside it, in bytes.
 CHECK_MEMORY = 5_000_000_000
-NICE = 19
+# A processor is free where so much of it was spare for so many seconds, and wanted where so many threads waited.
+SPARE_PROCESSOR, SPARE_SECONDS = 0.8, 3.0
+WAITING, WAITING_SECONDS = 0.5, 2.0
 
 
 class Crate:
@@ -61,6 +66,54 @@ class Sample:
         return int(hashlib.sha256(f"{self.seed} {name}".encode()).hexdigest(), 16) % self.one_in == 0
 
 
+class Turns:
+    """Which checks run, and when. While crates are proved it is one at a time, on a processor that the proofs leave
+    free: it begins once there is one, and is stopped while they want it. A low priority is not enough for that: the
+    system moves other work to the processor of a check too late."""
+
+    def __init__(self, ends):
+        self.ends, self.is_beside, self.most, self.running = ends, True, 1, 0
+        # (one looks at a time, so that no two take the same place)
+        self.looking, self.counting = threading.Lock(), threading.Lock()
+
+    def begin(self):
+        """Waits until a check may begin: whether it may, or none may any more."""
+        with self.looking:
+            while not self.is_over():
+                if self.running < self.most and kit.free_memory() >= CHECK_MEMORY and self.has_processor():
+                    self.count(1)
+                    return True
+                time.sleep(0.2)
+        return False
+
+    def end(self):
+        self.count(-1)
+
+    def count(self, change):
+        with self.counting:
+            self.running += change
+
+    def is_over(self):
+        return self.ends is not None and time.monotonic() >= self.ends
+
+    def has_processor(self):
+        return not self.is_beside or spare(SPARE_SECONDS) >= SPARE_PROCESSOR
+
+    def proofs_ended(self, most):
+        """From now on so many checks run side by side."""
+        self.is_beside, self.most = False, most
+
+    def watch(self):
+        """Stops the check beside the proofs while these want its processor."""
+        while self.is_beside:
+            if self.running and waiting(WAITING_SECONDS) > WAITING:
+                tell(signal.SIGSTOP)
+                while self.is_beside and not self.has_processor():
+                    pass
+                tell(signal.SIGCONT)
+            time.sleep(0.2)
+
+
 class Trials:
     """All trials of a run, in lanes of their own that give way to the proofs."""
 
@@ -68,19 +121,20 @@ class Trials:
         self.options, self.say, self.ledger = options, say, ledger
         self.crates = {it.name: Crate(it, edits) for it in kit.built_crates(tree)}
         self.waiting = {it.name for it in self.crates.values() if it.edits}
-        self.ready, self.finished = [], []
+        self.ready, self.finished, self.turns = [], [], Turns(options.ends)
         self.changed = threading.Condition()
         self.lanes = [threading.Thread(target=self.lane, daemon=True) for _ in range(kit.processors())]
         self.kept = tempfile.TemporaryDirectory(prefix="edits-", ignore_cleanup_errors=True)
 
     def start(self):
-        """One check at a time while crates are proved: more would slow the proofs down, even at this priority."""
-        self.lanes[0].start()
+        """Begins with the crates that are proved first."""
+        give_way()
+        for thread in (threading.Thread(target=self.turns.watch, daemon=True), *self.lanes):
+            thread.start()
 
-    def start_all(self):
-        """As many checks side by side as there are processors, once the proofs have ended."""
-        for lane in self.lanes[1:]:
-            lane.start()
+    def proofs_ended(self):
+        """Beside the scripts, checks take half of the processors."""
+        self.turns.proofs_ended(max(1, kit.processors() // 2))
 
     def proved(self, name):
         """A crate and all below it are proved: its edits can be tried."""
@@ -94,7 +148,8 @@ class Trials:
             self.changed.notify_all()
 
     def no_more(self):
-        """No further crate will be proved. Waits until all trials have ended."""
+        """No further crate will be proved, and no script runs. Waits until all trials have ended."""
+        self.turns.proofs_ended(kit.processors())
         with self.changed:
             self.waiting.clear()
             self.changed.notify_all()
@@ -114,8 +169,6 @@ class Trials:
                 self.changed.wait()
 
     def lane(self):
-        # (what this thread starts is nice too)
-        os.setpriority(os.PRIO_PROCESS, threading.get_native_id(), NICE)
         while (crate := self.next_crate()) is not None:
             try:
                 self.try_edits(crate)
@@ -128,20 +181,15 @@ class Trials:
         kept = os.path.join(self.kept.name, crate.name)
         os.mkdir(kept)
         crate.trial = Trial(crate.built, [crate.first, crate.others], kept)
-        while crate.trial.left and not self.is_over():
-            self.wait_for_memory()
-            crate.trial.step()
+        while crate.trial.left and self.turns.begin():
+            try:
+                crate.trial.step()
+            finally:
+                self.turns.end()
         shutil.rmtree(kept)
         with self.changed:
             self.finished.append(crate)
         self.tell(crate, time.monotonic() - started)
-
-    def is_over(self):
-        return self.options.ends is not None and time.monotonic() >= self.options.ends
-
-    def wait_for_memory(self):
-        while kit.free_memory() < CHECK_MEMORY:
-            time.sleep(2)
 
     def tell(self, crate, seconds):
         trial = crate.trial
