@@ -40,8 +40,10 @@ WITHOUT_PROGRAM = ("selftest",)
 BY_ITSELF = ("json",)
 # What mostly waits, for services under load and for real children: the longest first.
 WAITING = ("adapters", "service", "children", "package", "soak")
-# What computes, on all processors: it gives way to the others, whose loads and time limits are those of an operator.
-COMPUTING = tuple(name for name in SCRIPTS if name not in (*WITHOUT_PROGRAM, *BY_ITSELF, *WAITING))
+# What computes: first what tells most in a second, and then the longest, so that short ones fill the end. It gives way
+# to the others, whose loads and time limits are those of an operator.
+COMPUTING = ("cases", "hostile", "rehearsals", "roundtrips", "limits", "explorations", "documents", "terminals",
+             "deployments", "pictures")
 NICE = 10
 # From so many processors on, two of those that wait run side by side.
 MANY = 4
@@ -54,23 +56,25 @@ Counted = tuple[int, int]
 
 
 class Lane:
-    """Scripts that are run one after another, each by one of the lane's runners."""
+    """Scripts that are run one after another by each of the lane's runners, who then help in another lane."""
 
-    def __init__(self, names: Iterable[str], runners: int = 1, nice: int = 0):
-        self.left, self.runners, self.nice = collections.deque(names), runners, nice
+    def __init__(self, names: Iterable[str], runners: int = 1, nice: int = 0, then: "Lane | None" = None):
+        self.left, self.runners, self.nice, self.then = collections.deque(names), runners, nice, then
 
-    def next(self) -> str | None:
+    def next(self) -> tuple[str, int] | None:
+        """The next script, and how nice it is."""
         try:
-            return self.left.popleft()
+            return self.left.popleft(), self.nice
         except IndexError:
-            return None
+            return self.then.next() if self.then else None
 
 
 def lanes(processors: int) -> list[Lane]:
     """The lanes of what needs the program, on so many processors."""
     if processors == 1:
         return [Lane([*WAITING, *COMPUTING])]
-    return [Lane(WAITING, 2 if processors >= MANY else 1), Lane(COMPUTING, nice=NICE)]
+    computing = Lane(COMPUTING, nice=NICE)
+    return [Lane(WAITING, 2 if processors >= MANY else 1, then=computing), computing]
 
 
 class Scripts:
@@ -130,8 +134,8 @@ class Scripts:
 
     def go_along(self, lane: Lane, waits: Callable[[], None]) -> None:
         waits()
-        while not self.is_left_out and (name := lane.next()) is not None:
-            self.try_one(name, lane.nice)
+        while not self.is_left_out and (found := lane.next()) is not None:
+            self.try_one(*found)
 
     def try_one(self, name: str, nice: int) -> None:
         """Runs a script, and tells what it said."""
