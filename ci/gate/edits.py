@@ -71,8 +71,9 @@ class Turns:
     free: it begins once there is one, and is stopped while they want it. A low priority is not enough for that: the
     system moves other work to the processor of a check too late."""
 
-    def __init__(self, ends):
-        self.ends, self.is_beside, self.most, self.running = ends, True, 1, 0
+    def __init__(self, ends, spare=spare, waiting=waiting):
+        self.ends, self.spare, self.waiting = ends, spare, waiting
+        self.is_beside, self.most, self.running = True, 1, 0
         # (one looks at a time, so that no two take the same place)
         self.looking, self.counting = threading.Lock(), threading.Lock()
 
@@ -97,7 +98,7 @@ class Turns:
         return self.ends is not None and time.monotonic() >= self.ends
 
     def has_processor(self):
-        return not self.is_beside or spare(SPARE_SECONDS) >= SPARE_PROCESSOR
+        return not self.is_beside or self.spare(SPARE_SECONDS) >= SPARE_PROCESSOR
 
     def proofs_ended(self, most):
         """From now on so many checks run side by side."""
@@ -106,10 +107,11 @@ class Turns:
     def watch(self):
         """Stops the check beside the proofs while these want its processor."""
         while self.is_beside:
-            if self.running and waiting(WAITING_SECONDS) > WAITING:
+            if self.running and self.waiting(WAITING_SECONDS) > WAITING:
                 tell(signal.SIGSTOP)
                 while self.is_beside and not self.has_processor():
-                    pass
+                    # (what it has started meanwhile is stopped too)
+                    tell(signal.SIGSTOP)
                 tell(signal.SIGCONT)
             time.sleep(0.2)
 
