@@ -9,7 +9,7 @@ use child_programs::{ServedMaster, serve_master, serve_worker};
 use command_line::{AdoptOptions, LimitOptions, SuperviseOptions};
 use faults::Fault;
 use log::sink::{Discard, Writer};
-use log::{LevelFilter, Logged};
+use log::{LevelFilter, Log, Logged};
 use master_config::{ConfigRefusal, config_in, settings_in};
 use master_on_children::{
     NextRefusal, NextSettings, Operator, SupervisorFault, SupervisorStart, supervise_on,
@@ -61,7 +61,8 @@ fn declined(alloc: Global, refusal: &ConfigRefusal) -> NextRefusal
 }
 
 /// `supervise`: a master whose workers and new masters are processes. What is left of its children when it ends is ended
-/// with it. `number` is that of its own process; the system counts processes from 1.
+/// with it. On standard error it logs its blocks and whom it killed, where that is asked for. `number` is that of its own
+/// process; the system counts processes from 1.
 #[inline(never)]
 pub fn supervise<R: AllocGlobal + Files + Processes + Clock, I: Read, O: Write, E: Write>(
     rt: &R,
@@ -75,16 +76,32 @@ where
     <R::Started as OpenProcess>::Stdout: AsRawFd,
     <R::Started as OpenProcess>::Stdin: AsRawFd,
 {
-    let alloc = rt.alloc();
-    let config = config_in(rt, options.from)?;
-    let family = OsFamily::new(alloc, rt, options.program, &config.command)?;
     let level = if options.verbose {
         LevelFilter::Info
     } else {
         LevelFilter::Off
     };
     let log = Logged::new((), level, Writer::new(&mut *errors));
-    let family = family.limited(limits_of(&options.limits), Discard);
+    supervise_logged(rt, number, options, input, output, &log)
+}
+
+/// The same, with a log: its blocks and the children that it kills are lines of it.
+fn supervise_logged<R: AllocGlobal + Files + Processes + Clock, I: Read, O: Write, L: Log>(
+    rt: &R,
+    number: u32,
+    options: &SuperviseOptions<'_>,
+    input: &mut I,
+    output: &mut O,
+    log: &L,
+) -> Result<u8, Fault>
+where
+    <R::Started as OpenProcess>::Stdout: AsRawFd,
+    <R::Started as OpenProcess>::Stdin: AsRawFd,
+{
+    let alloc = rt.alloc();
+    let config = config_in(rt, options.from)?;
+    let family = OsFamily::new(alloc, rt, options.program, &config.command)?;
+    let family = family.limited(limits_of(&options.limits), log);
     let mut next = NextFile {
         rt,
         path: options.to.or(options.from),
@@ -93,7 +110,7 @@ where
         settings: config.settings,
         pid: number.max(1),
     };
-    let operator = Operator { input, log: &log };
+    let operator = Operator { input, log };
     let mut supervised = supervise_on(alloc, family, &start, &mut next, operator, output);
     supervised.family.finish();
     supervised.status.map_err(fault_of)
@@ -148,7 +165,7 @@ fn variable<R: AllocGlobal + Env>(rt: &R, name: &str) -> Result<Option<u32>, Fau
 }
 
 /// `adopt`: the new master of an upgrade. Its workers are the program that is named, or its own executable. `number` is
-/// that of its own process.
+/// that of its own process. It logs nothing: its standard error is the old master's.
 #[inline(never)]
 pub fn adopt<R: AllocGlobal + Files + Processes + Clock + Env, I: Read, O: Write>(
     rt: &R,
