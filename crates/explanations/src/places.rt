@@ -6,6 +6,7 @@ use certifier::Mismatch;
 use command_line::Request;
 use faults::Fault;
 use lines_text::TextRefusal;
+use listener_set::FilePath;
 use master_config::{ConfigRefusal, GroupFault};
 use std::alloc::Global;
 use std::io::{ErrorKind, Write};
@@ -34,6 +35,7 @@ pub fn tell_place<R: AllocGlobal + Files, E: Write>(
         Fault::Word(number, _) => tell_word(request, *number, errors),
         Fault::Config(_) | Fault::File => tell_files(rt, request, errors),
         Fault::Boot(_) => tell_workers(request, errors),
+        Fault::Running(number) => tell_running(rt, request, *number, errors),
         Fault::Address(_) | Fault::Foreign(_) => tell_held(request, errors),
         Fault::Pattern(refusal) | Fault::Transcript(refusal) => {
             tell_line(evidence.given, refusal, errors)
@@ -221,10 +223,7 @@ pub fn tell_unread<E: Write>(kind: ErrorKind, errors: &mut E) {
 
 /// The pid file of a configuration, if there is none to be read.
 fn tell_pid_file<R: AllocGlobal + Files, E: Write>(rt: &R, path: Option<&str>, errors: &mut E) {
-    let Ok(config) = master_config::config_in(rt, path) else {
-        return;
-    };
-    let Some(pid) = config.settings.pid else {
+    let Some(pid) = pid_file_in(rt, path) else {
         return;
     };
     let Ok(name) = str::from_utf8(pid.bytes()) else {
@@ -234,6 +233,29 @@ fn tell_pid_file<R: AllocGlobal + Files, E: Write>(rt: &R, path: Option<&str>, e
         let _ = write!(errors, "  the pid file {name}");
         tell_unread(error.kind(), errors);
     }
+}
+
+/// The pid file that has the number of a process that runs.
+fn tell_running<R: AllocGlobal + Files, E: Write>(
+    rt: &R,
+    request: &Request<'_>,
+    number: u32,
+    errors: &mut E,
+) {
+    let Some(pid) = pid_file_in(rt, files_of(request).from) else {
+        return;
+    };
+    if let Ok(name) = str::from_utf8(pid.bytes()) {
+        let _ = writeln!(errors, "  the pid file {name} has the number {number}");
+    }
+}
+
+/// The pid file that a configuration names.
+fn pid_file_in<R: AllocGlobal + Files>(rt: &R, path: Option<&str>) -> Option<FilePath> {
+    let Ok(config) = master_config::config_in(rt, path) else {
+        return None;
+    };
+    config.settings.pid
 }
 
 /// A line of a configuration with its number, on the rest of the line.

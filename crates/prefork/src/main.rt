@@ -3,6 +3,7 @@
 
 mod checking;
 mod exploration;
+mod pid_file;
 mod program;
 mod serving;
 mod setup;

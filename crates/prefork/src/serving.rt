@@ -4,6 +4,7 @@ ghost use Rattle.prefork.specs.Faults.{supervisor_fault};
 ghost use Rattle.prefork.specs.Limits.{limits_of};
 ghost use Rattle.prefork.specs.Refusals.{IsDeclined, IsNext};
 
+use crate::pid_file::check_pid_file;
 use child_processes::{ANSWER_WITHIN, Limits, OsFamily, READY_WITHIN};
 use child_programs::{ServedMaster, serve_master, serve_worker};
 use command_line::{AdoptOptions, LimitOptions, SuperviseOptions};
@@ -100,6 +101,7 @@ where
 {
     let alloc = rt.alloc();
     let config = config_in(rt, options.from)?;
+    check_pid_file(rt, config.settings.pid.as_ref(), number)?;
     let family = OsFamily::new(alloc, rt, options.program, &config.command)?;
     let family = family.limited(limits_of(&options.limits), log);
     let mut next = NextFile {
