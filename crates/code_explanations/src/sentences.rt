@@ -4,7 +4,7 @@ use crate::Explanation;
 
 /// The codes that the program prints: those that begin its faults, and those of addresses, starts, configurations and
 /// handovers. (There are three lists, since the prover takes too long over one of all.)
-pub const FAULTS: [Explanation; 35] = [
+pub const FAULTS: [Explanation; 36] = [
     Explanation {
         code: "usage",
         meaning: "invalid command line",
@@ -90,6 +90,15 @@ memory or raise the limit (ulimit -v), then try again.",
         remedy: "\
 `prefork explain` lists every code, answer and outcome. Give one of them,
 as it is written there and without what follows it: Y1, and not 'Y1 9'.",
+    },
+    Explanation {
+        code: "running",
+        meaning: "the pid file has the number of another process that runs",
+        remedy: "\
+That number follows. Nothing was started, and the file is as it was. If the
+process is a master of this configuration, stop it first; if it is that of
+another one, name another `pid`. If it is no master, as after a restart of
+the machine, remove the file. A number of no process is taken over.",
     },
     Explanation {
         code: "A1",

@@ -1,24 +1,27 @@
 //! `check`: whether files would be read as configurations, and else where and why not.
-ghost use Rattle.std.specs.Prelude.{IfOk};
+ghost use Rattle.std.specs.Prelude.{◌≡◌, IfOk, IfErr};
 ghost use Rattle.explanations.specs.Verdicts.{IsTaken};
+ghost use Rattle.faults.specs.declared.fault.Fault.TheVariants.{Memory};
 
 use crate::lines::{FoundLine, line_of_byte, line_of_refusal};
 use crate::meaning_of;
-use crate::places::{group_of, tell_key, tell_shown, unknown_in};
+use crate::places::{group_of, put_key, put_shown, unknown_in};
 use faults::Fault;
 use master_config::ConfigRefusal;
-use std::alloc::Global;
-use std::fs;
+use std::alloc::{AllocError, Global};
 use std::io::{ErrorKind, Write};
 use std::rt::Files;
+use std::{fs, io};
 
 /// Appends a line for a file: whether it would be read as a configuration, which is given, and else where and why not. It
-/// fails only where memory is refused.
+/// fails only where memory is refused; there may be a part of the line then.
 pub fn check_file<R: AllocGlobal + Files>(
     rt: &R,
     path: &str,
     out: &mut Vec<u8>,
-) -> Result<bool, Fault> {
+) -> Result<bool, Fault>
+    ensures { IfErr result (λ fault. fault ≡ Memory) }
+{
     match fs::read(rt, path) {
         Ok(text) => check_text(rt.alloc(), path, text.as_slice(), out),
         Err(error) => match error.kind() {
@@ -33,11 +36,12 @@ pub fn check_file<R: AllocGlobal + Files>(
 
 /// The same of a file with this text.
 pub fn check_text(alloc: Global, path: &str, text: &[u8], out: &mut Vec<u8>) -> Result<bool, Fault>
-    ensures { IfOk result (IsTaken text.now) }
+    ensures ok { IfOk result (IsTaken text.now) }
+    ensures err { IfErr result (λ fault. fault ≡ Memory) }
 {
     let refusal = match master_config::read(alloc, text) {
         Ok(_) => {
-            writeln!(out, "{path}: ok")?;
+            put_taken(path, out)?;
             return Ok(true);
         }
         Err(ConfigRefusal::Memory) => return Err(Fault::Memory),
@@ -47,13 +51,25 @@ pub fn check_text(alloc: Global, path: &str, text: &[u8], out: &mut Vec<u8>) -> 
     Ok(false)
 }
 
-/// The line of a file that cannot be read.
-fn put_unread(path: &str, kind: ErrorKind, out: &mut Vec<u8>) -> Result<(), Fault> {
-    match kind {
-        ErrorKind::NotFound => writeln!(out, "{path}: file: it cannot be read: no such file")?,
-        kind => writeln!(out, "{path}: file: it cannot be read: {kind}")?,
+/// What comes of a write into memory: it fails only where memory is refused.
+fn in_memory(written: io::Result<()>) -> Result<(), AllocError> {
+    match written {
+        Ok(()) => Ok(()),
+        Err(_) => Err(AllocError),
     }
-    Ok(())
+}
+
+/// The line of a file that would be read.
+fn put_taken(path: &str, out: &mut Vec<u8>) -> Result<(), AllocError> {
+    in_memory(writeln!(out, "{path}: ok"))
+}
+
+/// The line of a file that cannot be read.
+fn put_unread(path: &str, kind: ErrorKind, out: &mut Vec<u8>) -> Result<(), AllocError> {
+    in_memory(match kind {
+        ErrorKind::NotFound => writeln!(out, "{path}: file: it cannot be read: no such file"),
+        kind => writeln!(out, "{path}: file: it cannot be read: {kind}"),
+    })
 }
 
 /// The line of a file whose text is refused.
@@ -63,7 +79,7 @@ fn put_refusal(
     text: &[u8],
     refusal: &ConfigRefusal,
     out: &mut Vec<u8>,
-) -> Result<(), Fault> {
+) -> Result<(), AllocError> {
     if let ConfigRefusal::NotToml = refusal {
         return put_broken(alloc, path, text, out);
     }
@@ -71,30 +87,32 @@ fn put_refusal(
         Some(unknown) => {
             put_head(alloc, path, Some(unknown.line), refusal, out)?;
             out.extend_from_slice(b": ")?;
-            tell_key(alloc, unknown.key, group_of(refusal), out);
+            in_memory(put_key(alloc, unknown.key, group_of(refusal), out))
         }
         None => {
             let found = line_of_refusal(text, refusal);
             put_head(alloc, path, found, refusal, out)?;
-            put_found(found, out)?;
+            put_found(found, out)
         }
     }
-    Ok(())
 }
 
 /// The line of a file whose text is not TOML.
-fn put_broken(alloc: Global, path: &str, text: &[u8], out: &mut Vec<u8>) -> Result<(), Fault> {
+fn put_broken(alloc: Global, path: &str, text: &[u8], out: &mut Vec<u8>) -> Result<(), AllocError> {
     let refusal = ConfigRefusal::NotToml;
     let Err(error) = toml::table_from_slice(alloc, text) else {
-        return put_head(alloc, path, None, &refusal, out);
+        put_head(alloc, path, None, &refusal, out)?;
+        return Ok(out.extend_from_slice(b"\n")?);
     };
+    if error.is_memory() {
+        return Err(AllocError);
+    }
     let found = match error.span() {
         Some(span) => line_of_byte(text, span.start),
         None => None,
     };
     put_head(alloc, path, found, &refusal, out)?;
-    writeln!(out, ": {}", error.message())?;
-    Ok(())
+    in_memory(writeln!(out, ": {}", error.message()))
 }
 
 /// Where a refusal was found, its code, and what that means.
@@ -104,27 +122,26 @@ fn put_head(
     found: Option<FoundLine<'_>>,
     refusal: &ConfigRefusal,
     out: &mut Vec<u8>,
-) -> Result<(), Fault> {
-    write!(out, "{path}:")?;
+) -> Result<(), AllocError> {
+    in_memory(write!(out, "{path}:"))?;
     if let Some(line) = found {
-        write!(out, "{}:", line.number)?;
+        in_memory(write!(out, "{}:", line.number))?;
     }
-    write!(out, " {refusal}")?;
+    in_memory(write!(out, " {refusal}"))?;
     let codes = format!(in alloc; "{refusal}")?;
     for word in codes.as_str().split(' ') {
         if let Some(explanation) = meaning_of(word) {
-            write!(out, ": {}", explanation.meaning)?;
+            in_memory(write!(out, ": {}", explanation.meaning))?;
         }
     }
     Ok(())
 }
 
 /// What was found there, to the end of the line.
-fn put_found(found: Option<FoundLine<'_>>, out: &mut Vec<u8>) -> Result<(), Fault> {
+fn put_found(found: Option<FoundLine<'_>>, out: &mut Vec<u8>) -> Result<(), AllocError> {
     if let Some(line) = found {
         out.extend_from_slice(b": ")?;
-        tell_shown(line.text.trim_ascii(), out);
+        in_memory(put_shown(line.text.trim_ascii(), out))?;
     }
-    out.extend_from_slice(b"\n")?;
-    Ok(())
+    Ok(out.extend_from_slice(b"\n")?)
 }

@@ -1,6 +1,6 @@
 //! Keys that a configuration does not have, and the nearest of those that it has.
 use crate::lines::FoundLine;
-use std::alloc::Global;
+use std::alloc::{AllocError, Global};
 use strsim::generic_levenshtein;
 
 /// The keys of a configuration.
@@ -120,16 +120,19 @@ pub fn is_of_configuration(key: &[u8]) -> bool {
 }
 
 /// The key of a group or of the configuration that is nearest to another: fewer than half of its letters are to be changed.
-pub fn nearest(alloc: Global, key: &[u8], group: Option<usize>) -> Option<&'static str> {
+pub fn nearest(
+    alloc: Global,
+    key: &[u8],
+    group: Option<usize>,
+) -> Result<Option<&'static str>, AllocError> {
     let mut least = usize::MAX;
     let mut found = None;
     for known in keys_of(group) {
-        if let Ok(distance) = generic_levenshtein(alloc, key, known.as_bytes()) {
-            if distance < least && distance.saturating_add(distance) < known.len() {
-                least = distance;
-                found = Some(*known);
-            }
+        let distance = generic_levenshtein(alloc, key, known.as_bytes())?;
+        if distance < least && distance.saturating_add(distance) < known.len() {
+            least = distance;
+            found = Some(*known);
         }
     }
-    found
+    Ok(found)
 }

@@ -6,11 +6,12 @@ use certifier::Mismatch;
 use command_line::Request;
 use faults::Fault;
 use lines_text::TextRefusal;
+use listener_set::FilePath;
 use master_config::{ConfigRefusal, GroupFault};
 use std::alloc::Global;
-use std::fs;
 use std::io::{ErrorKind, Write};
 use std::rt::Files;
+use std::{fs, io};
 
 /// What is known beside a fault.
 #[derive(Clone, Copy)]
@@ -34,6 +35,7 @@ pub fn tell_place<R: AllocGlobal + Files, E: Write>(
         Fault::Word(number, _) => tell_word(request, *number, errors),
         Fault::Config(_) | Fault::File => tell_files(rt, request, errors),
         Fault::Boot(_) => tell_workers(request, errors),
+        Fault::Running(number) => tell_running(rt, request, *number, errors),
         Fault::Address(_) | Fault::Foreign(_) => tell_held(request, errors),
         Fault::Pattern(refusal) | Fault::Transcript(refusal) => {
             tell_line(evidence.given, refusal, errors)
@@ -190,7 +192,9 @@ fn tell_refusal<E: Write>(alloc: Global, text: &[u8], refusal: &ConfigRefusal, e
         Some(unknown) => {
             tell_rest(Some(unknown.line), errors);
             let _ = errors.write_all(b"  unknown key: ");
-            tell_key(alloc, unknown.key, group_of(refusal), errors);
+            if put_key(alloc, unknown.key, group_of(refusal), errors).is_err() {
+                let _ = errors.write_all(b"\n");
+            }
         }
         None => tell_rest(line_of_refusal(text, refusal), errors),
     }
@@ -219,10 +223,7 @@ pub fn tell_unread<E: Write>(kind: ErrorKind, errors: &mut E) {
 
 /// The pid file of a configuration, if there is none to be read.
 fn tell_pid_file<R: AllocGlobal + Files, E: Write>(rt: &R, path: Option<&str>, errors: &mut E) {
-    let Ok(config) = master_config::config_in(rt, path) else {
-        return;
-    };
-    let Some(pid) = config.settings.pid else {
+    let Some(pid) = pid_file_in(rt, path) else {
         return;
     };
     let Ok(name) = str::from_utf8(pid.bytes()) else {
@@ -234,11 +235,34 @@ fn tell_pid_file<R: AllocGlobal + Files, E: Write>(rt: &R, path: Option<&str>, e
     }
 }
 
+/// The pid file that has the number of a process that runs.
+fn tell_running<R: AllocGlobal + Files, E: Write>(
+    rt: &R,
+    request: &Request<'_>,
+    number: u32,
+    errors: &mut E,
+) {
+    let Some(pid) = pid_file_in(rt, files_of(request).from) else {
+        return;
+    };
+    if let Ok(name) = str::from_utf8(pid.bytes()) {
+        let _ = writeln!(errors, "  the pid file {name} has the number {number}");
+    }
+}
+
+/// The pid file that a configuration names.
+fn pid_file_in<R: AllocGlobal + Files>(rt: &R, path: Option<&str>) -> Option<FilePath> {
+    let Ok(config) = master_config::config_in(rt, path) else {
+        return None;
+    };
+    config.settings.pid
+}
+
 /// A line of a configuration with its number, on the rest of the line.
 fn tell_rest<E: Write>(line: Option<FoundLine<'_>>, errors: &mut E) {
     if let Some(line) = line {
         let _ = write!(errors, ", line {}: ", line.number);
-        tell_shown(line.text.trim_ascii_end(), errors);
+        let _ = put_shown(line.text.trim_ascii_end(), errors);
     }
     let _ = errors.write_all(b"\n");
 }
@@ -247,20 +271,21 @@ fn tell_rest<E: Write>(line: Option<FoundLine<'_>>, errors: &mut E) {
 const SHOWN: usize = 400;
 
 /// A line for people, cut where it is long, with a question mark for each byte that a terminal could take for a command.
-pub fn tell_shown<E: Write>(line: &[u8], errors: &mut E) {
+pub fn put_shown<W: Write>(line: &[u8], out: &mut W) -> io::Result<()> {
     let is_text = str::from_utf8(line).is_ok();
     let shown = &line[..line.len().min(SHOWN)];
     let mut is_first = true;
     for piece in shown.split(|byte| is_odd(*byte, is_text)) {
         if !is_first {
-            let _ = errors.write_all(b"?");
+            out.write_all(b"?")?;
         }
-        let _ = errors.write_all(piece);
+        out.write_all(piece)?;
         is_first = false;
     }
     if shown.len() < line.len() {
-        let _ = errors.write_all(b"..");
+        out.write_all(b"..")?;
     }
+    Ok(())
 }
 
 /// Whether a byte is not shown: one of no letter or sign, or one that is not ASCII in a line that is no text.
@@ -291,16 +316,20 @@ pub fn unknown_in<'a>(text: &'a [u8], refusal: &ConfigRefusal) -> Option<Unknown
 }
 
 /// An unknown key, and where it belongs or which one may be meant, to the end of the line.
-pub fn tell_key<E: Write>(alloc: Global, key: &[u8], group: Option<usize>, errors: &mut E) {
-    let _ = errors.write_all(key);
-    let _ = match nearest(alloc, key, group) {
-        _ if is_of_configuration(key) => writeln!(
-            errors,
-            " (a key of no group: put it above the first heading)"
-        ),
-        Some(known) => writeln!(errors, " (the nearest known key is {known})"),
-        None => errors.write_all(b"\n"),
-    };
+pub fn put_key<W: Write>(
+    alloc: Global,
+    key: &[u8],
+    group: Option<usize>,
+    out: &mut W,
+) -> io::Result<()> {
+    out.write_all(key)?;
+    if is_of_configuration(key) {
+        return writeln!(out, " (a key of no group: put it above the first heading)");
+    }
+    match nearest(alloc, key, group)? {
+        Some(known) => writeln!(out, " (the nearest known key is {known})"),
+        None => out.write_all(b"\n"),
+    }
 }
 
 /// The line of a block that is not as it should be: an entry, or else the block's last line.

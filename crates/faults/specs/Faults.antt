@@ -23,7 +23,7 @@ use Rattle.faults.specs.declared.fault.Fault.{Fault}
 use Rattle.certifier.specs.Codes.{mismatch_code}
 use Rattle.certifier.specs.declared.mismatch.Mismatch.{Mismatch}
 use Rattle.certifier.specs.declared.mismatch.Mismatch.TheVariants as mismatch
-use Rattle.faults.specs.declared.fault.Fault.TheVariants.{Usage, Word, Config, Boot, Address, Foreign, Pattern, Transcript, Certify, Code, File, Memory}
+use Rattle.faults.specs.declared.fault.Fault.TheVariants.{Usage, Word, Config, Boot, Address, Foreign, Pattern, Transcript, Certify, Code, Running, File, Memory}
 
 ---- Which fault a refusal is: want of memory or a file where it is that, and else its own
 
@@ -92,5 +92,6 @@ fault_text (Pattern refusal) = codes "pattern " ++ refusal_text refusal
 fault_text (Transcript refusal) = codes "transcript " ++ refusal_text refusal
 fault_text (Certify number mismatch) = codes "certify " ++ decimal number ++ codes " " ++ mismatch_code mismatch
 fault_text Code = codes "code"
+fault_text (Running number) = codes "running " ++ decimal number
 fault_text File = codes "file"
 fault_text Memory = codes "memory"

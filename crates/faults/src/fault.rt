@@ -38,6 +38,8 @@ pub enum Fault {
     Certify(usize, Mismatch),
     /// The code that is to be explained is none.
     Code,
+    /// Another process runs whose number the pid file has: this one.
+    Running(u32),
     /// A read or a write failed.
     File,
     /// Memory was refused.
@@ -95,6 +97,7 @@ impl fmt::Display for Fault {
             Fault::Transcript(refusal) => write!(f, "transcript {refusal}"),
             Fault::Certify(number, mismatch) => write!(f, "certify {number} {mismatch}"),
             Fault::Code => write!(f, "code"),
+            Fault::Running(number) => write!(f, "running {number}"),
             Fault::File => write!(f, "file"),
             Fault::Memory => write!(f, "memory"),
         }

@@ -3,9 +3,11 @@
 
 mod checking;
 mod exploration;
+mod pid_file;
 mod program;
 mod serving;
 mod setup;
+mod sharing;
 
 use faults::Fault;
 pub use program::{Surroundings, run};

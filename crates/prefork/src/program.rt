@@ -164,14 +164,7 @@ where
             if around.explains {
                 tell_program(rt, options, errors);
             }
-            supervise(
-                rt,
-                around.number,
-                options,
-                &mut *input.reader,
-                output,
-                errors,
-            )
+            supervise(rt, around, options, &mut *input.reader, output, errors)
         }
         Request::Adopt(options) => adopt(rt, around.number, options, &mut *input.reader, output),
         Request::Child => Ok(child(&mut *input.reader, output)),
@@ -206,7 +199,8 @@ fn ask_for<E: Write>(around: &Surroundings, texts: &str, errors: &mut E) {
 
 /// `enact`: carries the words out on a modelled kernel under the patterns of standard input, the
 /// i-th pattern with the i-th word, and writes a block for each, and the state last where it is
-/// asked for.
+/// asked for. Where memory is refused, the blocks of the words before are written, as JSON too; where there is none left
+/// to write them as JSON, nothing is.
 #[inline(never)]
 fn enact<R: AllocGlobal + Files, I: Read, O: Write, E: Write>(
     rt: &R,
@@ -227,8 +221,7 @@ fn enact<R: AllocGlobal + Files, I: Read, O: Write, E: Write>(
         Ok(_) => show_state(&rehearsal, options.state, &mut text),
         Err(_) => Ok(()),
     };
-    // (as JSON there is no beginning of an answer)
-    if options.start.json && done.is_ok() {
+    if options.start.json {
         write(output, blocks_json(alloc, text.as_slice())?.as_slice())?;
     } else {
         write(output, text.as_slice())?;

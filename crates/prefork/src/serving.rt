@@ -4,18 +4,22 @@ ghost use Rattle.prefork.specs.Faults.{supervisor_fault};
 ghost use Rattle.prefork.specs.Limits.{limits_of};
 ghost use Rattle.prefork.specs.Refusals.{IsDeclined, IsNext};
 
+use crate::pid_file::check_pid_file;
+use crate::program::Surroundings;
+use crate::sharing::{Explained, Shared};
 use child_processes::{ANSWER_WITHIN, Limits, OsFamily, READY_WITHIN};
 use child_programs::{ServedMaster, serve_master, serve_worker};
 use command_line::{AdoptOptions, LimitOptions, SuperviseOptions};
 use faults::Fault;
 use log::sink::{Discard, Writer};
-use log::{LevelFilter, Logged};
+use log::{LevelFilter, Log, Logged};
 use master_config::{ConfigRefusal, config_in, settings_in};
 use master_on_children::{
     NextRefusal, NextSettings, Operator, SupervisorFault, SupervisorStart, supervise_on,
 };
 use plain_text::read_number;
 use std::alloc::Global;
+use std::cell::RefCell;
 use std::env;
 use std::env::{Env, VarError};
 use std::io::{Read, Write};
@@ -61,11 +65,11 @@ fn declined(alloc: Global, refusal: &ConfigRefusal) -> NextRefusal
 }
 
 /// `supervise`: a master whose workers and new masters are processes. What is left of its children when it ends is ended
-/// with it. `number` is that of its own process; the system counts processes from 1.
+/// with it. On standard error it logs its blocks and whom it killed, and explains refused words, where that is asked for.
 #[inline(never)]
 pub fn supervise<R: AllocGlobal + Files + Processes + Clock, I: Read, O: Write, E: Write>(
     rt: &R,
-    number: u32,
+    around: &Surroundings,
     options: &SuperviseOptions<'_>,
     input: &mut I,
     output: &mut O,
@@ -75,16 +79,58 @@ where
     <R::Started as OpenProcess>::Stdout: AsRawFd,
     <R::Started as OpenProcess>::Stdin: AsRawFd,
 {
-    let alloc = rt.alloc();
-    let config = config_in(rt, options.from)?;
-    let family = OsFamily::new(alloc, rt, options.program, &config.command)?;
+    let errors = RefCell::new(&mut *errors);
+    supervise_told(rt, around, options, input, output, &errors)
+}
+
+/// The same, where several write to standard error.
+fn supervise_told<R: AllocGlobal + Files + Processes + Clock, I: Read, O: Write, E: Write>(
+    rt: &R,
+    around: &Surroundings,
+    options: &SuperviseOptions<'_>,
+    input: &mut I,
+    output: &mut O,
+    errors: &RefCell<E>,
+) -> Result<u8, Fault>
+where
+    <R::Started as OpenProcess>::Stdout: AsRawFd,
+    <R::Started as OpenProcess>::Stdin: AsRawFd,
+{
     let level = if options.verbose {
         LevelFilter::Info
     } else {
         LevelFilter::Off
     };
-    let log = Logged::new((), level, Writer::new(&mut *errors));
-    let family = family.limited(limits_of(&options.limits), Discard);
+    let for_log = Shared::new(errors);
+    let for_codes = Shared::new(errors);
+    let log = Logged::new((), level, Writer::new(for_log));
+    let mut explained = Explained {
+        output,
+        errors: for_codes,
+        is_wanted: around.explains || options.why,
+    };
+    supervise_logged(rt, around.number, options, input, &mut explained, &log)
+}
+
+/// The same, with a log: its blocks and the children that it kills are lines of it. `number` is that of its own process;
+/// the system counts processes from 1.
+fn supervise_logged<R: AllocGlobal + Files + Processes + Clock, I: Read, O: Write, L: Log>(
+    rt: &R,
+    number: u32,
+    options: &SuperviseOptions<'_>,
+    input: &mut I,
+    output: &mut O,
+    log: &L,
+) -> Result<u8, Fault>
+where
+    <R::Started as OpenProcess>::Stdout: AsRawFd,
+    <R::Started as OpenProcess>::Stdin: AsRawFd,
+{
+    let alloc = rt.alloc();
+    let config = config_in(rt, options.from)?;
+    check_pid_file(rt, config.settings.pid.as_ref(), number)?;
+    let family = OsFamily::new(alloc, rt, options.program, &config.command)?;
+    let family = family.limited(limits_of(&options.limits), log);
     let mut next = NextFile {
         rt,
         path: options.to.or(options.from),
@@ -93,7 +139,7 @@ where
         settings: config.settings,
         pid: number.max(1),
     };
-    let operator = Operator { input, log: &log };
+    let operator = Operator { input, log };
     let mut supervised = supervise_on(alloc, family, &start, &mut next, operator, output);
     supervised.family.finish();
     supervised.status.map_err(fault_of)
@@ -148,7 +194,7 @@ fn variable<R: AllocGlobal + Env>(rt: &R, name: &str) -> Result<Option<u32>, Fau
 }
 
 /// `adopt`: the new master of an upgrade. Its workers are the program that is named, or its own executable. `number` is
-/// that of its own process.
+/// that of its own process. It logs nothing: its standard error is the old master's.
 #[inline(never)]
 pub fn adopt<R: AllocGlobal + Files + Processes + Clock + Env, I: Read, O: Write>(
     rt: &R,
