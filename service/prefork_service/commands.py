@@ -153,6 +153,12 @@ class Commands:
     def generations(self) -> list[pathlib.Path]:
         return [file for file in self.place.iterdir() if file.name[0].isdigit()]
 
+    def forget_others(self) -> None:
+        """Forgets the command of each generation but the one that runs."""
+        for file in self.generations():
+            if file not in self.known:
+                file.unlink(missing_ok=True)
+
     def write_next(self, command: list[str] | None) -> None:
         words = [*self.before, *(command or ["false"])]
         text, there = b"".join(word.encode("utf-8", "surrogateescape") + b"\0" for word in words), self.place / "next"
@@ -163,11 +169,15 @@ class Commands:
         new.write_bytes(text)
         new.replace(there)
 
-    def change(self) -> None:
-        """The configuration is read again: the next word starts a new generation."""
-        self.known, self.is_changing = self.generations(), True
+    def change(self, running: str) -> None:
+        """The configuration is read again: the next word starts a new generation, and this one runs.
+
+        A worker of a generation that was rolled back may have been told to quit before it took its command. It takes
+        one afterwards, for its generation, and the next reload has a generation of the same name."""
+        self.known, self.is_changing = [file for file in self.generations() if file.name == running], True
         self.proposed = self.read(self.next)
         self.write_next(self.proposed)
+        self.forget_others()
 
     def next_text(self) -> bytes:
         """The configuration that the next word goes over to, as the master reads it."""
@@ -182,12 +192,11 @@ class Commands:
             self.current, self.current_text = self.proposed, self.text
             self.next.replace(self.now)
             self.accept()
-            dropped = self.known
+            for file in self.known:
+                file.unlink(missing_ok=True)
         else:
-            dropped = [file for file in self.generations() if file not in self.known]
+            self.forget_others()
             self.write_next(self.current)
-        for file in dropped:
-            file.unlink(missing_ok=True)
 
     def clear(self) -> None:
         for file in [*self.place.iterdir(), self.now, self.next, self.accepted]:

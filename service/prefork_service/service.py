@@ -144,7 +144,7 @@ class Service:
         """Reads the configuration again for the current word, which is refused if the copy for the master can't be
         written."""
         try:
-            self.commands.change()
+            self.commands.change(self.record.generation)
             self.chronicle.records.proposed = self.commands.next_text()
         except OSError as fault:
             self.refuse(NOT_READ, f"the configuration is not read: {fault}")
