@@ -130,6 +130,10 @@ class Commands:
         except OSError as fault:
             say(f"{self.accepted}: {fault.strerror}")
 
+    def has_adapter(self) -> bool:
+        """Whether workers are started by what the command line says, and not by a command of the configuration."""
+        return self.current is not None and self.current == self.default
+
     def names_master(self) -> bool:
         """Whether the configuration that was read last has a pid file."""
         try:

@@ -12,7 +12,7 @@ import time
 from typing import Any
 
 from . import places
-from .convention import socket_of
+from .convention import Hold
 from .folder import Folder, say
 from .keeper import ANSWERS, ASKS, CLOSED, ENDS, LONGEST_ADDRESS, OPENED, QUEUE, REFUSED, SETTLED
 from .systemd import store, unstore
@@ -33,9 +33,9 @@ class Keeping:
         self.process: Any = None
         self.channel: Any = None
         self.begun, self.asked, self.owes, self.restarts = 0.0, 0.0, False, -1
-        # Why addresses were not opened since the last word, and the connections that hold those of the start.
+        # Why addresses were not opened since the last word, and the connection that holds those of the start.
         self.refusals: list[str] = []
-        self.holds: list[socket.socket] = []
+        self.of_start = Hold(START_SECONDS)
         self.open_door()
         for address, one in held.items():
             store(address, one)
@@ -120,14 +120,10 @@ class Keeping:
     def hold(self, addresses: list[str]) -> None:
         """Opens the addresses of the start, and holds them until workers do. Raises Unfit if one can't be opened."""
         for address in addresses:
-            listener, hold = socket_of(address, START_SECONDS)
-            listener.close()
-            self.holds.append(hold)
+            self.of_start.take(address).close()
 
     def release(self) -> None:
-        for hold in self.holds:
-            hold.close()
-        self.holds.clear()
+        self.of_start.close()
 
     def settle(self) -> None:
         """All workers have been started since: whoever is to hold a socket has asked for it."""

@@ -61,7 +61,8 @@ def is_fit(given: argparse.Namespace, commands: Commands) -> bool:
     """Whether the configuration can be served; why not is said."""
     refusal = refusal_of(given.prefork, commands.now)
     text = commands.now.read_bytes() if commands.now.exists() else b""
-    faults = [refusal] if refusal else shortages(needs_of(text, processes_each(given), bool(given.page) + bool(given.metrics)))
+    is_adapted, sites = commands.has_adapter(), bool(given.page) + bool(given.metrics)
+    faults = [refusal] if refusal else shortages(needs_of(text, processes_each(given), sites, is_adapted))
     faults += [PID_OF_MASTER] if commands.names_master() else []
     for fault in faults:
         say(f"{given.config}: {fault}")
