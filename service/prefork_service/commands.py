@@ -11,12 +11,17 @@ killed, where the file has become one that is refused.
 import datetime
 import json
 import pathlib
+import re
 import subprocess
 import tomllib
 from typing import Any
 
 from .folder import Folder, say
 
+# How long the master's program may take to say whether it reads a configuration.
+ASKING_SECONDS = 10.0
+# Lines of a refusal that begin to explain a fault, and the title of a code.
+HEADING, CODE = re.compile(r"  (?:config|file|usage|[A-Z]\d+): "), re.compile(r"  [A-Z]\d+: (.*)")
 # The rules of `command` in a configuration.
 MOST_WORDS, LONGEST_WORD = 16, 255
 
@@ -65,10 +70,23 @@ def refusal_of(prefork: str, config: pathlib.Path) -> str | None:
     command = [prefork, "plan", "--why", "--from", config, "USR1"]
     streams: dict[str, Any] = {"stdin": subprocess.DEVNULL, "stdout": subprocess.DEVNULL, "stderr": subprocess.PIPE}
     try:
-        found = subprocess.run(command, **streams, text=True)
+        found = subprocess.run(command, **streams, text=True, timeout=ASKING_SECONDS)
     except OSError as fault:
         return f"{prefork}: {fault.strerror}"
+    except subprocess.TimeoutExpired:
+        return f"{prefork}: it has not said in {ASKING_SECONDS:g} seconds whether it reads the configuration"
     return found.stderr.strip() if found.returncode else None
+
+
+def mistake_of(refusal: str) -> str:
+    """What a refusal says of the file: the place, and what is wrong there. Of a code that is its title."""
+    titles = [found[1] for found in map(CODE.fullmatch, refusal.splitlines()) if found]
+    places = []
+    for line in refusal.splitlines()[1:]:
+        if not line.startswith("  ") or HEADING.match(line):
+            break
+        places.append(line.strip().removeprefix("--from "))
+    return ": ".join([*places[:1], *(places[1:] or titles[-1:])])
 
 
 # The master handles no signals: whoever sends HUP to the number in its file ends it.
@@ -110,6 +128,13 @@ class Commands:
         if not command and not self.default and is_toml(self.text):
             say(f"{self.config} has no command, and the command line names no program")
         return command or self.default
+
+    def source(self) -> pathlib.Path:
+        """The file that has the text that was read last: the one that people edit, if it is that."""
+        try:
+            return self.config if self.config.read_bytes() == self.text else self.now
+        except OSError:
+            return self.now
 
     def is_kept(self) -> bool:
         """Whether a service that was killed has left the configuration that it had accepted; that is taken then."""

@@ -59,8 +59,10 @@ def commands_of(given: argparse.Namespace, folder: Folder) -> Commands | None:
 
 def is_fit(given: argparse.Namespace, commands: Commands) -> bool:
     """Whether the configuration can be served; why not is said."""
-    refusal = refusal_of(given.prefork, commands.now)
-    text = commands.now.read_bytes() if commands.now.exists() else b""
+    if not commands.now.exists():
+        # It could not be read, and that was said.
+        return False
+    refusal, text = refusal_of(given.prefork, commands.source()), commands.now.read_bytes()
     is_adapted, sites = commands.has_adapter(), bool(given.page) + bool(given.metrics)
     faults = [refusal] if refusal else shortages(needs_of(text, processes_each(given), sites, is_adapted))
     faults += [PID_OF_MASTER] if commands.names_master() else []
@@ -101,8 +103,10 @@ def main() -> int:
     stored = inherited()
     try:
         folder = Folder(given.folder)
+    except FileExistsError:
+        sys.exit(f"prefork-serve: {given.folder} is a file, and --folder takes a folder")
     except OSError as fault:
-        sys.exit(f"prefork-serve: {fault}")
+        sys.exit(f"prefork-serve: {fault.filename or given.folder}: {fault.strerror}")
     os.environ |= {
         "PREFORK_KEEPER": str(folder.keeper), "PREFORK_PROGRAM": str(given.prefork), "PREFORK_FOLDER": str(folder.path)
     }

@@ -10,7 +10,7 @@ import time
 from typing import Any
 
 from .chronicle import Chronicle
-from .commands import PID_OF_MASTER, Commands
+from .commands import PID_OF_MASTER, Commands, mistake_of, refusal_of
 from .door import Door
 from .folder import Folder, say
 from .keeping import Keeping
@@ -242,13 +242,22 @@ class Service:
         """What is said to people of a block: why addresses were not opened, and what workers are started from."""
         refusals = list(dict.fromkeys(self.keeping.refusals))
         self.keeping.refusals.clear()
-        found = [*self.chronicle.end_word(word.text, block, refusals)]
+        found = [*self.chronicle.end_word(word.text, block, refusals, self.mistake(word, block))]
         if is_broken(word.text, block) and not refusals:
             say(OLD_SERVES)
             found.append(OLD_SERVES)
         if word.text not in (START, *STOPS) and not word.text.startswith("tick "):
             found.append(self.runs_now())
         return found
+
+    def mistake(self, word: Word, block: str) -> list[str]:
+        """What is wrong with the configuration, if the master has refused it for that."""
+        if word.text not in CHANGES or not block.splitlines()[-1].startswith(("refused C", "refused W4")):
+            return []
+        if not self.commands.next.exists():
+            return [f"{self.commands.config} could not be read"]
+        refusal = refusal_of(str(self.command[0]), self.commands.source())
+        return [mistake_of(refusal)] if refusal else []
 
     def runs_now(self) -> str:
         """Who serves what, in a line."""
@@ -265,7 +274,8 @@ class Service:
         if self.current:
             self.chronicle.cut_word(self.current.text, self.master.block)
         if not self.has_heard:
-            sys.exit("prefork-serve: the master does not start; its message is above")
+            sys.exit(f"prefork-serve: {self.command[0]} does not start as the master: it has ended with status {status} "
+                     "before its first block. Is it the program prefork, in this version?")
         self.master, self.question = None, 0
         self.telling.end_word()
         self.commands.settle("lost")
@@ -298,7 +308,7 @@ class Service:
             current = self.current.text if self.current else None
             word.answer(state(self.question, current, len(self.waiting)))
         else:
-            word.answer("unread W1\n")
+            word.answer(f"{NOTE}{text or 'nothing'} is no word. Words are {', '.join(WORDS)} and {STATUS}\nunread W1\n")
 
     def doing(self) -> str | None:
         """The word that is being carried out, if it is no tick."""

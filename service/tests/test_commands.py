@@ -9,7 +9,7 @@ import unittest
 from typing import Any
 
 from kit import BIN, OUT, built, until
-from prefork_service.commands import Commands, parted, refusal_of
+from prefork_service.commands import Commands, mistake_of, parted, refusal_of
 
 
 def words_of(file: pathlib.Path) -> list[str]:
@@ -183,6 +183,23 @@ class CommandsTest(unittest.TestCase):
         self.assertEqual(refusal_of(str(program), self.config), "prefork: config C1")
         self.assertIsNone(refusal_of("true", self.config))
         self.assertEqual(refusal_of("/no/master", self.config), "/no/master: No such file or directory")
+
+    def test_what_a_refusal_says_of_the_file(self) -> None:
+        file = "  --from site.toml, line 4: workrs = 1\n"
+        codes = "  config: a file is refused\n    Correct it.\n  C5: an address is refused\n    Its number.\n  A3: no port\n    1 to 65535.\n"
+        for refusal, wanted in (
+            (f"prefork: config C2\n{file}  unknown key: workrs\n{codes}", "site.toml, line 4: workrs = 1: unknown key: workrs"),
+            (f"prefork: config C5 0 A3\n{file}{codes}", "site.toml, line 4: workrs = 1: no port"),
+            ("prefork: config C1", ""), ("", ""),
+        ):
+            self.assertEqual(mistake_of(refusal), wanted)
+
+    def test_the_file_that_has_the_text(self) -> None:
+        self.assertEqual(self.commands.source(), self.config)
+        self.configure("workers = 9\n")
+        self.assertEqual(self.commands.source(), self.commands.now)
+        self.config.unlink()
+        self.assertEqual(self.commands.source(), self.commands.now)
 
     def test_a_configuration_that_is_missing_is_missing_for_the_master(self) -> None:
         self.config.unlink()
