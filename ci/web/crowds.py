@@ -90,7 +90,8 @@ def a_worker_floods_after_quit(site: Site) -> None:
 
 def two_hundred_workers(site: Site) -> None:
     """200 workers at four addresses, where no process may have more than 1,024 descriptors: two reloads and an upgrade,
-    each with 400 workers for a while, and a keeper that is killed between them. Each address is answered after each."""
+    each with 400 workers for a while, and a keeper that is killed after each. Each address is answered all the while. A
+    worker that is killed is replaced."""
     page = site.home / "page"
     subprocess.run(["cc", "-std=gnu11", "-O2", "-o", page, SERVICE / "tests" / "programs" / "page.c"], check=True)
     site.program, site.before = [str(page)], descriptors(1024)
@@ -104,7 +105,10 @@ def two_hundred_workers(site: Site) -> None:
         site.check(f"an address is not answered after {word}", all(is_answered(place) for place in places))
         site.kill(keeper)
         until("another keeper", lambda: site.keeper() not in (None, keeper))
-    site.end("1")
+    victim = min(site.workers())
+    site.kill(victim)
+    until("another worker", lambda: site.has_others({victim}, MANY))
+    site.end("1", may_fail=CLIENTS)
     site.certify()
 
 

@@ -28,6 +28,7 @@ packet each:
     +ADDRESS    with a listening socket: the keeper has opened it, or is given it. Who holds one that it is given, it
                 does not know, and it does not close that one
     -ADDRESS    the keeper has closed it
+    ~           a worker holds its addresses no longer: it finishes, or has ended
     !ADDRESS: REASON    the keeper can't open it
     =           all who are to hold a socket have asked for it since: it may be closed, once those that finish are over
     ?  .        prefork-serve asks whether the keeper answers, and it does
@@ -62,7 +63,7 @@ DEFER = "--defer-accept"
 # Of Unix sockets.
 MODE, GROUP = "--socket-mode", "--socket-group"
 # What the packets to and from prefork-serve begin with.
-OPENED, CLOSED, REFUSED, SETTLED, ASKS, ANSWERS, ENDS = "+-!=?.x"
+OPENED, CLOSED, REFUSED, SETTLED, ASKS, ANSWERS, ENDS, LOST = "+-!=?.x~"
 
 
 def say(text: str) -> None:
@@ -180,6 +181,8 @@ class Keeper:
         self.linger, self.defers, self.channel, self.group = linger, defers, channel, group
         self.kept: dict[str, Kept] = {}
         self.held: dict[socket.socket, set[Kept]] = {}
+        # Whether a holder has gone that prefork-serve was not told of.
+        self.has_lost = False
         self.events = selectors.DefaultSelector()
         self.door = Door(self.events, door, self.begin_to_hear, say)
 
@@ -191,6 +194,7 @@ class Keeper:
         while True:
             for key, _ in self.events.select(self.linger / 4):
                 key.data(key.fileobj)
+            self.tell_lost()
             self.close_dropped()
             self.door.tend()
 
@@ -264,12 +268,18 @@ class Keeper:
         holder.close()
         for kept in self.held.pop(holder, ()):
             kept.lose_holder()
+            self.has_lost = True
 
     def give_up(self, holder: socket.socket, address: str) -> None:
         """A holder does not hold an address any more, and goes on to hold its others."""
         for kept in [kept for kept in self.held.get(holder, ()) if kept.address == address]:
             self.held[holder].remove(kept)
             kept.lose_holder()
+
+    def tell_lost(self) -> None:
+        if self.has_lost and self.channel:
+            self.channel.tell(LOST)
+        self.has_lost = False
 
     def close_dropped(self) -> None:
         if not any(kept.holders for kept in self.kept.values()):

@@ -14,7 +14,7 @@ from typing import Any
 from . import places
 from .convention import Hold
 from .folder import Folder, say
-from .keeper import ANSWERS, ASKS, CLOSED, ENDS, LONGEST_ADDRESS, OPENED, QUEUE, REFUSED, SETTLED
+from .keeper import ANSWERS, ASKS, CLOSED, ENDS, LONGEST_ADDRESS, LOST, OPENED, QUEUE, REFUSED, SETTLED
 from .systemd import store, unstore
 
 # How long it may take to answer, before it is killed; how often it is asked, and the least time between two starts.
@@ -36,6 +36,8 @@ class Keeping:
         # Why addresses were not opened since the last word, and the connection that holds those of the start.
         self.refusals: list[str] = []
         self.of_start = Hold(START_SECONDS)
+        # Whether a worker may have ended since that was looked at.
+        self.lost = False
         self.open_door()
         for address, one in held.items():
             store(address, one)
@@ -93,6 +95,8 @@ class Keeping:
             say(f"an address is not opened: {text}")
         elif kind == ANSWERS:
             self.owes = False
+        elif kind == LOST:
+            self.lost = True
         elif not kind:
             self.bury()
 
@@ -116,6 +120,11 @@ class Keeping:
         elif not self.owes and now - self.asked > ASK_SECONDS:
             self.asked, self.owes = now, True
             self.tell(ASKS)
+
+    def has_lost(self) -> bool:
+        """Whether a worker may have ended since this was asked last."""
+        found, self.lost = self.lost, False
+        return found
 
     def hold(self, addresses: list[str]) -> None:
         """Opens the addresses of the start, and holds them until workers do. Raises Unfit if one can't be opened."""

@@ -10,7 +10,9 @@ itself.
 - HUP, USR1, USR2, WINCH, TTIN, TTOU, QUIT, INT and TERM, sent to it, become words of the master, one after another in
   the order in which they come. HUPs that wait in a row are one, and QUIT, INT and TERM go before what waits.
   `prefork-ctl WORD` sends a word too, and waits for its block. HUP and USR2 read CONFIG again, its command too.
-- Each second the master is told a tick: it starts a worker again that has ended or no longer beats.
+- Each second the master is told a tick: it starts a worker again that has ended or no longer beats. More than 100
+  workers have one tick in each second for each 100 of them, 5 seconds at most, and one after a second at the latest when
+  a worker has let its sockets go.
 - `USR2 attended`, which prefork-ctl alone can send, asks its operator twice before it goes on: see prefork-ctl. While it
   asks, no tick is told and other words wait, those that stop the service too.
 - A master that ends without having been told to, or says that the new master of an upgrade is lost, is started again,

@@ -21,9 +21,11 @@ from .reasons import NEW_MASTER
 from .status import Record, Status, masters_of, started_workers, workers_of
 from .systemd import notify
 from .telling import Telling
+from .ticks import Ticks, pause_of, timeout_of
 from .words import CHANGES, NOTE, SIGNALS, START, STATUS, STOPS, WORDS, Queue, Word
 
-TICK_SECONDS = 1.0
+# What comes of a tick comes in many small pieces, and nobody waits for it: what came in this time is read together.
+TOGETHER_SECONDS = 0.01
 # The longest pause of the loop, and that while no master runs.
 PAUSE, SHORT_PAUSE = 1.0, 0.1
 TOO_MANY, NOT_READ, HAS_PID = "refused too-many-wait", "refused not-read", "refused pid"
@@ -51,9 +53,7 @@ class Service:
         self.current: Word | None = None
         # The question that the current word asks, or 0.
         self.question = 0
-        self.begun, self.next_tick, self.is_stopped = 0.0, 0.0, False
-        # How many ticks masters were told.
-        self.ticks = 0
+        self.begun, self.ticks, self.is_stopped = 0.0, Ticks(), False
         self.has_heard, self.is_ready = False, False
         self.record, self.began, self.starts = Record(), time.monotonic(), 0
         self.telling = Telling(self.status, self.brief, self.line, chronicle)
@@ -80,10 +80,14 @@ class Service:
         while not self.is_stopped:
             self.begin_master()
             self.tell_next()
+            if self.is_ticking():
+                time.sleep(TOGETHER_SECONDS)
             for key, _ in self.events.select(self.pause()):
                 key.data(key.fileobj)
             self.door.tend()
             self.keeping.tend()
+            if self.keeping.has_lost():
+                self.ticks.hurry()
             self.chronicle.tend()
             self.telling.tend()
         while self.waiting:
@@ -123,18 +127,17 @@ class Service:
             notify("STOPPING=1")
 
     def until_tick(self) -> float | None:
-        return max(0.0, self.next_tick - time.monotonic()) if self.current is None else None
+        return self.ticks.seconds() if self.current is None else None
 
     def tell_next(self) -> None:
         """Tells the word that is due, once the master has done the one before."""
         if self.master is None or self.current is not None:
             return
-        now = time.monotonic()
         if self.waiting:
             self.begin_word(self.waiting.next())
-        elif now >= self.next_tick:
-            self.next_tick, self.ticks = now + TICK_SECONDS, self.ticks + 1
-            self.begin_word(Word(f"tick {int(now)}"))
+        elif self.ticks.is_due():
+            pause = pause_of(len(self.record.workers), timeout_of(self.commands.current_text))
+            self.begin_word(Word(self.ticks.tell(pause)))
         else:
             return
         if self.current and (self.current.text not in CHANGES or self.has_read()):
@@ -310,10 +313,13 @@ class Service:
         else:
             word.answer(f"{NOTE}{text or 'nothing'} is no word. Words are {', '.join(WORDS)} and {STATUS}\nunread W1\n")
 
+    def is_ticking(self) -> bool:
+        """Whether a tick is being carried out, and not the start of a master."""
+        return self.current is not None and self.current.text.startswith("tick ") and self.current.text != START
+
     def doing(self) -> str | None:
         """The word that is being carried out, if it is no tick."""
-        is_word = self.current and (self.current.text == START or not self.current.text.startswith("tick "))
-        return self.current.text if self.current and is_word else None
+        return self.current.text if self.current and not self.is_ticking() else None
 
     def line(self) -> str:
         """What runs and what was done last, in a line."""
@@ -342,7 +348,7 @@ class Service:
             },
             "last": last.as_json() if last else None,
             "counts": self.chronicle.counted(),
-            "ticks": self.ticks,
+            "ticks": self.ticks.count,
             "doing": self.doing(),
             "question": self.question,
             "waiting": len(self.waiting),
