@@ -66,9 +66,16 @@ def a_bad_start(site: Site) -> None:
     refused(site, "--from site.toml, line 3: command = []\n")
     site.config.write_text(f'# A line more.\nlisteners = ["{site.first}"]\ncommand = ["/bin/true"]\nworkrs = 1\n')
     refused(site, "--from site.toml, line 4: workrs = 1\n")
-    site.configure()
     file = site.room / "file"
     file.write_text("no program")
+    for program, why in ((str(site.room / "missing"), "No such file or directory\n"), (str(file), "Permission denied\n")):
+        site.configure(command=[program, "child"])
+        refused(site, f"{program}: {why}")
+    site.program = ["no-such-program"]
+    site.configure()
+    refused(site, "no-such-program: it is in no folder of PATH\n")
+    site.program = []
+    site.configure()
     site.options = ["--folder", str(file)]
     refused(site, f"{file} is a file, and --folder takes a folder\n")
     site.options = ()

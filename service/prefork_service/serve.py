@@ -42,7 +42,7 @@ from .keeper import DEFER, socket_options
 from .keeping import Keeping
 from .limits import limits_of
 from .needs import addresses_of, needs_of, shortages
-from .options import arguments, processes_each, worker_command
+from .options import arguments, fault_of, processes_each, program_of, worker_command
 from .records import MEGABYTE
 from .service import Service
 from .systemd import inherited, notify
@@ -68,6 +68,10 @@ def is_fit(given: argparse.Namespace, commands: Commands) -> bool:
     is_adapted, sites = commands.has_adapter(), bool(given.page) + bool(given.metrics)
     faults = [refusal] if refusal else shortages(needs_of(text, processes_each(given), sites, is_adapted))
     faults += [PID_OF_MASTER] if commands.names_master() else []
+    program = program_of(given, None if is_adapted else commands.current)
+    # A service that was killed starts again without it: the program may be back before long.
+    if program and not refusal and not commands.accepted.exists():
+        faults += [fault] if (fault := fault_of(program)) else []
     for fault in faults:
         say(f"{given.config}: {fault}")
     return bool(commands.current) and not faults
