@@ -157,8 +157,14 @@ class Server:
         self.served, self.less = 0, threading.Condition()
 
     def open(self, address):
-        self.hold = self.hold or connected(address)
-        self.doors[address] = Door(asked_for(self.hold, address), self)
+        listener = self.hold and asked_for(self.hold, address)
+        if not listener:
+            # There was no connection, or the keeper has ended since.
+            self.hold = connected(address)
+            listener = asked_for(self.hold, address)
+        if not listener:
+            sys.exit(f"worker: {address}: the keeper has gone")
+        self.doors[address] = Door(listener, self)
 
     def begin(self):
         for door in self.doors.values():
@@ -212,15 +218,18 @@ def connected(address):
 
 
 def asked_for(hold, address):
-    """The listening socket of an address, which the connection holds; a refusal ends the worker."""
+    """The listening socket of an address, which the connection holds; nothing if the keeper has ended. A refusal ends
+    the worker."""
     try:
         hold.send(address.encode())
         said, given, _, _ = socket.recv_fds(hold, 200, 1)
+    except (BrokenPipeError, ConnectionResetError):
+        return None
     except OSError as fault:
         sys.exit(f"worker: no keeper for {address}: {fault!r}")
-    if said != b"ok" or not given:
-        sys.exit(f"worker: {address}: {said.decode()[3:] or 'the keeper has gone'}")
-    return socket.socket(fileno=given[0])
+    if said and (said != b"ok" or not given):
+        sys.exit(f"worker: {address}: {said.decode()[3:]}")
+    return socket.socket(fileno=given[0]) if given else None
 
 
 def release(hold, address):

@@ -26,6 +26,7 @@ static void ask(struct addresses *addresses, const char *text, char *answer, siz
     bool is_first = addresses->hold < 0;
     if (is_first)
         addresses->hold = keeper_connection();
+    errno = 0;
     ssize_t length = ask_keeper(addresses->hold, text, answer, room, listener);
     if (length <= 0 && !is_first && errno != ETIMEDOUT) {
         close(addresses->hold);

@@ -199,11 +199,11 @@ class Commands:
         new.replace(there)
 
     def change(self, running: str) -> None:
-        """The configuration is read again: the next word starts a new generation, and this one runs.
+        """The configuration is read again: the next word starts a new generation, and this one runs, if it is known.
 
         A worker of a generation that was rolled back may have been told to quit before it took its command. It takes
         one afterwards, for its generation, and the next reload has a generation of the same name."""
-        self.known, self.is_changing = [file for file in self.generations() if file.name == running], True
+        self.known, self.is_changing = [file for file in self.generations() if running in ("", file.name)], True
         self.proposed = self.read(self.next)
         self.write_next(self.proposed)
         self.forget_others()
