@@ -38,7 +38,9 @@ def random_words(site: Site) -> None:
         site.check(f"{name}: no report: {block}", report)
         agree(site, name, page, word, report, counted)
         site.install(site.app_text)
+    # The last words may have left no worker, and the load waits for one.
     site.configure()
+    site.wants("HUP", 0, "done", 2)
     shown(site, page)
     site.end("1")
 

@@ -1,11 +1,13 @@
 """Much at a time: words in a burst, upgrades in a row, and workers that flood the pipe to their master."""
+import subprocess
 import time
 
-from gate.waiting import SECONDS, comes
-from web.site import CLIENTS, Scenario, Site
+from gate.addresses import free_address, is_answered
+from gate.waiting import SECONDS, comes, until
+from web.site import CLIENTS, SERVICE, Scenario, Site, descriptors
 from web.starts import answer_to, asks, status
 
-UPGRADES, HUPS = 10, 20
+UPGRADES, HUPS, MANY = 10, 20, 200
 # A burst is one if all words are sent in this time.
 BURST_SECONDS = 0.01
 # Goes into the application: lines that nobody asked for, without an end, from a moment on.
@@ -86,6 +88,30 @@ def a_worker_floods_after_quit(site: Site) -> None:
     site.certify()
 
 
+def two_hundred_workers(site: Site) -> None:
+    """200 workers at four addresses, where no process may have more than 1,024 descriptors: two reloads and an upgrade,
+    each with 400 workers for a while, and a keeper that is killed after each. Each address is answered all the while. A
+    worker that is killed is replaced."""
+    page = site.home / "page"
+    subprocess.run(["cc", "-std=gnu11", "-O2", "-o", page, SERVICE / "tests" / "programs" / "page.c"], check=True)
+    site.program, site.before = [str(page)], descriptors(1024)
+    places = [site.first, site.second, free_address(), free_address()]
+    site.begin(listeners=places, workers=MANY)
+    for word in ("HUP", "HUP", "USR2"):
+        old, keeper = site.workers(), site.keeper()
+        site.check(f"{len(old)} workers before {word}", len(old) == MANY)
+        site.wants(word, 0, "done", MANY)
+        until("other workers", lambda: site.has_others(old, MANY))
+        site.check(f"an address is not answered after {word}", all(is_answered(place) for place in places))
+        site.kill(keeper)
+        until("another keeper", lambda: site.keeper() not in (None, keeper))
+    victim = min(site.workers())
+    site.kill(victim)
+    until("another worker", lambda: site.has_others({victim}, MANY))
+    site.end("1", may_fail=CLIENTS)
+    site.certify()
+
+
 SCENARIOS: tuple[Scenario, ...] = (
-    hups_in_a_burst, upgrades_in_a_row, a_worker_floods_from_its_start, a_worker_floods_after_quit,
+    two_hundred_workers, hups_in_a_burst, upgrades_in_a_row, a_worker_floods_from_its_start, a_worker_floods_after_quit,
 )

@@ -10,7 +10,7 @@ import time
 
 from gate.addresses import answer_of, is_refused
 from gate.waiting import SECONDS, until
-from web.site import CLIENTS, Scenario, Site, text_of
+from web.site import CLIENTS, Scenario, Site, descriptors, text_of
 from web.systemd import Systemd
 
 
@@ -202,7 +202,7 @@ SILENT, DESCRIPTORS = 300, 256
 def silent_clients(site: Site) -> None:
     """Clients that connect to the keeper and to `serve` and say nothing, more than there are descriptors: words and
     workers get through, with these clients there and after them."""
-    site.before = ["sh", "-c", f'ulimit -n {DESCRIPTORS} && exec "$@"', "sh"]
+    site.before = descriptors(DESCRIPTORS)
     site.begin()
     with contextlib.ExitStack() as clients:
         for name, kind in (("ctl.sock", socket.SOCK_STREAM), ("keeper.sock", socket.SOCK_SEQPACKET)):
@@ -225,7 +225,7 @@ def too_few_descriptors(site: Site) -> None:
         ({"workers": 300}, 1024, "1224 descriptors in its master"),
     ):
         site.configure(**settings)
-        site.before = ["sh", "-c", f'ulimit -n {limit} && exec "$@"', "sh"]
+        site.before = descriptors(limit)
         site.serve = site.started()
         site.check(f"it serves with {settings}", site.serve.wait(SECONDS) == 1)
         said = (site.room / "said").read_text()

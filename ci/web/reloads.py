@@ -140,7 +140,9 @@ def a_refused_edit(site: Site) -> None:
     with what was accepted."""
     site.begin()
     site.config.write_text("listeners = [\n")
-    site.wants_refused("HUP", "refused C1")
+    block, notes = site.sent("HUP").communicate(timeout=SECONDS)
+    site.check(f"HUP: {block}", block == "word HUP\nrefused C1\n")
+    site.check(f"the place is not named: {notes}", notes.startswith("prefork-ctl: site.toml, line "))
     old = site.workers()
     site.kill(site.master())
     until("two other workers", lambda: site.has_others(old))

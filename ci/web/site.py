@@ -36,6 +36,11 @@ def size_of(numbers: str) -> int:
     return sum(int(last or first) - int(first) + 1 for first, _, last in pairs)
 
 
+def descriptors(count: int) -> list[str]:
+    """What starts a command whose processes may have this number of descriptors."""
+    return ["sh", "-c", f'ulimit -n {count} && exec "$@"', "sh"]
+
+
 def text_of(file: pathlib.Path) -> str:
     return file.read_text() if file.exists() else ""
 
@@ -52,7 +57,7 @@ def is_guard(words: list[str]) -> bool:
 
 def is_worker(words: list[str], own: list[str]) -> bool:
     """Whether a process is a worker, and not what watches one."""
-    return words[-2:] == own and not any(word.startswith(f"{SERVICE}/") for word in words)
+    return words[-len(own) :] == own and not any(word.startswith(f"{SERVICE}/") for word in words)
 
 
 class Site:

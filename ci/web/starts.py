@@ -32,8 +32,9 @@ def signals_are_words(site: Site) -> None:
         is_own = sent.returncode == 0 and block.startswith(f"word {word}\n") and block.count("word ") == 1
         site.check(f"{word}, beside others: {sent.returncode}, {block}{faults}", is_own)
     sent = site.sent("HUPP")
-    said = sent.communicate(timeout=SECONDS)[0]
+    said, notes = sent.communicate(timeout=SECONDS)
     site.check("a line that is no control word", "unread W1" in said and sent.returncode == 2)
+    site.check(f"the words are not named: {notes}", notes.startswith("prefork-ctl: HUPP is no word. Words are HUP, "))
     site.end("1")
     site.certify()
 
@@ -59,18 +60,41 @@ def nobody_else(site: Site) -> None:
 
 
 def a_bad_start(site: Site) -> None:
-    """A `serve` without a configuration, and one without a program, end with status 1 and leave nothing."""
-    site.serve = site.started()
-    site.check("it serves without a configuration", site.serve.wait(SECONDS) == 1)
-    site.nothing_left()
-    site.configure("site.toml", command=[])
-    site.serve = site.started()
-    site.check("it serves without a command", site.serve.wait(SECONDS) == 1)
-    site.nothing_left()
+    """A start that cannot be ends with status 1, says in one place what is wrong and where, and leaves nothing."""
+    refused(site, "site.toml: No such file or directory\n")
+    site.configure(command=[])
+    refused(site, "--from site.toml, line 3: command = []\n")
+    site.config.write_text(f'# A line more.\nlisteners = ["{site.first}"]\ncommand = ["/bin/true"]\nworkrs = 1\n')
+    refused(site, "--from site.toml, line 4: workrs = 1\n")
+    file = site.room / "file"
+    file.write_text("no program")
+    for program, why in ((str(site.room / "missing"), "No such file or directory\n"), (str(file), "Permission denied\n")):
+        site.configure(command=[program, "child"])
+        refused(site, f"{program}: {why}")
+    site.program = ["no-such-program"]
     site.configure()
-    site.prefork = str(site.room / "missing")
+    refused(site, "no-such-program: it is in no folder of PATH\n")
+    site.program = []
+    site.configure()
+    site.options = ["--folder", str(file)]
+    refused(site, f"{file} is a file, and --folder takes a folder\n")
+    site.options = ()
+    for program, why in (
+        (str(site.room / "missing"), "No such file or directory\n"), (str(file), "Permission denied\n"),
+        ("/bin/true", "does not start as the master: it has ended with status 0"),
+    ):
+        site.prefork = program
+        refused(site, f"{program}{' ' if why.startswith('does') else ': '}{why}")
+
+
+def refused(site: Site, why: str) -> None:
+    """A start that ends with this message."""
+    before = len(text_of(site.room / "said"))
     site.serve = site.started()
-    site.check("it serves without a program", site.serve.wait(SECONDS) == 1)
+    site.check(f"it serves, and not: {why}", site.serve.wait(SECONDS) == 1)
+    said = text_of(site.room / "said")[before:]
+    site.check(f"{why!r} is not said: {said}", why in said)
+    site.check(f"a copy of the file is named: {said}", "config.toml" not in said)
     site.nothing_left()
 
 

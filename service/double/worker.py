@@ -116,8 +116,8 @@ class Conversation:
 class Door:
     """A listening socket, and the thread that accepts its connections."""
 
-    def __init__(self, listener, hold, server):
-        self.listener, self.hold, self.server = listener, hold, server
+    def __init__(self, listener, server):
+        self.listener, self.server = listener, server
         self.waked, self.wake = socket.socketpair()
         self.thread = threading.Thread(target=self.accept_all, daemon=True)
 
@@ -143,7 +143,6 @@ class Door:
             self.wake.send(b"x")
             self.thread.join()
         self.listener.close()
-        self.hold.close()
 
 
 class Server:
@@ -151,13 +150,21 @@ class Server:
 
     def __init__(self, page):
         self.page, self.worker, self.doors = page, "", {}
+        # The connection to the keeper that holds all addresses, once there is one.
+        self.hold = None
         self.finishing = threading.Event()
         self.room = threading.Semaphore(MOST_CONNECTIONS)
         self.served, self.less = 0, threading.Condition()
 
     def open(self, address):
-        listener, hold = asked_for(address)
-        self.doors[address] = Door(listener, hold, self)
+        listener = self.hold and asked_for(self.hold, address)
+        if not listener:
+            # There was no connection, or the keeper has ended since.
+            self.hold = connected(address)
+            listener = asked_for(self.hold, address)
+        if not listener:
+            sys.exit(f"worker: {address}: the keeper has gone")
+        self.doors[address] = Door(listener, self)
 
     def begin(self):
         for door in self.doors.values():
@@ -167,6 +174,7 @@ class Server:
         door = self.doors.pop(address, None)
         if door:
             door.close()
+            release(self.hold, address)
 
     def serve(self, client):
         with self.less:
@@ -198,19 +206,39 @@ class Server:
             self.less.wait_for(lambda: self.served == 0, FINISH_SECONDS)
 
 
-def asked_for(address):
-    """The listening socket of an address, and the connection to the keeper that holds it; a refusal ends the worker."""
+def connected(address):
+    """A connection to the keeper."""
     hold = socket.socket(socket.AF_UNIX, socket.SOCK_SEQPACKET)
     hold.settimeout(KEEPER_SECONDS)
     try:
         hold.connect(os.environ["PREFORK_KEEPER"])
-        hold.send(address.encode())
-        said, given, _, _ = socket.recv_fds(hold, 200, 1)
     except (KeyError, OSError) as fault:
         sys.exit(f"worker: no keeper for {address}: {fault!r}")
-    if said != b"ok" or not given:
-        sys.exit(f"worker: {address}: {said.decode()[3:] or 'the keeper has gone'}")
-    return socket.socket(fileno=given[0]), hold
+    return hold
+
+
+def asked_for(hold, address):
+    """The listening socket of an address, which the connection holds; nothing if the keeper has ended. A refusal ends
+    the worker."""
+    try:
+        hold.send(address.encode())
+        said, given, _, _ = socket.recv_fds(hold, 200, 1)
+    except (BrokenPipeError, ConnectionResetError):
+        return None
+    except OSError as fault:
+        sys.exit(f"worker: no keeper for {address}: {fault!r}")
+    if said and (said != b"ok" or not given):
+        sys.exit(f"worker: {address}: {said.decode()[3:]}")
+    return socket.socket(fileno=given[0]) if given else None
+
+
+def release(hold, address):
+    """Holds an address no longer."""
+    try:
+        hold.send(f"-{address}".encode())
+    except OSError:
+        # A keeper that has ended holds nothing.
+        pass
 
 
 def say(text):

@@ -29,7 +29,7 @@
 #define LONG_LOOK 0.1
 
 static struct options options;
-static struct addresses addresses;
+static struct addresses addresses = {.hold = -1};
 static struct waiting waiting;
 static struct probe probe;
 

@@ -4,8 +4,10 @@
 #include "worker.h"
 
 #include <errno.h>
+#include <stdio.h>
 #include <stdlib.h>
 #include <string.h>
+#include <sys/socket.h>
 #include <unistd.h>
 
 static int keeper_connection(void) {
@@ -18,14 +20,29 @@ static int keeper_connection(void) {
     return connection;
 }
 
+/* Asks for an address on the connection that holds the others. If the keeper has ended since they were asked for, the
+ * next one is asked: the others stay as they are. */
+static void ask(struct addresses *addresses, const char *text, char *answer, size_t room, int *listener) {
+    bool is_first = addresses->hold < 0;
+    if (is_first)
+        addresses->hold = keeper_connection();
+    errno = 0;
+    ssize_t length = ask_keeper(addresses->hold, text, answer, room, listener);
+    if (length <= 0 && !is_first && errno != ETIMEDOUT) {
+        close(addresses->hold);
+        addresses->hold = keeper_connection();
+        length = ask_keeper(addresses->hold, text, answer, room, listener);
+    }
+    if (length < 0)
+        fail("%s: the keeper %s", text, errno == ETIMEDOUT ? "does not answer" : "has gone");
+}
+
 void take_address(struct addresses *addresses, const char *text) {
     char answer[256];
     if (addresses->count == MOST_LISTENERS)
         fail("more than %d addresses", MOST_LISTENERS);
     struct address *address = &addresses->of[addresses->count];
-    address->hold = keeper_connection();
-    if (ask_keeper(address->hold, text, answer, sizeof answer, &address->listener) < 0)
-        fail("%s: the keeper %s", text, errno == ETIMEDOUT ? "does not answer" : "has gone");
+    ask(addresses, text, answer, sizeof answer, &address->listener);
     if (strcmp(answer, "ok") || address->listener < 0)
         fail("%s: %s", text, !strncmp(answer, "no ", 3) ? answer + 3 : "the keeper has gone");
     address->text = strdup(text);
@@ -35,12 +52,15 @@ void take_address(struct addresses *addresses, const char *text) {
 }
 
 void release_address(struct addresses *addresses, const char *text) {
+    char said[256];
+    int length = snprintf(said, sizeof said, "-%s", text);
     for (int at = 0; at < addresses->count; at++) {
         struct address *address = &addresses->of[at];
         if (strcmp(address->text, text) || address->listener < 0)
             continue;
         close(address->listener);
-        close(address->hold);
-        address->listener = address->hold = -1;
+        address->listener = -1;
+        /* A keeper that has ended holds nothing. */
+        send(addresses->hold, said, (size_t)length, MSG_NOSIGNAL);
     }
 }

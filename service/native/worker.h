@@ -24,15 +24,16 @@ struct options {
     char **command;
 };
 
-/* An address that the worker was told: its listening socket, and the connection to the keeper that holds it. */
+/* An address that the worker was told, and its listening socket. */
 struct address {
     char *text;
-    int listener, hold;
+    int listener;
 };
 
+/* All addresses, and the connection to the keeper that holds them; -1 before the first one is asked for. */
 struct addresses {
     struct address of[MOST_LISTENERS];
-    int count;
+    int count, hold;
 };
 
 /* Prints a message for people on standard error. */

@@ -62,10 +62,10 @@ class Chronicle:
             self.journal.end_ticks()
             self.journal.note(f"{word} begins")
 
-    def end_word(self, word: str, block: str, others: list[str]) -> list[str]:
-        """Notes a block; why calls of it failed."""
+    def end_word(self, word: str, block: str, others: list[str], mistakes: list[str]) -> list[str]:
+        """Notes a block; why calls of it failed, or the word was refused."""
         self.noted |= self.reasons.take()
-        why = explained(block, self.noted, others)
+        why = explained(block, self.noted, others) + mistakes
         done = Done(word, self.began or wall_clock(), time.monotonic() - self.moment, block, why)
         is_tick = word.startswith("tick ") and word != START
         if not is_tick:

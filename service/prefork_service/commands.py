@@ -11,12 +11,17 @@ killed, where the file has become one that is refused.
 import datetime
 import json
 import pathlib
+import re
 import subprocess
 import tomllib
 from typing import Any
 
 from .folder import Folder, say
 
+# How long the master's program may take to say whether it reads a configuration.
+ASKING_SECONDS = 10.0
+# Lines of a refusal that begin to explain a fault, and the title of a code.
+HEADING, CODE = re.compile(r"  (?:config|file|usage|[A-Z]\d+): "), re.compile(r"  [A-Z]\d+: (.*)")
 # The rules of `command` in a configuration.
 MOST_WORDS, LONGEST_WORD = 16, 255
 
@@ -65,10 +70,23 @@ def refusal_of(prefork: str, config: pathlib.Path) -> str | None:
     command = [prefork, "plan", "--why", "--from", config, "USR1"]
     streams: dict[str, Any] = {"stdin": subprocess.DEVNULL, "stdout": subprocess.DEVNULL, "stderr": subprocess.PIPE}
     try:
-        found = subprocess.run(command, **streams, text=True)
+        found = subprocess.run(command, **streams, text=True, timeout=ASKING_SECONDS)
     except OSError as fault:
         return f"{prefork}: {fault.strerror}"
+    except subprocess.TimeoutExpired:
+        return f"{prefork}: it has not said in {ASKING_SECONDS:g} seconds whether it reads the configuration"
     return found.stderr.strip() if found.returncode else None
+
+
+def mistake_of(refusal: str) -> str:
+    """What a refusal says of the file: the place, and what is wrong there. Of a code that is its title."""
+    titles = [found[1] for found in map(CODE.fullmatch, refusal.splitlines()) if found]
+    places = []
+    for line in refusal.splitlines()[1:]:
+        if not line.startswith("  ") or HEADING.match(line):
+            break
+        places.append(line.strip().removeprefix("--from "))
+    return ": ".join([*places[:1], *(places[1:] or titles[-1:])])
 
 
 # The master handles no signals: whoever sends HUP to the number in its file ends it.
@@ -111,6 +129,13 @@ class Commands:
             say(f"{self.config} has no command, and the command line names no program")
         return command or self.default
 
+    def source(self) -> pathlib.Path:
+        """The file that has the text that was read last: the one that people edit, if it is that."""
+        try:
+            return self.config if self.config.read_bytes() == self.text else self.now
+        except OSError:
+            return self.now
+
     def is_kept(self) -> bool:
         """Whether a service that was killed has left the configuration that it had accepted; that is taken then."""
         if not self.accepted.exists():
@@ -129,6 +154,10 @@ class Commands:
             new.replace(self.accepted)
         except OSError as fault:
             say(f"{self.accepted}: {fault.strerror}")
+
+    def has_adapter(self) -> bool:
+        """Whether workers are started by what the command line says, and not by a command of the configuration."""
+        return self.current is not None and self.current == self.default
 
     def names_master(self) -> bool:
         """Whether the configuration that was read last has a pid file."""
@@ -153,6 +182,12 @@ class Commands:
     def generations(self) -> list[pathlib.Path]:
         return [file for file in self.place.iterdir() if file.name[0].isdigit()]
 
+    def forget_others(self) -> None:
+        """Forgets the command of each generation but the one that runs."""
+        for file in self.generations():
+            if file not in self.known:
+                file.unlink(missing_ok=True)
+
     def write_next(self, command: list[str] | None) -> None:
         words = [*self.before, *(command or ["false"])]
         text, there = b"".join(word.encode("utf-8", "surrogateescape") + b"\0" for word in words), self.place / "next"
@@ -163,11 +198,15 @@ class Commands:
         new.write_bytes(text)
         new.replace(there)
 
-    def change(self) -> None:
-        """The configuration is read again: the next word starts a new generation."""
-        self.known, self.is_changing = self.generations(), True
+    def change(self, running: str) -> None:
+        """The configuration is read again: the next word starts a new generation, and this one runs, if it is known.
+
+        A worker of a generation that was rolled back may have been told to quit before it took its command. It takes
+        one afterwards, for its generation, and the next reload has a generation of the same name."""
+        self.known, self.is_changing = [file for file in self.generations() if running in ("", file.name)], True
         self.proposed = self.read(self.next)
         self.write_next(self.proposed)
+        self.forget_others()
 
     def next_text(self) -> bytes:
         """The configuration that the next word goes over to, as the master reads it."""
@@ -182,12 +221,11 @@ class Commands:
             self.current, self.current_text = self.proposed, self.text
             self.next.replace(self.now)
             self.accept()
-            dropped = self.known
+            for file in self.known:
+                file.unlink(missing_ok=True)
         else:
-            dropped = [file for file in self.generations() if file not in self.known]
+            self.forget_others()
             self.write_next(self.current)
-        for file in dropped:
-            file.unlink(missing_ok=True)
 
     def clear(self) -> None:
         for file in [*self.place.iterdir(), self.now, self.next, self.accepted]:

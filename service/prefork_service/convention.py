@@ -60,22 +60,66 @@ class Pipes:
         return not watched.poll(0)
 
 
-def socket_of(address: str, seconds: float = KEEPER_SECONDS) -> tuple[socket.socket, socket.socket]:
-    """The listening socket of an address, and the connection to the keeper that holds it."""
+class Hold:
+    """The connection to the keeper that holds addresses. It is made for the first one."""
+
+    def __init__(self, seconds: float = KEEPER_SECONDS):
+        self.seconds = seconds
+        self.connection: socket.socket | None = None
+
+    def take(self, address: str) -> socket.socket:
+        """The listening socket of an address, which is held from then on."""
+        is_first = self.connection is None
+        said, given = self.ask(address)
+        if not said and not is_first:
+            # The keeper has ended since, and another one is there or comes. What was taken before stays as it is.
+            self.close()
+            said, given = self.ask(address)
+        if said != b"ok" or not given:
+            raise Unfit(f"{address}: {said.decode('latin-1')[3:] or 'the keeper has gone'}")
+        return socket.socket(fileno=given[0])
+
+    def ask(self, address: str) -> tuple[bytes, list[int]]:
+        """What the keeper answers; nothing if it has ended."""
+        try:
+            if not self.connection:
+                self.connection = connected(self.seconds)
+            self.connection.send(address.encode())
+            said, given, _, _ = socket.recv_fds(self.connection, 200, 1)
+        except (BrokenPipeError, ConnectionResetError):
+            return b"", []
+        except OSError as fault:
+            raise Unfit(f"{address}: no keeper: {fault}") from fault
+        return said, given
+
+    def give_up(self, address: str) -> None:
+        """Holds an address no longer."""
+        try:
+            if self.connection:
+                self.connection.send(f"-{address}".encode())
+        except OSError:
+            # A keeper that has ended holds nothing.
+            pass
+
+    def close(self) -> None:
+        if self.connection:
+            self.connection.close()
+        self.connection = None
+
+
+def connected(seconds: float) -> socket.socket:
+    """A connection to the keeper. Raises OSError."""
     place = os.environ.get("PREFORK_KEEPER")
     if not place:
         raise Unfit("PREFORK_KEEPER does not name the keeper's socket")
-    hold = socket.socket(socket.AF_UNIX, socket.SOCK_SEQPACKET)
-    hold.settimeout(seconds)
+    connection = socket.socket(socket.AF_UNIX, socket.SOCK_SEQPACKET)
+    connection.settimeout(seconds)
     try:
-        hold.connect(place)
-        hold.send(address.encode())
-        said, given, _, _ = socket.recv_fds(hold, 200, 1)
-    except OSError as fault:
-        raise Unfit(f"{address}: no keeper: {fault}") from fault
-    if said != b"ok" or not given:
-        raise Unfit(f"{address}: {said.decode('latin-1')[3:] or 'the keeper has gone'}")
-    return socket.socket(fileno=given[0]), hold
+        connection.connect(place)
+    except OSError:
+        connection.close()
+        raise
+    return connection
 
 
 def clear_environment() -> None:

@@ -2,8 +2,8 @@
 
 Keeps the listening sockets of a service, so that no connection that waits in a queue is lost while workers and
 masters change. It is asked on the Unix socket PATH: a worker connects, sends an address (`127.0.0.1:8080`, or the
-path of a Unix socket), and is answered `ok` with the listening socket, or `no` and why not. It holds the address as
-long as that connection is open.
+path of a Unix socket), and is answered `ok` with the listening socket, or `no` and why not. It asks for its other
+addresses on the same connection, and holds them all as long as that is open. `-` and an address gives up that one.
 
 A socket is opened for the first who asks, and everybody after gets the same one. One that nobody has held for LINGER
 seconds (2) is closed, but only while another one is held: so a dropped address ends, and while no worker runs at all
@@ -28,6 +28,7 @@ packet each:
     +ADDRESS    with a listening socket: the keeper has opened it, or is given it. Who holds one that it is given, it
                 does not know, and it does not close that one
     -ADDRESS    the keeper has closed it
+    ~           a worker holds its addresses no longer: it finishes, or has ended
     !ADDRESS: REASON    the keeper can't open it
     =           all who are to hold a socket have asked for it since: it may be closed, once those that finish are over
     ?  .        prefork-serve asks whether the keeper answers, and it does
@@ -56,11 +57,13 @@ LONGEST_ADDRESS = 200
 DEFER_SECONDS = 1
 # Asked for in place of an address: the standard error of the service.
 ERRORS = "errors"
+# How a holder begins what it says of an address that it gives up.
+GIVES_UP = "-"
 DEFER = "--defer-accept"
 # Of Unix sockets.
 MODE, GROUP = "--socket-mode", "--socket-group"
 # What the packets to and from prefork-serve begin with.
-OPENED, CLOSED, REFUSED, SETTLED, ASKS, ANSWERS, ENDS = "+-!=?.x"
+OPENED, CLOSED, REFUSED, SETTLED, ASKS, ANSWERS, ENDS, LOST = "+-!=?.x~"
 
 
 def say(text: str) -> None:
@@ -82,6 +85,10 @@ class Kept:
         """Strangers finish, and nobody else is one."""
         if self.has_strangers:
             self.has_strangers, self.free_since = False, time.monotonic() + FINISH_SECONDS
+
+    def lose_holder(self) -> None:
+        self.holders -= 1
+        self.free_since = max(self.free_since, time.monotonic())
 
     def is_free(self, linger: float) -> bool:
         return not self.holders and not self.has_strangers and time.monotonic() - self.free_since > linger
@@ -173,7 +180,9 @@ class Keeper:
     ):
         self.linger, self.defers, self.channel, self.group = linger, defers, channel, group
         self.kept: dict[str, Kept] = {}
-        self.held: dict[socket.socket, Kept] = {}
+        self.held: dict[socket.socket, set[Kept]] = {}
+        # Whether a holder has gone that prefork-serve was not told of.
+        self.has_lost = False
         self.events = selectors.DefaultSelector()
         self.door = Door(self.events, door, self.begin_to_hear, say)
 
@@ -185,6 +194,7 @@ class Keeper:
         while True:
             for key, _ in self.events.select(self.linger / 4):
                 key.data(key.fileobj)
+            self.tell_lost()
             self.close_dropped()
             self.door.tend()
 
@@ -193,25 +203,32 @@ class Keeper:
         self.hear(holder)
 
     def hear(self, holder: socket.socket) -> None:
-        """Hears the address that a holder asks for, or that it has gone."""
+        """Hears the address that a holder asks for or gives up, or that it has gone."""
         try:
-            address = holder.recv(LONGEST_ADDRESS).decode()
+            text = holder.recv(LONGEST_ADDRESS).decode()
         except (OSError, UnicodeDecodeError):
-            address = ""
-        if not address or holder in self.held:
+            text = ""
+        if not text:
             self.let_go(holder)
-            return
-        if address == ERRORS:
+        elif text == ERRORS:
             self.give_errors(holder)
-            return
+        elif text.startswith(GIVES_UP):
+            self.give_up(holder, text.removeprefix(GIVES_UP))
+        else:
+            self.give(holder, text)
+
+    def give(self, holder: socket.socket, address: str) -> None:
+        """Gives a holder the socket of an address."""
         self.take_given(address)
         try:
             kept = self.kept.get(address) or self.opened(address)
         except (OSError, OverflowError, ValueError) as refusal:
             self.refuse(holder, address, getattr(refusal, "strerror", None) or str(refusal))
             return
-        self.held[holder] = kept
-        kept.holders += 1
+        held = self.held.setdefault(holder, set())
+        if kept not in held:
+            held.add(kept)
+            kept.holders += 1
         try:
             socket.send_fds(holder, [b"ok"], [kept.socket.fileno()])
         except OSError:
@@ -249,10 +266,20 @@ class Keeper:
     def let_go(self, holder: socket.socket) -> None:
         self.events.unregister(holder)
         holder.close()
-        kept = self.held.pop(holder, None)
-        if kept:
-            kept.holders -= 1
-            kept.free_since = max(kept.free_since, time.monotonic())
+        for kept in self.held.pop(holder, ()):
+            kept.lose_holder()
+            self.has_lost = True
+
+    def give_up(self, holder: socket.socket, address: str) -> None:
+        """A holder does not hold an address any more, and goes on to hold its others."""
+        for kept in [kept for kept in self.held.get(holder, ()) if kept.address == address]:
+            self.held[holder].remove(kept)
+            kept.lose_holder()
+
+    def tell_lost(self) -> None:
+        if self.has_lost and self.channel:
+            self.channel.tell(LOST)
+        self.has_lost = False
 
     def close_dropped(self) -> None:
         if not any(kept.holders for kept in self.kept.values()):
@@ -343,7 +370,7 @@ def arguments() -> argparse.Namespace:
 
 
 def take_descriptors() -> None:
-    """As many as the system allows: each worker has one here for each of its addresses."""
+    """As many as the system allows: each worker has one here, or one for each of its addresses."""
     _, most = resource.getrlimit(resource.RLIMIT_NOFILE)
     resource.setrlimit(resource.RLIMIT_NOFILE, (most, most))
 

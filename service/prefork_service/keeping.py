@@ -12,9 +12,9 @@ import time
 from typing import Any
 
 from . import places
-from .convention import socket_of
+from .convention import Hold
 from .folder import Folder, say
-from .keeper import ANSWERS, ASKS, CLOSED, ENDS, LONGEST_ADDRESS, OPENED, QUEUE, REFUSED, SETTLED
+from .keeper import ANSWERS, ASKS, CLOSED, ENDS, LONGEST_ADDRESS, LOST, OPENED, QUEUE, REFUSED, SETTLED
 from .systemd import store, unstore
 
 # How long it may take to answer, before it is killed; how often it is asked, and the least time between two starts.
@@ -33,9 +33,11 @@ class Keeping:
         self.process: Any = None
         self.channel: Any = None
         self.begun, self.asked, self.owes, self.restarts = 0.0, 0.0, False, -1
-        # Why addresses were not opened since the last word, and the connections that hold those of the start.
+        # Why addresses were not opened since the last word, and the connection that holds those of the start.
         self.refusals: list[str] = []
-        self.holds: list[socket.socket] = []
+        self.of_start = Hold(START_SECONDS)
+        # Whether a worker may have ended since that was looked at.
+        self.lost = False
         self.open_door()
         for address, one in held.items():
             store(address, one)
@@ -93,6 +95,8 @@ class Keeping:
             say(f"an address is not opened: {text}")
         elif kind == ANSWERS:
             self.owes = False
+        elif kind == LOST:
+            self.lost = True
         elif not kind:
             self.bury()
 
@@ -117,17 +121,18 @@ class Keeping:
             self.asked, self.owes = now, True
             self.tell(ASKS)
 
+    def has_lost(self) -> bool:
+        """Whether a worker may have ended since this was asked last."""
+        found, self.lost = self.lost, False
+        return found
+
     def hold(self, addresses: list[str]) -> None:
         """Opens the addresses of the start, and holds them until workers do. Raises Unfit if one can't be opened."""
         for address in addresses:
-            listener, hold = socket_of(address, START_SECONDS)
-            listener.close()
-            self.holds.append(hold)
+            self.of_start.take(address).close()
 
     def release(self) -> None:
-        for hold in self.holds:
-            hold.close()
-        self.holds.clear()
+        self.of_start.close()
 
     def settle(self) -> None:
         """All workers have been started since: whoever is to hold a socket has asked for it."""

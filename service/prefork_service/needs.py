@@ -1,7 +1,7 @@
 """How many descriptors and processes a service needs while it reloads, and whether the limits allow them.
 
 A reload starts all new workers before an old one ends: twice as many run for a while. Each worker has two pipes to its
-master, and a connection to the keeper for each of its addresses.
+master, and a connection to the keeper. A worker that is started by a `command` may have one for each of its addresses.
 """
 import dataclasses
 import os
@@ -47,13 +47,14 @@ def addresses_of(text: bytes) -> list[str]:
         return []
 
 
-def needs_of(text: bytes, processes_each: int, sites: int = 0) -> Needs:
-    """What the configuration needs, whose workers are some processes each, where prefork-serve has some pages."""
+def needs_of(text: bytes, processes_each: int, sites: int = 0, is_adapted: bool = False) -> Needs:
+    """What the configuration needs, whose workers are some processes each, where prefork-serve has some pages. A worker
+    with an adapter has one connection to the keeper."""
     groups = groups_of(text)
     workers, listeners = sum(count for count, _ in groups), sum(count for _, count in groups)
-    held = sum(workers * listeners for workers, listeners in groups)
+    connections = workers if is_adapted else sum(workers * listeners for workers, listeners in groups)
     return Needs(
-        KEEPER_REST + 2 * held + listeners, SERVE_REST + listeners + SITE * sites, MASTER_REST + 2 * PIPES * workers,
+        KEEPER_REST + 2 * connections + listeners, SERVE_REST + listeners + SITE * sites, MASTER_REST + 2 * PIPES * workers,
         OWN_PROCESSES + 2 * processes_each * workers,
     )
 

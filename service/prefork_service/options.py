@@ -1,5 +1,8 @@
 """The command line of prefork-serve, and the command of a worker that it asks for."""
 import argparse
+import errno
+import os
+import shutil
 import subprocess
 import sys
 from typing import Any
@@ -122,6 +125,26 @@ def worker_command(given: argparse.Namespace) -> list[str] | None:
         options = handed_on(given, SHARED | PROGRAM)
         return checked([str(places.ACTIVATE), *options], ["--", *given.program])
     return None
+
+
+def program_of(given: argparse.Namespace, command: list[str] | None) -> str | None:
+    """The program of workers, by the command of a configuration or by the command line, which is looked for before a
+    start; nothing if an option says where to look for it."""
+    if command:
+        return command[0]
+    if any(setting.startswith("PATH=") for setting in given.env):
+        return None
+    return given.program[0] if given.program else None
+
+
+def fault_of(program: str) -> str | None:
+    """Why a program cannot be executed, if that is so."""
+    if "/" not in program:
+        return None if shutil.which(program) else f"{program}: it is in no folder of PATH"
+    if not os.path.exists(program):
+        return f"{program}: {os.strerror(errno.ENOENT)}"
+    is_fit = os.access(program, os.X_OK) and not os.path.isdir(program)
+    return None if is_fit else f"{program}: {os.strerror(errno.EACCES)}"
 
 
 def processes_each(given: argparse.Namespace) -> int:

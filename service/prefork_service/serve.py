@@ -10,7 +10,9 @@ itself.
 - HUP, USR1, USR2, WINCH, TTIN, TTOU, QUIT, INT and TERM, sent to it, become words of the master, one after another in
   the order in which they come. HUPs that wait in a row are one, and QUIT, INT and TERM go before what waits.
   `prefork-ctl WORD` sends a word too, and waits for its block. HUP and USR2 read CONFIG again, its command too.
-- Each second the master is told a tick: it starts a worker again that has ended or no longer beats.
+- Each second the master is told a tick: it starts a worker again that has ended or no longer beats. More than 100
+  workers have one tick in each second for each 100 of them, 5 seconds at most, and one after a second at the latest when
+  a worker has let its sockets go.
 - `USR2 attended`, which prefork-ctl alone can send, asks its operator twice before it goes on: see prefork-ctl. While it
   asks, no tick is told and other words wait, those that stop the service too.
 - A master that ends without having been told to, or says that the new master of an upgrade is lost, is started again,
@@ -40,7 +42,7 @@ from .keeper import DEFER, socket_options
 from .keeping import Keeping
 from .limits import limits_of
 from .needs import addresses_of, needs_of, shortages
-from .options import arguments, processes_each, worker_command
+from .options import arguments, fault_of, processes_each, program_of, worker_command
 from .records import MEGABYTE
 from .service import Service
 from .systemd import inherited, notify
@@ -59,10 +61,17 @@ def commands_of(given: argparse.Namespace, folder: Folder) -> Commands | None:
 
 def is_fit(given: argparse.Namespace, commands: Commands) -> bool:
     """Whether the configuration can be served; why not is said."""
-    refusal = refusal_of(given.prefork, commands.now)
-    text = commands.now.read_bytes() if commands.now.exists() else b""
-    faults = [refusal] if refusal else shortages(needs_of(text, processes_each(given), bool(given.page) + bool(given.metrics)))
+    if not commands.now.exists():
+        # It could not be read, and that was said.
+        return False
+    refusal, text = refusal_of(given.prefork, commands.source()), commands.now.read_bytes()
+    is_adapted, sites = commands.has_adapter(), bool(given.page) + bool(given.metrics)
+    faults = [refusal] if refusal else shortages(needs_of(text, processes_each(given), sites, is_adapted))
     faults += [PID_OF_MASTER] if commands.names_master() else []
+    program = program_of(given, None if is_adapted else commands.current)
+    # A service that was killed starts again without it: the program may be back before long.
+    if program and not refusal and not commands.accepted.exists():
+        faults += [fault] if (fault := fault_of(program)) else []
     for fault in faults:
         say(f"{given.config}: {fault}")
     return bool(commands.current) and not faults
@@ -100,8 +109,10 @@ def main() -> int:
     stored = inherited()
     try:
         folder = Folder(given.folder)
+    except FileExistsError:
+        sys.exit(f"prefork-serve: {given.folder} is a file, and --folder takes a folder")
     except OSError as fault:
-        sys.exit(f"prefork-serve: {fault}")
+        sys.exit(f"prefork-serve: {fault.filename or given.folder}: {fault.strerror}")
     os.environ |= {
         "PREFORK_KEEPER": str(folder.keeper), "PREFORK_PROGRAM": str(given.prefork), "PREFORK_FOLDER": str(folder.path)
     }

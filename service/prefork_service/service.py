@@ -10,7 +10,7 @@ import time
 from typing import Any
 
 from .chronicle import Chronicle
-from .commands import PID_OF_MASTER, Commands
+from .commands import PID_OF_MASTER, Commands, mistake_of, refusal_of
 from .door import Door
 from .folder import Folder, say
 from .keeping import Keeping
@@ -21,9 +21,11 @@ from .reasons import NEW_MASTER
 from .status import Record, Status, masters_of, started_workers, workers_of
 from .systemd import notify
 from .telling import Telling
+from .ticks import Ticks, pause_of, timeout_of
 from .words import CHANGES, NOTE, SIGNALS, START, STATUS, STOPS, WORDS, Queue, Word
 
-TICK_SECONDS = 1.0
+# What comes of a tick comes in many small pieces, and nobody waits for it: what came in this time is read together.
+TOGETHER_SECONDS = 0.01
 # The longest pause of the loop, and that while no master runs.
 PAUSE, SHORT_PAUSE = 1.0, 0.1
 TOO_MANY, NOT_READ, HAS_PID = "refused too-many-wait", "refused not-read", "refused pid"
@@ -51,9 +53,7 @@ class Service:
         self.current: Word | None = None
         # The question that the current word asks, or 0.
         self.question = 0
-        self.begun, self.next_tick, self.is_stopped = 0.0, 0.0, False
-        # How many ticks masters were told.
-        self.ticks = 0
+        self.begun, self.ticks, self.is_stopped = 0.0, Ticks(), False
         self.has_heard, self.is_ready = False, False
         self.record, self.began, self.starts = Record(), time.monotonic(), 0
         self.telling = Telling(self.status, self.brief, self.line, chronicle)
@@ -80,10 +80,14 @@ class Service:
         while not self.is_stopped:
             self.begin_master()
             self.tell_next()
+            if self.is_ticking():
+                time.sleep(TOGETHER_SECONDS)
             for key, _ in self.events.select(self.pause()):
                 key.data(key.fileobj)
             self.door.tend()
             self.keeping.tend()
+            if self.keeping.has_lost():
+                self.ticks.hurry()
             self.chronicle.tend()
             self.telling.tend()
         while self.waiting:
@@ -123,18 +127,17 @@ class Service:
             notify("STOPPING=1")
 
     def until_tick(self) -> float | None:
-        return max(0.0, self.next_tick - time.monotonic()) if self.current is None else None
+        return self.ticks.seconds() if self.current is None else None
 
     def tell_next(self) -> None:
         """Tells the word that is due, once the master has done the one before."""
         if self.master is None or self.current is not None:
             return
-        now = time.monotonic()
         if self.waiting:
             self.begin_word(self.waiting.next())
-        elif now >= self.next_tick:
-            self.next_tick, self.ticks = now + TICK_SECONDS, self.ticks + 1
-            self.begin_word(Word(f"tick {int(now)}"))
+        elif self.ticks.is_due():
+            pause = pause_of(len(self.record.workers), timeout_of(self.commands.current_text))
+            self.begin_word(Word(self.ticks.tell(pause)))
         else:
             return
         if self.current and (self.current.text not in CHANGES or self.has_read()):
@@ -144,7 +147,7 @@ class Service:
         """Reads the configuration again for the current word, which is refused if the copy for the master can't be
         written."""
         try:
-            self.commands.change()
+            self.commands.change(self.record.generation)
             self.chronicle.records.proposed = self.commands.next_text()
         except OSError as fault:
             self.refuse(NOT_READ, f"the configuration is not read: {fault}")
@@ -242,13 +245,22 @@ class Service:
         """What is said to people of a block: why addresses were not opened, and what workers are started from."""
         refusals = list(dict.fromkeys(self.keeping.refusals))
         self.keeping.refusals.clear()
-        found = [*self.chronicle.end_word(word.text, block, refusals)]
+        found = [*self.chronicle.end_word(word.text, block, refusals, self.mistake(word, block))]
         if is_broken(word.text, block) and not refusals:
             say(OLD_SERVES)
             found.append(OLD_SERVES)
         if word.text not in (START, *STOPS) and not word.text.startswith("tick "):
             found.append(self.runs_now())
         return found
+
+    def mistake(self, word: Word, block: str) -> list[str]:
+        """What is wrong with the configuration, if the master has refused it for that."""
+        if word.text not in CHANGES or not block.splitlines()[-1].startswith(("refused C", "refused W4")):
+            return []
+        if not self.commands.next.exists():
+            return [f"{self.commands.config} could not be read"]
+        refusal = refusal_of(str(self.command[0]), self.commands.source())
+        return [mistake_of(refusal)] if refusal else []
 
     def runs_now(self) -> str:
         """Who serves what, in a line."""
@@ -265,7 +277,8 @@ class Service:
         if self.current:
             self.chronicle.cut_word(self.current.text, self.master.block)
         if not self.has_heard:
-            sys.exit("prefork-serve: the master does not start; its message is above")
+            sys.exit(f"prefork-serve: {self.command[0]} does not start as the master: it has ended with status {status} "
+                     "before its first block. Is it the program prefork, in this version?")
         self.master, self.question = None, 0
         self.telling.end_word()
         self.commands.settle("lost")
@@ -298,12 +311,15 @@ class Service:
             current = self.current.text if self.current else None
             word.answer(state(self.question, current, len(self.waiting)))
         else:
-            word.answer("unread W1\n")
+            word.answer(f"{NOTE}{text or 'nothing'} is no word. Words are {', '.join(WORDS)} and {STATUS}\nunread W1\n")
+
+    def is_ticking(self) -> bool:
+        """Whether a tick is being carried out, and not the start of a master."""
+        return self.current is not None and self.current.text.startswith("tick ") and self.current.text != START
 
     def doing(self) -> str | None:
         """The word that is being carried out, if it is no tick."""
-        is_word = self.current and (self.current.text == START or not self.current.text.startswith("tick "))
-        return self.current.text if self.current and is_word else None
+        return self.current.text if self.current and not self.is_ticking() else None
 
     def line(self) -> str:
         """What runs and what was done last, in a line."""
@@ -332,7 +348,7 @@ class Service:
             },
             "last": last.as_json() if last else None,
             "counts": self.chronicle.counted(),
-            "ticks": self.ticks,
+            "ticks": self.ticks.count,
             "doing": self.doing(),
             "question": self.question,
             "waiting": len(self.waiting),

@@ -22,7 +22,7 @@ import traceback
 from collections.abc import Callable
 from typing import Any
 
-from .convention import Pipes, Unfit, clear_environment, socket_of, warn
+from .convention import Hold, Pipes, Unfit, clear_environment, warn
 from .titles import set_title
 
 
@@ -34,7 +34,7 @@ class Worker:
         # The server, once the application is loaded.
         self.server: Any = None
         self.sockets: dict[str, socket.socket] = {}
-        self.holds: dict[str, socket.socket] = {}
+        self.hold = Hold()
         self.going, self.ready_by, self.was_told_to_quit = threading.Event(), 0.0, False
 
     def converse(self) -> None:
@@ -54,7 +54,7 @@ class Worker:
             self.start = rest[2]
             set_title(f"worker {rest[0]}.{rest[1]}")
         elif word == "listener" and not self.going.is_set():
-            self.sockets[rest[0]], self.holds[rest[0]] = socket_of(rest[0])
+            self.sockets[rest[0]] = self.hold.take(rest[0])
         elif word == "go" and self.sockets:
             self.ready_by = time.monotonic() + self.given.ready_within
             self.going.set()
@@ -73,9 +73,7 @@ class Worker:
             raise Unfit(f"a line that no master says: {word[:100]}")
 
     def close(self, address: str) -> None:
-        hold = self.holds.pop(address, None)
-        if hold:
-            hold.close()
+        self.hold.give_up(address)
         if self.server:
             self.server.close(address)
 

@@ -96,9 +96,21 @@ class WorkerTest(unittest.TestCase):
         self.room, self.mark = pathlib.Path(room.name), uuid.uuid4().hex
         self.talks: list[Conversation] = []
         self.path = self.room / "keeper.sock"
-        self.keeper: Any = subprocess.Popen([BIN / "prefork-keeper", self.path], stdin=subprocess.PIPE)
+        self.keep()
         self.addCleanup(self.end)
+
+    def keep(self) -> None:
+        """Starts a keeper."""
+        self.keeper: Any = subprocess.Popen([BIN / "prefork-keeper", self.path], stdin=subprocess.PIPE)
         self.assertTrue(until(self.path.exists))
+
+    def replace_keeper(self) -> None:
+        """Kills the keeper, and starts another one."""
+        self.keeper.kill()
+        self.keeper.wait()
+        self.keeper.stdin.close()
+        self.path.unlink()
+        self.keep()
 
     def end(self) -> None:
         for talk in self.talks:

@@ -5,7 +5,7 @@ import socket
 import threading
 import unittest
 
-from kit import OUT, PROGRAMS, PYTHON, WorkerTest, answer_of, free_address, marked, until
+from kit import OUT, PROGRAMS, PYTHON, SERVICE, WorkerTest, answer_of, free_address, marked, until
 from prefork_service.conversation import END, NOTHING
 
 ACTIVATE, PAGE = OUT / "prefork-activate", OUT / "page"
@@ -48,6 +48,19 @@ class ReadyTest(WorkerTest):
         self.assertEqual(talk.hear(), "ready")
         talk.say("quit")
         self.assertEqual(talk.hear(), "gone")
+
+    def test_a_keeper_that_ends_between_two_addresses(self) -> None:
+        for command in ((ACTIVATE, "--", PAGE), (SERVICE / "double" / "app", "child")):
+            places = [self.room / f"{command[0].name}{number}.sock" for number in range(2)]
+            talk = self.started(*command, addresses=(str(places[0]),), go=False)
+            self.assertTrue(until(places[0].exists))
+            talk.say("usr1", "ping")
+            self.assertEqual(talk.hear(), "pong")
+            self.replace_keeper()
+            talk.say(f"listener {places[1]}", "go")
+            self.assertEqual(talk.hear(), "ready", command)
+            talk.say("quit")
+            self.assertEqual(talk.hear(), "gone")
 
     def test_names_are_filled_in(self) -> None:
         one, two = free_address(), free_address()

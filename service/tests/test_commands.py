@@ -9,7 +9,7 @@ import unittest
 from typing import Any
 
 from kit import BIN, OUT, built, until
-from prefork_service.commands import Commands, parted, refusal_of
+from prefork_service.commands import Commands, mistake_of, parted, refusal_of
 
 
 def words_of(file: pathlib.Path) -> list[str]:
@@ -65,7 +65,7 @@ class CommandsTest(unittest.TestCase):
     def test_a_reload_that_is_done(self) -> None:
         self.assertEqual(self.start("1.1"), ["one"])
         self.configure('command = ["two"]\nworkers = 2\n')
-        self.commands.change()
+        self.commands.change("1.1")
         self.assertEqual((self.start("1.2"), self.start("1.1")), (["two"], ["one"]))
         self.assertEqual(self.commands.next.read_text(), '"workers" = 2\n')
         self.commands.settle("done cause none pid no-file")
@@ -77,27 +77,40 @@ class CommandsTest(unittest.TestCase):
         self.start("1.1")
         for command in ("two", "three"):
             self.configure(f'command = ["{command}"]\n')
-            self.commands.change()
+            self.commands.change("1.1")
             self.assertEqual(self.start("1.2"), [command])
             self.commands.settle("rolled-back cause 2 pid no-file")
             self.assertEqual((self.start("1.1"), words_of(self.place / "next")), (["one"], ["one"]))
         self.assertEqual(self.commands.now.read_text(), '"workers" = 1\n')
 
+    def test_a_worker_that_takes_its_command_after_it_was_told_to_quit(self) -> None:
+        self.start("1.1")
+        for command in ("two", "three"):
+            self.configure(f'command = ["{command}"]\n')
+            self.commands.change("1.1")
+            self.commands.settle("rolled-back cause 2 pid no-file")
+            self.assertEqual(self.start("1.2"), ["one"])
+        self.configure('command = ["four"]\n')
+        self.commands.change("1.1")
+        self.assertEqual((self.start("1.2"), self.start("1.1")), (["four"], ["one"]))
+        self.commands.settle("done cause none pid no-file")
+        self.assertEqual((self.start("1.2"), self.start("1.3")), (["four"], ["four"]))
+
     def test_which_side_of_a_degraded_reload_runs(self) -> None:
         for side, wanted in (("old", "one"), ("target", "two")):
             self.configure('command = ["two"]\n')
-            self.commands.change()
+            self.commands.change("1.1")
             self.commands.settle(f"degraded {side} 1 cause 2 pid no-file")
             self.assertEqual(words_of(self.place / "next"), [wanted])
 
     def test_a_master_that_starts_again_has_the_command_that_ran(self) -> None:
         self.configure('command = ["two"]\n')
-        self.commands.change()
+        self.commands.change("1.1")
         self.start("1.2")
         self.commands.settle("lost")
         self.commands.begin()
         self.assertEqual(self.start("1.1"), ["one"])
-        self.commands.change()
+        self.commands.change("1.1")
         self.commands.settle("done cause none pid no-file")
         self.commands.begin()
         self.assertEqual(self.start("1.1"), ["two"])
@@ -112,26 +125,26 @@ class CommandsTest(unittest.TestCase):
         commands.begin()
         self.assertEqual(words_of(self.place / "next"), ["guard", "10", "one"])
         self.configure("workers = 1\n")
-        commands.change()
+        commands.change("1.1")
         self.assertEqual(words_of(self.place / "next"), ["guard", "10", "program"])
 
     def test_without_any_command_no_worker_starts(self) -> None:
         self.configure("workers = 1\n")
-        self.commands.change()
+        self.commands.change("1.1")
         self.assertEqual(words_of(self.place / "next"), ["false"])
 
     def test_what_was_accepted_is_kept(self) -> None:
         self.commands.accept()
         first = self.config.read_text()
         self.configure("listeners = [")
-        self.commands.change()
+        self.commands.change("1.1")
         self.assertTrue(self.commands.has_changed())
         self.commands.settle("refused C1")
         # A master that is started again.
         self.commands.accept()
         self.assertEqual(self.commands.accepted.read_text(), first)
         self.configure('command = ["two"]\nworkers = 2\n')
-        self.commands.change()
+        self.commands.change("1.1")
         self.commands.settle("done cause none pid no-file")
         self.assertEqual(self.commands.accepted.read_text(), 'command = ["two"]\nworkers = 2\n')
         self.assertFalse(self.commands.has_changed())
@@ -157,10 +170,10 @@ class CommandsTest(unittest.TestCase):
     def test_a_pid_of_the_master_is_seen(self) -> None:
         self.assertFalse(self.commands.names_master())
         self.configure('command = ["one"]\npid = "/tmp/x"\n')
-        self.commands.change()
+        self.commands.change("1.1")
         self.assertTrue(self.commands.names_master())
         self.configure("pid = [")
-        self.commands.change()
+        self.commands.change("1.1")
         self.assertFalse(self.commands.names_master())
 
     def test_why_the_master_refuses_a_configuration(self) -> None:
@@ -171,9 +184,26 @@ class CommandsTest(unittest.TestCase):
         self.assertIsNone(refusal_of("true", self.config))
         self.assertEqual(refusal_of("/no/master", self.config), "/no/master: No such file or directory")
 
+    def test_what_a_refusal_says_of_the_file(self) -> None:
+        file = "  --from site.toml, line 4: workrs = 1\n"
+        codes = "  config: a file is refused\n    Correct it.\n  C5: an address is refused\n    Its number.\n  A3: no port\n    1 to 65535.\n"
+        for refusal, wanted in (
+            (f"prefork: config C2\n{file}  unknown key: workrs\n{codes}", "site.toml, line 4: workrs = 1: unknown key: workrs"),
+            (f"prefork: config C5 0 A3\n{file}{codes}", "site.toml, line 4: workrs = 1: no port"),
+            ("prefork: config C1", ""), ("", ""),
+        ):
+            self.assertEqual(mistake_of(refusal), wanted)
+
+    def test_the_file_that_has_the_text(self) -> None:
+        self.assertEqual(self.commands.source(), self.config)
+        self.configure("workers = 9\n")
+        self.assertEqual(self.commands.source(), self.commands.now)
+        self.config.unlink()
+        self.assertEqual(self.commands.source(), self.commands.now)
+
     def test_a_configuration_that_is_missing_is_missing_for_the_master(self) -> None:
         self.config.unlink()
-        self.commands.change()
+        self.commands.change("1.1")
         self.assertFalse(self.commands.next.exists())
         self.commands.settle("refused W4")
         self.assertEqual(words_of(self.place / "next"), ["one"])

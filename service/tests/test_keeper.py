@@ -31,11 +31,12 @@ class KeeperTest(unittest.TestCase):
         self.assertEqual(self.process.wait(20), 0)
         self.path.unlink()
 
-    def asked(self, address: str):
+    def asked(self, address: str, hold: socket.socket | None = None):
         """The answer for an address, its socket, and the connection that holds it."""
-        hold = socket.socket(socket.AF_UNIX, socket.SOCK_SEQPACKET)
-        self.addCleanup(hold.close)
-        hold.connect(str(self.path))
+        if not hold:
+            hold = socket.socket(socket.AF_UNIX, socket.SOCK_SEQPACKET)
+            self.addCleanup(hold.close)
+            hold.connect(str(self.path))
         hold.send(address.encode())
         said, given, _, _ = socket.recv_fds(hold, 200, 1)
         listener = socket.socket(fileno=given[0]) if given else None
@@ -115,6 +116,21 @@ class KeeperTest(unittest.TestCase):
         hold.close()
         time.sleep(0.6)
         self.assertTrue(kept.exists())
+
+    def test_a_connection_holds_several_addresses_and_gives_each_up(self) -> None:
+        places = [self.room / name for name in ("first", "second", "third")]
+        _, _, hold = self.asked(str(places[0]))
+        for place in (places[1], places[2], places[1]):
+            self.assertEqual(self.asked(str(place), hold)[0], "ok")
+        hold.send(f"-{self.room / 'unknown'}".encode())
+        hold.send(f"-{places[1]}".encode())
+        self.assertTrue(until(lambda: not places[1].exists()))
+        time.sleep(0.6)
+        self.assertTrue(places[0].exists() and places[2].exists())
+        _, _, other = self.asked(str(places[0]))
+        hold.close()
+        self.assertTrue(until(lambda: not places[2].exists()))
+        self.assertEqual(self.asked("nothing", other)[0][:3], "no ")
 
 
 if __name__ == "__main__":

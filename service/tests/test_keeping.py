@@ -69,6 +69,20 @@ class KeepingTest(unittest.TestCase):
     def is_another(self, process: int) -> bool:
         return self.keeping.process is not None and self.keeping.process.pid != process
 
+    def test_a_worker_that_lets_its_sockets_go_is_noticed(self) -> None:
+        holds = [socket.socket(socket.AF_UNIX, socket.SOCK_SEQPACKET) for _ in range(2)]
+        for number, hold in enumerate(holds):
+            self.addCleanup(hold.close)
+            hold.settimeout(20)
+            hold.connect(str(self.folder.keeper))
+            hold.send(str(self.room / f"site{number}").encode())
+            self.assertEqual(hold.recv(200), b"ok")
+        self.assertTrue(self.turn(lambda: len(self.keeping.held) == 2))
+        self.assertFalse(self.keeping.has_lost())
+        holds[0].close()
+        self.assertTrue(self.turn(lambda: self.keeping.lost))
+        self.assertEqual([self.keeping.has_lost() for _ in range(2)], [True, False])
+
     def test_a_killed_keeper_is_started_again_with_the_same_sockets(self) -> None:
         places = [free_address(), str(self.room / "site.sock")]
         before = [self.asked(place) for place in places]

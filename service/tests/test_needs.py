@@ -24,6 +24,7 @@ class NeedsTest(unittest.TestCase):
     def test_twice_as_many_workers_run_in_a_reload(self) -> None:
         found = needs_of(SITE, 3)
         self.assertEqual(found.keeper, needs.KEEPER_REST + 2 * 200 * 4 + 4)
+        self.assertEqual(needs_of(SITE, 3, is_adapted=True).keeper, needs.KEEPER_REST + 2 * 200 + 4)
         self.assertEqual(found.master, needs.MASTER_REST + 2 * 200 * 2)
         self.assertEqual(found.serve, needs.SERVE_REST + 4)
         self.assertEqual(needs_of(SITE, 3, 2).serve, needs.SERVE_REST + 4 + 2 * needs.SITE)

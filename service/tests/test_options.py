@@ -1,10 +1,11 @@
 """The command line of prefork-serve."""
 import contextlib
 import io
+import tempfile
 import unittest
 
 from kit import OUT, SERVICE, built
-from prefork_service.options import arguments, worker_command
+from prefork_service.options import arguments, fault_of, program_of, worker_command
 from test_wsgi import PYTHON as PYTHON_WITH_WAITRESS
 
 ACTIVATE = str(OUT / "prefork-activate")
@@ -48,6 +49,22 @@ class OptionsTest(unittest.TestCase):
     def test_a_wsgi_application(self) -> None:
         given = self.command("--python", PYTHON_WITH_WAITRESS, "--threads", "8", "--wsgi", "m:a", "a.toml")
         self.assertEqual(given, [PYTHON_WITH_WAITRESS, str(SERVICE / "bin" / "prefork-wsgi"), "--threads", "8", "m:a"])
+
+    def test_the_program_that_is_looked_for(self) -> None:
+        for words, command, wanted in (
+            (["a.toml", "--", "p", "x"], None, "p"), (["a.toml", "--", "p"], ["own", "child"], "own"), (["a.toml"], None, None),
+            (["--env", "PATH=/x", "a.toml", "--", "p"], None, None), (["--env", "A=PATH=", "a.toml", "--", "p"], None, "p"),
+        ):
+            self.assertEqual(program_of(arguments(words), command), wanted, words)
+
+    def test_a_program_that_cannot_be_executed(self) -> None:
+        with tempfile.NamedTemporaryFile() as file:
+            for program, wanted in (
+                ("sh", None), ("/bin/sh", None), ("no-such-program", "no-such-program: it is in no folder of PATH"),
+                ("/no/such", "/no/such: No such file or directory"), (file.name, f"{file.name}: Permission denied"),
+                ("/tmp", "/tmp: Permission denied"),
+            ):
+                self.assertEqual(fault_of(program), wanted)
 
     def test_what_is_refused(self) -> None:
         program = ["a.toml", "--", "p"]

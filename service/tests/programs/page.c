@@ -1,5 +1,5 @@
-/* page NUMBER..: a small server for tests. It takes the numbers of its listening sockets as arguments, and answers each
- * request with a line: `version V process P`, V from the environment (VERSION). /slow takes a second, /stuck for ever.
+/* page [NUMBER..]: a small server for tests. It takes the numbers of its listening sockets as arguments, or without any
+ * by LISTEN_FDS, and answers each request with a line: `version V process P`, V from the environment (VERSION). /slow takes a second, /stuck for ever.
  * SIGTERM finishes: it accepts no more, answers what has begun, and closes kept connections after their next answer, or
  * once they have been idle for two seconds. */
 #define _GNU_SOURCE
@@ -117,10 +117,11 @@ static void turn(void) {
 }
 
 int main(int words, char **word) {
+    const char *given = words == 1 ? getenv("LISTEN_FDS") : 0;
     signal(SIGTERM, on_stop);
-    for (int at = 1; at < words && at < 64; at++)
-        watched[at - 1] = (struct pollfd){atoi(word[at]), POLLIN, 0};
-    listeners = count = words - 1;
+    listeners = count = given ? atoi(given) : words - 1;
+    for (int at = 0; at < listeners && at < 64; at++)
+        watched[at] = (struct pollfd){given ? 3 + at : atoi(word[at + 1]), POLLIN, 0};
     while (!is_finishing || count > listeners)
         turn();
     return 0;
