@@ -7,12 +7,12 @@ use Rattle.vocabulary.specs.Settings.{Settings}
 use Rattle.kernel_model.specs.State.{State}
 use Rattle.word_runner.specs.declared.block.Block.{Block}
 use Rattle.word_runner.specs.declared.standing.Standing.{Standing}
-use Rattle.plan_executor.specs.Words.{Moments}
+use Rattle.kernel_pattern.specs.declared.section.Section.{Section}
 use Rattle.certifier.specs.declared.mismatch.Mismatch.{Mismatch}
 use Rattle.certifier.specs.declared.mismatch.Mismatch.TheVariants as mismatch
 use Rattle.certifier.specs.Blocks.{IsTaken, IsFault, AreTaken, StopsAtBlock, LeadsUpTo}
 
-pub taken-more : (settings : Option Settings) (bs : List Block) (old : Standing State) (ps : List Moments) (middle : Standing State) (b : Block) (p : Moments) (new : Standing State) →
+pub taken-more : (settings : Option Settings) (bs : List Block) (old : Standing State) (ps : List Section) (middle : Standing State) (b : Block) (p : Section) (new : Standing State) →
     AreTaken settings bs old ps middle → IsTaken settings b middle p new → AreTaken settings (bs ++ b ∷ []) old (ps ++ p ∷ []) new
 taken-more settings [] old [] middle b p new are is = (new, subst (λ (s : Standing State). IsTaken settings b s p new) are is, refl)
 taken-more settings [] old (q ∷ ps) middle b p new are is = absurd are
@@ -28,7 +28,7 @@ fault-by settings b s why exact = elim (exact why) [
 ]
 
 -- the block at a place is the first that is wrong
-pub stops-there : (settings : Option Settings) (blocks : List Block) (old : Standing State) (place : ℕ) (b : Block) (ps : List Moments) (there : Standing State) (why : Mismatch) → place < length blocks → take (place + 1) blocks ≡ take place blocks ++ b ∷ [] →
+pub stops-there : (settings : Option Settings) (blocks : List Block) (old : Standing State) (place : ℕ) (b : Block) (ps : List Section) (there : Standing State) (why : Mismatch) → place < length blocks → take (place + 1) blocks ≡ take place blocks ++ b ∷ [] →
     AreTaken settings (take place blocks) old ps there → (why ≡ mismatch.Memory) ⊎ IsFault settings b there why → StopsAtBlock settings blocks old (place + 1) why
 stops-there settings blocks old place b ps there why lt longer are wrong = record {
   front = take place blocks;
@@ -36,13 +36,13 @@ stops-there settings blocks old place b ps there why lt longer are wrong = recor
   behind = drop (place + 1) blocks;
   parts = sym (take-append-drop (place + 1) blocks) ∙ ap (λ bs. bs ++ drop (place + 1) blocks) longer ∙ append_assoc (take place blocks) (b ∷ []) (drop (place + 1) blocks);
   number = ap (λ n. n + 1) (sym (length-take-le place blocks (omega (arith, lt))));
-  patterns = ps;
+  sections = ps;
   there = there;
   taken = are;
   fault = wrong;
 }
 
-pub leads-there : (settings : Option Settings) (blocks : List Block) (old : Standing State) (place : ℕ) (ps : List Moments) (there new : Standing State) →
+pub leads-there : (settings : Option Settings) (blocks : List Block) (old : Standing State) (place : ℕ) (ps : List Section) (there new : Standing State) →
     AreTaken settings (take place blocks) old ps there → new ≡ there → LeadsUpTo settings blocks old (place + 1) new
 leads-there settings blocks old place ps there new are same =
     let n : place + 1 - 1 ≡ place = omega (arith) in

@@ -18,7 +18,8 @@ use Rattle.word_runner.specs.declared.block.Body.TheVariants.{Nothing, Refused, 
 use Rattle.word_runner.specs.Asking.{asked_by, IsActOn, IsNoted}
 use Rattle.word_runner.specs.declared.standing.Standing.{Standing}
 use Rattle.word_runner.specs.Words.{HasRun}
-use Rattle.plan_executor.specs.Words.{Moments, EnactsAt}
+use Rattle.kernel_pattern.specs.declared.section.Section.{Section}
+use Rattle.plan_executor.specs.Words.{quiet_section, EnactsAt}
 use Rattle.certifier.specs.declared.mismatch.Mismatch.{Mismatch}
 use Rattle.certifier.specs.declared.mismatch.Mismatch.TheVariants as mismatch
 use Rattle.certifier.specs.Certified.{IsCertified}
@@ -39,28 +40,28 @@ IsIdle (asks.Beat beat) old new =
 IsIdle (asks.Act target) old new = ⊥
 IsIdle (asks.Refused code) old new = new ≡ old
 
--- A word asks the master for a target. These calls and this report of it are certified by a pattern, and to carry the target out
--- under that, which makes just these calls and this report, leads from the one standing to the other.
-pub record IsFollowed (settings : Option Settings) (word : Word) (entries : List Entry) (report : Report) (old : Standing State) (pattern : Moments) (new : Standing State) : Type 0 where
+-- A word asks the master for a target. These calls and this report of it are certified by a section's pattern, and to carry the
+-- target out in that section, which makes just these calls and this report, leads from the one standing to the other.
+pub record IsFollowed (settings : Option Settings) (word : Word) (entries : List Entry) (report : Report) (old : Standing State) (section : Section) (new : Standing State) : Type 0 where
   pub master : Record
   pub runs : old.record ≡ Some master
   pub target : Target
   pub asks : asked_by word master old.workers settings ≡ asks.Act target
-  pub certified : IsCertified old.world.table master target entries report pattern
+  pub certified : IsCertified old.world.table master target entries report section.pattern
   pub room : ℕ
-  pub carried_out : HasRun (EnactsAt (pattern ∷ [])) 0 old master target (record { entries = entries; room = room }) report new
+  pub carried_out : HasRun (EnactsAt (section ∷ [])) 0 old master target (record { entries = entries; room = room }) report new
 
--- A pattern explains what a word came to, which leads from one standing to the other. A refused word changes nothing, and is taken
+-- A section explains what a word came to, which leads from one standing to the other. A refused word changes nothing, and is taken
 -- as it is.
-abbrev pub IsBodyTaken : Option Settings → Word → Body → Standing State → Moments → Standing State → Type 0
-IsBodyTaken settings word Nothing old pattern new = (pattern ≡ []) × IsIdle (asked_at settings word old.record old.workers) old new
-IsBodyTaken settings word (Refused code) old pattern new = (pattern ≡ []) × (new ≡ old)
-IsBodyTaken settings word (Ran log report) old pattern new = IsFollowed settings word log.entries report old pattern new
+abbrev pub IsBodyTaken : Option Settings → Word → Body → Standing State → Section → Standing State → Type 0
+IsBodyTaken settings word Nothing old section new = (section ≡ quiet_section) × IsIdle (asked_at settings word old.record old.workers) old new
+IsBodyTaken settings word (Refused code) old section new = (section ≡ quiet_section) × (new ≡ old)
+IsBodyTaken settings word (Ran log report) old section new = IsFollowed settings word log.entries report old section new
 
 -- It explains a block. An unread line changes nothing, and is taken as it is.
-abbrev pub IsTaken : Option Settings → Block → Standing State → Moments → Standing State → Type 0
-IsTaken settings (Heard word body) old pattern new = IsBodyTaken settings word body old pattern new
-IsTaken settings (Unread refusal) old pattern new = (pattern ≡ []) × (new ≡ old)
+abbrev pub IsTaken : Option Settings → Block → Standing State → Section → Standing State → Type 0
+IsTaken settings (Heard word body) old section new = IsBodyTaken settings word body old section new
+IsTaken settings (Unread refusal) old section new = (section ≡ quiet_section) × (new ≡ old)
 
 -- Calls and a report do not match: those of a target as `certify` says, and the first where no target is asked for.
 abbrev pub IsRunFault : Asked → Standing State → Record → List Entry → Report → Mismatch → Type 0
@@ -86,12 +87,12 @@ IsFault settings (Unread refusal) s why = ⊥
 
 ---- Block after block
 
--- Patterns explain blocks, one each, which lead from one standing to the other.
-abbrev pub AreTaken : Option Settings → List Block → Standing State → List Moments → Standing State → Type 0
+-- Sections explain blocks, one each, which lead from one standing to the other.
+abbrev pub AreTaken : Option Settings → List Block → Standing State → List Section → Standing State → Type 0
 AreTaken settings [] old [] new = new ≡ old
-AreTaken settings [] old (p ∷ ps) new = ⊥
+AreTaken settings [] old (s ∷ ss) new = ⊥
 AreTaken settings (b ∷ bs) old [] new = ⊥
-AreTaken settings (b ∷ bs) old (p ∷ ps) new = (middle : Standing State) × IsTaken settings b old p middle × AreTaken settings bs middle ps new
+AreTaken settings (b ∷ bs) old (s ∷ ss) new = (middle : Standing State) × IsTaken settings b old s middle × AreTaken settings bs middle ss new
 
 -- The blocks before the n-th, counted from 1, are explained, and where they lead to it is wrong for this reason, or memory is wanted.
 pub record StopsAtBlock (settings : Option Settings) (blocks : List Block) (old : Standing State) (n : ℕ) (why : Mismatch) : Type 0 where
@@ -100,11 +101,11 @@ pub record StopsAtBlock (settings : Option Settings) (blocks : List Block) (old 
   pub behind : List Block
   pub parts : blocks ≡ front ++ block ∷ behind
   pub number : n ≡ length front + 1
-  pub patterns : List Moments
+  pub sections : List Section
   pub there : Standing State
-  pub taken : AreTaken settings front old patterns there
+  pub taken : AreTaken settings front old sections there
   pub fault : (why ≡ mismatch.Memory) ⊎ IsFault settings block there why
 
 -- The blocks before the n-th, counted from 1, lead from the one standing to the other.
 abbrev pub LeadsUpTo : Option Settings → List Block → Standing State → ℕ → Standing State → Type 0
-LeadsUpTo settings blocks old n new = (patterns : List Moments) × AreTaken settings (take (n - 1) blocks) old patterns new
+LeadsUpTo settings blocks old n new = (sections : List Section) × AreTaken settings (take (n - 1) blocks) old sections new

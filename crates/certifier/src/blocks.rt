@@ -3,12 +3,13 @@ ghost use Rattle.std.specs.Prelude.{⊤, ◌≡◌, ◌<◌, ◌⊎◌, ◌↔�
 ghost use Rattle.std.specs.Option.{option_copied};
 ghost use Rattle.word_runner.specs.Asking.{IsPossible, IsActOn};
 ghost use Rattle.certifier.specs.Blocks.{asked_at, IsIdle, IsFollowed, IsBodyTaken, IsTaken, IsRunFaultOf, IsBodyFault, IsFault, AreTaken, StopsAtBlock, LeadsUpTo};
+ghost use Rattle.plan_executor.specs.Words.{quiet_section};
 ghost use Rattle.certifier.specs.declared.mismatch.Mismatch.{Mismatch as Why};
 
 use crate::certification::certificate;
 use crate::mismatch::Mismatch;
 use control_words::Word;
-use kernel_model::{Kernel, Pattern};
+use kernel_model::{Kernel, Section};
 use plan_executor::record_left;
 use plan_walk::Transcript;
 use service_state::Record;
@@ -24,7 +25,7 @@ pub struct BlockMismatch {
     pub why: Mismatch,
 }
 
-/// Compares blocks one after another, each from where the ones before it left things, and gives the patterns that
+/// Compares blocks one after another, each from where the ones before it left things, and gives the sections that
 /// explain them, one for each. Then things stand where the last block leaves them. The first that is none of the
 /// master's is the mismatch, and things stand where the blocks before it leave them.
 pub fn certify_blocks(
@@ -32,30 +33,30 @@ pub fn certify_blocks(
     standing: &mut Standing<Kernel>,
     settings: Option<&Settings>,
     blocks: &[Block],
-) -> Result<Vec<Pattern>, BlockMismatch>
-    ensures ok { IfOk result (λ patterns. AreTaken (option_copied settings.entry) blocks.now standing.old patterns.items standing.new) }
+) -> Result<Vec<Section>, BlockMismatch>
+    ensures ok { IfOk result (λ sections. AreTaken (option_copied settings.entry) blocks.now standing.old sections.items standing.new) }
     ensures err { IfErr result (λ e. StopsAtBlock (option_copied settings.entry) blocks.now standing.old e.number e.why) }
     ensures stands { IfErr result (λ e. LeadsUpTo (option_copied settings.entry) blocks.now standing.old e.number standing.new) }
 {
-    let mut patterns = Vec::new(alloc);
+    let mut sections = Vec::new(alloc);
     for (place, block) in blocks.iter().enumerate() {
         let number = place + 1;
-        make_room(&mut patterns, number)?;
+        make_room(&mut sections, number)?;
         match certify_block(alloc, standing, settings, block) {
-            Ok(pattern) => patterns.push_reserved(pattern),
+            Ok(section) => sections.push_reserved(section),
             Err(why) => return Err(BlockMismatch { number, why }),
         }
     }
-    Ok(patterns)
+    Ok(sections)
 }
 
-/// Makes room for the pattern of the block with this number.
-fn make_room(patterns: &mut Vec<Pattern>, number: usize) -> Result<(), BlockMismatch>
-    ensures items { patterns.new.items ≡ patterns.old.items }
-    ensures room { OnOk result (vec_len patterns.new < vec_capacity patterns.new) }
+/// Makes room for the section of the block with this number.
+fn make_room(sections: &mut Vec<Section>, number: usize) -> Result<(), BlockMismatch>
+    ensures items { sections.new.items ≡ sections.old.items }
+    ensures room { OnOk result (vec_len sections.new < vec_capacity sections.new) }
     ensures err { IfErr result (λ e. e ≡ record { number = number; why = Mismatch.Memory }) }
 {
-    match patterns.reserve(1) {
+    match sections.reserve(1) {
         Ok(()) => Ok(()),
         Err(_) => Err(BlockMismatch {
             number,
@@ -64,7 +65,7 @@ fn make_room(patterns: &mut Vec<Pattern>, number: usize) -> Result<(), BlockMism
     }
 }
 
-/// The pattern that explains a block, from where things stand; then they stand where the block leaves them. A block of
+/// The section that explains a block, from where things stand; then they stand where the block leaves them. A block of
 /// an unread line or of a refused word changes nothing, and is taken as it is. Mismatches: those of `certify`; Y3 for
 /// `nothing` where the word asks for a target; Y1 1 for calls where it asks for none. They change nothing.
 pub fn certify_block(
@@ -72,27 +73,27 @@ pub fn certify_block(
     standing: &mut Standing<Kernel>,
     settings: Option<&Settings>,
     block: &Block,
-) -> Result<Pattern, Mismatch>
-    ensures ok { IfOk result (λ pattern. IsTaken (option_copied settings.entry) block.now standing.old pattern standing.new) }
+) -> Result<Section, Mismatch>
+    ensures ok { IfOk result (λ section. IsTaken (option_copied settings.entry) block.now standing.old section standing.new) }
     ensures exact { (why : Why)
         → IsErrOf result Mismatch.Memory ⊎ (IsErrOf result why ↔ IsFault (option_copied settings.entry) block.now standing.old why) }
     ensures err { OnErr result (standing.new ≡ standing.old) }
 {
     match block {
-        Block::Unread(_) => Ok(Pattern::new(alloc)),
+        Block::Unread(_) => Ok(Section::new(alloc)),
         Block::Heard(word, body) => certify_body(alloc, standing, settings, *word, body),
     }
 }
 
-/// The pattern that explains what a word came to.
+/// The section that explains what a word came to.
 fn certify_body(
     alloc: Global,
     standing: &mut Standing<Kernel>,
     settings: Option<&Settings>,
     word: Word,
     body: &Body,
-) -> Result<Pattern, Mismatch>
-    ensures ok { IfOk result (λ pattern. IsBodyTaken (option_copied settings.entry) word body.now standing.old pattern standing.new) }
+) -> Result<Section, Mismatch>
+    ensures ok { IfOk result (λ section. IsBodyTaken (option_copied settings.entry) word body.now standing.old section standing.new) }
     ensures exact { (why : Why)
         → IsErrOf result Mismatch.Memory ⊎ (IsErrOf result why ↔ IsBodyFault (option_copied settings.entry) word body.now standing.old why) }
     ensures err { OnErr result (standing.new ≡ standing.old) }
@@ -102,7 +103,7 @@ fn certify_body(
             let asked = asked_at(word, standing.record.as_ref(), &standing.workers, settings);
             certify_nothing(alloc, standing, asked)
         }
-        Body::Refused(_) => Ok(Pattern::new(alloc)),
+        Body::Refused(_) => Ok(Section::new(alloc)),
         Body::Ran(log, report) => certify_run(alloc, standing, settings, word, log, report),
     }
 }
@@ -128,8 +129,8 @@ fn certify_nothing(
     alloc: Global,
     standing: &mut Standing<Kernel>,
     asked: Asked,
-) -> Result<Pattern, Mismatch>
-    ensures ok { IfOk result (λ pattern. (pattern ≡ []) × IsIdle asked standing.old standing.new) }
+) -> Result<Section, Mismatch>
+    ensures ok { IfOk result (λ section. (section ≡ quiet_section) × IsIdle asked standing.old standing.new) }
     ensures err { (why : Why) → IsErrOf result why ↔ ((why ≡ Mismatch.Short) × IsActOn (λ _. ⊤) asked) }
     ensures same { OnErr result (standing.new ≡ standing.old) }
 {
@@ -137,10 +138,10 @@ fn certify_nothing(
         Asked::Act(_) => Err(Mismatch::Short),
         Asked::Beat(heard) => {
             let _ = note(&mut standing.workers, heard);
-            Ok(Pattern::new(alloc))
+            Ok(Section::new(alloc))
         }
-        Asked::Nothing => Ok(Pattern::new(alloc)),
-        Asked::Refused(_) => Ok(Pattern::new(alloc)),
+        Asked::Nothing => Ok(Section::new(alloc)),
+        Asked::Refused(_) => Ok(Section::new(alloc)),
     }
 }
 
@@ -152,8 +153,8 @@ fn certify_run(
     word: Word,
     log: &Transcript,
     report: &Report,
-) -> Result<Pattern, Mismatch>
-    ensures ok { IfOk result (λ pattern. IsFollowed (option_copied settings.entry) word log.now.entries report.now standing.old pattern standing.new) }
+) -> Result<Section, Mismatch>
+    ensures ok { IfOk result (λ section. IsFollowed (option_copied settings.entry) word log.now.entries report.now standing.old section standing.new) }
     ensures exact { (why : Why)
         → IsErrOf result Mismatch.Memory ⊎ (IsErrOf result why ↔ IsRunFaultOf standing.old.record (option_copied settings.entry) word standing.old log.now.entries report.now why) }
     ensures err { OnErr result (standing.new ≡ standing.old) }
@@ -168,5 +169,5 @@ fn certify_run(
     let after = record_left(&running, &target, report, &certificate.kernel);
     standing.world = certificate.kernel;
     standing.follow(log, report, after);
-    Ok(certificate.pattern)
+    Ok(Section::of(alloc, certificate.pattern))
 }

@@ -13,7 +13,7 @@ ghost use Rattle.certifier.specs.declared.mismatch.Mismatch.{Mismatch as Why};
 
 use crate::mismatch::Mismatch;
 use crate::replay::{Certificate, Replay};
-use kernel_model::{Kernel, Pattern};
+use kernel_model::{Kernel, Section};
 use plan_executor::{agrees, ends_as_reported, heir_of, plan_of, reserved_copy};
 use plan_walk::Transcript;
 use rollback_plan::Plan;
@@ -98,7 +98,7 @@ pub(crate) fn certificate(
 
 /// Holds a transcript of a target, its calls with their answers and its report, against the modelled kernel.
 ///
-/// A yes is the pattern that the transcript shows: an exit at the entry that shows it, and a fate where the answer is a
+/// A yes is a section without turns, whose pattern is the one that the transcript shows: an exit at the entry that shows it, and a fate where the answer is a
 /// fault that the kernel would not give by itself. Under this pattern the run of the target's plan on this kernel is
 /// exactly these entries with this report, and no executing master exits. Mismatches in their order: Y4 the target
 /// can't be carried out; Y1 the first entry that can't stand there; Y3 the plan isn't at an end; Y2 the report is
@@ -110,18 +110,19 @@ pub fn certify(
     target: &Target,
     log: &Transcript,
     report: &Report,
-) -> Result<Pattern, Mismatch>
+) -> Result<Section, Mismatch>
     requires { IsTarget target.now }
-    ensures ok { IfOk result (IsCertified kernel.now.table state.now target.now log.now.entries report.now) }
+    ensures ok { IfOk result (λ section. IsCertified kernel.now.table state.now target.now log.now.entries report.now section.pattern) }
+    ensures turns { IfOk result (λ section. section.turns ≡ []) }
     ensures exact { (why : Why)
         → IsErrOf result Mismatch.Memory ⊎ (IsErrOf result why ↔ IsMismatch kernel.now.table state.now target.now log.now.entries report.now why) }
-    ensures enacts { IfOk result (EnactsSo kernel.now state.now target.now log.now.entries report.now) }
+    ensures enacts { IfOk result (λ section. EnactsSo kernel.now state.now target.now log.now.entries report.now section.pattern) }
     ensures complete { IsFaultyRun kernel.now.table state.now target.now log.now.entries report.now
         → IfErr result (λ why. (why ≡ Mismatch.Refused) ⊎ (why ≡ Mismatch.Memory)) }
     ensures memory { IsErrOf result Mismatch.Memory → IsPlannable kernel.now.table state.now target.now }
 {
     match certificate(alloc, kernel, state, target, log, report) {
-        Ok(certificate) => Ok(certificate.pattern),
+        Ok(certificate) => Ok(Section::of(alloc, certificate.pattern)),
         Err(why) => Err(why),
     }
 }

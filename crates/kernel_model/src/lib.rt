@@ -17,7 +17,7 @@ mod service;
 
 pub use boot::{BootRefusal, WIDEST_LIMITS};
 pub use kernel::Kernel;
-pub use kernel_pattern::{Moment, Pattern};
+pub use kernel_pattern::{Moment, Pattern, Section, Turns};
 pub use kernel_service::Service;
 pub use kernel_table::{FileRow, Row};
 pub use listening::are_listeners;

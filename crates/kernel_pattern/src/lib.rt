@@ -5,6 +5,9 @@
 
 mod moments;
 mod pattern;
+mod section;
 
 pub use moments::Moment;
 pub use pattern::Pattern;
+pub use plan_turns::Turns;
+pub use section::Section;

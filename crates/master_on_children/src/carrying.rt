@@ -8,7 +8,7 @@ ghost use Rattle.master_on_children.specs.Carried.{IsUnplanned, IsCarriedOut};
 use crate::Attended;
 use child_family::Family;
 use log::Log;
-use plan_walk::{Transcript, execute};
+use plan_walk::{Transcript, Turns, execute};
 use reload_planner::PlanRefusal;
 use service_state::Record;
 use std::alloc::Global;
@@ -77,7 +77,7 @@ fn carry_out<F: Family + Drop, I: Read + Drop, L: Log + Drop>(
     if world.reserve(longest, plan.text()).is_err() {
         return Err(TargetRefusal::Memory);
     }
-    let report = execute(&plan, world, &[], &mut log);
+    let report = execute(&plan, world, &Turns::new(alloc), &mut log);
     let after = state.after(target, &report, state.pid);
     Ok(Enacted { log, report, after })
 }

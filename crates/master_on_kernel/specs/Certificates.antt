@@ -1,8 +1,8 @@
 -- What the program says of blocks that it compares.
 use Rattle.std.specs.Prelude.{◌≡◌, ◌≢◌, ℕ, List, [], map, Some, Ok}
-use Rattle.kernel_model.specs.Pattern.{moment_at}
-use Rattle.plan_executor.specs.Words.{Moments}
+use Rattle.kernel_pattern.specs.declared.section.Section.{Section}
 use Rattle.word_runner.specs.declared.block.Block.{Block}
+use Rattle.pattern_text.specs.Courses.{course_of}
 use Rattle.pattern_text.specs.PatternsText.{patterns_of}
 use Rattle.pattern_text.specs.PatternsWriting.{patterns_text}
 use Rattle.certifier.specs.Blocks.{AreTaken, StopsAtBlock}
@@ -10,13 +10,13 @@ use Rattle.faults.specs.declared.fault.Fault.{Fault}
 use Rattle.faults.specs.declared.fault.Fault.TheVariants.{Certify, Memory}
 use Rattle.master_on_kernel.specs.declared.rehearsal.Rehearsal.{Rehearsal}
 
--- The text is that of patterns that explain the blocks, one each, from where a rehearsal stood to where it stands. What is written
--- of one pattern or more is read again as these.
+-- The text is that of sections that explain the blocks, one each, from where a rehearsal stood to where it stands. What is written
+-- of one section or more is read again as these.
 pub record AreExplained (blocks : List Block) (old : Rehearsal) (text : List ℕ) (new : Rehearsal) : Type 0 where
-  pub patterns : List Moments
-  pub taken : AreTaken (Some old.next) blocks old.standing patterns new.standing
-  pub written : text ≡ patterns_text patterns
-  pub again : patterns ≢ [] → patterns_of text ≡ Ok (map moment_at patterns)
+  pub sections : List Section
+  pub taken : AreTaken (Some old.next) blocks old.standing sections new.standing
+  pub written : text ≡ patterns_text sections
+  pub again : sections ≢ [] → patterns_of text ≡ Ok (map course_of sections)
 
 -- A fault of a block names the first that is none of the master's, and why.
 abbrev pub IsOfBlock : List Block → Rehearsal → Fault → Type 0

@@ -7,7 +7,7 @@ use Rattle.upgrade_planner.specs.Planned.{HasPlan, HasNoPlan}
 use Rattle.definitions.specs.Plans.{plan_tree}
 use Rattle.vocabulary.specs.declared.targets.Target.{Target}
 use Rattle.rollback_plan.specs.declared.plan.Plan.{Plan}
-use Rattle.rollback_plan.specs.Plans.{tree_of, length_of, steps_of}
+use Rattle.rollback_plan.specs.Plans.{tree_of, length_of, parts_of, steps_of}
 use Rattle.plan_text.specs.PlanText.{plan_text}
 use Rattle.plan_text.specs.Graph.{graph_text}
 use Rattle.transcript.specs.Block.{body_text}
@@ -28,8 +28,8 @@ use Rattle.master_on_kernel.specs.declared.planning.Outlook.{Outlook}
 
 -- a plan, as a line for each step or as a picture
 abbrev pub shown : Form → Plan → List ℕ
-shown Text plan = plan_text (length_of plan) (steps_of plan)
-shown Picture plan = graph_text (steps_of plan)
+shown Text plan = plan_text (length_of plan) (steps_of plan) (parts_of plan)
+shown Picture plan = graph_text (steps_of plan) (parts_of plan)
 
 -- what a word comes to that asks for no target
 pub record Tells (body : Body) (outlook : Outlook) : Type 0 where

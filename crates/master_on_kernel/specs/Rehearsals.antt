@@ -5,6 +5,7 @@ use Rattle.listener_set.specs.declared.address.AddressRefusal.{AddressRefusal}
 use Rattle.definitions.specs.Table.{Table, is_held}
 use Rattle.definitions.specs.Record.{Record}
 use Rattle.definitions.specs.Path.{Entry}
+use Rattle.definitions.specs.Run.{Moment}
 use Rattle.vocabulary.specs.declared.targets.Target.{Target}
 use Rattle.kernel_table.specs.Foreign.{with_foreign}
 use Rattle.kernel_table.specs.Room.{LacksNumbers}
@@ -19,7 +20,8 @@ use Rattle.word_runner.specs.declared.asking.Asked.TheVariants as asks
 use Rattle.certifier.specs.Certified.{IsBeginning}
 use Rattle.certifier.specs.Explained.{IsNoBeginning}
 use Rattle.certifier.specs.declared.mismatch.Mismatch.{Mismatch}
-use Rattle.plan_executor.specs.Words.{Moments, EnactsAt, DeclinesAt}
+use Rattle.kernel_pattern.specs.declared.section.Section.{Section}
+use Rattle.plan_executor.specs.Words.{EnactsAt, DeclinesAt}
 use Rattle.faults.specs.declared.fault.Fault.{Fault}
 use Rattle.faults.specs.declared.fault.Fault.TheVariants.{Address, Foreign, Memory}
 use Rattle.master_on_kernel.specs.declared.rehearsal.Rehearsal.{Rehearsal}
@@ -43,27 +45,27 @@ IsOfHeld (Ok address) kernel (Foreign foreign.Held) = is_held address kernel.tab
 IsOfHeld (Ok address) kernel (Foreign foreign.NoNumbers) = (is_held address kernel.table.rows ≡ false) × LacksNumbers kernel.table (kernel.room + 1)
 IsOfHeld (Ok address) kernel fault = (fault ≡ Memory) × IsFree address kernel
 
--- the first of these words come to these blocks, the i-th under the i-th pattern
-pub record IsRehearsed (patterns : List Moments) (words : List Word) (old : Rehearsal) (blocks : List Block) (new : Rehearsal) : Type 0 where
-  pub done : AreDone (EnactsAt patterns) (DeclinesAt patterns) (Some old.next) words 0 old.standing blocks new.standing
+-- the first of these words come to these blocks, the i-th in the i-th section
+pub record IsRehearsed (sections : List Section) (words : List Word) (old : Rehearsal) (blocks : List Block) (new : Rehearsal) : Type 0 where
+  pub done : AreDone (EnactsAt sections) (DeclinesAt sections) (Some old.next) words 0 old.standing blocks new.standing
   pub next : new.next ≡ old.next
 
 ---- What the first calls of a word show
 
 -- The pattern that entries show which begin a run of the target; a quiet one where they begin none.
-abbrev pub IsShownOf : Table → Record → Target → List Entry → Moments → Type 0
+abbrev pub IsShownOf : Table → Record → Target → List Entry → List (ℕ × Moment) → Type 0
 IsShownOf t r target entries pattern =
     IsBeginning t r target entries pattern ⊎ ((pattern ≡ []) × (why : Mismatch) × IsNoBeginning t r target entries why)
 
 -- a word that asks for no target has no first calls
-abbrev pub IsShownWhere : Asked → Table → Record → List Entry → Moments → Type 0
+abbrev pub IsShownWhere : Asked → Table → Record → List Entry → List (ℕ × Moment) → Type 0
 IsShownWhere (asks.Act target) t r entries pattern = IsShownOf t r target entries pattern
 IsShownWhere _ t r entries pattern = pattern ≡ []
 
-abbrev pub IsShownTo : Option Record → Rehearsal → Word → List Entry → Moments → Type 0
+abbrev pub IsShownTo : Option Record → Rehearsal → Word → List Entry → List (ℕ × Moment) → Type 0
 IsShownTo None it word entries pattern = pattern ≡ []
 IsShownTo (Some r) it word entries pattern = IsShownWhere (asked_by word r it.standing.workers (Some it.next)) it.standing.world.table r entries pattern
 
 -- The pattern that entries show which are a word's first calls; a quiet one where they begin no run of the master.
-abbrev pub IsShownBy : Rehearsal → Word → List Entry → Moments → Type 0
+abbrev pub IsShownBy : Rehearsal → Word → List Entry → List (ℕ × Moment) → Type 0
 IsShownBy it word entries pattern = IsShownTo it.standing.record it word entries pattern

@@ -9,7 +9,7 @@ use std::alloc::Global;
 use word_runner::Block;
 
 /// Compares blocks one after another, each from where the ones before it left things, and gives the text of the
-/// patterns that explain them, one for each. The first that is none of the master's is the fault, by its number from 1.
+/// sections that explain them, one for each. The first that is none of the master's is the fault, by its number from 1.
 pub fn certify_all(
     alloc: Global,
     rehearsal: &mut Rehearsal,
@@ -18,10 +18,10 @@ pub fn certify_all(
     ensures ok { IfOk result (λ text. AreExplained blocks.now rehearsal.old text.items rehearsal.new) }
     ensures err { IfErr result (IsOfBlock blocks.now rehearsal.old) }
 {
-    let patterns = match rehearsal.certify(alloc, blocks) {
-        Ok(patterns) => patterns,
+    let sections = match rehearsal.certify(alloc, blocks) {
+        Ok(sections) => sections,
         Err(mismatch) => return Err(Fault::of_block(mismatch.number, mismatch.why)),
     };
-    let text = write_patterns(alloc, patterns.as_slice())?;
+    let text = write_patterns(alloc, sections.as_slice())?;
     Ok(text)
 }

@@ -7,27 +7,27 @@ ghost use Rattle.master_on_kernel.specs.Rehearsals.{IsRehearsed};
 
 use crate::rehearsal::Rehearsal;
 use control_words::Word;
-use kernel_model::Pattern;
+use kernel_model::Section;
 use std::alloc::{AllocError, Global};
 use word_runner::{Block, gravest};
 
 /// Carries the words out one after another, and appends the block of each to the text. A word
-/// beyond the patterns runs under a quiet one. Gives the exit status.
+/// beyond the sections runs in a quiet one. Gives the exit status.
 pub fn rehearse(
     alloc: Global,
     rehearsal: &mut Rehearsal,
     words: &[Word],
-    patterns: &[Pattern],
+    sections: &[Section],
     text: &mut Vec<u8>,
 ) -> Result<u8, AllocError>
     ensures { (blocks : List Done)
-        × IsRehearsed patterns.now words.now rehearsal.old blocks rehearsal.new
+        × IsRehearsed sections.now words.now rehearsal.old blocks rehearsal.new
         × IfOk result (λ status. (length blocks ≡ length words.now)
         × (text.new.items ≡ text.old.items ++ blocks_text blocks)
         × (status ≡ gravest blocks)) }
 {
     let mut blocks = Vec::new(alloc);
-    let done = rehearsal.act(alloc, words, patterns, &mut blocks);
+    let done = rehearsal.act(alloc, words, sections, &mut blocks);
     write_blocks(alloc, &blocks, text)?;
     done?;
     Ok(gravest(&blocks))

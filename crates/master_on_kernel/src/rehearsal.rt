@@ -1,7 +1,7 @@
 //! A master on the modelled kernel, word by word.
-ghost use Rattle.std.specs.Prelude.{◌≡◌, ◌≤◌, ◌+◌, ◌++◌, ◌∷◌, [], ℕ, List, length, Some, OnOk, OnErr, IfOk, IfErr};
+ghost use Rattle.std.specs.Prelude.{◌≡◌, ◌≤◌, ◌+◌, ◌++◌, ◌∷◌, [], List, length, Some, OnOk, OnErr, IfOk, IfErr};
 ghost use Rattle.listener_set.specs.AddressText.{reading};
-ghost use Rattle.definitions.specs.Run.{Moment};
+ghost use Rattle.kernel_pattern.specs.declared.section.Section.{Section as Decided};
 ghost use Rattle.table_text.specs.TableText.{IsTextOf};
 ghost use Rattle.word_runner.specs.declared.block.Block.{Block as Done};
 ghost use Rattle.certifier.specs.Blocks.{AreTaken, StopsAtBlock};
@@ -19,7 +19,7 @@ use certifier::{BlockMismatch, Mismatch, certify_beginning, certify_blocks};
 use control_words::Word;
 use explorer::{Audience, Findings, Search};
 use faults::Fault;
-use kernel_model::{Kernel, Pattern, WIDEST_LIMITS};
+use kernel_model::{Kernel, Pattern, Section, WIDEST_LIMITS};
 use listener_set::{Address, WORKER_LIMIT};
 use plan_executor::run_words;
 use plan_walk::Transcript;
@@ -83,18 +83,18 @@ impl Rehearsal {
         Ok(())
     }
 
-    /// Carries words out one after another, the i-th under the i-th pattern, and puts the block of
+    /// Carries words out one after another, the i-th in the i-th section, and puts the block of
     /// each behind `blocks`. Where memory is wanted, the words before are done.
     pub fn act(
         &mut self,
         alloc: Global,
         words: &[Word],
-        patterns: &[Pattern],
+        sections: &[Section],
         blocks: &mut Vec<Block>,
     ) -> Result<(), AllocError>
         ensures done { (done : List Done)
             × (blocks.new.items ≡ blocks.old.items ++ done)
-            × IsRehearsed patterns.now words.now self.old done self.new }
+            × IsRehearsed sections.now words.now self.old done self.new }
         ensures all { OnOk result (length blocks.new.items ≡ length blocks.old.items + length words.now) }
     {
         let next = self.next;
@@ -102,20 +102,20 @@ impl Rehearsal {
             alloc,
             &mut self.standing,
             words,
-            patterns,
+            sections,
             Some(&next),
             blocks,
         )
     }
 
-    /// Compares blocks one after another, each from where the ones before it left things, and gives the patterns that
+    /// Compares blocks one after another, each from where the ones before it left things, and gives the sections that
     /// explain them, one for each. The first that is none of the master's is the mismatch.
     pub fn certify(
         &mut self,
         alloc: Global,
         blocks: &[Block],
-    ) -> Result<Vec<Pattern>, BlockMismatch>
-        ensures ok { IfOk result (λ patterns. AreTaken (Some self.old.next) blocks.now self.old.standing patterns.items self.new.standing) }
+    ) -> Result<Vec<Section>, BlockMismatch>
+        ensures ok { IfOk result (λ sections. AreTaken (Some self.old.next) blocks.now self.old.standing sections.items self.new.standing) }
         ensures err { IfErr result (λ e. StopsAtBlock (Some self.old.next) blocks.now self.old.standing e.number e.why) }
         ensures next { self.new.next ≡ self.old.next }
     {
@@ -131,14 +131,14 @@ impl Rehearsal {
         word: Word,
         begun: &Transcript,
     ) -> Result<Option<Block>, AllocError>
-        ensures { IfOk result (λ found. (block : Done) × (pattern : List (ℕ × Moment))
+        ensures { IfOk result (λ found. (block : Done) × (section : Decided)
             × (found ≡ Some block)
-            × IsShownBy self.old word begun.now.entries pattern
-            × IsRehearsed (pattern ∷ []) (word ∷ []) self.old (block ∷ []) self.new) }
+            × IsShownBy self.old word begun.now.entries section.pattern
+            × IsRehearsed (section ∷ []) (word ∷ []) self.old (block ∷ []) self.new) }
     {
-        let pattern = self.pattern_of(alloc, word, begun)?;
+        let section = Section::of(alloc, self.pattern_of(alloc, word, begun)?);
         let mut blocks = Vec::new(alloc);
-        self.act(alloc, &[word], &[pattern], &mut blocks)?;
+        self.act(alloc, &[word], &[section], &mut blocks)?;
         Ok(blocks.pop())
     }
 

@@ -1,6 +1,6 @@
--- What was written of patterns is read again as these.
+-- What was written of sections is read again as these.
 use Rattle.std.proofs.Common.{◌≡◌, ℕ, ◌+◌, ◌<◌, ◌≤◌, ◌==◌, nat_eq, Bool, true, false, cond, List, [], ◌∷◌, ◌++◌, map, Option, Some, None, Ok, Err, refl, sym, ap, subst, ◌∙◌, inl, inr, arith, append_assoc, append-nil}
-use Rattle.std.specs.Prelude.{⊤, codes, if◌then◌else◌, ◌≢◌}
+use Rattle.std.specs.Prelude.{⊤, codes, if◌then◌else◌, option_map, option_and_then, ◌≢◌}
 use Rattle.std.specs.List.{AllByRecursion}
 use Rattle.std.specs.Fmt.{decimal}
 use Rattle.std.proofs.lemmas.Bool.{cases_eq}
@@ -11,21 +11,27 @@ use Rattle.vocabulary.specs.declared.names.Name.TheVariants as name
 use Rattle.vocabulary.specs.declared.calls.Fate.{Fate}
 use Rattle.vocabulary.specs.declared.calls.Fate.TheVariants as fate
 use Rattle.definitions.specs.Run.{Moment, quiet, Pattern}
+use Rattle.definitions.specs.Parts.{Turn, New, Old}
+use Rattle.kernel_pattern.specs.declared.section.Section.{Section}
 use Rattle.kernel_pattern.specs.Pattern.{moment_at, with_exit, with_fate, RiseFrom}
-use Rattle.plain_text.proofs.CutTexts.{lacks, lacks-append}
+use Rattle.plain_text.specs.NumberText.{count_of}
+use Rattle.plain_text.specs.Cuts.{cut}
+use Rattle.plain_text.proofs.CutTexts.{lacks, lacks-append, cut_at}
 use Rattle.call_text.specs.Words.{fate_text}
 use Rattle.call_text.specs.NameText.{worker_name, name_text}
 use Rattle.call_text.specs.Ranges.{IsWorker, IsName, IsCount}
 use Rattle.lines_text.specs.declared.refusal.TextRefusal.TheVariants.{Order}
-use Rattle.lines_text.specs.Reading.{unless_refused}
 use Rattle.lines_text.proofs.Lines.{Gives, gives_line}
 use Rattle.call_text.proofs.PartTexts.{number_lacks}
 use Rattle.pattern_text.specs.declared.pattern_line.PatternLine.{PatternLine}
 use Rattle.pattern_text.specs.declared.pattern_line.PatternLine.TheVariants.{Exit, Fail, Next}
 use Rattle.pattern_text.specs.LineText.{line_text, IsLine}
-use Rattle.pattern_text.specs.PatternsText.{Reading, may_follow, may_stand, with_exit_at, with_fate_at, with_line, if_formed, taken, finished, patterns_of}
-use Rattle.pattern_text.specs.PatternsWriting.{ended_line, exits_text, fail_text, moment_text, section_text, sections_behind, patterns_text}
-use Rattle.pattern_text.specs.Written.{IsNoted, IsSection, AreSections}
+use Rattle.pattern_text.specs.LineReading.{event_of, line_of}
+use Rattle.pattern_text.specs.Courses.{Course, course_of}
+use Rattle.pattern_text.specs.TurnsText.{letter, letters, turns_text, turns_for}
+use Rattle.pattern_text.specs.PatternsText.{Reading, begun, may_follow, may_stand, with_exit_at, with_fate_at, with_line, with_turns, taken_turns, taken_as, taken, finished, patterns_of}
+use Rattle.pattern_text.specs.PatternsWriting.{ended_line, exits_text, fail_text, moment_text, moments_text, section_text, sections_behind, patterns_text}
+use Rattle.pattern_text.specs.Written.{IsNoted, AreMoments, IsSection, AreSections}
 use Rattle.pattern_text.proofs.PatternLines.{line_reads}
 
 ---- No line has a newline within
@@ -129,20 +135,20 @@ moment-more (x ∷ xs) e h k =
 ---- Line by line
 
 -- a line that may stand there, and what the rest gives
-gives_written : (r : Reading) (v : PatternLine) (rest : List ℕ) (ps : List Pattern) → IsLine v → may_stand v r ≡ true → Gives taken finished (with_line v r) rest ps → Gives taken finished r (ended_line v ++ rest) ps
-gives_written r v rest ps is stands more =
-    subst (λ t. Gives taken finished r t ps) (sym (append_assoc (line_text v) (10 ∷ []) rest))
-    (gives_line taken finished r (with_line v r) (line_text v) rest ps (line_lacks v is) (λ number. takes number) more)
+gives_written : (r : Reading) (v : PatternLine) (rest : List ℕ) (cs : List Course) → IsLine v → may_stand v r ≡ true → Gives taken finished (with_line v r) rest cs → Gives taken finished r (ended_line v ++ rest) cs
+gives_written r v rest cs is stands more =
+    subst (λ t. Gives taken finished r t cs) (sym (append_assoc (line_text v) (10 ∷ []) rest))
+    (gives_line taken finished r (with_line v r) (line_text v) rest cs (line_lacks v is) (λ number. takes number) more)
   where
     takes : (number : ℕ) → taken number r (line_text v) ≡ Ok (with_line v r)
     takes number =
-        ap (λ o. unless_refused (if_formed number r o) (λ line. Ok (with_line line r))) (line_reads.only v is)
-        ∙ ap (λ b. unless_refused (cond b (Ok v) (Err (Order number))) (λ line. Ok (with_line line r))) stands
+        ap (taken_as number r (line_text v)) (line_reads.only v is)
+        ∙ ap (λ b. cond b (Ok (with_line v r)) (Err (Order number))) stands
 
-module _ (done ps : List Pattern) where
-  -- what is read of a text within a section, of which this much is known
+module _ (done cs : List Course) (turns : List Turn) where
+  -- what is read of a text within a section with these turns, of which this much is known
   abbrev Goes : Pattern → ℕ → Bool → List ℕ → Type 0
-  Goes p last failed written = Gives taken finished (record { done = done; section = p; last = last; failed = failed }) written ps
+  Goes p last failed written = (fresh : Bool) → Gives taken finished (record { done = done; pattern = p; turns = turns; last = last; failed = failed; fresh = fresh }) written cs
 
   goes-as : (p q : Pattern) (last : ℕ) (failed : Bool) (written : List ℕ) → ((k : ℕ) → q k ≡ p k) → Goes q last failed written → Goes p last failed written
   goes-as p q last failed written same h = subst (λ (x : Pattern). Goes x last failed written) (λ i k. same k i) h
@@ -159,8 +165,8 @@ module _ (done ps : List Pattern) where
       goes_exits n p rest count xs (with_exit x m) n false are.1 next (omega arith)
       (λ l f fits le. subst (λ (es : List Name). Goes (put n (record { exits = es; fate = m.fate }) p) l f rest) (sym (append_assoc m.exits (x ∷ []) xs)) (more l f fits le)) in
       subst (λ t. Goes (put n m p) last failed t) (sym (append_assoc (ended_line (Exit n x)) (exits_text n xs) rest))
-      (gives_written (record { done = done; section = put n m p; last = last; failed = failed }) (Exit n x) (exits_text n xs ++ rest) ps (count, are.0) follows
-      (goes-as (with_exit_at n x (put n m p)) (put n (with_exit x m) p) n false (exits_text n xs ++ rest) (λ k. sym (exit-put n x m p k)) later))
+      (λ fresh. gives_written (record { done = done; pattern = put n m p; turns = turns; last = last; failed = failed; fresh = fresh }) (Exit n x) (exits_text n xs ++ rest) cs (count, are.0) follows
+      (goes-as (with_exit_at n x (put n m p)) (put n (with_exit x m) p) n false (exits_text n xs ++ rest) (λ k. sym (exit-put n x m p k)) later false))
 
   goes_fate : (n : ℕ) (p : Pattern) (rest : List ℕ) → IsCount n → (es : List Name) (f : Option Fate) (last : ℕ) (failed : Bool) → may_follow last failed n ≡ true → last ≤ n →
       ((l : ℕ) (b : Bool) → l ≤ n → Goes (put n (record { exits = es; fate = f }) p) l b rest) →
@@ -168,8 +174,8 @@ module _ (done ps : List Pattern) where
   goes_fate n p rest count es None last failed follows le more = more last failed le
   goes_fate n p rest count es (Some f) last failed follows le more =
       let before : Moment = record { exits = es; fate = None } in
-      gives_written (record { done = done; section = put n before p; last = last; failed = failed }) (Fail n f) rest ps count follows
-      (goes-as (with_fate_at n f (put n before p)) (put n (with_fate f before) p) n true rest (λ k. sym (fate-put n f before p k)) (more n true (omega arith)))
+      (λ fresh. gives_written (record { done = done; pattern = put n before p; turns = turns; last = last; failed = failed; fresh = fresh }) (Fail n f) rest cs count follows
+      (goes-as (with_fate_at n f (put n before p)) (put n (with_fate f before) p) n true rest (λ k. sym (fate-put n f before p k)) (more n true (omega arith)) false))
 
   goes_moment : (n : ℕ) (m : Moment) (p : Pattern) (rest : List ℕ) (last : ℕ) (failed : Bool) → IsCount n → AllByRecursion IsName m.exits → p n ≡ quiet → last < n →
       ((l : ℕ) (f : Bool) → l ≤ n → Goes (put n m p) l f rest) →
@@ -181,38 +187,75 @@ module _ (done ps : List Pattern) where
       (goes_exits n p (fail_text n m.fate ++ rest) count m.exits quiet last failed are follows (omega (arith, less))
       (λ l f fits le. goes_fate n p rest count m.exits m.fate l f fits le more)))
 
-  goes_section : (es front : List (ℕ × Moment)) (b : ℕ) (rest : List ℕ) (last : ℕ) (failed : Bool) → RiseFrom b es → AllByRecursion IsNoted es → AreBelow b front → last < b →
+  goes_moments : (es front : List (ℕ × Moment)) (b : ℕ) (rest : List ℕ) (last : ℕ) (failed : Bool) → RiseFrom b es → AllByRecursion IsNoted es → AreBelow b front → last < b →
       ((l : ℕ) (f : Bool) → Goes (moment_at (front ++ es)) l f rest) →
-      Goes (moment_at front) last failed (section_text es ++ rest)
-  goes_section [] front b rest last failed rise are below less more = subst (λ (xs : List (ℕ × Moment)). Goes (moment_at xs) last failed rest) (append-nil front) (more last failed)
-  goes_section (e ∷ es) front b rest last failed rise are below less more =
+      Goes (moment_at front) last failed (moments_text es ++ rest)
+  goes_moments [] front b rest last failed rise are below less more = subst (λ (xs : List (ℕ × Moment)). Goes (moment_at xs) last failed rest) (append-nil front) (more last failed)
+  goes_moments (e ∷ es) front b rest last failed rise are below less more =
       let over : b ≤ e.0 = rise.0 in
       let under = below-higher front b e.0 over below in
       let longer : List (ℕ × Moment) = front ++ e ∷ [] in
-      subst (λ t. Goes (moment_at front) last failed t) (sym (append_assoc (moment_text e.0 e.1) (section_text es) rest))
-      (goes_moment e.0 e.1 (moment_at front) (section_text es ++ rest) last failed are.0.0 are.0.1 (quiet-there front e.0 under) (omega (arith, over, less))
-      (λ l f le. goes-as (put e.0 e.1 (moment_at front)) (moment_at longer) l f (section_text es ++ rest) (λ k. sym (moment-more front e under k))
-      (goes_section es longer (e.0 + 1) rest l f rise.3 are.1 (below-more front e under) (omega (arith, le))
+      subst (λ t. Goes (moment_at front) last failed t) (sym (append_assoc (moment_text e.0 e.1) (moments_text es) rest))
+      (goes_moment e.0 e.1 (moment_at front) (moments_text es ++ rest) last failed are.0.0 are.0.1 (quiet-there front e.0 under) (omega (arith, over, less))
+      (λ l f le. goes-as (put e.0 e.1 (moment_at front)) (moment_at longer) l f (moments_text es ++ rest) (λ k. sym (moment-more front e under k))
+      (goes_moments es longer (e.0 + 1) rest l f rise.3 are.1 (below-more front e under) (omega (arith, le))
       (λ l f. subst (λ (xs : List (ℕ × Moment)). Goes (moment_at xs) l f rest) (sym (append_assoc front (e ∷ []) es)) (more l f)))))
+
+---- Turns
+
+letters_read : (turns : List Turn) → turns_for (letters turns) ≡ Some turns
+letters_read [] = refl
+letters_read (New ∷ turns) = ap (option_map (λ ts. New ∷ ts)) (letters_read turns)
+letters_read (Old ∷ turns) = ap (option_map (λ ts. Old ∷ ts)) (letters_read turns)
+
+letters_lack : (turns : List Turn) → lacks 10 (letters turns) ≡ true
+letters_lack [] = refl
+letters_lack (New ∷ turns) = letters_lack turns
+letters_lack (Old ∷ turns) = letters_lack turns
+
+-- a line of turns has none of the other forms
+no_line : (text : List ℕ) → line_of (codes "turns " ++ text) ≡ None
+no_line text =
+    ap (option_and_then (λ (p : List ℕ × List ℕ). option_and_then (λ n. option_and_then (λ (q : List ℕ × List ℕ). event_of n q.0 q.1) (cut 32 p.1)) (count_of p.0))) (cut_at 32 (codes "turns") text refl)
+
+-- a line of turns at the beginning of a section, and what the rest gives
+gives_turns : (done cs : List Course) (turn : Turn) (turns : List Turn) (rest : List ℕ) → Gives taken finished (with_turns (turn ∷ turns) (begun done)) rest cs →
+    Gives taken finished (begun done) (turns_text (turn ∷ turns) ++ rest) cs
+gives_turns done cs turn turns rest more =
+    let all : List ℕ = letters (turn ∷ turns) in
+    subst (λ t. Gives taken finished (begun done) t cs) (sym (ap (λ t. codes "turns " ++ t) (append_assoc all (10 ∷ []) rest)))
+    (gives_line taken finished (begun done) (with_turns (turn ∷ turns) (begun done)) (codes "turns " ++ all) rest cs
+    (lacks-append 10 (codes "turns ") all refl (letters_lack (turn ∷ turns)))
+    (λ number. ap (taken_as number (begun done) (codes "turns " ++ all)) (no_line all) ∙ ap (taken_turns number (begun done)) (letters_read (turn ∷ turns))) more)
 
 ---- Section by section
 
-gives_behind : (ps : List (List (ℕ × Moment))) (done : List Pattern) (p : Pattern) (last : ℕ) (failed : Bool) → AllByRecursion IsSection ps →
-    Gives taken finished (record { done = done; section = p; last = last; failed = failed }) (sections_behind ps) (done ++ p ∷ map moment_at ps)
-gives_behind [] done p last failed are = λ number. refl
-gives_behind (q ∷ ps) done p last failed are =
-    let all : List Pattern = done ++ p ∷ map moment_at (q ∷ ps) in
-    let more = done ++ p ∷ [] in
-    gives_written (record { done = done; section = p; last = last; failed = failed }) Next (section_text q ++ sections_behind ps) all tt refl
-    (goes_section more all q [] 1 (sections_behind ps) 0 false are.0.0 are.0.1 tt (omega arith)
-    (λ l f. subst (λ (x : List Pattern). Gives taken finished (record { done = more; section = moment_at q; last = l; failed = f }) (sections_behind ps) x)
-    (append_assoc done (p ∷ []) (moment_at q ∷ map moment_at ps)) (gives_behind ps more (moment_at q) l f are.1)))
+-- a section from its beginning, and what the rest gives
+gives_section : (done cs : List Course) (turns : List Turn) (p : List (ℕ × Moment)) (rest : List ℕ) → AreMoments p →
+    ((l : ℕ) (f fresh : Bool) → Gives taken finished (record { done = done; pattern = moment_at p; turns = turns; last = l; failed = f; fresh = fresh }) rest cs) →
+    Gives taken finished (begun done) ((turns_text turns ++ moments_text p) ++ rest) cs
+gives_section done cs [] p rest are more = goes_moments done cs [] p [] 1 rest 0 false are.0 are.1 tt (omega arith) (λ l f fresh. more l f fresh) true
+gives_section done cs (turn ∷ turns) p rest are more =
+    subst (λ t. Gives taken finished (begun done) t cs) (sym (append_assoc (turns_text (turn ∷ turns)) (moments_text p) rest))
+    (gives_turns done cs turn turns (moments_text p ++ rest)
+    (goes_moments done cs (turn ∷ turns) p [] 1 rest 0 false are.0 are.1 tt (omega arith) (λ l f fresh. more l f fresh) false))
 
-pub read_written : (ps : List (List (ℕ × Moment))) → ps ≢ [] → AreSections ps → patterns_of (patterns_text ps) ≡ Ok (map moment_at ps)
+gives_behind : (ss : List Section) (done : List Course) (c : Course) (last : ℕ) (failed fresh : Bool) → AreSections ss →
+    Gives taken finished (record { done = done; pattern = c.pattern; turns = c.turns; last = last; failed = failed; fresh = fresh }) (sections_behind ss) (done ++ c ∷ map course_of ss)
+gives_behind [] done c last failed fresh are = λ number. refl
+gives_behind (s ∷ ss) done c last failed fresh are =
+    let all : List Course = done ++ c ∷ map course_of (s ∷ ss) in
+    let more : List Course = done ++ c ∷ [] in
+    gives_written (record { done = done; pattern = c.pattern; turns = c.turns; last = last; failed = failed; fresh = fresh }) Next (section_text s ++ sections_behind ss) all tt refl
+    (gives_section more all s.turns s.pattern (sections_behind ss) are.0
+    (λ l f fresh. subst (λ (x : List Course). Gives taken finished (record { done = more; pattern = moment_at s.pattern; turns = s.turns; last = l; failed = f; fresh = fresh }) (sections_behind ss) x)
+    (append_assoc done (c ∷ []) (course_of s ∷ map course_of ss)) (gives_behind ss more (course_of s) l f fresh are.1)))
+
+pub read_written : (ss : List Section) → ss ≢ [] → AreSections ss → patterns_of (patterns_text ss) ≡ Ok (map course_of ss)
 read_written [] some are = absurd (some refl)
-read_written (p ∷ ps) some are =
-    goes_section [] (map moment_at (p ∷ ps)) p [] 1 (sections_behind ps) 0 false are.0.0 are.0.1 tt (omega arith)
-    (λ l f. gives_behind ps [] (moment_at p) l f are.1) 1
+read_written (s ∷ ss) some are =
+    gives_section [] (map course_of (s ∷ ss)) s.turns s.pattern (sections_behind ss) are.0
+    (λ l f fresh. gives_behind ss [] (course_of s) l f fresh are.1) 1
 
-pub read_again : (text : List ℕ) (ps : List (List (ℕ × Moment))) → ps ≢ [] → AreSections ps → text ≡ patterns_text ps → patterns_of text ≡ Ok (map moment_at ps)
-read_again text ps some are is = ap patterns_of is ∙ read_written ps some are
+pub read_again : (text : List ℕ) (ss : List Section) → ss ≢ [] → AreSections ss → text ≡ patterns_text ss → patterns_of text ≡ Ok (map course_of ss)
+read_again text ss some are is = ap patterns_of is ∙ read_written ss some are

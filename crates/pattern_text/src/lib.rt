@@ -1,10 +1,11 @@
-//! Patterns as texts: a section of lines for each.
+//! Patterns and turns as texts: a section of lines for each run.
 //!
 //! Each line is a function to bytes in `specs/`. Readers accept such lines and nothing else.
 #![tactic(auto)]
 
 mod pattern_line;
 mod patterns;
+mod turns_line;
 mod writing;
 
 pub use pattern_line::PatternLine;

@@ -1,28 +1,33 @@
-//! Patterns as texts.
-ghost use Rattle.std.specs.Prelude.{◌≡◌, ◌≢◌, ◌≤◌, ◌++◌, ◌∷◌, ℕ, List, [], map, Ok, Err, OnOk, IfOk, IfErr};
-ghost use Rattle.definitions.specs.Run.{Moment as Events};
-ghost use Rattle.kernel_pattern.specs.Pattern.{moment_at, IsNameWithin};
+//! Sections, read.
+ghost use Rattle.std.specs.Prelude.{◌≡◌, ◌≢◌, ◌≤◌, ◌++◌, ◌∷◌, List, [], map, Ok, Err, OnOk, IfOk, IfErr};
+ghost use Rattle.kernel_pattern.specs.declared.section.Section.{Section as Decided};
+ghost use Rattle.kernel_pattern.specs.Pattern.{IsNameWithin};
 ghost use Rattle.pattern_text.specs.LineText.{IsLine};
-ghost use Rattle.pattern_text.specs.PatternsText.{may_follow, begun, with_exit_in, with_fate_in, may_stand, with_line, line_here, patterns_of};
+ghost use Rattle.pattern_text.specs.PatternsText.{may_follow, begun, section_in, with_exit_in, with_fate_in, may_stand, with_line, taken_line, taken_turns, patterns_of};
+ghost use Rattle.pattern_text.specs.Courses.{course_of};
+ghost use Rattle.pattern_text.specs.TurnsText.{turns_of};
 ghost use Rattle.pattern_text.specs.PatternsWriting.{patterns_text};
 ghost use Rattle.pattern_text.specs.Written.{AreSections};
 
 use crate::PatternLine;
-use kernel_pattern::Pattern;
+use crate::turns_line::{read_turns, says_turns};
+use kernel_pattern::Section;
 use lines_text::{TakesLines, TextRefusal, read_lines};
 use std::alloc::{AllocError, Global};
 use std::mem;
 use vocabulary::{Fate, Name};
 
-/// What was read of a text: the patterns before this section, and this section's.
+/// What was read of a text: the sections before this one, and this one.
 #[derive(Drop)]
 struct PatternsReader {
-    done: Vec<Pattern>,
-    section: Pattern,
+    done: Vec<Section>,
+    section: Section,
     /// The last number in this section.
     last: u32,
     /// Whether the call with that number was made to fail.
     has_failed: bool,
+    /// Whether no line of this section was read.
+    is_fresh: bool,
 }
 
 impl PatternsReader {
@@ -33,9 +38,10 @@ impl PatternsReader {
     {
         PatternsReader {
             done: Vec::new(alloc),
-            section: Pattern::new(alloc),
+            section: Section::new(alloc),
             last: 0,
             has_failed: false,
+            is_fresh: true,
         }
     }
 
@@ -52,9 +58,10 @@ impl PatternsReader {
         requires within { IsNameWithin name }
         ensures { OnOk result (seen self.new ≡ with_exit_in number name (seen self.old)) }
     {
-        self.section.add_exit(number, name)?;
+        self.section.pattern.add_exit(number, name)?;
         self.last = number;
         self.has_failed = false;
+        self.is_fresh = false;
         Ok(())
     }
 
@@ -62,19 +69,21 @@ impl PatternsReader {
         requires { 1 ≤ number }
         ensures { OnOk result (seen self.new ≡ with_fate_in number fate (seen self.old)) }
     {
-        self.section.set_fate(number, fate)?;
+        self.section.pattern.set_fate(number, fate)?;
         self.last = number;
         self.has_failed = true;
+        self.is_fresh = false;
         Ok(())
     }
 
     fn begin_section(&mut self, alloc: Global) -> Result<(), AllocError>
-        ensures { OnOk result (seen self.new ≡ begun ((seen self.old).done ++ (seen self.old).section ∷ [])) }
+        ensures { OnOk result (seen self.new ≡ begun ((seen self.old).done ++ section_in (seen self.old) ∷ [])) }
     {
-        let section = mem::replace(&mut self.section, Pattern::new(alloc));
+        let section = mem::replace(&mut self.section, Section::new(alloc));
         self.done.push(section)?;
         self.last = 0;
         self.has_failed = false;
+        self.is_fresh = true;
         Ok(())
     }
 
@@ -86,21 +95,6 @@ impl PatternsReader {
             PatternLine::Exit(number, _) => self.may_follow(*number),
             PatternLine::Fail(number, _) => self.may_follow(*number),
             PatternLine::Next => true,
-        }
-    }
-
-    /// Reads the line with this number, if it may stand here. It takes no memory, so it never wants any.
-    fn read_here(&self, number: usize, text: &[u8]) -> Result<PatternLine, TextRefusal>
-        ensures exact { result ≡ line_here number (seen self.now) text.now }
-        ensures within { IfOk result IsLine }
-    {
-        let Some(line) = PatternLine::read(text) else {
-            return Err(TextRefusal::Line(number));
-        };
-        if self.allows(&line) {
-            Ok(line)
-        } else {
-            Err(TextRefusal::Order(number))
         }
     }
 
@@ -116,29 +110,64 @@ impl PatternsReader {
         }
     }
 
-    /// The patterns of all sections.
-    fn all(self) -> Result<Vec<Pattern>, AllocError>
-        ensures { IfOk result (λ patterns. map moment_at patterns.items ≡ (seen self).done ++ (seen self).section ∷ []) }
+    /// Adds the line with this number where it may stand here, which is found without memory.
+    fn take_line(
+        &mut self,
+        alloc: Global,
+        number: usize,
+        line: &PatternLine,
+    ) -> Result<(), TextRefusal>
+        requires { IsLine line.now }
+        ensures ok { OnOk result (taken_line number (seen self.old) line.now ≡ Ok (seen self.new)) }
+        ensures err { IfErr result (λ e. e ≢ TextRefusal.Memory → taken_line number (seen self.old) line.now ≡ Err e) }
+    {
+        if !self.allows(line) {
+            return Err(TextRefusal::Order(number));
+        }
+        self.add(alloc, line)?;
+        Ok(())
+    }
+
+    /// Adds the turns of the line with this number where it says some and may stand here. Why it is refused is found
+    /// without memory.
+    fn take_turns(&mut self, alloc: Global, number: usize, line: &[u8]) -> Result<(), TextRefusal>
+        ensures ok { OnOk result (taken_turns number (seen self.old) (turns_of line.now) ≡ Ok (seen self.new)) }
+        ensures err { IfErr result (λ e. e ≢ TextRefusal.Memory → taken_turns number (seen self.old) (turns_of line.now) ≡ Err e) }
+    {
+        if !says_turns(line) {
+            return Err(TextRefusal::Line(number));
+        }
+        if !self.is_fresh {
+            return Err(TextRefusal::Order(number));
+        }
+        self.section.turns = read_turns(alloc, line)?;
+        self.is_fresh = false;
+        Ok(())
+    }
+
+    /// All sections.
+    fn all(self) -> Result<Vec<Section>, AllocError>
+        ensures { IfOk result (λ sections. map course_of sections.items ≡ (seen self).done ++ section_in (seen self) ∷ []) }
     {
         let PatternsReader {
-            done: mut patterns,
+            done: mut sections,
             section,
             last: _,
             has_failed: _,
+            is_fresh: _,
         } = self;
-        patterns.push(section)?;
-        Ok(patterns)
+        sections.push(section)?;
+        Ok(sections)
     }
 }
 
 impl TakesLines for PatternsReader {
     ghost use Rattle.std.specs.Prelude.{List, map};
-    ghost use Rattle.definitions.specs.Run.{Pattern};
-    ghost use Rattle.kernel_pattern.specs.Pattern.{moment_at};
+    ghost use Rattle.pattern_text.specs.Courses.{Course, course_of};
     ghost use Rattle.pattern_text.specs.PatternsText.{Reading, taken, finished};
     ghost use Rattle.pattern_text.specs.Reader.{seen};
 
-    type Value = Vec<Pattern>;
+    type Value = Vec<Section>;
 
     ghost Reading = { Reading };
 
@@ -146,37 +175,38 @@ impl TakesLines for PatternsReader {
 
     ghost taken = { taken };
 
-    ghost Meaning = { List Pattern };
+    ghost Meaning = { List Course };
 
-    ghost meaning = { λ patterns. map moment_at patterns.items };
+    ghost meaning = { λ sections. map course_of sections.items };
 
     ghost finished = { finished };
 
     fn take(&mut self, alloc: Global, number: usize, line: &[u8]) -> Result<(), TextRefusal> {
-        let line = self.read_here(number, line)?;
-        self.add(alloc, &line)?;
-        Ok(())
+        match PatternLine::read(line) {
+            Some(line) => self.take_line(alloc, number, &line),
+            None => self.take_turns(alloc, number, line),
+        }
     }
 
-    fn finish(self, _number: usize) -> Result<Vec<Pattern>, TextRefusal> {
+    fn finish(self, _number: usize) -> Result<Vec<Section>, TextRefusal> {
         Ok(self.all()?)
     }
 }
 
-/// Reads patterns, a section of lines for each: `N exit NAME` for an exit before the N-th call, N from 1,
-/// `N fail FATE` for its failure, and between sections a line `next`. Names are `wI.C.N` of a Starting or Ready
-/// worker, `dI.C.N` of a Draining one and `mI` of a master. In a section N does not fall, and within one N there is
-/// at most one `fail`, which is the last. The empty text is one section with no line, and the very last newline may
-/// be missing.
+/// Reads sections: `N exit NAME` for an exit before the N-th call, N from 1, `N fail FATE` for its failure, and between
+/// sections a line `next`. Names are `wI.C.N` of a Starting or Ready worker, `dI.C.N` of a Draining one and `mI` of a
+/// master. In a section N does not fall, and within one N there is at most one `fail`, which is the last. The first line
+/// of a section may be `turns TEXT`, a letter `n` or `o` for each turn of the new and of the old master. The empty text
+/// is one section with no line, and the very last newline may be missing.
 ///
 /// The first faulty line is named: X1 for its form, else X2 for its place. Any bytes may come.
 #[tactic(auto, using(crate::proofs::Again::read_again))]
-pub fn read_patterns(alloc: Global, text: &[u8]) -> Result<Vec<Pattern>, TextRefusal>
-    ensures ok { IfOk result (λ patterns. patterns_of text.now ≡ Ok (map moment_at patterns.items)) }
+pub fn read_patterns(alloc: Global, text: &[u8]) -> Result<Vec<Section>, TextRefusal>
+    ensures ok { IfOk result (λ sections. patterns_of text.now ≡ Ok (map course_of sections.items)) }
     ensures err { IfErr result (λ e. e ≢ TextRefusal.Memory → patterns_of text.now ≡ Err e) }
 
-    // What is written of one pattern or more is read as these.
-    ensures again { (written : List (List (ℕ × Events))) → written ≢ [] → AreSections written → text.now ≡ patterns_text written → patterns_of text.now ≡ Ok (map moment_at written) }
+    // What is written of one section or more is read as these.
+    ensures again { (written : List Decided) → written ≢ [] → AreSections written → text.now ≡ patterns_text written → patterns_of text.now ≡ Ok (map course_of written) }
 {
     read_lines(alloc, PatternsReader::new(alloc), text)
 }

@@ -1,14 +1,16 @@
-//! Patterns, written.
+//! Sections, written.
 ghost use Rattle.std.specs.Prelude.{◌≡◌, ◌≢◌, ◌≤◌, ◌++◌, [], map, Ok, IfOk, IfSome, slice_get};
 ghost use Rattle.std.specs.List.{AllByRecursion};
-ghost use Rattle.kernel_pattern.specs.Pattern.{seen_moment, moment_at, IsPattern, IsNameWithin, AreNamesWithin};
+ghost use Rattle.kernel_pattern.specs.Pattern.{seen_moment, IsPattern, IsNameWithin, AreNamesWithin};
 ghost use Rattle.call_text.specs.Ranges.{IsName};
 ghost use Rattle.pattern_text.specs.PatternsText.{patterns_of};
-ghost use Rattle.pattern_text.specs.PatternsWriting.{ended_line, event_text, exits_text, moment_text, section_text, patterns_text};
-ghost use Rattle.pattern_text.specs.Written.{IsNoted, IsSection, AreSections};
+ghost use Rattle.pattern_text.specs.Courses.{course_of};
+ghost use Rattle.pattern_text.specs.PatternsWriting.{ended_line, event_text, exits_text, moment_text, moments_text, section_text, patterns_text};
+ghost use Rattle.pattern_text.specs.Written.{IsNoted, AreMoments, IsSection, AreSections};
 
 use crate::PatternLine;
-use kernel_pattern::{Moment, Pattern};
+use crate::turns_line::write_turns;
+use kernel_pattern::{Moment, Pattern, Section};
 use std::alloc::{AllocError, Global};
 use vocabulary::Name;
 
@@ -61,9 +63,9 @@ fn write_event(out: &mut Vec<u8>, pattern: &Pattern, place: usize) -> Result<(),
 
 /// The lines of a pattern.
 #[tactic(auto, using(crate::proofs::Sections::section_at))]
-fn write_section(out: &mut Vec<u8>, pattern: &Pattern) -> Result<(), AllocError>
-    ensures text { IfOk result (λ _. out.new.items ≡ out.old.items ++ section_text pattern.now) }
-    ensures section { IfOk result (λ _. IsSection pattern.now) }
+fn write_moments(out: &mut Vec<u8>, pattern: &Pattern) -> Result<(), AllocError>
+    ensures text { IfOk result (λ _. out.new.items ≡ out.old.items ++ moments_text pattern.now) }
+    ensures moments { IfOk result (λ _. AreMoments pattern.now) }
 {
     for place in 0..pattern.len() {
         write_event(out, pattern, place)?;
@@ -71,27 +73,36 @@ fn write_section(out: &mut Vec<u8>, pattern: &Pattern) -> Result<(), AllocError>
     Ok(())
 }
 
-/// The sections of patterns, and a line `next` between two.
-fn write_sections(alloc: Global, patterns: &[Pattern]) -> Result<Vec<u8>, AllocError>
-    ensures text { IfOk result (λ out. out.items ≡ patterns_text patterns.now) }
-    ensures sections { IfOk result (λ _. AreSections patterns.now) }
+/// The lines of a section: its turns, where it has any, and those of its pattern.
+fn write_section(out: &mut Vec<u8>, section: &Section) -> Result<(), AllocError>
+    ensures text { IfOk result (λ _. out.new.items ≡ out.old.items ++ section_text section.now) }
+    ensures section { IfOk result (λ _. IsSection section.now) }
+{
+    write_turns(out, &section.turns)?;
+    write_moments(out, &section.pattern)
+}
+
+/// Sections, and a line `next` between two.
+fn write_sections(alloc: Global, sections: &[Section]) -> Result<Vec<u8>, AllocError>
+    ensures text { IfOk result (λ out. out.items ≡ patterns_text sections.now) }
+    ensures sections { IfOk result (λ _. AreSections sections.now) }
 {
     let mut out = Vec::new(alloc);
-    for (place, pattern) in patterns.iter().enumerate() {
+    for (place, section) in sections.iter().enumerate() {
         if place > 0 {
             PatternLine::Next.write(&mut out)?;
         }
-        write_section(&mut out, pattern)?;
+        write_section(&mut out, section)?;
     }
     Ok(out)
 }
 
-/// The text of patterns: a section of lines for each, in ascending numbers, and a line `next` between
-/// two. What is written of one pattern or more is read again as these. The only refusal is want of memory.
+/// The text of sections: the lines of each, its turns first and then its moments in ascending numbers, and a line `next`
+/// between two. What is written of one section or more is read again as these. The only refusal is out of memory.
 #[tactic(auto, using(crate::proofs::Again::read_again))]
-pub fn write_patterns(alloc: Global, patterns: &[Pattern]) -> Result<Vec<u8>, AllocError>
-    ensures exact { IfOk result (λ out. out.items ≡ patterns_text patterns.now) }
-    ensures again { IfOk result (λ out. patterns.now ≢ [] → patterns_of out.items ≡ Ok (map moment_at patterns.now)) }
+pub fn write_patterns(alloc: Global, sections: &[Section]) -> Result<Vec<u8>, AllocError>
+    ensures exact { IfOk result (λ out. out.items ≡ patterns_text sections.now) }
+    ensures again { IfOk result (λ out. sections.now ≢ [] → patterns_of out.items ≡ Ok (map course_of sections.now)) }
 {
-    write_sections(alloc, patterns)
+    write_sections(alloc, sections)
 }

@@ -17,7 +17,8 @@ use Rattle.plan_walk.specs.Log.{Told}
 use Rattle.rollback_plan.specs.declared.plan.Plan.{Plan}
 use Rattle.definitions.specs.Plans.{plan_tree}
 use Rattle.definitions.specs.Run.{Pattern, Replays}
-use Rattle.rollback_plan.specs.Plans.{tree_of, note_of, sides_told, text_of}
+use Rattle.definitions.specs.Parts.{Turn}
+use Rattle.rollback_plan.specs.Plans.{tree_under, note_of, sides_told, text_of}
 use Rattle.definitions.specs.Path.{KeepsPathLaw}
 use Rattle.definitions.specs.After.{next_record, next_config, next_image}
 use Rattle.word_runner.specs.declared.enactor.Enacted.{Enacted}
@@ -83,15 +84,15 @@ pub record IsMade (first : Table) (r : Record) (target : Target) (pattern : Patt
   pub replays : Replays (text_handed r target) pattern 0 first entries last
 
 -- what is executed of a target's plan
-pub made : (r : Record) (target : Target) (plan : Plan) (pattern : Pattern) (first last : Table) (entries : List Entry) (report : Report) →
-    IsPlanFor r target plan → KeepsPathLaw (tree_of plan) (note_of plan) (sides_told plan) entries report → Replays (text_of plan) pattern 0 first entries last →
+pub made : (r : Record) (target : Target) (plan : Plan) (turns : List Turn) (pattern : Pattern) (first last : Table) (entries : List Entry) (report : Report) →
+    IsPlanFor r target plan → KeepsPathLaw (tree_under plan turns) (note_of plan) (sides_told plan) entries report → Replays (text_of plan) pattern 0 first entries last →
     IsMade first r target pattern entries last report
-made r target plan pattern first last entries report is law replays =
+made r target plan turns pattern first last entries report is law replays =
     record {
       law =
-          subst (λ (tree : Tree). KeepsPathLaw tree r.note (sides_of r target) entries report) is.tree
-          (subst (λ (note : PidNote). KeepsPathLaw (tree_of plan) note (sides_of r target) entries report) is.note
-          (subst (λ (sides : Sides). KeepsPathLaw (tree_of plan) (note_of plan) sides entries report) is.sides law));
+          subst (λ (tree : Tree). KeepsPathLaw tree r.note (sides_of r target) entries report) (is.tree turns)
+          (subst (λ (note : PidNote). KeepsPathLaw (tree_under plan turns) note (sides_of r target) entries report) is.note
+          (subst (λ (sides : Sides). KeepsPathLaw (tree_under plan turns) (note_of plan) sides entries report) is.sides law));
       replays = subst (λ handed. Replays handed pattern 0 first entries last) is.text replays;
     }
 

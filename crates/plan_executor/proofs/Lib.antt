@@ -7,3 +7,4 @@ pub mod Reigning
 pub mod Enacting
 pub mod Exact
 pub mod Truth
+pub mod Planning

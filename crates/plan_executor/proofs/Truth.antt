@@ -23,22 +23,23 @@ use Rattle.plan_executor.specs.declared.enactment.EnactRefusal.{EnactRefusal}
 use Rattle.plan_executor.specs.declared.enactment.EnactRefusal.TheVariants.{Memory, RecordDisagrees, Plan, MasterNamed, NoNumbers}
 use Rattle.plan_executor.specs.Codes.{target_refusal}
 use Rattle.plan_executor.specs.Refusals.{IsRefused}
-use Rattle.plan_executor.specs.Words.{Moments, pattern_at, EnactsAt, DeclinesAt, IsTrueOf}
+use Rattle.kernel_pattern.specs.declared.section.Section.{Section}
+use Rattle.plan_executor.specs.Words.{section_at, EnactsAt, DeclinesAt, IsTrueOf}
 use Rattle.plan_executor.proofs.Exact.{IsExact}
 
 ---- A refused target
 
 -- the refusal that an enactment answers with fits, unless it is want of memory
-fits : (t : Table) (r : Record) (target : Target) (patterns : List Moments) (place : ℕ) (why : EnactRefusal) → IsExact t r target (moment_at (pattern_at patterns place)) (Err why) → (why ≡ Memory → ⊥) → IsRefused t r target (moment_at (pattern_at patterns place)) why
-fits t r target patterns place why exact other = elim (exact why) [ inl memory ↦ absurd (other (cc)) | inr only ↦ only.0 refl ]
+fits : (t : Table) (r : Record) (target : Target) (sections : List Section) (place : ℕ) (why : EnactRefusal) → IsExact t r target (moment_at (section_at sections place).pattern) (Err why) → (why ≡ Memory → ⊥) → IsRefused t r target (moment_at (section_at sections place).pattern) why
+fits t r target sections place why exact other = elim (exact why) [ inl memory ↦ absurd (other (cc)) | inr only ↦ only.0 refl ]
 
-pub declined-is : (patterns : List Moments) (first : State) (place : ℕ) (r : Record) (target : Target) (why : EnactRefusal) →
-    IsExact first.table r target (moment_at (pattern_at patterns place)) (Err why) → HasCode (DeclinesAt patterns first place r target) (target_refusal why)
-declined-is patterns first place r target Memory exact = tt
-declined-is patterns first place r target RecordDisagrees exact = record { why = RecordDisagrees; is_refused = fits first.table r target patterns place RecordDisagrees exact (λ e. cc); code_is = refl }
-declined-is patterns first place r target (Plan refusal) exact = record { why = Plan refusal; is_refused = fits first.table r target patterns place (Plan refusal) exact (λ e. cc); code_is = refl }
-declined-is patterns first place r target (MasterNamed moment) exact = record { why = MasterNamed moment; is_refused = fits first.table r target patterns place (MasterNamed moment) exact (λ e. cc); code_is = refl }
-declined-is patterns first place r target NoNumbers exact = record { why = NoNumbers; is_refused = fits first.table r target patterns place NoNumbers exact (λ e. cc); code_is = refl }
+pub declined-is : (sections : List Section) (first : State) (place : ℕ) (r : Record) (target : Target) (why : EnactRefusal) →
+    IsExact first.table r target (moment_at (section_at sections place).pattern) (Err why) → HasCode (DeclinesAt sections first place r target) (target_refusal why)
+declined-is sections first place r target Memory exact = tt
+declined-is sections first place r target RecordDisagrees exact = record { why = RecordDisagrees; is_refused = fits first.table r target sections place RecordDisagrees exact (λ e. cc); code_is = refl }
+declined-is sections first place r target (Plan refusal) exact = record { why = Plan refusal; is_refused = fits first.table r target sections place (Plan refusal) exact (λ e. cc); code_is = refl }
+declined-is sections first place r target (MasterNamed moment) exact = record { why = MasterNamed moment; is_refused = fits first.table r target sections place (MasterNamed moment) exact (λ e. cc); code_is = refl }
+declined-is sections first place r target NoNumbers exact = record { why = NoNumbers; is_refused = fits first.table r target sections place NoNumbers exact (λ e. cc); code_is = refl }
 
 ---- The record stays true
 
@@ -56,14 +57,14 @@ left-true (Attended s) r state ran is after = agreed (Attended s) r state (repor
 left-true (Stop quick) r state ran is after = subst (IsTrueOf ran.last.table) (sym (is ∙ after.0)) tt
 
 -- a run leaves a record that is true of the kernel
-ran-true : (patterns : List Moments) (place : ℕ) (old : Standing State) (r : Record) (target : Target) (log : Told) (report : Report) (new : Standing State) → HasRun (EnactsAt patterns) place old r target log report new → IsTrueOf new.world.table new.record
-ran-true patterns place old r target log report new h =
+ran-true : (sections : List Section) (place : ℕ) (old : Standing State) (r : Record) (target : Target) (log : Told) (report : Report) (new : Standing State) → HasRun (EnactsAt sections) place old r target log report new → IsTrueOf new.world.table new.record
+ran-true sections place old r target log report new h =
     let is = h.enacted in
-    let ran = run_of r target (moment_at (pattern_at patterns place)) old.world.table in
+    let ran = run_of r target (moment_at (section_at sections place).pattern) old.world.table in
     let left : new.record ≡ next_record r target (report_of (sides_of r target) ran) ran.last.table = is.after ∙ (λ i. next_record r target (is.is_run.report_is i) (sym is.is_run.table i)) in
     subst (λ (t : Table). IsTrueOf t new.record) is.is_run.table (left-true target r new.record ran left is.ends.after)
 
-pub done-true : (patterns : List Moments) (settings : Option Settings) (words : List Word) (first : Standing State) (blocks : List Block) (last : Standing State) → AreDone (EnactsAt patterns) (DeclinesAt patterns) settings words 0 first blocks last → IsTrueOf first.world.table first.record → IsTrueOf last.world.table last.record
-done-true patterns settings words first blocks last done true_of =
-    done-keeps (EnactsAt patterns) (DeclinesAt patterns) (λ (k : State) (state : Option Record). IsTrueOf k.table state)
-    (λ place old r target log report new h _. ran-true patterns place old r target log report new h) settings words 0 first blocks last done true_of
+pub done-true : (sections : List Section) (settings : Option Settings) (words : List Word) (first : Standing State) (blocks : List Block) (last : Standing State) → AreDone (EnactsAt sections) (DeclinesAt sections) settings words 0 first blocks last → IsTrueOf first.world.table first.record → IsTrueOf last.world.table last.record
+done-true sections settings words first blocks last done true_of =
+    done-keeps (EnactsAt sections) (DeclinesAt sections) (λ (k : State) (state : Option Record). IsTrueOf k.table state)
+    (λ place old r target log report new h _. ran-true sections place old r target log report new h) settings words 0 first blocks last done true_of

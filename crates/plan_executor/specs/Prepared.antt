@@ -1,5 +1,5 @@
 -- What is made ready before a target is carried out.
-use Rattle.std.specs.Prelude.{◌≡◌, []}
+use Rattle.std.specs.Prelude.{◌≡◌, List, []}
 use Rattle.vocabulary.specs.declared.targets.Target.{Target}
 use Rattle.definitions.specs.Record.{Record}
 use Rattle.definitions.specs.Target.{sides_of, text_handed}
@@ -10,13 +10,14 @@ use Rattle.kernel_model.specs.Room.{LacksNumbers}
 use Rattle.kernel_model.specs.State.{State}
 use Rattle.plan_walk.specs.Log.{Told}
 use Rattle.rollback_plan.specs.declared.plan.Plan.{Plan}
-use Rattle.rollback_plan.specs.Plans.{tree_of, length_of, note_of, sides_told, text_of}
+use Rattle.definitions.specs.Parts.{Turn}
+use Rattle.rollback_plan.specs.Plans.{tree_under, length_of, note_of, sides_told, text_of}
 use Rattle.plan_executor.specs.Refusals.{HasPlan}
 
--- The target has a plan, and this is it.
+-- The target has a plan, and this is it, whatever turns the masters take.
 pub record IsPlanFor (r : Record) (target : Target) (plan : Plan) : Type 0 where
   pub has_plan : HasPlan r target
-  pub tree : tree_of plan ≡ plan_tree r target
+  pub tree : (turns : List Turn) → tree_under plan turns ≡ plan_tree r target
   pub longest : length_of plan ≡ height (plan_tree r target)
   pub note : note_of plan ≡ r.note
   pub sides : sides_told plan ≡ sides_of r target

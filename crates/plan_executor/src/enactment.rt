@@ -1,14 +1,15 @@
 //! A target, planned and carried out on the modelled kernel.
-ghost use Rattle.std.specs.Prelude.{◌≡◌, ◌≤◌, ◌↔◌, ◌⊎◌, None, OnOk, OnErr, IfOk, IfErr, IsErrOf, IsTrue};
+ghost use Rattle.std.specs.Prelude.{◌≡◌, ◌≤◌, ◌↔◌, ◌⊎◌, List, None, OnOk, OnErr, IfOk, IfErr, IsErrOf, IsTrue};
 ghost use Rattle.definitions.specs.Claims.{refusal_of};
 ghost use Rattle.definitions.specs.Formed.{IsFormed};
 ghost use Rattle.definitions.specs.Record.{Agrees};
+ghost use Rattle.definitions.specs.Parts.{Turn};
 ghost use Rattle.definitions.specs.Plans.{plan_tree};
 ghost use Rattle.definitions.specs.Target.{IsTarget, sides_of, text_handed};
 ghost use Rattle.kernel_model.specs.Pattern.{moment_at};
 ghost use Rattle.kernel_model.specs.Room.{LacksNumbers};
 ghost use Rattle.definitions.specs.Tree.{height};
-ghost use Rattle.rollback_plan.specs.Plans.{tree_of, length_of, note_of, sides_told, text_of};
+ghost use Rattle.rollback_plan.specs.Plans.{tree_under, length_of, note_of, sides_told, text_of};
 ghost use Rattle.reload_planner.specs.declared.refusal.PlanRefusal.{PlanRefusal as Unplannable};
 ghost use Rattle.plan_executor.specs.Enacted.{IsEnacted};
 ghost use Rattle.plan_executor.specs.Prepared.{IsReady};
@@ -19,7 +20,7 @@ ghost use Rattle.plan_executor.specs.declared.enactment.EnactRefusal.{EnactRefus
 use crate::agreement::agrees;
 use crate::carrying::carry_out;
 use crate::trial::spare;
-use kernel_model::{Kernel, Pattern, ReserveRefusal};
+use kernel_model::{Kernel, ReserveRefusal, Section};
 use plan_walk::Transcript;
 use reload_planner::PlanRefusal;
 use rollback_plan::Plan;
@@ -66,8 +67,8 @@ impl From<ReserveRefusal> for EnactRefusal {
     }
 }
 
-/// Plans a target for a running state and carries the plan out on the modelled kernel, under a
-/// pattern of failing calls and exits.
+/// Plans a target for a running state and carries the plan out on the modelled kernel in a section: under its pattern of
+/// failing calls and exits, and by its turns, where two masters have parts of the plan.
 ///
 /// All memory is taken before the first call: a refusal leaves the kernel as it was. Refusals in
 /// their order: E2 the record disagrees with the kernel; E3 there is no plan, with the planner's own
@@ -82,18 +83,18 @@ pub fn enact(
     kernel: &mut Kernel,
     state: &Record,
     target: &Target,
-    pattern: &Pattern,
+    section: &Section,
 ) -> Result<Enacted, EnactRefusal>
     requires { IsTarget target.now }
-    ensures ok { IfOk result (IsEnacted kernel.old kernel.new state.now target.now (moment_at pattern.now)) }
+    ensures ok { IfOk result (IsEnacted kernel.old kernel.new state.now target.now (moment_at section.now.pattern)) }
     ensures disagrees { IsErrOf result EnactRefusal.RecordDisagrees ↔ (Agrees kernel.old.table state.now → ⊥) }
     ensures exact { (why : Refusal)
-        → IsErrOf result EnactRefusal.Memory ⊎ (IsErrOf result why ↔ IsRefused kernel.old.table state.now target.now (moment_at pattern.now) why) }
+        → IsErrOf result EnactRefusal.Memory ⊎ (IsErrOf result why ↔ IsRefused kernel.old.table state.now target.now (moment_at section.now.pattern) why) }
     ensures memory { IsErrOf result EnactRefusal.Memory → IsPlannable kernel.old.table state.now target.now }
     ensures err { OnErr result (kernel.new ≡ kernel.old) }
 {
-    let prepared = prepare(alloc, kernel, state, target, pattern)?;
-    Ok(carry_out(prepared, kernel, state, target, pattern))
+    let prepared = prepare(alloc, kernel, state, target, section)?;
+    Ok(carry_out(prepared, kernel, state, target, section))
 }
 
 /// All that carrying a target out needs beside a kernel with room for as many calls as the plan's longest path has steps:
@@ -111,14 +112,14 @@ fn prepare(
     kernel: &mut Kernel,
     state: &Record,
     target: &Target,
-    pattern: &Pattern,
+    section: &Section,
 ) -> Result<Prepared, EnactRefusal>
     requires { IsTarget target.now }
     ensures ready { IfOk result (λ p. IsReady kernel.new state.now target.now p.plan p.log) }
     ensures table { OnOk result (kernel.new.table ≡ kernel.old.table) }
-    ensures spared { OnOk result (refusal_of state.now target.now (moment_at pattern.now) kernel.old.table ≡ None) }
+    ensures spared { OnOk result (refusal_of state.now target.now (moment_at section.now.pattern) kernel.old.table ≡ None) }
     ensures disagrees { IsErrOf result EnactRefusal.RecordDisagrees ↔ (Agrees kernel.old.table state.now → ⊥) }
-    ensures refused { IfErr result (λ why. (why ≡ EnactRefusal.Memory) ⊎ IsRefused kernel.old.table state.now target.now (moment_at pattern.now) why) }
+    ensures refused { IfErr result (λ why. (why ≡ EnactRefusal.Memory) ⊎ IsRefused kernel.old.table state.now target.now (moment_at section.now.pattern) why) }
     ensures memory { IsErrOf result EnactRefusal.Memory → IsPlannable kernel.old.table state.now target.now }
     ensures err { OnErr result (kernel.new ≡ kernel.old) }
 {
@@ -126,7 +127,7 @@ fn prepare(
         return Err(EnactRefusal::RecordDisagrees);
     }
     let plan = plan_of(alloc, state, target)?;
-    spare(alloc, kernel, state, target, pattern, &plan)?;
+    spare(alloc, kernel, state, target, section, &plan)?;
     let log = Transcript::with_room(alloc, plan.longest())?;
     reserve(kernel, plan.longest())?;
     Ok(Prepared { plan, log })
@@ -136,8 +137,8 @@ fn prepare(
 pub fn plan_of(alloc: Global, state: &Record, target: &Target) -> Result<Plan, EnactRefusal>
     requires { IsTarget target.now }
     ensures planned { IfOk result (λ _. HasPlan state.now target.now) }
-    ensures tree { IfOk result (λ plan. tree_of plan ≡ plan_tree state.now target.now) }
-    ensures longest { IfOk result (λ plan. length_of plan ≡ height (tree_of plan)) }
+    ensures tree { IfOk result (λ plan. (turns : List Turn) → tree_under plan turns ≡ plan_tree state.now target.now) }
+    ensures longest { IfOk result (λ plan. length_of plan ≡ height (plan_tree state.now target.now)) }
     ensures note { IfOk result (λ plan. note_of plan ≡ state.now.note) }
     ensures sides { IfOk result (λ plan. sides_told plan ≡ sides_of state.now target.now) }
     ensures text { IfOk result (λ plan. text_of plan ≡ text_handed state.now target.now) }

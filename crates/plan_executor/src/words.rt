@@ -3,31 +3,31 @@ ghost use Rattle.std.specs.Prelude.{◌≡◌, ◌+◌, ◌<◌, ◌++◌, ◌�
 ghost use Rattle.std.specs.Option.{option_copied};
 ghost use Rattle.word_runner.specs.Words.{AreDone, WantsMemory};
 ghost use Rattle.word_runner.specs.declared.block.Block.{Block as Done};
-ghost use Rattle.plan_executor.specs.Words.{pattern_at, EnactsAt, DeclinesAt, WantsMemoryFor, IsTrueOf};
+ghost use Rattle.plan_executor.specs.Words.{quiet_section, section_at, EnactsAt, DeclinesAt, WantsMemoryFor, IsTrueOf};
 
 use crate::enact;
 use control_words::Word;
-use kernel_model::{Kernel, Pattern};
+use kernel_model::{Kernel, Section};
 use service_state::Record;
 use std::alloc::{AllocError, Global};
 use vocabulary::{Settings, Target};
 use word_runner::{Block, Enacted, Enactor, Standing, TargetRefusal};
 
-/// What carries targets out on the modelled kernel: that of the i-th word under the i-th pattern, and
-/// under a quiet one where there is none.
+/// What carries targets out on the modelled kernel: that of the i-th word in the i-th section, and
+/// in a quiet one where there is none.
 #[derive(Clone, Copy)]
 struct OnKernel<'a> {
-    patterns: &'a [Pattern],
-    quiet: &'a Pattern,
-    ghost is_quiet: { quiet.now ≡ [] },
+    sections: &'a [Section],
+    quiet: &'a Section,
+    ghost is_quiet: { quiet.now ≡ quiet_section },
 }
 
 impl Enactor for OnKernel<'_> {
     type World = Kernel;
 
-    ghost enacts = { λ it. EnactsAt it.patterns.now };
+    ghost enacts = { λ it. EnactsAt it.sections.now };
 
-    ghost declines = { λ it. DeclinesAt it.patterns.now };
+    ghost declines = { λ it. DeclinesAt it.sections.now };
 
     ghost wants_memory = { λ _. WantsMemoryFor };
 
@@ -39,24 +39,24 @@ impl Enactor for OnKernel<'_> {
         state: &Record,
         target: &Target,
     ) -> Result<Enacted, TargetRefusal> {
-        let pattern = pattern_at(self.patterns, self.quiet, place);
-        match enact(alloc, world, state, target, pattern) {
+        let section = section_at(self.sections, self.quiet, place);
+        match enact(alloc, world, state, target, section) {
             Ok(enacted) => Ok(enacted),
             Err(refusal) => Err(TargetRefusal::from(refusal)),
         }
     }
 }
 
-/// The pattern at a place, and the quiet one where there is none.
-fn pattern_at<'a>(patterns: &'a [Pattern], quiet: &'a Pattern, place: usize) -> &'a Pattern
-    requires { quiet.now ≡ [] }
-    ensures { result.now ≡ pattern_at patterns.now place }
+/// The section at a place, and the quiet one where there is none.
+fn section_at<'a>(sections: &'a [Section], quiet: &'a Section, place: usize) -> &'a Section
+    requires { quiet.now ≡ quiet_section }
+    ensures { result.now ≡ section_at sections.now place }
 {
-    patterns.get(place).unwrap_or(quiet)
+    sections.get(place).unwrap_or(quiet)
 }
 
-/// Carries control words out one after another on the modelled kernel, the i-th under the i-th
-/// pattern, and under a quiet one where there is none. `settings` are those of a new configuration.
+/// Carries control words out one after another on the modelled kernel, the i-th in the i-th
+/// section, and in a quiet one where there is none. `settings` are those of a new configuration.
 ///
 /// Each word puts its block behind `blocks`. A refused word prints its code and changes nothing;
 /// once there is no record, each is refused as V1. After a run the record is the one that the
@@ -68,13 +68,13 @@ pub fn run_words(
     alloc: Global,
     standing: &mut Standing<Kernel>,
     words: &[Word],
-    patterns: &[Pattern],
+    sections: &[Section],
     settings: Option<&Settings>,
     blocks: &mut Vec<Block>,
 ) -> Result<(), AllocError>
     ensures done { (done : List Done)
         × (blocks.new.items ≡ blocks.old.items ++ done)
-        × AreDone (EnactsAt patterns.now) (DeclinesAt patterns.now) (option_copied settings.entry) words.now 0 standing.old done standing.new }
+        × AreDone (EnactsAt sections.now) (DeclinesAt sections.now) (option_copied settings.entry) words.now 0 standing.old done standing.new }
     ensures all { OnOk result (length blocks.new.items ≡ length blocks.old.items + length words.now) }
     ensures due { OnErr result ((n : ℕ)
         × (length blocks.new.items ≡ length blocks.old.items + n)
@@ -82,9 +82,9 @@ pub fn run_words(
         ⊎ WantsMemory WantsMemoryFor (option_copied settings.entry) (slice_get words.now n) n standing.new)) }
     ensures agrees { IsTrueOf standing.old.world.table standing.old.record → IsTrueOf standing.new.world.table standing.new.record }
 {
-    let quiet = Pattern::new(alloc);
+    let quiet = Section::new(alloc);
     let enactor = OnKernel {
-        patterns,
+        sections,
         quiet: &quiet,
     };
     word_runner::run_words(alloc, &enactor, standing, words, settings, blocks)

@@ -3,10 +3,13 @@ use Rattle.std.specs.Prelude.{ℕ, ◌+◌, ◌==◌, Bool, true, false, ◌||�
 use Rattle.std.specs.Fmt.{decimal}
 use Rattle.vocabulary.specs.declared.plans.PidNote.{PidNote}
 use Rattle.vocabulary.specs.declared.calls.Reply.{Reply}
+use Rattle.vocabulary.specs.declared.plans.End.TheVariants.{JoinReady, JoinBack}
+use Rattle.plan_steps.specs.declared.parts.Parts.{Parts}
+use Rattle.plan_steps.specs.declared.step.Next.TheVariants.{Both}
 use Rattle.plan_steps.specs.declared.step.PlanEdge.{PlanEdge}
 use Rattle.plan_steps.specs.declared.step.Step.{Step}
 use Rattle.call_text.specs.CallText.{order_line}
-use Rattle.call_text.specs.Words.{note_text}
+use Rattle.call_text.specs.Words.{end_text, note_text}
 use Rattle.plan_text.specs.PlanText.{replies_of, goes, reply_words, place_text, edge_text, texts_of, set_part}
 use Rattle.plan_text.specs.declared.edges.EdgeForm.{EdgeForm}
 use Rattle.plan_text.specs.declared.edges.EdgeForm.TheVariants.{Line, Arrow}
@@ -77,7 +80,27 @@ abbrev pub drawn_steps : ℕ → List Step → List ℕ
 drawn_steps n [] = []
 drawn_steps n (s ∷ steps) = drawn_step n s ++ drawn_steps (n + 1) steps
 
--- a plan by its numbered steps
-abbrev pub graph_text : List Step → List ℕ
-graph_text steps =
-    codes "digraph plan {\n  node [fontname=monospace];\n  edge [fontname=monospace];\n" ++ drawn_steps 1 steps ++ codes "}\n"
+---- Two parts
+
+-- from a mark to a step
+abbrev pub mark_text : List ℕ → ℕ → List ℕ
+mark_text mark n = codes "  \"" ++ mark ++ codes "\" -> \"" ++ decimal n ++ codes "\";\n"
+
+-- from the place of both to the first step of each
+abbrev pub ways_in : Parts → List ℕ
+ways_in p = mark_text (place_text (Both p.new p.old)) p.new.0 ++ mark_text (place_text (Both p.new p.old)) p.old.0
+
+-- from the end of the new master's part to where the plan goes on
+abbrev pub ways_on : Parts → List ℕ
+ways_on p = mark_text (end_text JoinReady) p.ready.0 ++ mark_text (end_text JoinBack) p.back.0
+
+abbrev pub drawn_parts : Option Parts → List ℕ
+drawn_parts None = []
+drawn_parts (Some p) = ways_in p ++ ways_on p
+
+---- Plans
+
+-- a plan by its numbered steps and its parts, where it has any
+abbrev pub graph_text : List Step → Option Parts → List ℕ
+graph_text steps parts =
+    codes "digraph plan {\n  node [fontname=monospace];\n  edge [fontname=monospace];\n" ++ drawn_steps 1 steps ++ drawn_parts parts ++ codes "}\n"

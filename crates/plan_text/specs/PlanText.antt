@@ -10,6 +10,7 @@ use Rattle.vocabulary.specs.declared.plans.PidNote.{PidNote}
 use Rattle.vocabulary.specs.declared.plans.Order.{Order}
 use Rattle.vocabulary.specs.declared.plans.Order.TheVariants.{Make}
 use Rattle.definitions.specs.Tree.{order_replies}
+use Rattle.plan_steps.specs.declared.parts.Parts.{Parts}
 use Rattle.plan_steps.specs.declared.step.Next.{Next}
 use Rattle.plan_steps.specs.declared.step.Next.TheVariants.{To, Over, Both}
 use Rattle.plan_steps.specs.declared.step.PlanEdge.{PlanEdge}
@@ -119,6 +120,19 @@ abbrev pub steps_text : ℕ → List Step → List ℕ
 steps_text n [] = []
 steps_text n (s ∷ steps) = step_text n s ++ steps_text (n + 1) steps
 
--- a plan by the number of steps on its longest path and its numbered steps
-abbrev pub plan_text : ℕ → List Step → List ℕ
-plan_text longest steps = codes "plan steps " ++ decimal (length steps) ++ codes " longest " ++ decimal longest ++ codes "\n" ++ steps_text 1 steps
+---- Two parts
+
+-- where the plan goes on when both of its parts have ended
+abbrev pub joined_text : ℕ → ℕ → List ℕ
+joined_text ready back = codes "join ready " ++ decimal ready ++ codes " " ++ codes "back " ++ decimal back ++ codes "\n"
+
+abbrev pub join_text : Option Parts → List ℕ
+join_text None = []
+join_text (Some p) = joined_text p.ready.0 p.back.0
+
+---- Plans
+
+-- a plan by the number of steps on its longest path, its numbered steps, and its parts, where it has any
+abbrev pub plan_text : ℕ → List Step → Option Parts → List ℕ
+plan_text longest steps parts =
+    codes "plan steps " ++ decimal (length steps) ++ codes " longest " ++ decimal longest ++ codes "\n" ++ steps_text 1 steps ++ join_text parts

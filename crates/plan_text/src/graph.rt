@@ -3,16 +3,18 @@ ghost use Rattle.std.specs.Prelude.{◌≡◌, ◌++◌, IfOk};
 ghost use Rattle.std.specs.Fmt.{decimal};
 ghost use Rattle.rollback_plan.specs.Plans.{parts_of, steps_of};
 ghost use Rattle.plan_steps.specs.Woven.{IsNumberedWith};
-ghost use Rattle.plan_text.specs.Graph.{quoted, is_plain, note_line, style_part, way_text, arrow_text, opening, box_text, step_line, drawn_step, drawn_steps, graph_text};
+ghost use Rattle.plan_text.specs.PlanText.{place_text};
+ghost use Rattle.plan_text.specs.Graph.{quoted, is_plain, note_line, style_part, way_text, arrow_text, opening, box_text, step_line, drawn_step, drawn_steps, mark_text, ways_in, ways_on, drawn_parts, graph_text};
 
 use crate::edges::{EdgeForm, goes, write_edges, write_place, write_replies};
 use crate::plans::write_wanted;
 use call_replies::replies_of;
 use call_text::{note_text, write_order};
 use plain_text::write_number;
-use rollback_plan::{Plan, PlanEdge, Step};
+use plan_steps::Parts;
+use rollback_plan::{Next, Place, Plan, PlanEdge, Step};
 use std::alloc::{AllocError, Global};
-use vocabulary::{PidNote, Reply};
+use vocabulary::{End, PidNote, Reply};
 
 /// A text within quotes.
 fn write_quoted(out: &mut Vec<u8>, text: &[u8]) -> Result<(), AllocError>
@@ -88,7 +90,7 @@ pub(crate) fn write_arrow(
 }
 
 /// A number between two texts.
-fn write_between(
+pub(crate) fn write_between(
     out: &mut Vec<u8>,
     before: &[u8],
     number: u64,
@@ -152,19 +154,58 @@ fn draw_steps(alloc: Global, out: &mut Vec<u8>, steps: &[Step]) -> Result<(), Al
     Ok(())
 }
 
+/// An arrow from a mark to a step.
+fn write_mark(out: &mut Vec<u8>, mark: Next, place: Place) -> Result<(), AllocError>
+    ensures { IfOk result (λ _. out.new.items ≡ out.old.items ++ mark_text (place_text mark) place.0) }
+{
+    out.extend_from_slice(b"  \"")?;
+    write_place(out, mark)?;
+    write_between(out, b"\" -> \"", u64::from(place.0), b"\";\n")
+}
+
+/// The arrows into both parts, and from the end of the new master's to where the plan goes on.
+fn draw_parts(out: &mut Vec<u8>, parts: Option<Parts>) -> Result<(), AllocError>
+    ensures { IfOk result (λ _. out.new.items ≡ out.old.items ++ drawn_parts parts) }
+{
+    match parts {
+        Some(parts) => {
+            draw_ways_in(out, &parts)?;
+            draw_ways_on(out, &parts)
+        }
+        None => Ok(()),
+    }
+}
+
+fn draw_ways_in(out: &mut Vec<u8>, parts: &Parts) -> Result<(), AllocError>
+    ensures { IfOk result (λ _. out.new.items ≡ out.old.items ++ ways_in parts.now) }
+{
+    let both = Next::Both(parts.new, parts.old);
+    write_mark(out, both, parts.new)?;
+    write_mark(out, both, parts.old)
+}
+
+fn draw_ways_on(out: &mut Vec<u8>, parts: &Parts) -> Result<(), AllocError>
+    ensures { IfOk result (λ _. out.new.items ≡ out.old.items ++ ways_on parts.now) }
+{
+    write_mark(out, Next::Over(End::JoinReady), parts.ready)?;
+    write_mark(out, Next::Over(End::JoinBack), parts.back)
+}
+
 /// The picture of a plan in the language of Graphviz (`dot`): a box for each step with its number
 /// and its call, and an arrow for each of its edges, with the answers that go its way, and
-/// `pid NOTE` where it sets the pid note. An arrow leads to a step or to the end of the plan. The
-/// plain answers' arrows are bold, and are drawn straight. The only refusal is want of memory.
+/// `pid NOTE` where it sets the pid note. An arrow leads to a step, to the first steps of both
+/// parts, or to an end. The end of the new master's part has an arrow to where the plan goes on.
+/// The plain answers' arrows are bold, and are drawn straight. The only refusal is out of memory.
 pub fn write_graph(alloc: Global, plan: &Plan) -> Result<Vec<u8>, AllocError>
     ensures numbered { ∥ IsNumberedWith (steps_of plan.now) (parts_of plan.now) ∥₁ }
-    ensures text { IfOk result (λ out. out.items ≡ graph_text (steps_of plan.now)) }
+    ensures text { IfOk result (λ out. out.items ≡ graph_text (steps_of plan.now) (parts_of plan.now)) }
 {
     let mut out = Vec::new(alloc);
     out.extend_from_slice(
         b"digraph plan {\n  node [fontname=monospace];\n  edge [fontname=monospace];\n",
     )?;
     draw_steps(alloc, &mut out, plan.steps())?;
+    draw_parts(&mut out, plan.parts())?;
     out.extend_from_slice(b"}\n")?;
     Ok(out)
 }

@@ -8,7 +8,7 @@ use Rattle.plan_walk.specs.declared.walk.Due.{Due}
 use Rattle.plan_walk.specs.declared.walk.Walk.{Walk}
 use Rattle.plan_walk.specs.Rests.{left_in}
 use Rattle.plan_walk.specs.Walk.{trail_of, trail_under, AsksFor, IsDue}
-use Rattle.plan_walk.proofs.Turns.{turn_read}
+use Rattle.plan_walk.proofs.TurnsUsed.{turn_read}
 
 -- no turns are left of none
 pub none_left : (rest : Option Cursor) → left_in rest [] ≡ []

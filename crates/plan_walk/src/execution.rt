@@ -7,7 +7,7 @@ ghost use Rattle.rollback_plan.specs.Plans.{tree_under, length_of, note_of, side
 ghost use Rattle.plan_walk.specs.Walk.{left_by};
 
 use crate::walk::Walk;
-use crate::{Calls, Transcript};
+use crate::{Calls, Transcript, Turns};
 use rollback_plan::Plan;
 use vocabulary::{Entry, Report, Turn};
 
@@ -17,7 +17,7 @@ use vocabulary::{Entry, Report, Turn};
 /// It takes no memory of its own, and makes at most as many calls as the plan's longest path
 /// has steps. The entries are a whole path of the plan and the report is theirs; or the plan has
 /// no way on where a master is gone, and the report says Lost.
-pub fn execute<C: Calls>(plan: &Plan, calls: &mut C, turns: &[Turn], log: &mut Transcript) -> Report
+pub fn execute<C: Calls>(plan: &Plan, calls: &mut C, turns: &Turns, log: &mut Transcript) -> Report
     requires calls { length_of plan.now ≤ C.room calls.old }
     requires room { length_of plan.now ≤ log.old.room }
     requires empty { log.old.entries ≡ [] }
@@ -44,10 +44,10 @@ pub fn execute<C: Calls>(plan: &Plan, calls: &mut C, turns: &[Turn], log: &mut T
 }
 
 /// Whose turn is next where so many are used: after the end of the list, the new master's.
-fn turn_at(turns: &[Turn], used: usize) -> Turn
+fn turn_at(turns: &Turns, used: usize) -> Turn
     ensures { result ≡ turn_of (drop used turns.now) }
 {
-    turns.get(used).copied().unwrap_or(Turn::New)
+    turns.get(used).unwrap_or(Turn::New)
 }
 
 /// How many turns are used after a call, of which so many were used before it.

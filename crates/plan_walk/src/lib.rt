@@ -10,4 +10,5 @@ mod walk;
 pub use call_log::Transcript;
 pub use calls::Calls;
 pub use execution::execute;
+pub use plan_turns::Turns;
 pub use walk::{Due, Walk};

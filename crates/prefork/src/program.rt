@@ -1,6 +1,6 @@
 //! The program over any reader and any two writers.
 ghost use Rattle.std.specs.Prelude.{◌≡◌, ◌↔◌, map, Some, IsTrue, IfOk, IfErr, IfSome, OnOk, Ok};
-ghost use Rattle.kernel_model.specs.Pattern.{moment_at};
+ghost use Rattle.pattern_text.specs.Courses.{course_of};
 ghost use Rattle.pattern_text.specs.PatternsText.{patterns_of};
 ghost use Rattle.transcript.specs.Reading.{blocks_of};
 ghost use Rattle.std.specs.Io.KnownBytes.{Appends};
@@ -19,7 +19,7 @@ use explanations::{
 use explorer::Findings;
 use faults::Fault;
 use json_text::{blocks_json, exploration_json, patterns_json, plan_json};
-use kernel_model::Pattern;
+use kernel_model::Section;
 use master_on_kernel::{
     Demands, Form, Start, certify_all, line_instead, look_ahead, rehearse, show_state, summary,
 };
@@ -197,8 +197,8 @@ fn ask_for<E: Write>(around: &Surroundings, texts: &str, errors: &mut E) {
     }
 }
 
-/// `enact`: carries the words out on a modelled kernel under the patterns of standard input, the
-/// i-th pattern with the i-th word, and writes a block for each, and the state last where it is
+/// `enact`: carries the words out on a modelled kernel in the sections of standard input, the
+/// i-th word in the i-th section, and writes a block for each, and the state last where it is
 /// asked for. Where memory is refused, the blocks of the words before are written, as JSON too; where there is none left
 /// to write them as JSON, nothing is.
 #[inline(never)]
@@ -214,9 +214,9 @@ fn enact<R: AllocGlobal + Files, I: Read, O: Write, E: Write>(
     let words = read_words(alloc, &options.words)?;
     let mut rehearsal = begin(rt, &options.start, options.held)?;
     ask_for(around, "patterns, lines such as '3 fail again'", errors);
-    let patterns = read_patterns(alloc, &mut *input.reader, &mut input.given)?;
+    let sections = read_patterns(alloc, &mut *input.reader, &mut input.given)?;
     let mut text = Vec::new(alloc);
-    let done = rehearse(alloc, &mut rehearsal, &words, &patterns, &mut text);
+    let done = rehearse(alloc, &mut rehearsal, &words, &sections, &mut text);
     let shown = match done {
         Ok(_) => show_state(&rehearsal, options.state, &mut text),
         Err(_) => Ok(()),
@@ -391,20 +391,20 @@ fn read_all<I: Read>(alloc: Global, input: &mut I) -> Result<Vec<u8>, Fault>
     Ok(text)
 }
 
-/// The patterns of standard input, one for each word from the first on.
+/// The sections of standard input, one for each word from the first on.
 fn read_patterns<I: Read>(
     alloc: Global,
     input: &mut I,
     given: &mut Vec<u8>,
-) -> Result<Vec<Pattern>, Fault>
-    ensures ok { IfOk result (λ patterns. IfSome (I.remaining input.old)
-        (λ text. patterns_of text ≡ Ok (map moment_at patterns.items))) }
+) -> Result<Vec<Section>, Fault>
+    ensures ok { IfOk result (λ sections. IfSome (I.remaining input.old)
+        (λ text. patterns_of text ≡ Ok (map course_of sections.items))) }
     ensures err { IfErr result (IsOfPatterns (I.remaining input.old)) }
 {
     let text = read_all(alloc, input)?;
-    let patterns = pattern_text::read_patterns(alloc, text.as_slice());
+    let sections = pattern_text::read_patterns(alloc, text.as_slice());
     *given = text;
-    Ok(patterns?)
+    Ok(sections?)
 }
 
 /// The blocks of standard input.

@@ -1,12 +1,12 @@
 //! The plan that replaces workers that are lost or overdue.
-ghost use Rattle.std.specs.Prelude.{◌≡◌, ◌≤◌, ◌<◌, ◌+◌, ◌*◌, [], length, IfOk, IsErrOf, IsOkUnless, OnOk};
+ghost use Rattle.std.specs.Prelude.{◌≡◌, ◌≤◌, ◌<◌, ◌+◌, ◌*◌, [], None, length, IfOk, IsErrOf, IsOkUnless, OnOk};
 ghost use Rattle.std.specs.List.{AllByRecursion};
 ghost use Rattle.definitions.specs.Plans.{mend_tree};
 ghost use Rattle.rollback_plan.specs.declared.draft.DraftRefusal.TheVariants.{TooLarge};
 ghost use Rattle.rollback_plan.specs.declared.draft.TheConstants.{MOST_STEPS};
 ghost use Rattle.rollback_plan.specs.Drafts.{trees_of, IsMade};
 ghost use Rattle.definitions.specs.Tree.{height};
-ghost use Rattle.rollback_plan.specs.Plans.{tree_of, length_of, note_of, sides_told, text_of, trees_in};
+ghost use Rattle.rollback_plan.specs.Plans.{tree_of, length_of, parts_of, note_of, sides_told, text_of, trees_in};
 ghost use Rattle.reload_planner.specs.Changes.{repair_tree};
 
 use crate::{PlanRefusal, Scene};
@@ -51,6 +51,7 @@ pub fn plan_mend(
     requires rounds { scene.now.rounds ≤ 8 }
     ensures tree { IfOk result (λ plan. tree_of plan ≡ mend_tree scene.now.by scene.now.crew scene.now.ready scene.now.rounds overdue.now wanted) }
     ensures longest { IfOk result (λ plan. length_of plan ≡ height (tree_of plan)) }
+    ensures alone { IfOk result (λ plan. parts_of plan ≡ None) }
     ensures note { IfOk result (λ plan. note_of plan ≡ note) }
     ensures sides { IfOk result (λ plan. sides_told plan ≡ scene.now.sides) }
     ensures text { IfOk result (λ plan. text_of plan ≡ []) }

@@ -1,10 +1,10 @@
 //! The plan of a target.
-ghost use Rattle.std.specs.Prelude.{◌≡◌, ◌≤◌, ◌↔◌, [], Some, length, IfOk, IsErrOf, IsTrue};
+ghost use Rattle.std.specs.Prelude.{◌≡◌, ◌≤◌, ◌↔◌, [], None, Some, length, IfOk, IsErrOf, IsTrue};
 ghost use Rattle.definitions.specs.Target.{IsTarget, sides_of};
 ghost use Rattle.definitions.specs.After.{lacks_generation};
 ghost use Rattle.definitions.specs.Plans.{planned};
 ghost use Rattle.definitions.specs.Tree.{height};
-ghost use Rattle.rollback_plan.specs.Plans.{tree_of, length_of, note_of, sides_told, text_of, trees_in};
+ghost use Rattle.rollback_plan.specs.Plans.{tree_of, length_of, parts_of, note_of, sides_told, text_of, trees_in};
 ghost use Rattle.reload_planner.specs.Planning.{most_steps, is_apart};
 
 use crate::{PlanRefusal, Scene, plan_mend, plan_reload, plan_reopen, plan_stop, plan_workers};
@@ -24,6 +24,7 @@ pub fn plan(alloc: Global, state: &Record, target: &Target) -> Result<Plan, Plan
     requires { IsTarget target.now }
     ensures tree { IfOk result (λ plan. planned state.now target.now ≡ Some (tree_of plan)) }
     ensures longest { IfOk result (λ plan. length_of plan ≡ height (tree_of plan)) }
+    ensures alone { IfOk result (λ plan. parts_of plan ≡ None) }
     ensures note { IfOk result (λ plan. note_of plan ≡ state.now.note) }
     ensures sides { IfOk result (λ plan. sides_told plan ≡ sides_of state.now target.now) }
     ensures text { IfOk result (λ plan. text_of plan ≡ []) }

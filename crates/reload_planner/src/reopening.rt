@@ -1,12 +1,12 @@
 //! The plan that has each worker open its logs anew.
-ghost use Rattle.std.specs.Prelude.{◌≡◌, ◌≤◌, ◌<◌, ◌+◌, ◌*◌, [], length, IfOk, IsErrOf, IsOkUnless, OnOk};
+ghost use Rattle.std.specs.Prelude.{◌≡◌, ◌≤◌, ◌<◌, ◌+◌, ◌*◌, [], None, length, IfOk, IsErrOf, IsOkUnless, OnOk};
 ghost use Rattle.definitions.specs.Plans.{reopen_tree, settle, usr1s};
 ghost use Rattle.vocabulary.specs.declared.plans.Side.TheVariants as side;
 ghost use Rattle.rollback_plan.specs.declared.draft.DraftRefusal.TheVariants.{TooLarge};
 ghost use Rattle.rollback_plan.specs.declared.draft.TheConstants.{MOST_STEPS};
 ghost use Rattle.rollback_plan.specs.Drafts.{trees_of, IsMade};
 ghost use Rattle.definitions.specs.Tree.{height};
-ghost use Rattle.rollback_plan.specs.Plans.{tree_of, length_of, note_of, sides_told, text_of, trees_in};
+ghost use Rattle.rollback_plan.specs.Plans.{tree_of, length_of, parts_of, note_of, sides_told, text_of, trees_in};
 
 use crate::{PlanRefusal, Scene};
 use plan_pieces::{add_each, listed};
@@ -32,6 +32,7 @@ pub fn plan_reopen(alloc: Global, scene: &Scene, note: PidNote) -> Result<Plan, 
     requires rounds { scene.now.rounds ≤ 8 }
     ensures tree { IfOk result (λ plan. tree_of plan ≡ reopen_tree scene.now.by scene.now.crew scene.now.ready scene.now.rounds) }
     ensures longest { IfOk result (λ plan. length_of plan ≡ height (tree_of plan)) }
+    ensures alone { IfOk result (λ plan. parts_of plan ≡ None) }
     ensures note { IfOk result (λ plan. note_of plan ≡ note) }
     ensures sides { IfOk result (λ plan. sides_told plan ≡ scene.now.sides) }
     ensures text { IfOk result (λ plan. text_of plan ≡ []) }

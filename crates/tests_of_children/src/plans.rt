@@ -5,7 +5,7 @@ use crate::recorded::{FamilyCall, Recorded};
 use crate::setup::ask;
 use child_edge::Edge;
 use listener_set::Numbers;
-use plan_walk::{Calls, Transcript, execute};
+use plan_walk::{Calls, Transcript, Turns, execute};
 use service_state::Record;
 use std::alloc::Global;
 use std::test::Fail;
@@ -29,7 +29,7 @@ fn carry_out(
     if edge.room() < longest {
         return Ok((Outcome::Lost, None));
     }
-    let report = execute(&plan, edge, &[], &mut log);
+    let report = execute(&plan, edge, &Turns::new(alloc), &mut log);
     Ok((report.outcome, known.after(target, &report, known.pid)))
 }
 

@@ -4,7 +4,7 @@ ghost use Rattle.std.specs.Prelude.{◌≤◌};
 use crate::kernels::with_two_workers;
 use certifier::{BlockMismatch, Mismatch, certify, certify_blocks};
 use control_words::Word;
-use kernel_model::{Kernel, Pattern};
+use kernel_model::{Kernel, Section};
 use listener_set::Numbers;
 use plan_executor::{enact, run_words};
 use service_state::Record;
@@ -30,7 +30,7 @@ fn known(pid: u32) -> Record
 fn a_certificate_wants_the_masters_own_number(rt: HostRuntime) -> Result<(), Fail> {
     let alloc = rt.alloc();
     let target = Target::Workers(3);
-    let quiet = Pattern::new(alloc);
+    let quiet = Section::new(alloc);
     let done = enact(alloc, &mut booted(alloc)?, &known(100), &target, &quiet)?;
     let kernel = booted(alloc)?;
     let own = certify(
@@ -41,7 +41,7 @@ fn a_certificate_wants_the_masters_own_number(rt: HostRuntime) -> Result<(), Fai
         &done.log,
         &done.report,
     )?;
-    assert!(rt; own.is_empty());
+    assert!(rt; own.pattern.is_empty() && own.turns.is_empty());
     let other = certify(
         alloc,
         &kernel,
@@ -77,8 +77,8 @@ fn grown(alloc: Global) -> Result<Vec<Block>, Fail> {
     Ok(blocks)
 }
 
-/// The patterns of blocks, from the start on.
-fn explained(alloc: Global, blocks: &[Block]) -> Result<Result<Vec<Pattern>, BlockMismatch>, Fail> {
+/// The sections that explain blocks, from the start on.
+fn explained(alloc: Global, blocks: &[Block]) -> Result<Result<Vec<Section>, BlockMismatch>, Fail> {
     Ok(certify_blocks(alloc, &mut standing(alloc)?, None, blocks))
 }
 
@@ -86,11 +86,11 @@ fn explained(alloc: Global, blocks: &[Block]) -> Result<Result<Vec<Pattern>, Blo
 fn each_block_is_compared_from_where_the_last_one_led(rt: HostRuntime) -> Result<(), Fail> {
     let alloc = rt.alloc();
     let blocks = grown(alloc)?;
-    let Ok(patterns) = explained(alloc, &blocks)? else {
+    let Ok(sections) = explained(alloc, &blocks)? else {
         return Err(Fail::from("own blocks are refused"));
     };
-    assert_eq!(rt; patterns.len(), 2);
-    assert!(rt; patterns.iter().all(|pattern| pattern.is_empty()));
+    assert_eq!(rt; sections.len(), 2);
+    assert!(rt; sections.iter().all(|section| section.pattern.is_empty()));
     let Some((_, behind)) = blocks.split_first() else {
         return Err(Fail::from("two words have no block"));
     };

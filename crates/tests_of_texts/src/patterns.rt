@@ -1,9 +1,10 @@
-//! Patterns that are made by hand, and the lines of their texts.
-use kernel_pattern::Pattern;
+//! Patterns and turns that are made by hand, and the lines of their texts.
+use kernel_pattern::{Pattern, Section, Turns};
 use listener_set::Generation;
-use pattern_text::PatternLine;
+use pattern_text::{PatternLine, read_patterns, write_patterns};
+use std::alloc::Global;
 use std::test::Fail;
-use vocabulary::{Fate, Name};
+use vocabulary::{Fate, Name, Turn};
 
 const SECOND: Generation = Generation {
     image: 1,
@@ -70,6 +71,83 @@ fn lines_are_read_as_they_are_written(rt: HostRuntime) -> Result<(), Fail> {
         assert!(rt; out.as_slice().starts_with(text.as_bytes()), "{text}");
         assert!(rt; out.as_slice().ends_with(b"\n"), "{text}");
         assert!(rt; PatternLine::read(text.as_bytes()) == Some(line), "{text}");
+    }
+    Ok(())
+}
+
+/// A section with these turns, in which the first call fails.
+fn section_with(alloc: Global, turns: &[Turn]) -> Result<Section, Fail> {
+    let mut section = Section::new(alloc);
+    for turn in turns {
+        section.turns.add(*turn)?;
+    }
+    section.pattern.set_fate(1, Fate::Again)?;
+    Ok(section)
+}
+
+#[test]
+fn turns_are_kept_in_order(rt: HostRuntime) -> Result<(), Fail> {
+    let mut turns = Turns::new(rt.alloc());
+    assert!(rt; turns.is_empty());
+    turns.add(Turn::Old)?;
+    turns.add(Turn::New)?;
+    assert!(rt; !turns.is_empty());
+    assert_eq!(rt; turns.len(), 2);
+    for (place, wanted) in [(0, Some(Turn::Old)), (1, Some(Turn::New)), (2, None)] {
+        assert_eq!(rt; turns.get(place), wanted, "turn {place}");
+    }
+    Ok(())
+}
+
+#[test]
+fn turns_are_the_first_line_of_their_section(rt: HostRuntime) -> Result<(), Fail> {
+    let mut sections = Vec::new(rt.alloc());
+    for turns in [
+        [Turn::New, Turn::Old, Turn::Old].as_slice(),
+        &[],
+        &[Turn::Old],
+    ] {
+        sections.push(section_with(rt.alloc(), turns)?)?;
+    }
+    let text = write_patterns(rt.alloc(), &sections)?;
+    let wanted = "turns noo\n1 fail again\nnext\n1 fail again\nnext\nturns o\n1 fail again\n";
+    assert!(rt; text.as_slice() == wanted.as_bytes());
+    let again = read_patterns(rt.alloc(), &text)?;
+    assert_eq!(rt; again.len(), 3);
+    for (place, section) in again.iter().enumerate() {
+        assert_eq!(rt;
+            section.turns.len(),
+            sections[place].turns.len(),
+            "section {place}"
+        );
+        assert_eq!(rt;
+            section.pattern.moment(1).fate,
+            Some(Fate::Again),
+            "section {place}"
+        );
+    }
+    Ok(())
+}
+
+#[test]
+fn turns_are_refused_elsewhere_and_in_another_form(rt: HostRuntime) -> Result<(), Fail> {
+    for (text, refusal) in [
+        ("turns", "X1 1"),
+        ("turns ", "X1 1"),
+        ("turns nx", "X1 1"),
+        ("turns n o", "X1 1"),
+        ("turns N", "X1 1"),
+        ("turns n ", "X1 1"),
+        ("turns n\nturns o\n", "X2 2"),
+        ("1 fail again\nturns n\n", "X2 2"),
+        ("1 fail again\nturns x\n", "X1 2"),
+        ("next\nturns n\n2 exit m2\nturns o", "X2 4"),
+    ] {
+        let Err(refused) = read_patterns(rt.alloc(), text.as_bytes()) else {
+            return Err(Fail::from("such a text is read"));
+        };
+        let told = format!(in rt.alloc(); "{refused}")?;
+        assert!(rt; told.as_str() == refusal, "{text}");
     }
     Ok(())
 }

@@ -1,11 +1,11 @@
 //! The plan of an upgrade.
-ghost use Rattle.std.specs.Prelude.{◌≡◌, ◌≤◌, ◌↔◌, Some, length, IfOk, IsErrOf, IsOkUnless, IsTrue};
+ghost use Rattle.std.specs.Prelude.{◌≡◌, ◌≤◌, ◌↔◌, None, Some, length, IfOk, IsErrOf, IsOkUnless, IsTrue};
 ghost use Rattle.vocabulary.specs.declared.targets.Target.TheVariants as target;
 ghost use Rattle.definitions.specs.After as after;
 ghost use Rattle.definitions.specs.Target.{sides_of, text_handed, upgrade_generation};
 ghost use Rattle.definitions.specs.Plans.{plan_tree, planned};
 ghost use Rattle.definitions.specs.Tree.{height};
-ghost use Rattle.rollback_plan.specs.Plans.{tree_of, length_of, note_of, sides_told, text_of, trees_in};
+ghost use Rattle.rollback_plan.specs.Plans.{tree_of, length_of, parts_of, note_of, sides_told, text_of, trees_in};
 ghost use Rattle.reload_planner.specs.Planning.{most_steps};
 ghost use Rattle.upgrade_planner.specs.Trees.{asked_for};
 
@@ -68,6 +68,7 @@ fn plan_to(
     requires { generation ≡ upgrade_generation state.now.generation }
     ensures tree { IfOk result (λ plan. tree_of plan ≡ plan_tree state.now (asked_for attended settings.now)) }
     ensures longest { IfOk result (λ plan. length_of plan ≡ height (tree_of plan)) }
+    ensures alone { IfOk result (λ plan. parts_of plan ≡ None) }
     ensures note { IfOk result (λ plan. note_of plan ≡ state.now.note) }
     ensures sides { IfOk result (λ plan. sides_told plan ≡ sides_of state.now (asked_for attended settings.now)) }
     ensures text { IfOk result (λ plan. text_of plan ≡ text_handed state.now (asked_for attended settings.now)) }
@@ -116,6 +117,7 @@ fn plan_next(
 ) -> Result<Plan, PlanRefusal>
     ensures tree { IfOk result (λ plan. planned state.now (asked_for attended settings.now) ≡ Some (tree_of plan)) }
     ensures longest { IfOk result (λ plan. length_of plan ≡ height (tree_of plan)) }
+    ensures alone { IfOk result (λ plan. parts_of plan ≡ None) }
     ensures note { IfOk result (λ plan. note_of plan ≡ state.now.note) }
     ensures sides { IfOk result (λ plan. sides_told plan ≡ sides_of state.now (asked_for attended settings.now)) }
     ensures text { IfOk result (λ plan. text_of plan ≡ text_handed state.now (asked_for attended settings.now)) }
@@ -138,6 +140,7 @@ fn plan_next(
 pub fn plan(alloc: Global, state: &Record, settings: &Settings) -> Result<Plan, PlanRefusal>
     ensures tree { IfOk result (λ plan. planned state.now (target.Upgrade settings.now) ≡ Some (tree_of plan)) }
     ensures longest { IfOk result (λ plan. length_of plan ≡ height (tree_of plan)) }
+    ensures alone { IfOk result (λ plan. parts_of plan ≡ None) }
     ensures note { IfOk result (λ plan. note_of plan ≡ state.now.note) }
     ensures sides { IfOk result (λ plan. sides_told plan ≡ sides_of state.now (target.Upgrade settings.now)) }
     ensures text { IfOk result (λ plan. text_of plan ≡ text_handed state.now (target.Upgrade settings.now)) }
@@ -159,6 +162,7 @@ pub fn plan_attended(
 ) -> Result<Plan, PlanRefusal>
     ensures tree { IfOk result (λ plan. planned state.now (target.Attended settings.now) ≡ Some (tree_of plan)) }
     ensures longest { IfOk result (λ plan. length_of plan ≡ height (tree_of plan)) }
+    ensures alone { IfOk result (λ plan. parts_of plan ≡ None) }
     ensures note { IfOk result (λ plan. note_of plan ≡ state.now.note) }
     ensures sides { IfOk result (λ plan. sides_told plan ≡ sides_of state.now (target.Attended settings.now)) }
     ensures text { IfOk result (λ plan. text_of plan ≡ text_handed state.now (target.Attended settings.now)) }

@@ -46,7 +46,7 @@ returns-in_err-copy-clause-exact c =
     let why = c.in_err-copy.field-0.0 in
     let same : p.0 ≡ mismatch_of why = cc in
     exact-short t r target (IsNoBeginning t r target es) (plain-beginnings t r target es) c.from_residual-in_err-copy.result why (p.1 ∙ ap Err same)
-    (subst (λ n. (why ≡ Memory) ⊎ ((why ≡ NoNumbers) × LacksNumbers t n)) (c.longest.ensures ∙ (c.in_ok-plan.ensures.longest ∙ ap height c.in_ok-plan.ensures.tree)) c.in_err-copy.ensures.refused)
+    (subst (λ n. (why ≡ Memory) ⊎ ((why ≡ NoNumbers) × LacksNumbers t n)) (c.longest.ensures ∙ (c.in_ok-plan.ensures.longest)) c.in_err-copy.ensures.refused)
 
 ---- What begins a run
 
@@ -72,12 +72,12 @@ returns c =
     let es = c.args.log.now.entries in
     let agrees : Agrees t r = c.agrees.ensures.agrees.0 (search rules) in
     let plan = c.in_ok-plan.ensures.planned in
-    let longest : c.longest.result ≡ height (plan_tree r target) = c.longest.ensures ∙ (c.in_ok-plan.ensures.longest ∙ ap height c.in_ok-plan.ensures.tree) in
+    let longest : c.longest.result ≡ height (plan_tree r target) = c.longest.ensures ∙ (c.in_ok-plan.ensures.longest) in
     let ready : IsReady t r target = record { agrees = agrees; has_plan = plan; numbers = subst (λ n. LacksNumbers t n → ⊥) longest c.in_ok-copy.ensures.numbers } in
     let image : c.state.inside.generation.image ≡ r.generation.image = ap (λ (x : Record). x.generation.image) c.state.view_is in
     let same : listed c.heir_of-heir.result ≡ heirs_of r target = c.heir_of-heir.ensures in
     let place : record { trail = begin _ _; table = c.in_ok-copy.copy.table; executing = c.state.inside.generation.image ∷ [] } ≡ begins t r target =
-    λ i. record { trail = begin (c.in_ok-plan.ensures.tree i) (c.in_ok-plan.ensures.note i); table = (c.in_ok-copy.ensures.same i).table; executing = image i ∷ [] } in
+    λ i. record { trail = begin (c.in_ok-plan.ensures.tree [] i) (c.in_ok-plan.ensures.note i); table = (c.in_ok-copy.ensures.same i).table; executing = image i ∷ [] } in
     let all = answered-beginning t r target es ready c.show_all.result
     (subst (λ (X : Type 0). X) (λ i. IfOk c.show_all.result (Shows (c.in_ok-plan.ensures.text i) (same i) (place i) es)) c.show_all.ensures.ok)
     (subst (λ (X : Type 0). X) (λ i. IfErr c.show_all.result (StopsBy (c.in_ok-plan.ensures.text i) (same i) (place i) es)) c.show_all.ensures.err) in

@@ -19,8 +19,8 @@ loop-place-preserved c =
     let b = c.index-blocks-place.result in
     let longer : take (place + 1) blocks ≡ take place blocks ++ b ∷ [] = take_more blocks place b c.loop-place-test.true ∙ ap (λ x. take place blocks ++ x ∷ []) (sym c.index-blocks-place.is) in
     subst (λ (bs : List Block). AreTaken settings bs old c.push_reserved.new.self.items new) (sym longer)
-    (subst (λ ps. AreTaken settings (take place blocks ++ b ∷ []) old ps new) (sym (c.push_reserved.ensures.items ∙ ap (λ ps. ps ++ c.in-Ok.pattern ∷ []) c.make_room.ensures.items))
-    (taken-more settings (take place blocks) old c.loop-place.patterns.items middle b c.in-Ok.pattern new c.loop-place.invariant c.in-Ok.ensures.ok))
+    (subst (λ ps. AreTaken settings (take place blocks ++ b ∷ []) old ps new) (sym (c.push_reserved.ensures.items ∙ ap (λ ps. ps ++ c.in-Ok.section ∷ []) c.make_room.ensures.items))
+    (taken-more settings (take place blocks) old c.loop-place.sections.items middle b c.in-Ok.section new c.loop-place.invariant c.in-Ok.ensures.ok))
 
 pub returns-in_err-make_room-clause-err : goal.returns-in_err-make_room-clause-err
 returns-in_err-make_room-clause-err c =
@@ -35,7 +35,7 @@ returns-in_err-make_room-clause-err c =
     let same : p.0 ≡ c.in_err-make_room.field-0.0 = cc in
     subst (λ x. IfErr x (λ (e : BlockMismatch). StopsAtBlock settings blocks old e.number e.why)) (sym p.1)
     (subst (λ (e : BlockMismatch). StopsAtBlock settings blocks old e.number e.why) (sym (same ∙ c.in_err-make_room.ensures.err))
-    (stops-there settings blocks old place b c.loop-place.patterns.items middle Memory c.loop-place-test.true longer c.loop-place.invariant (inl refl)))
+    (stops-there settings blocks old place b c.loop-place.sections.items middle Memory c.loop-place-test.true longer c.loop-place.invariant (inl refl)))
 
 pub returns-in_err-make_room-clause-stands : goal.returns-in_err-make_room-clause-stands
 returns-in_err-make_room-clause-stands c =
@@ -47,7 +47,7 @@ returns-in_err-make_room-clause-stands c =
     let same : p.0 ≡ c.in_err-make_room.field-0.0 = cc in
     subst (λ x. IfErr x (λ (e : BlockMismatch). LeadsUpTo settings blocks old e.number middle)) (sym p.1)
     (subst (λ (e : BlockMismatch). LeadsUpTo settings blocks old e.number middle) (sym (same ∙ c.in_err-make_room.ensures.err))
-    (leads-there settings blocks old c.loop-place.place c.loop-place.patterns.items middle middle c.loop-place.invariant refl))
+    (leads-there settings blocks old c.loop-place.place c.loop-place.sections.items middle middle c.loop-place.invariant refl))
 
 pub returns-in-Err-clause-err : goal.returns-in-Err-clause-err
 returns-in-Err-clause-err c =
@@ -58,7 +58,7 @@ returns-in-Err-clause-err c =
     let place = c.loop-place.place in
     let b = c.index-blocks-place.result in
     let longer : take (place + 1) blocks ≡ take place blocks ++ b ∷ [] = take_more blocks place b c.loop-place-test.true ∙ ap (λ x. take place blocks ++ x ∷ []) (sym c.index-blocks-place.is) in
-    stops-there settings blocks old place b c.loop-place.patterns.items middle c.in-Err.why c.loop-place-test.true longer c.loop-place.invariant (fault-by settings b middle c.in-Err.why c.in-Err.ensures.exact)
+    stops-there settings blocks old place b c.loop-place.sections.items middle c.in-Err.why c.loop-place-test.true longer c.loop-place.invariant (fault-by settings b middle c.in-Err.why c.in-Err.ensures.exact)
 
 pub returns-in-Err-clause-stands : goal.returns-in-Err-clause-stands
 returns-in-Err-clause-stands c =
@@ -66,4 +66,4 @@ returns-in-Err-clause-stands c =
     let old = c.args.standing.now in
     let middle = c.loop-place.standing in
     let new = c.certify_block.new.standing in
-    leads-there settings c.args.blocks.now old c.loop-place.place c.loop-place.patterns.items middle new c.loop-place.invariant c.in-Err.ensures.err
+    leads-there settings c.args.blocks.now old c.loop-place.place c.loop-place.sections.items middle new c.loop-place.invariant c.in-Err.ensures.err

@@ -4,4 +4,4 @@ use Rattle.certifier.proofs.blocks.certify_blocks.Given as goal
 
 abbrev pub invariant-loop-place : goal.invariant-loop-place
 invariant-loop-place l =
-    AreTaken (option_copied l.settings) (take l.place l.blocks) l.fn.standing l.patterns.items l.standing
+    AreTaken (option_copied l.settings) (take l.place l.blocks) l.fn.standing l.sections.items l.standing

@@ -52,7 +52,7 @@ returns-in_err-copy-clause-exact c =
     let es = c.args.log.now.entries in
     let report = c.args.report.now in
     exact-short t r target (IsMismatch t r target es report) (plain-mismatches t r target es report) c.from_residual-in_err-copy.result why (p.1 ∙ ap Err same)
-    (subst (λ n. (why ≡ Memory) ⊎ ((why ≡ NoNumbers) × LacksNumbers c.args.kernel.now.table n)) (c.longest.ensures ∙ (c.in_ok-plan.ensures.longest ∙ ap height c.in_ok-plan.ensures.tree)) c.in_err-copy.ensures.refused)
+    (subst (λ n. (why ≡ Memory) ⊎ ((why ≡ NoNumbers) × LacksNumbers c.args.kernel.now.table n)) (c.longest.ensures ∙ (c.in_ok-plan.ensures.longest)) c.in_err-copy.ensures.refused)
 
 ---- What comes of a run under faults alone
 
@@ -84,7 +84,7 @@ returns c =
     let report = c.args.report.now in
     let agrees : Agrees t r = c.agrees.ensures.agrees.0 (search rules) in
     let plan = c.in_ok-plan.ensures.planned in
-    let longest : c.longest.result ≡ height (plan_tree r target) = c.longest.ensures ∙ (c.in_ok-plan.ensures.longest ∙ ap height c.in_ok-plan.ensures.tree) in
+    let longest : c.longest.result ≡ height (plan_tree r target) = c.longest.ensures ∙ (c.in_ok-plan.ensures.longest) in
     let ready : IsReady t r target = record { agrees = agrees; has_plan = plan; numbers = subst (λ n. LacksNumbers t n → ⊥) longest c.in_ok-copy.ensures.numbers } in
     let due : IsDue t r target = record {
       start = record { formed = c.in_ok-copy.ensures.formed; agrees = agrees; record_in_range = c.agrees.ensures.in_range; rising = c.agrees.ensures.rising };
@@ -95,9 +95,9 @@ returns c =
     let image : c.state.inside.generation.image ≡ r.generation.image = ap (λ (x : Record). x.generation.image) c.state.view_is in
     let same : listed c.heir_of-heir.result ≡ heirs_of r target = c.heir_of-heir.ensures in
     let place : record { trail = begin _ _; table = c.in_ok-copy.copy.table; executing = c.state.inside.generation.image ∷ [] } ≡ begins t r target =
-    λ i. record { trail = begin (c.in_ok-plan.ensures.tree i) (c.in_ok-plan.ensures.note i); table = (c.in_ok-copy.ensures.same i).table; executing = image i ∷ [] } in
+    λ i. record { trail = begin (c.in_ok-plan.ensures.tree [] i) (c.in_ok-plan.ensures.note i); table = (c.in_ok-copy.ensures.same i).table; executing = image i ∷ [] } in
     let holds = subst (λ (X : Type 0). X) (λ i. IfOk c.hold.result (λ it. Holds (c.in_ok-plan.ensures.text i) (same i) (c.in_ok-plan.ensures.sides i) (place i) es report it.pattern)) c.hold.ensures.ok in
-    let led = subst (λ (X : Type 0). X) (λ i. IfOk c.hold.result (λ it. IsLed (c.in_ok-plan.ensures.text i) (same i) ((c.in_ok-plan.ensures.longest ∙ ap height c.in_ok-plan.ensures.tree) i) (place i) es it.kernel)) c.hold.ensures.led in
+    let led = subst (λ (X : Type 0). X) (λ i. IfOk c.hold.result (λ it. IsLed (c.in_ok-plan.ensures.text i) (same i) ((c.in_ok-plan.ensures.longest) i) (place i) es it.kernel)) c.hold.ensures.led in
     let exact = answered (λ (it : Certificate). it.pattern) t r target es report ready c.hold.result holds
     (subst (λ (X : Type 0). X) (λ i. IfErr c.hold.result (FailsBy (c.in_ok-plan.ensures.text i) (same i) (c.in_ok-plan.ensures.sides i) (place i) es report)) c.hold.ensures.err) in
     record {

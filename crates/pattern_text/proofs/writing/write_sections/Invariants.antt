@@ -5,6 +5,6 @@ use Rattle.pattern_text.proofs.writing.write_sections.Given as goal
 
 abbrev pub invariant-loop-place : goal.invariant-loop-place
 invariant-loop-place l = record {
-  written : l.out.items ++ sections_from l.place (drop l.place l.patterns) ≡ patterns_text l.patterns;
-  sections : AreSections (drop l.place l.patterns) → AreSections l.patterns;
+  written : l.out.items ++ sections_from l.place (drop l.place l.sections) ≡ patterns_text l.sections;
+  sections : AreSections (drop l.place l.sections) → AreSections l.sections;
 }

@@ -11,7 +11,7 @@ returns-in_err-prepared-clause-exact c =
     let t = c.args.kernel.now.table in
     let r = c.args.state.now in
     let target = c.args.target.now in
-    let pattern = moment_at c.args.pattern.now in
+    let pattern = moment_at c.args.section.now.pattern in
     let p = err_from_is_err_and c.from_residual.result c.from_residual.ensures.1 in
     let why = c.in_err-prepared.field-0.0 in
     let same : why ≡ p.0 = cc in
@@ -20,8 +20,8 @@ returns-in_err-prepared-clause-exact c =
 
 pub returns-clause-ok : goal.returns-clause-ok
 returns-clause-ok c =
-    enacted-from c.args.kernel.now c.prepare.new.kernel c.carry_out.new.kernel c.args.state.now c.args.target.now (moment_at c.args.pattern.now) c.carry_out.result c.in_ok-prepared.ensures.table c.carry_out.ensures
+    enacted-from c.args.kernel.now c.prepare.new.kernel c.carry_out.new.kernel c.args.state.now c.args.target.now (moment_at c.args.section.now.pattern) c.carry_out.result c.in_ok-prepared.ensures.table c.carry_out.ensures
 
 pub returns-clause-exact : goal.returns-clause-exact
 returns-clause-exact c why =
-    inr (only-enacted c.args.kernel.now c.carry_out.new.kernel c.args.state.now c.args.target.now (moment_at c.args.pattern.now) c.carry_out.result (returns-clause-ok c) why)
+    inr (only-enacted c.args.kernel.now c.carry_out.new.kernel c.args.state.now c.args.target.now (moment_at c.args.section.now.pattern) c.carry_out.result (returns-clause-ok c) why)

@@ -5,5 +5,5 @@ use Rattle.plan_executor.proofs.words.run_words.Goals as goal
 pub returns-clause-agrees : goal.returns-clause-agrees
 returns-clause-agrees c =
     let h = c.run_words.ensures.done in
-    done-true c.args.patterns.now (option_copied c.args.settings) c.args.words.now c.args.standing.now h.0
+    done-true c.args.sections.now (option_copied c.args.settings) c.args.words.now c.args.standing.now h.0
     c.run_words.new.standing h.2

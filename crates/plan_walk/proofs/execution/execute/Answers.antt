@@ -7,7 +7,7 @@ use Rattle.rollback_plan.specs.Plans.{tree_under, note_of}
 use Rattle.plan_walk.specs.Fit.{height_next}
 use Rattle.plan_walk.specs.Walk.{trail_under, left_by}
 use Rattle.plan_walk.proofs.Paths.{after-push, Follows-push, asks_height}
-use Rattle.plan_walk.proofs.Turns.{turn_read, no_rest}
+use Rattle.plan_walk.proofs.TurnsUsed.{turn_read, no_rest}
 use Rattle.plan_walk.proofs.execution.execute.Goals as goal
 
 pub loop-due-init : goal.loop-due-init

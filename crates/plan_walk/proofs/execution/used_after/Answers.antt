@@ -1,5 +1,5 @@
 use Rattle.std.proofs.Common.{drop, ◌∙◌}
-use Rattle.plan_walk.proofs.Turns.{without_drop}
+use Rattle.plan_walk.proofs.TurnsUsed.{without_drop}
 use Rattle.plan_walk.proofs.execution.used_after.Goals as goal
 
 pub returns-then-takes_turns-clause-left : goal.returns-then-takes_turns-clause-left

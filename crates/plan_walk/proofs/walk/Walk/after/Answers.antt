@@ -2,7 +2,7 @@ use Rattle.std.proofs.Common.{◌≤◌, ◌+◌, List, [], refl, sym, ◌∙◌
 use Rattle.definitions.specs.Parts.{Turn}
 use Rattle.plan_walk.specs.Fit.{height_next}
 use Rattle.plan_walk.specs.Walk.{trail_under}
-use Rattle.plan_walk.proofs.Turns.{turn_read}
+use Rattle.plan_walk.proofs.TurnsUsed.{turn_read}
 use Rattle.plan_walk.proofs.NewFirst.{none_left}
 use Rattle.plan_walk.proofs.walk.Walk.after.Goals as goal
 

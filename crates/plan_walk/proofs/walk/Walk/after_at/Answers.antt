@@ -8,7 +8,7 @@ use Rattle.plan_walk.specs.Fit.{height_next}
 use Rattle.plan_walk.specs.Rests.{rest_in, left_in, IsTurnIn}
 use Rattle.plan_walk.proofs.Edges.{begins_set, begun_by, begun_height, asks_one, answers_one, lost_after, advanced_lost, advanced_on, causes_of}
 use Rattle.plan_walk.proofs.Paths.{asks_height}
-use Rattle.plan_walk.proofs.Turns.{no_call, rest_answers, rest_lower, rest_countable}
+use Rattle.plan_walk.proofs.TurnsUsed.{no_call, rest_answers, rest_lower, rest_countable}
 use Rattle.plan_walk.proofs.walk.Walk.after_at.Goals as goal
 
 pub unreachable-requires : goal.unreachable-requires

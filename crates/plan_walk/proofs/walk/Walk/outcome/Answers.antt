@@ -3,7 +3,7 @@ use Rattle.definitions.specs.Path.{IsOver}
 use Rattle.rollback_plan.specs.declared.cursor.Cursor.{Cursor}
 use Rattle.rollback_plan.specs.Cursors.{rest_under}
 use Rattle.plan_walk.specs.Rests.{rest_in}
-use Rattle.plan_walk.proofs.Turns.{not_over}
+use Rattle.plan_walk.proofs.TurnsUsed.{not_over}
 use Rattle.plan_walk.proofs.walk.Walk.outcome.Goals as goal
 
 pub unreachable-requires : goal.unreachable-requires

@@ -3,7 +3,8 @@ use Rattle.std.proofs.Common.{◌≡◌, ◌+◌, ◌<◌, ◌≤◌, ◌^◌, �
 use Rattle.vocabulary.specs.declared.calls.Answer.{Answer}
 use Rattle.vocabulary.specs.declared.plans.PidNote.{PidNote}
 use Rattle.vocabulary.specs.declared.reports.Entry.{Entry}
-use Rattle.definitions.specs.Parts.{Turn}
+use Rattle.std.specs.Prelude.{unwrap_or, slice_get}
+use Rattle.definitions.specs.Parts.{Turn, New}
 use Rattle.definitions.specs.Tree.{Tree, Ends, Does, height}
 use Rattle.definitions.specs.Path.{Lack, Asks, IsOver, follow}
 use Rattle.plan_steps.specs.Woven.{answers}
@@ -62,6 +63,13 @@ without_drop zero [] = refl
 without_drop zero (turn ∷ turns) = refl
 without_drop (suc n) [] = ap (λ (k : ℕ). drop k []) (let e : suc (n + 1) ≡ suc n + 1 = omega arith in e)
 without_drop (suc n) (turn ∷ turns) = without_drop n turns ∙ ap (λ (k : ℕ). drop k (turn ∷ turns)) (let e : suc (n + 1) ≡ suc n + 1 = omega arith in e)
+
+-- the turn at a place is the first of those that are left there
+pub turn_there : (turns : List Turn) (n : ℕ) → unwrap_or (slice_get turns n) New ≡ turn_of (drop n turns)
+turn_there [] zero = refl
+turn_there [] (suc n) = refl
+turn_there (turn ∷ turns) zero = refl
+turn_there (turn ∷ turns) (suc n) = turn_there turns n
 
 -- the turn that is read is the first of those that are left
 pub turn_read : (rest : Option Cursor) (turn : Turn) (turns : List Turn) → turn ≡ turn_of turns → IsTurnIn rest turn turns
