@@ -117,16 +117,24 @@ fn tell_codes<E: Write>(line: &str, errors: &mut E) {
 /// How a line of a block begins whose word was refused.
 const REFUSED: &[u8] = b"refused ";
 
-/// What the codes of refused words mean: each line that says `refused` is explained where it comes first.
+/// How the block of a line begins that is no word.
+const UNREAD: &[u8] = b"unread ";
+
+/// What the codes of refused words and unread lines mean: each line that says `refused` or `unread` is explained where it
+/// comes first.
 #[inline(never)]
 pub fn tell_refusals<E: Write>(text: &[u8], errors: &mut E) {
     for (place, line) in text.split(|byte| *byte == b'\n').enumerate() {
-        if line.starts_with(REFUSED) && !has_before(text, place, line) {
+        if is_refusal(line) && !has_before(text, place, line) {
             if let Ok(line) = str::from_utf8(line) {
                 tell_codes(line, errors);
             }
         }
     }
+}
+
+fn is_refusal(line: &[u8]) -> bool {
+    line.starts_with(REFUSED) || line.starts_with(UNREAD)
 }
 
 /// Whether a text has a line before the one at a place, counted from 0.

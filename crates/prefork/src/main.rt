@@ -7,6 +7,7 @@ mod pid_file;
 mod program;
 mod serving;
 mod setup;
+mod sharing;
 
 use faults::Fault;
 pub use program::{Surroundings, run};

@@ -164,14 +164,7 @@ where
             if around.explains {
                 tell_program(rt, options, errors);
             }
-            supervise(
-                rt,
-                around.number,
-                options,
-                &mut *input.reader,
-                output,
-                errors,
-            )
+            supervise(rt, around, options, &mut *input.reader, output, errors)
         }
         Request::Adopt(options) => adopt(rt, around.number, options, &mut *input.reader, output),
         Request::Child => Ok(child(&mut *input.reader, output)),

@@ -5,6 +5,8 @@ ghost use Rattle.prefork.specs.Limits.{limits_of};
 ghost use Rattle.prefork.specs.Refusals.{IsDeclined, IsNext};
 
 use crate::pid_file::check_pid_file;
+use crate::program::Surroundings;
+use crate::sharing::{Explained, Shared};
 use child_processes::{ANSWER_WITHIN, Limits, OsFamily, READY_WITHIN};
 use child_programs::{ServedMaster, serve_master, serve_worker};
 use command_line::{AdoptOptions, LimitOptions, SuperviseOptions};
@@ -17,6 +19,7 @@ use master_on_children::{
 };
 use plain_text::read_number;
 use std::alloc::Global;
+use std::cell::RefCell;
 use std::env;
 use std::env::{Env, VarError};
 use std::io::{Read, Write};
@@ -62,16 +65,32 @@ fn declined(alloc: Global, refusal: &ConfigRefusal) -> NextRefusal
 }
 
 /// `supervise`: a master whose workers and new masters are processes. What is left of its children when it ends is ended
-/// with it. On standard error it logs its blocks and whom it killed, where that is asked for. `number` is that of its own
-/// process; the system counts processes from 1.
+/// with it. On standard error it logs its blocks and whom it killed, and explains refused words, where that is asked for.
 #[inline(never)]
 pub fn supervise<R: AllocGlobal + Files + Processes + Clock, I: Read, O: Write, E: Write>(
     rt: &R,
-    number: u32,
+    around: &Surroundings,
     options: &SuperviseOptions<'_>,
     input: &mut I,
     output: &mut O,
     errors: &mut E,
+) -> Result<u8, Fault>
+where
+    <R::Started as OpenProcess>::Stdout: AsRawFd,
+    <R::Started as OpenProcess>::Stdin: AsRawFd,
+{
+    let errors = RefCell::new(&mut *errors);
+    supervise_told(rt, around, options, input, output, &errors)
+}
+
+/// The same, where several write to standard error.
+fn supervise_told<R: AllocGlobal + Files + Processes + Clock, I: Read, O: Write, E: Write>(
+    rt: &R,
+    around: &Surroundings,
+    options: &SuperviseOptions<'_>,
+    input: &mut I,
+    output: &mut O,
+    errors: &RefCell<E>,
 ) -> Result<u8, Fault>
 where
     <R::Started as OpenProcess>::Stdout: AsRawFd,
@@ -82,11 +101,19 @@ where
     } else {
         LevelFilter::Off
     };
-    let log = Logged::new((), level, Writer::new(&mut *errors));
-    supervise_logged(rt, number, options, input, output, &log)
+    let for_log = Shared::new(errors);
+    let for_codes = Shared::new(errors);
+    let log = Logged::new((), level, Writer::new(for_log));
+    let mut explained = Explained {
+        output,
+        errors: for_codes,
+        is_wanted: around.explains || options.why,
+    };
+    supervise_logged(rt, around.number, options, input, &mut explained, &log)
 }
 
-/// The same, with a log: its blocks and the children that it kills are lines of it.
+/// The same, with a log: its blocks and the children that it kills are lines of it. `number` is that of its own process;
+/// the system counts processes from 1.
 fn supervise_logged<R: AllocGlobal + Files + Processes + Clock, I: Read, O: Write, L: Log>(
     rt: &R,
     number: u32,
