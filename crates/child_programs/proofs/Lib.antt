@@ -1,2 +1,3 @@
 mod WorkerLineTexts
 mod Obeying
+pub mod Handing

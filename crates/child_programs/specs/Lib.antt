@@ -4,3 +4,4 @@ pub mod Worker
 pub mod Requests
 pub mod Master
 pub mod Served
+pub mod Adopting

@@ -26,11 +26,9 @@ pub trait Answers {
 }
 
 impl<F: Family + Drop> Answers for Edge<F> {
-    ghost use Rattle.child_family.specs.Talk.{Held};
-    ghost use Rattle.child_edge.specs.State.{state_of};
-    ghost use Rattle.child_edge.specs.Table.{turn_of};
+    ghost use Rattle.child_programs.specs.Adopting.{AnswersByEdge};
 
-    ghost answers = { λ old by call text new a. Held (F.told old.family) (F.told new.family) (turn_of (record (state_of old.state) { text = text }) by call) (state_of new.state, a) };
+    ghost answers = { AnswersByEdge ⟦<F as Family>⟧ };
 
     fn answer(&mut self, by: Actor, call: &Call, text: &[u8]) -> Result<Answer, AllocError> {
         self.reserve(1, text)?;
@@ -53,10 +51,9 @@ fn refused(call: &Call) -> Answer
 }
 
 impl Answers for Refusing {
-    ghost use Rattle.std.specs.Prelude.{◌≡◌};
-    ghost use Rattle.child_programs.specs.Requests.{refused};
+    ghost use Rattle.child_programs.specs.Adopting.{AnswersNothing};
 
-    ghost answers = { λ old by call text new a. a ≡ refused call };
+    ghost answers = { AnswersNothing };
 
     fn answer(&mut self, _by: Actor, call: &Call, _text: &[u8]) -> Result<Answer, AllocError> {
         Ok(refused(call))

@@ -150,13 +150,9 @@ impl<A: Answers + Drop> NewMaster<A> {
 
 /// Want of memory ends it with status 1.
 impl<A: Answers + Drop> Hears for NewMaster<A> {
-    ghost use Rattle.std.specs.Prelude.{◌≡◌, ◌⊎◌};
-    ghost use Rattle.child_programs.specs.Response.{fails};
-    ghost use Rattle.child_programs.specs.Master.{waits_of, asked, IsHeard};
+    ghost use Rattle.child_programs.specs.Adopting.{HearsBy};
 
-    ghost hears = { λ old line new r.
-        (IsHeard A.answers (asked (waits_of old.waiting old.handover) line).0 old.answers new.answers r × (waits_of new.waiting new.handover ≡ (asked (waits_of old.waiting old.handover) line).1))
-        ⊎ (r ≡ fails) };
+    ghost hears = { HearsBy A.answers };
 
     fn hear(&mut self, line: &[u8], answer: &mut Line) -> Reaction {
         match self.hear(line, answer) {

@@ -1,9 +1,12 @@
 //! The programs of the children of an edge, from their first line to their end.
-ghost use Rattle.std.specs.Prelude.{ℕ, Option, None, List, IfOk};
+ghost use Rattle.std.specs.Prelude.{ℕ, ◌≡◌, Option, None, Some, List, IfOk};
 ghost use Rattle.std.specs.Io.KnownBytes.{Keeps};
 ghost use Rattle.child_processes.specs.NextLine.{unheard};
 ghost use Rattle.child_programs.specs.Worker.{Obeys};
 ghost use Rattle.child_programs.specs.Served.{if_more, IsNextLine, IsObeyed, IsServed};
+ghost use Rattle.child_edge.specs.declared.edge.Edge.{Edge as Edged};
+ghost use Rattle.child_programs.specs.declared.answering.Refusing.{Refusing as Refuser};
+ghost use Rattle.child_programs.specs.Adopting.{AnswersByEdge, AnswersNothing, IsReceived, IsServedBy, IsServedAsMaster};
 
 use crate::answering::{Answers, Refusing};
 use crate::handover_lines::{HandoverLines, Part};
@@ -108,7 +111,9 @@ fn receive<I: Read + Drop>(
     alloc: Global,
     lines: &mut LineReader<I>,
     line: &mut Line,
-) -> io::Result<Received> {
+) -> io::Result<Received>
+    ensures { IfOk result (IsReceived (unheard I.remaining lines.old) line.new (unheard I.remaining lines.new)) }
+{
     let mut handover = HandoverLines::new(alloc)?;
     for _ in 0..u64::MAX {
         if !next_line(lines, line)? {
@@ -129,7 +134,9 @@ fn serve_adopted<F: Family + Drop, I: Read + Drop, O: Write>(
     handover: HandoverLines,
     lines: &mut LineReader<I>,
     output: &mut O,
-) -> ServedMaster<F> {
+) -> ServedMaster<F>
+    ensures { (last : Edged F ⟦<F as Family>⟧) × (result.family ≡ Some last.family) × IsServedBy (AnswersByEdge ⟦<F as Family>⟧) edge (unheard I.remaining lines.old) (O.contents output.old) result.status last (O.contents output.new) }
+{
     let mut master = NewMaster::new(edge, handover);
     let status = serve(&mut master, lines, output);
     ServedMaster {
@@ -138,18 +145,31 @@ fn serve_adopted<F: Family + Drop, I: Read + Drop, O: Write>(
     }
 }
 
-/// Serves as a master whose handover was faulty, from a line on that was heard already, if there is one.
+/// Serves as a master whose handover was faulty.
 fn serve_refusing<I: Read + Drop, O: Write>(
     handover: HandoverLines,
-    heard: Option<&[u8]>,
     lines: &mut LineReader<I>,
     output: &mut O,
-) -> u8 {
+) -> u8
+    ensures { (first : Refuser) × (last : Refuser) × IsServedBy AnswersNothing first (unheard I.remaining lines.old) (O.contents output.old) result last (O.contents output.new) }
+{
     let mut master = NewMaster::new(Refusing, handover);
-    if let Some(line) = heard {
-        if let Some(status) = obey(&mut master, line, output) {
-            return status;
-        }
+    serve(&mut master, lines, output)
+}
+
+/// Serves as a master whose handover was broken off by this line, which is answered first.
+fn serve_broken<I: Read + Drop, O: Write>(
+    handover: HandoverLines,
+    line: &[u8],
+    lines: &mut LineReader<I>,
+    output: &mut O,
+) -> u8
+    ensures { (unread : Option (List ℕ)) → IsNextLine unread (Some line.now) (unheard I.remaining lines.old)
+        → (first : Refuser) × (last : Refuser) × IsServedBy AnswersNothing first unread (O.contents output.old) result last (O.contents output.new) }
+{
+    let mut master = NewMaster::new(Refusing, handover);
+    if let Some(status) = obey(&mut master, line, output) {
+        return status;
     }
     serve(&mut master, lines, output)
 }
@@ -167,7 +187,9 @@ pub fn serve_master<F: Family + Drop, I: Read + Drop, O: Write>(
     pid: u32,
     input: I,
     output: &mut O,
-) -> ServedMaster<F> {
+) -> ServedMaster<F>
+    ensures { (unread : Option (List ℕ)) × Keeps (I.remaining input) unread × IsServedAsMaster ⟦<F as Family>⟧ family pid unread (O.contents output.old) result (O.contents output.new) }
+{
     let mut lines = LineReader::new(input);
     let mut line = Line::new();
     let status = match receive(alloc, &mut lines, &mut line) {
@@ -181,10 +203,10 @@ pub fn serve_master<F: Family + Drop, I: Read + Drop, O: Write>(
                 };
                 return serve_adopted(edge, handover, &mut lines, output);
             }
-            Err(_) => serve_refusing(handover, None, &mut lines, output),
+            Err(_) => serve_refusing(handover, &mut lines, output),
         },
         Ok(Received::Broken(handover)) => {
-            serve_refusing(handover, Some(line.bytes()), &mut lines, output)
+            serve_broken(handover, line.bytes(), &mut lines, output)
         }
         Ok(Received::Ended) => 0,
         Err(_) => 1,

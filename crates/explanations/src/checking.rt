@@ -44,9 +44,11 @@ pub fn check_text(alloc: Global, path: &str, text: &[u8], out: &mut Vec<u8>) -> 
             put_taken(path, out)?;
             return Ok(true);
         }
-        Err(ConfigRefusal::Memory) => return Err(Fault::Memory),
         Err(refusal) => refusal,
     };
+    if let ConfigRefusal::Memory = refusal {
+        return Err(Fault::Memory);
+    }
     put_refusal(alloc, path, text, &refusal, out)?;
     Ok(false)
 }
