@@ -11,6 +11,7 @@ import time
 from gate.addresses import answer_of, is_refused
 from gate.waiting import SECONDS, until
 from web.site import CLIENTS, Scenario, Site, descriptors, text_of
+from web.starts import status
 from web.systemd import Systemd
 
 
@@ -45,11 +46,12 @@ def a_worker_owes_an_answer(site: Site) -> None:
     """A worker that is stopped and has no guard: its master kills it in time, logs that, and starts another one."""
     site.options = ["--answer-within", "3"]
     site.begin()
+    names = {worker["process"]: f"{worker['generation']}.{worker['number']}" for worker in status(site)["workers"]}
     victim = min(site.workers())
     os.kill(victim, signal.SIGSTOP)
     until("another worker", lambda: site.has_others({victim}))
-    killed = re.findall(r"\[INFO  prefork\] killed worker .*, process (\d+): no answer ", text_of(site.room / "said"))
-    site.check(f"one worker is killed, and logged: {victim}, {killed}", killed == [str(victim)])
+    killed = re.findall(r"worker (\S+) is killed by its master: no answer within 3 s\n", text_of(site.room / "said"))
+    site.check(f"one worker is killed, and told: {names.get(victim)}, {killed}", killed == [names.get(victim)])
     site.wants("HUP", 0, "done", 2)
     site.end("1", may_fail=CLIENTS)
     site.certify()

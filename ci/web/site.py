@@ -273,10 +273,10 @@ class Site:
         self.slowest_rate = min(self.slowest_rate, found["rate"])
         return found
 
-    def end(self, versions: Iterable[str], may_fail: int = 0) -> dict[str, Any]:
-        """Ends load and service, and looks at what is left."""
+    def end(self, versions: Iterable[str], may_fail: int = 0, perhaps: Iterable[str] = ()) -> dict[str, Any]:
+        """Ends load and service, and looks at what is left. These versions have answered, and perhaps the others."""
         found = self.end_load()
-        self.check_load(found, versions, may_fail)
+        self.check_load(found, versions, may_fail, perhaps)
         self.stop()
         return found
 
@@ -288,9 +288,11 @@ class Site:
         self.check("serve ends with another status", self.serve.wait(SECONDS) == 0)
         self.nothing_left()
 
-    def check_load(self, found: dict[str, Any], versions: Iterable[str], may_fail: int = 0) -> None:
+    def check_load(
+        self, found: dict[str, Any], versions: Iterable[str], may_fail: int = 0, perhaps: Iterable[str] = (),
+    ) -> None:
         self.check(f"{found['failed']} requests failed: {found['failures']}", found["failed"] <= may_fail)
-        self.check(f"answers of {found['versions']}", set(found["versions"]) == set(versions))
+        self.check(f"answers of {found['versions']}", set(found["versions"]) - set(perhaps) == set(versions))
 
     def nothing_left(self) -> None:
         """No process, and no file but records and journal, of it is left."""

@@ -400,20 +400,20 @@ the word before the stop, or start a master anew.",
         meaning: "the line has none of the allowed forms",
         remedy: "\
 Its number, counted from 1 through the whole input, follows the code. A
-pattern has lines 'N exit NAME', 'N fail FATE' and 'next', and may begin with
-'turns TEXT', TEXT being letters n and o; blocks have the lines that `prefork
-enact` prints. Numbers have no leading zeros, spaces are single. If the input
-ends inside a block, the number is one more than its lines. FATE is one of
-in-use, too-many, denied, no-memory, again, late, no-image, refused, io-fault
-and back; the call must be able to fail so.",
+pattern has lines 'N exit NAME', 'N fail FATE' and 'next'; its first one may
+be 'turns TEXT', TEXT being letters n and o. Blocks have the lines that
+`prefork enact` prints. Numbers have no leading zeros, spaces are single. If
+the input ends inside a block, the number is one more than its lines. FATE
+is one of in-use, too-many, denied, no-memory, again, late, no-image,
+refused, io-fault and back; the call must be able to fail so.",
     },
     Explanation {
         code: "X2",
         meaning: "the line is in the wrong place",
         remedy: "\
 Its number follows the code. In a pattern the numbers of calls do not fall,
-'fail' is the last line of its call, and 'turns' the first of its section. In
-a block calls are numbered 1, 2, 3 and so on. Move or correct the line.",
+'fail' is the last line of its call, and 'turns' the first one of a pattern.
+In a block calls are numbered 1, 2, 3 and so on. Move or correct the line.",
     },
     Explanation {
         code: "Y1",

@@ -49,7 +49,8 @@ fn master_count(holders: &[Holder]) -> usize
 fn same_holds(holds: &DescriptorTable, others: &DescriptorTable) -> bool
     ensures { IsTrue result ↔ (holds.now ≡ others.now) }
 {
-    if holds.len() != others.len() {
+    // (only a reading tells that descriptors rise)
+    if holds.get(FIRST_DESCRIPTOR) != others.get(FIRST_DESCRIPTOR) {
         return false;
     }
     for descriptor in FIRST_DESCRIPTOR..FIRST_DESCRIPTOR + MOST_DESCRIPTORS as u32 {
