@@ -16,7 +16,7 @@ from gate.spare import spare, waiting
 
 # What a check may take, and what stays free for the proofs beside it, in bytes.
 CHECK_MEMORY = 5_000_000_000
-# A processor is free where so much of it was spare for so many seconds, and wanted where so many threads waited.
+# A processor is free if this part of it was spare for these seconds, and wanted if this number of threads waited.
 SPARE_PROCESSOR, SPARE_SECONDS = 0.8, 3.0
 WAITING, WAITING_SECONDS = 0.5, 2.0
 
@@ -101,7 +101,7 @@ class Turns:
         return not self.is_beside or self.spare(SPARE_SECONDS) >= SPARE_PROCESSOR
 
     def proofs_ended(self, most):
-        """From now on so many checks run side by side."""
+        """From now on this number of checks run side by side."""
         self.is_beside, self.most = False, most
 
     def watch(self):

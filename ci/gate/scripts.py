@@ -45,13 +45,13 @@ WAITING = ("adapters", "service", "children", "package", "soak")
 COMPUTING = ("cases", "hostile", "rehearsals", "roundtrips", "limits", "explorations", "documents", "terminals",
              "deployments", "pictures")
 NICE = 10
-# From so many processors on, two of those that wait run side by side.
+# From this number of processors on, two of those that wait run side by side.
 MANY = 4
 # For how many seconds the proofs must leave room for a script beside them, and which part of the processors that is.
 LOOKS, ROOM = 10, 0.45
 # How long scripts may take to end once they are told to.
 END_SECONDS = 10.0
-# What a script came to: how much it counts as passed and as failed.
+# The result of a script: how much it counts as passed and as failed.
 Counted = tuple[int, int]
 
 
@@ -70,7 +70,7 @@ class Lane:
 
 
 def lanes(processors: int) -> list[Lane]:
-    """The lanes of what needs the program, on so many processors."""
+    """The lanes of what needs the program, on this number of processors."""
     if processors == 1:
         return [Lane([*WAITING, *COMPUTING])]
     computing = Lane(COMPUTING, nice=NICE)

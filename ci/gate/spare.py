@@ -4,7 +4,7 @@ import time
 
 # Places in a processor's line: what ran at a niceness, and so gives way; what was idle; and what waited for a disk.
 SPARE = (1, 3, 4)
-# So many numbers of a line add up to its whole time: those behind them are in the first two already.
+# This number of values of a line add up to its whole time: the later ones are in the first two already.
 WHOLE = 8
 
 

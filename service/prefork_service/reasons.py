@@ -1,7 +1,8 @@
 """Why calls failed: what workers and their adapters have noted, the keeper's refusals, and what the system says.
 
-Whoever prefork-launch starts has the folder in PREFORK_FOLDER and its name, such as 1.2.0, in PREFORK_WORKER. An adapter
-that ends since something is wrong appends a line to the file `reasons` there: its name, and why.
+The program that prefork-launch starts has the folder in PREFORK_FOLDER and its name, such as 1.2.0, in
+PREFORK_WORKER. An adapter that ends since something is wrong appends a line to the file `reasons` there: its name,
+and why.
 """
 import os
 import pathlib

@@ -70,7 +70,7 @@ class Records:
             new.symlink_to(os.path.relpath(self.current(), self.link.parent))
             new.replace(self.link)
         except OSError:
-            # Whoever looks for it finds the folder.
+            # A process that looks for it finds the folder.
             pass
 
     def add(self, block: str) -> None:
