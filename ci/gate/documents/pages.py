@@ -10,7 +10,7 @@ MARKDOWN = ("README.md", "CHANGELOG.md", "CONTRIBUTING.md", "SECURITY.md", "docs
             "examples/README.md")
 MAN = ("docs/*.1", "docs/*.5")
 # Those of the service, of which a check names the ones that it reads too.
-SERVICE = ("service/README.md", "service/guides/*.md")
+SERVICE = ("service/*.md", "service/guides/*.md")
 SERVICE_MAN = ("service/man/*.1",)
 CONVENTION = ("service/man/prefork-child.1",)
 # What --help prints, as ci/cases compares it with the program, and the sentences of `prefork explain`.

@@ -1,7 +1,7 @@
 """The shape of pages: short cells of tables, pages that are read in ten minutes, and help that fits on a screen."""
 from collections.abc import Iterator
 
-from gate.documents.pages import HELP, Tree, without_blocks
+from gate.documents.pages import HELP, SERVICE, Tree, without_blocks
 
 MOST_CELL = 200
 # What is read in ten minutes, at 200 words a minute.
@@ -26,7 +26,7 @@ def cells(line: str) -> list[str]:
 
 def table_faults(tree: Tree) -> Iterator[str]:
     """Cells of tables that are too long."""
-    for path, text in tree.markdown():
+    for path, text in tree.markdown(*SERVICE):
         for number, line in enumerate(without_blocks(text).split("\n"), 1):
             if line.startswith("|"):
                 for cell in cells(line):
@@ -36,7 +36,7 @@ def table_faults(tree: Tree) -> Iterator[str]:
 
 def length_faults(tree: Tree) -> Iterator[str]:
     """Pages that take more than ten minutes to read."""
-    for path, text in tree.markdown():
+    for path, text in tree.markdown(*SERVICE):
         words = len(text.split())
         if words > MOST_WORDS:
             yield f"{path}: {words} words, more than {MOST_WORDS}: split it"
