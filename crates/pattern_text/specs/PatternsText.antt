@@ -67,6 +67,15 @@ with_line (Exit n name) r = with_exit_in n name r
 with_line (Fail n f) r = with_fate_in n f r
 with_line Next r = begun (r.done ++ section_in r ∷ [])
 
+-- whether a line may stand there, or why not
+abbrev pub line_here : ℕ → Reading → PatternLine → Result (Unit {0}) TextRefusal
+line_here number r line = if may_stand line r then Ok tt else Err (Order number)
+
+-- the same of the turns of a line, if it says some
+abbrev pub turns_here : ℕ → Reading → Option (List Turn) → Result (Unit {0}) TextRefusal
+turns_here number r None = Err (Line number)
+turns_here number r (Some turns) = if r.fresh then Ok tt else Err (Order number)
+
 abbrev pub taken_line : ℕ → Reading → PatternLine → Result Reading TextRefusal
 taken_line number r line = if may_stand line r then Ok (with_line line r) else Err (Order number)
 

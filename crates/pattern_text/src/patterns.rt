@@ -3,7 +3,7 @@ ghost use Rattle.std.specs.Prelude.{◌≡◌, ◌≢◌, ◌≤◌, ◌++◌, �
 ghost use Rattle.kernel_pattern.specs.declared.section.Section.{Section as Decided};
 ghost use Rattle.kernel_pattern.specs.Pattern.{IsNameWithin};
 ghost use Rattle.pattern_text.specs.LineText.{IsLine};
-ghost use Rattle.pattern_text.specs.PatternsText.{may_follow, begun, section_in, with_exit_in, with_fate_in, may_stand, with_line, taken_line, taken_turns, patterns_of};
+ghost use Rattle.pattern_text.specs.PatternsText.{may_follow, begun, section_in, with_exit_in, with_fate_in, may_stand, with_line, line_here, turns_here, taken_line, taken_turns, patterns_of};
 ghost use Rattle.pattern_text.specs.Courses.{course_of};
 ghost use Rattle.pattern_text.specs.TurnsText.{turns_of};
 ghost use Rattle.pattern_text.specs.PatternsWriting.{patterns_text};
@@ -110,7 +110,32 @@ impl PatternsReader {
         }
     }
 
-    /// Adds the line with this number where it may stand here, which is found without memory.
+    /// Whether a line may stand here, or why it is refused. It takes no memory, so it never reports that.
+    fn line_here(&self, number: usize, line: &PatternLine) -> Result<(), TextRefusal>
+        ensures { result ≡ line_here number (seen self.now) line.now }
+    {
+        if self.allows(line) {
+            Ok(())
+        } else {
+            Err(TextRefusal::Order(number))
+        }
+    }
+
+    /// Whether a line says turns that may stand here, or why it is refused. It takes no memory, so it never reports that.
+    fn turns_here(&self, number: usize, line: &[u8]) -> Result<(), TextRefusal>
+        ensures { result ≡ turns_here number (seen self.now) (turns_of line.now) }
+    {
+        if !says_turns(line) {
+            return Err(TextRefusal::Line(number));
+        }
+        if self.is_fresh {
+            Ok(())
+        } else {
+            Err(TextRefusal::Order(number))
+        }
+    }
+
+    /// Adds the line with this number where it may stand here.
     fn take_line(
         &mut self,
         alloc: Global,
@@ -121,25 +146,17 @@ impl PatternsReader {
         ensures ok { OnOk result (taken_line number (seen self.old) line.now ≡ Ok (seen self.new)) }
         ensures err { IfErr result (λ e. e ≢ TextRefusal.Memory → taken_line number (seen self.old) line.now ≡ Err e) }
     {
-        if !self.allows(line) {
-            return Err(TextRefusal::Order(number));
-        }
+        self.line_here(number, line)?;
         self.add(alloc, line)?;
         Ok(())
     }
 
-    /// Adds the turns of the line with this number where it says some and may stand here. Why it is refused is found
-    /// without memory.
+    /// Adds the turns of the line with this number where it says some and may stand here.
     fn take_turns(&mut self, alloc: Global, number: usize, line: &[u8]) -> Result<(), TextRefusal>
         ensures ok { OnOk result (taken_turns number (seen self.old) (turns_of line.now) ≡ Ok (seen self.new)) }
         ensures err { IfErr result (λ e. e ≢ TextRefusal.Memory → taken_turns number (seen self.old) (turns_of line.now) ≡ Err e) }
     {
-        if !says_turns(line) {
-            return Err(TextRefusal::Line(number));
-        }
-        if !self.is_fresh {
-            return Err(TextRefusal::Order(number));
-        }
+        self.turns_here(number, line)?;
         self.section.turns = read_turns(alloc, line)?;
         self.is_fresh = false;
         Ok(())
