@@ -32,14 +32,14 @@ _prefork() {
             mapfile -t COMPREPLY < <(compgen -W '1 2' -- "$cur")
             return
             ;;
-        --workers | --held | --limit | --least | --answer-within | --ready-within | :) return ;;
+        --workers | --held | --turns | --limit | --least | --answer-within | --ready-within | :) return ;;
     esac
     [[ $cur == : ]] && return
 
     case ${COMP_WORDS[1]} in
         enact) options='--from --to --workers --bare --json --why --held --state --help' ;;
         plan) options='--from --to --workers --bare --json --why --dot --help' ;;
-        explore) options='--from --to --workers --bare --json --why --held --events --limit --forbid --require --least --list --progress --help' ;;
+        explore) options='--from --to --workers --bare --json --why --held --events --turns --limit --forbid --require --least --list --progress --help' ;;
         certify) options='--from --to --workers --bare --json --why --held --help' ;;
         supervise) options='--program --from --to --answer-within --ready-within --verbose --why --help' ;;
         adopt) options='--program --answer-within --ready-within --help' ;;

@@ -1,12 +1,24 @@
 """Upgrades: the new master of each, what becomes of it, and the workers of both."""
 import concurrent.futures
 import os
+import pathlib
 import re
 import signal
+import time
 
 from gate.addresses import answer_of
 from gate.waiting import SECONDS, until
-from web.site import BROKEN, Scenario, Site
+from web.site import BROKEN, CLIENTS, Scenario, Site
+
+# Masters that are not ready to take over as long as a file is there, and make another one then.
+WAITING = """#!/bin/sh
+if [ "$1" = adopt ]; then
+    : >{began}
+    while [ -e {hold} ]; do sleep 0.02; done
+fi
+exec {program} "$@"
+"""
+ANSWER = re.compile(r"version (\d) worker (\S+) process (\d+)")
 
 
 def an_upgrade(site: Site) -> None:
@@ -90,6 +102,52 @@ def a_new_master_killed_late(site: Site) -> None:
     site.certify()
 
 
+def two_versions(site: Site, hold: pathlib.Path) -> str:
+    """The text of the application whose workers of a new master are of version 2, and wait while a file is there."""
+    is_new = 'os.environ["PREFORK_WORKER"].startswith("2.")'
+    waits = f'while VERSION == "2" and os.path.exists({str(hold)!r}):\n    time.sleep(0.02)\n'
+    return site.app_text.replace('VERSION = "1"\n', f'VERSION = "2" if {is_new} else "1"\n{waits}')
+
+
+def replaced(site: Site, old: set[int]) -> list[str]:
+    """The name of an old worker that has answered and was not there before."""
+    version, name, process = ANSWER.match(answer_of(site.first)).groups()
+    return [name] if version == "1" and int(process) not in old else []
+
+
+def an_upgrade_while_an_old_worker_is_killed(site: Site) -> None:
+    """USR2 whose old worker is killed before the new master takes up what it was handed: another one of the same name
+    answers while the new workers are not ready yet. Only requests in the killed worker fail, one of each client at
+    most."""
+    began, adopts = site.room / "began", site.room / "adopts"
+    site.install(two_versions(site, site.hold))
+    site.begin()
+    old = site.workers()
+    adopts.touch()
+    site.hold.touch()
+    site.replace_master(WAITING.format(began=began, hold=adopts, program=site.certifier))
+    sent = site.sent("USR2")
+    until("the new master", began.exists)
+    victim = min(old)
+    os.kill(victim, signal.SIGKILL)
+    until("the worker's end", lambda: victim not in site.workers())
+    killed = time.monotonic()
+    adopts.unlink()
+    name = until("an answer of another old worker", lambda: replaced(site, old))[0]
+    site.check("the upgrade has ended", sent.poll() is None)
+    site.hold.unlink()
+    block = site.heard(sent, "USR2", 0, "done", 2)
+    generation, number = name.rsplit(".", 1)
+    order = rf" m1 fork {generation} {number} : .* m1 census {generation} : counted 0-1\n.* m2 census 2\.2 : counted 0-1\n"
+    site.check(f"worker {name} is not replaced before: {block}", re.search(order, block, re.S))
+    site.answered_by(2)
+    found = site.end("12", may_fail=CLIENTS)
+    late = [it for it in found["failures"] if it["began"] > killed and not it["kept"]]
+    site.check(f"requests on connections that were made after it failed: {late}", not late)
+    site.certify()
+
+
 SCENARIOS: tuple[Scenario, ...] = (
-    an_upgrade, an_upgrade_of_two_groups, an_upgrade_that_exits, a_new_master_killed_early, a_new_master_killed_late,
+    an_upgrade, an_upgrade_of_two_groups, an_upgrade_that_exits, an_upgrade_while_an_old_worker_is_killed,
+    a_new_master_killed_early, a_new_master_killed_late,
 )

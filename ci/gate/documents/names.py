@@ -28,7 +28,7 @@ ELSEWHERE: dict[str, str] = {
                      "select", "nofile", "man", "dot", "cc", "mv", "tee"), "commands and calls of the system"),
     **dict.fromkeys(("gunicorn", "uvicorn", "puma", "unicorn", "node", "nginx", "server.py"),
                     "other servers and their files"),
-    **dict.fromkeys(("rt", "doc", "ci", "check", "must-fail", "try", "run", "lib", "version", "rattle-kit-13f", "logic",
+    **dict.fromkeys(("rt", "doc", "ci", "check", "must-fail", "try", "run", "lib", "version", "rattle-kit-13b", "logic",
                      "dac8208d650f15bf", "PhantomData", "inline", "never", "Read", "Write"), "the toolchain"),
     **dict.fromkeys(("0.0.0.0", "127.0.0.1"), "addresses"),
 }

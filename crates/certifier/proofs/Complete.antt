@@ -10,6 +10,7 @@ use Rattle.vocabulary.specs.declared.calls.Reply.{Reply}
 use Rattle.definitions.specs.Calls.{Fate, Stepped, step_with}
 use Rattle.definitions.specs.Exits.{after_exits}
 use Rattle.definitions.specs.Target.{text_handed, sides_of}
+use Rattle.definitions.specs.Parts.{Turn}
 use Rattle.definitions.specs.Plans.{plan_tree}
 use Rattle.definitions.specs.Tree.{Tree, Ends, Does, Branches, Nothing, Branch, among, branch, call_of, reply_of}
 use Rattle.definitions.specs.Path.{Entry, Report, Sides, Trail, advance, trail_after, IsOver, IsOutcome, Reports, lacked_by}
@@ -25,7 +26,7 @@ use Rattle.certifier.specs.declared.mismatch.Mismatch.{Mismatch}
 use Rattle.certifier.specs.declared.mismatch.Mismatch.TheVariants as mismatch
 use Rattle.certifier.specs.Shown.{moment_shown, stepped_at}
 use Rattle.certifier.specs.Places.{AreNext}
-use Rattle.certifier.specs.Explained.{trail_by, IsMismatch, mismatch_of}
+use Rattle.certifier.specs.Explained.{trail_by, IsExplainedBy, IsMismatch, mismatch_of}
 use Rattle.certifier.specs.Certified.{faults_alone, IsFaultyRun}
 use Rattle.certifier.proofs.Faults.{shown-again}
 use Rattle.certifier.proofs.Explaining.{begins, is-explained}
@@ -124,28 +125,30 @@ pub record IsDue (t : Table) (r : Record) (target : Target) : Type 0 where
   pub has_plan : HasPlan r target
   pub ends : EndsSo target
 
-never-lost : (t : Table) (r : Record) (target : Target) → IsDue t r target → (fates : ℕ → Option Fate) → (run_of r target (faults_alone fates) t).ending ≡ Lost → ⊥
-never-lost t r target due fates lost =
-    let ran = run_of r target (faults_alone fates) t in
-    let kept = due.ends t r (faults_alone fates) due.start due.descriptors due.has_plan (none-named fates (r.generation.image ∷ []) (heirs_of r target) 0 ran.entries) in
+never-lost : (t : Table) (r : Record) (target : Target) → IsDue t r target → (turns : List Turn) (fates : ℕ → Option Fate) → (run_of r target turns (faults_alone fates) t).ending ≡ Lost → ⊥
+never-lost t r target due turns fates lost =
+    let ran = run_of r target turns (faults_alone fates) t in
+    let kept = due.ends t r turns (faults_alone fates) due.start due.descriptors due.has_plan (none-named fates (r.generation.image ∷ []) (heirs_of r target) 0 ran.entries) in
     subst (λ e. Says r target (outcome_of (sides_of r target) e ran.last.lacking) t ran.last.table) lost kept.ends.says
 
--- what comes of a run under faults alone
+-- what comes of a run under some turns and faults alone
 pub record IsGood (t : Table) (r : Record) (target : Target) (entries : List Entry) (report : Report) : Type 0 where
-  pub next : AreNext (text_handed r target) (heirs_of r target) (begins t r target) entries
-  pub over : IsOver (trail_by r target entries).rest
-  pub reports : Reports (sides_of r target) (trail_by r target entries) report
+  pub turns : List Turn
+  pub explained : IsExplainedBy t r target turns entries
+  pub over : IsOver (trail_by r target turns entries).rest
+  pub reports : Reports (sides_of r target) (trail_by r target turns entries) report
 
 is-good : (t : Table) (r : Record) (target : Target) (entries : List Entry) (report : Report) → IsDue t r target → IsFaultyRun t r target entries report → IsGood t r target entries report
 is-good t r target entries report due h =
     let text = text_handed r target in
     let heirs = heirs_of r target in
     let sides = sides_of r target in
-    let ran = run_of r target (faults_alone h.fates) t in
-    let w = tree-walks text heirs h.fates (plan_tree r target) (start_at t r.note) (r.generation.image ∷ []) (never-lost t r target due h.fates) in
-    let trail : trail_by r target entries ≡ trail_at w.rest ran.last = ap (trail_by r target) (sym h.is_run.entries_are) ∙ w.trail in
+    let ran = run_of r target h.turns (faults_alone h.fates) t in
+    let w = tree-walks text heirs h.fates (plan_tree r target h.turns) (start_at t r.note) (r.generation.image ∷ []) (never-lost t r target due h.turns h.fates) in
+    let trail : trail_by r target h.turns entries ≡ trail_at w.rest ran.last = ap (trail_by r target h.turns) (sym h.is_run.entries_are) ∙ w.trail in
     record {
-      next = subst (AreNext text heirs (begins t r target)) h.is_run.entries_are w.next;
+      turns = h.turns;
+      explained = is-explained t r target h.turns entries (subst (AreNext text heirs (begins t r target h.turns)) h.is_run.entries_are w.next);
       over = subst (λ (x : Trail). IsOver x.rest) (sym trail) w.over;
       reports =
           subst (λ (x : Trail). Reports sides x report) (sym trail)
@@ -156,9 +159,9 @@ is-good t r target entries report due h =
 -- it is refused, if at all, before its first entry
 only-refused : (t : Table) (r : Record) (target : Target) (es : List Entry) (report : Report) → IsGood t r target es report → (why : Mismatch) → IsMismatch t r target es report why → (why ≡ mismatch.Refused) ⊎ (why ≡ mismatch.Memory)
 only-refused t r target es report good mismatch.Refused h = inl refl
-only-refused t r target es report good (mismatch.Step n) h = absurd (h.strange (all-explained t r target es n (is-explained t r target es good.next)))
-only-refused t r target es report good mismatch.Short h = absurd (h.unfinished good.over)
-only-refused t r target es report good mismatch.Report h = absurd (h.other good.reports)
+only-refused t r target es report good (mismatch.Step n) h = absurd (h.strange (all-explained t r target es n (good.turns, good.explained)))
+only-refused t r target es report good mismatch.Short h = absurd (h.unfinished good.turns good.explained.path good.over)
+only-refused t r target es report good mismatch.Report h = absurd (h.other good.turns good.explained.path good.reports)
 only-refused t r target es report good mismatch.Memory h = inr refl
 
 pub complete-by : {T : Type 0} (t : Table) (r : Record) (target : Target) (es : List Entry) (report : Report) (result : Result T Mismatch) → IsExact t r target es report result → IsDue t r target → IsFaultyRun t r target es report → IfErr result (λ why. (why ≡ mismatch.Refused) ⊎ (why ≡ mismatch.Memory))

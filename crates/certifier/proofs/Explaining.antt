@@ -9,13 +9,14 @@ use Rattle.vocabulary.specs.declared.plans.PidNote.{PidNote}
 use Rattle.definitions.specs.Target.{text_handed}
 use Rattle.definitions.specs.Calls.{Stepped}
 use Rattle.definitions.specs.Tree.{Tree}
+use Rattle.definitions.specs.Parts.{Turn}
 use Rattle.definitions.specs.Plans.{plan_tree}
 use Rattle.definitions.specs.Path.{Entry, Trail, begin, advance, follow, rest_after, trail_after, Follows}
 use Rattle.definitions.specs.Run.{Moment, quiet, Pattern, Replays}
 use Rattle.definitions.specs.Claims.{names_any, executing_at, executing_after, refused_among, heirs_of}
 use Rattle.certifier.specs.Shown.{moment_shown, moments_shown, pattern_of, stepped_at}
-use Rattle.certifier.specs.Places.{Place, place_after, place_after_all, AreNext}
-use Rattle.certifier.specs.Explained.{pattern_shown, IsExplained}
+use Rattle.certifier.specs.Places.{Place, Start, place_at, place_after, place_after_all, AreNext}
+use Rattle.certifier.specs.Explained.{pattern_shown, IsExplainedBy}
 
 ---- Patterns that go through moments
 
@@ -108,24 +109,29 @@ explained-next text heirs pattern n p (e ∷ es) last goes follows edges replays
 ---- Of a target
 
 -- where a transcript of the target begins
-abbrev pub begins : Table → Record → Target → Place
-begins t r target = record { trail = begin (plan_tree r target) r.note; table = t; executing = r.generation.image ∷ [] }
+abbrev pub starts : Table → Record → Target → Start
+starts t r target = record { trail = λ turns. begin (plan_tree r target turns) r.note; table = t; executing = r.generation.image ∷ [] }
 
-pub is-explained : (t : Table) (r : Record) (target : Target) (es : List Entry) → AreNext (text_handed r target) (heirs_of r target) (begins t r target) es → IsExplained t r target es
-is-explained t r target es all =
-    let text = text_handed r target in
-    let heirs = heirs_of r target in
-    let p = begins t r target in
-    let goes = goes-through (pattern_shown t r target es) (moments_shown text t es) (λ n. refl) in
-    record {
-      path = next-follows text heirs p es all;
-      edges = next-edges text heirs p es refl all;
-      last = (place_after_all text heirs p es).table;
-      replays = next-replays text heirs (pattern_shown t r target es) 0 p es goes all;
-      spares = next-spares text heirs (pattern_shown t r target es) 0 p es goes all;
-    }
+-- the same under turns
+abbrev pub begins : Table → Record → Target → List Turn → Place
+begins t r target turns = place_at (starts t r target) turns
 
-pub is-next : (t : Table) (r : Record) (target : Target) (es : List Entry) → IsExplained t r target es → AreNext (text_handed r target) (heirs_of r target) (begins t r target) es
-is-next t r target es h =
-    let goes = goes-through (pattern_shown t r target es) (moments_shown (text_handed r target) t es) (λ n. refl) in
-    explained-next (text_handed r target) (heirs_of r target) (pattern_shown t r target es) 0 (begins t r target) es h.last goes h.path h.edges h.replays h.spares
+module _ (t : Table) (r : Record) (target : Target) (turns : List Turn) (es : List Entry) where
+  pub is-explained : AreNext (text_handed r target) (heirs_of r target) (begins t r target turns) es → IsExplainedBy t r target turns es
+  is-explained all =
+      let text = text_handed r target in
+      let heirs = heirs_of r target in
+      let p = begins t r target turns in
+      let goes = goes-through (pattern_shown t r target es) (moments_shown text t es) (λ n. refl) in
+      record {
+        path = next-follows text heirs p es all;
+        edges = next-edges text heirs p es refl all;
+        last = (place_after_all text heirs p es).table;
+        replays = next-replays text heirs (pattern_shown t r target es) 0 p es goes all;
+        spares = next-spares text heirs (pattern_shown t r target es) 0 p es goes all;
+      }
+
+  pub is-next : IsExplainedBy t r target turns es → AreNext (text_handed r target) (heirs_of r target) (begins t r target turns) es
+  is-next h =
+      let goes = goes-through (pattern_shown t r target es) (moments_shown (text_handed r target) t es) (λ n. refl) in
+      explained-next (text_handed r target) (heirs_of r target) (pattern_shown t r target es) 0 (begins t r target turns) es h.last goes h.path h.edges h.replays h.spares

@@ -1,5 +1,5 @@
 -- A word whose calls are certified, and what they lead to.
-use Rattle.std.proofs.Common.{◌≡◌, ◌⊎◌, ℕ, List, [], ◌∷◌, Option, Some, Result, sym, ◌∙◌, ap, subst}
+use Rattle.std.proofs.Common.{◌≡◌, ◌⊎◌, List, [], ◌∷◌, Option, Some, Result, sym, ◌∙◌, ap, subst}
 use Rattle.std.specs.Prelude.{◌↔◌}
 use Rattle.std.specs.Result.{IsErrOf}
 use Rattle.vocabulary.specs.Settings.{Settings}
@@ -17,12 +17,8 @@ use Rattle.word_runner.specs.Asking.{asked_by}
 use Rattle.word_runner.specs.Started.{started}
 use Rattle.word_runner.specs.declared.enactor.Enacted.{Enacted}
 use Rattle.word_runner.specs.declared.standing.Standing.{Standing}
-use Rattle.definitions.specs.Run.{Moment}
-use Rattle.kernel_model.specs.Pattern.{moment_at}
-use Rattle.kernel_pattern.specs.declared.section.Section.{Section}
-use Rattle.plan_executor.specs.Enacted.{IsEnacted}
 use Rattle.plan_executor.specs.Words.{EnactsAt}
-use Rattle.certifier.specs.Certified.{IsCertified, HasEnacted}
+use Rattle.certifier.specs.Certified.{HasEnacted}
 use Rattle.certifier.specs.Blocks.{IsFollowed, IsRunFault, IsRunFaultOf}
 use Rattle.certifier.specs.Explained.{IsMismatch}
 use Rattle.certifier.specs.declared.replay.Certificate.{Certificate}
@@ -32,22 +28,21 @@ use Rattle.certifier.proofs.Matching.{IsExact}
 
 ---- What is certified is what is carried out
 
-pub leads-on : (settings : Option Settings) (word : Word) (entries : List Entry) (report : Report) (old : Standing State) (r : Record) (target : Target) (it : Certificate) (section : Section) (after : Option Record) (new : Standing State) → section.pattern ≡ it.pattern →
+pub leads-on : (settings : Option Settings) (word : Word) (entries : List Entry) (report : Report) (old : Standing State) (r : Record) (target : Target) (it : Certificate) (after : Option Record) (new : Standing State) →
     old.record ≡ Some r → asked_by word r old.workers settings ≡ asks.Act target → HasEnacted old.world r target entries report it → after ≡ next_record r target report it.kernel.table →
-    new.world ≡ it.kernel → new.record ≡ after → new.workers ≡ followed old.workers report.ready (started after entries) → IsFollowed settings word entries report old section new
-leads-on settings word entries report old r target it section after new same runs asked is left world keeps follows = record {
+    new.world ≡ it.kernel → new.record ≡ after → new.workers ≡ followed old.workers report.ready (started after entries) → IsFollowed settings word entries report old it.section new
+leads-on settings word entries report old r target it after new runs asked is left world keeps follows = record {
   master = r;
   runs = runs;
   target = target;
   asks = asked;
-  certified = subst (IsCertified old.world.table r target entries report) (sym same) is.certified;
+  certified = is.certified;
   room = 0;
   carried_out = record {
     enacted =
         let told : Option Record → Enacted = λ a. record { log = record { entries = entries; room = 0 }; report = report; after = a } in
-        let under = subst (λ (p : List (ℕ × Moment)). IsEnacted old.world it.kernel r target (moment_at p) (told (next_record r target report it.kernel.table))) (sym same) (is.enacted 0) in
-        let there = subst (λ (a : Option Record). EnactsAt (section ∷ []) old.world 0 r target (told a) it.kernel) (sym (keeps ∙ left)) under in
-        subst (λ (k : State). EnactsAt (section ∷ []) old.world 0 r target (told new.record) k) (sym world) there;
+        let there = subst (λ (a : Option Record). EnactsAt (it.section ∷ []) old.world 0 r target (told a) it.kernel) (sym (keeps ∙ left)) (is.enacted 0) in
+        subst (λ (k : State). EnactsAt (it.section ∷ []) old.world 0 r target (told new.record) k) (sym world) there;
     workers = follows ∙ ap (λ (a : Option Record). followed old.workers report.ready (started a entries)) (sym keeps);
   };
 }

@@ -1,54 +1,106 @@
 -- What the end of a replay says of all its entries.
-use Rattle.std.proofs.Common.{◌≡◌, ◌⊎◌, inl, inr, ℕ, ◌+◌, length, List, Result, Ok, Err, sym, ◌∙◌, ap, subst}
+use Rattle.std.proofs.Common.{◌≡◌, ℕ, ◌+◌, length, List, [], ◌∷◌, ◌++◌, replicate, Result, Ok, Err, sym, ◌∙◌, ap, subst}
 use Rattle.std.specs.Prelude.{IfOk, IfErr}
-use Rattle.definitions.specs.Path.{Entry, Report, Sides, IsOver, Reports}
-use Rattle.definitions.specs.Run.{Moment}
-use Rattle.plan_walk.specs.Walk.{trail_of, sides_in}
+use Rattle.definitions.specs.Parts.{Turn, New}
+use Rattle.definitions.specs.Apart.{Plays}
+use Rattle.definitions.specs.Path.{Entry, Report, Sides, Trail, IsOver, Reports, trail_after}
+use Rattle.plan_walk.specs.Walk.{trail_under, sides_in}
 use Rattle.kernel_model.specs.Pattern.{moment_at}
 use Rattle.kernel_model.specs.State.{State}
+use Rattle.kernel_pattern.specs.declared.section.Section.{Section}
 use Rattle.certifier.specs.declared.replay.Replay.{Replay}
 use Rattle.certifier.specs.declared.replay.Certificate.{Certificate}
 use Rattle.certifier.specs.declared.mismatch.Mismatch.{Mismatch}
 use Rattle.certifier.specs.declared.mismatch.Mismatch.TheVariants as mismatch
-use Rattle.certifier.specs.Places.{Place, place_after_all, HasTaken, StopsBy, Shows, Holds, IsLed, FailsBy}
+use Rattle.certifier.specs.Turns.{IsTrimmed, used_in}
+use Rattle.certifier.specs.Places.{Place, Start, place_at, place_under, place_after_all, trail_to, AreNext, AreNextUnder, IsPathUnder, HasTaken, EndsWell, EndsBadly, StopsBy, Shows, Holds, IsLed, FailsBy}
+use Rattle.certifier.proofs.Explaining.{next-trail}
+use Rattle.certifier.proofs.Turns.{append-none, plays-first, steady-news, goes-on}
 
-module _ (text heirs : List ℕ) (sides : Sides) (from : Place) (entries : List Entry) (report : Report) (x : Replay) (taken : HasTaken text heirs sides from entries x) where
-  -- what the replay reports by its groups is what the trail at the end does
-  told : Reports (sides_in x.walk) (trail_of x.walk) report ≡ Reports sides (place_after_all text heirs from entries).trail report
-  told = λ i. Reports (taken.sides_are i) (taken.place i).trail report
+module _ (text heirs : List ℕ) (sides : Sides) (from : Start) (entries : List Entry) (x : Replay) (taken : HasTaken text heirs sides from entries x) where
+  -- the turns that are told lead to what the turns that were used do
+  same-told : from.trail x.turns.told ≡ from.trail (used_in x.turns ++ [])
+  same-told = sym (ap from.trail (append-none (used_in x.turns)) ∙ steady-news from.trail taken.steady x.turns.told x.turns.late)
 
-  pub shows-all : Shows text heirs from entries x.pattern
-  shows-all = record { next = taken.next; shown = taken.pattern }
+  same-start : place_at from x.turns.told ≡ place_at from (used_in x.turns ++ [])
+  same-start = ap (λ (t : Trail). record { trail = t; table = from.table; executing = from.executing }) same-told
 
-  pub ends-well : (result : Result Certificate Mismatch) → IfOk result (λ it. (it.pattern ≡ x.pattern) × IsOver (trail_of x.walk).rest × Reports (sides_in x.walk) (trail_of x.walk) report) → IfOk result (λ it. Holds text heirs sides from entries report it.pattern)
-  ends-well (Ok it) h = record {
-    next = taken.next;
-    shown = λ n. ap (λ p. moment_at p n) h.0 ∙ taken.pattern n;
-    over = subst (λ (p : Place). IsOver p.trail.rest) taken.place h.1;
-    reports = subst (λ (X : Type 0). X) told h.2;
-  }
-  ends-well (Err why) h = tt
+  ---- What it has shown
+
+  module _ (section : Section) (pattern : section.pattern ≡ x.pattern) (told : section.turns ≡ x.turns.told) where
+    pub shows-all : Shows text heirs from entries section
+    shows-all = record {
+      next = subst (λ (turns : List Turn). AreNextUnder text heirs from turns entries) (sym told) (subst (λ (p : Place). AreNext text heirs p entries) (sym same-start) (taken.next []));
+      turns = record {
+        used = λ turns path. subst (Plays turns) (sym told) (plays-first turns x.turns.told (replicate x.turns.late New) (taken.only turns path));
+        trimmed = subst IsTrimmed (sym told) taken.trimmed;
+      };
+      shown = λ n. ap (λ p. moment_at p n) pattern ∙ taken.pattern n;
+    }
+
+    -- the trail to which the entries lead under the section's turns
+    trail-told : trail_to from section.turns entries ≡ trail_under x.walk []
+    trail-told =
+        ap (λ (turns : List Turn). trail_to from turns entries) told
+        ∙ (sym (next-trail text heirs (place_at from x.turns.told) entries)
+        ∙ (ap (λ (p : Place). (place_after_all text heirs p entries).trail) same-start ∙ sym (ap (λ (p : Place). p.trail) (taken.place []))))
+
+  ---- How it ends
+
+  -- under turns that they are a path under, entries lead to where the replay has come
+  ended : (turns : List Turn) → IsPathUnder from turns entries → (rest : List Turn) × (trail_to from turns entries ≡ trail_under x.walk rest)
+  ended turns path =
+      let more = goes-on from.trail taken.steady turns (used_in x.turns) (taken.only turns path) in
+      let rest = more.one ∷ more.rest in (
+        rest,
+        ap (λ (t : Trail). trail_after t entries) more.same
+            ∙ (sym (next-trail text heirs (place_at from (used_in x.turns ++ rest)) entries) ∙ sym (ap (λ (p : Place). p.trail) (taken.place rest))),
+      )
+
+  told-so : (report : Report) (turns : List Turn) → Reports (sides_in x.walk) (trail_under x.walk turns) report ≡ Reports sides (trail_under x.walk turns) report
+  told-so report turns = ap (λ (s : Sides). Reports s (trail_under x.walk turns) report) taken.sides_are
+
+  pub ends-well : (report : Report) (result : Result Certificate Mismatch) → IfOk result (λ it. EndsWell x report it.section) → IfOk result (λ it. Holds text heirs sides from entries report it.section)
+  ends-well report (Ok it) h =
+      let trail = trail-told it.section h.pattern h.turns in
+      record {
+        shows = shows-all it.section h.pattern h.turns;
+        over = subst (λ (t : Trail). IsOver t.rest) (sym trail) (h.over []);
+        reports = subst (λ (t : Trail). Reports sides t report) (sym trail) (subst (λ (X : Type 0). X) (told-so report []) (h.reports []));
+      }
+  ends-well report (Err why) h = tt
 
   -- the kernel of the replay is led by its entries
-  pub ends-led : (calls : ℕ) → x.kernel.room + length entries ≡ calls → (result : Result Certificate Mismatch) → IfOk result (λ it. it.kernel ≡ x.kernel) → IfOk result (λ it. IsLed text heirs calls from entries it.kernel)
-  ends-led calls room (Ok it) same = record { table = ap (λ (k : State). k.table) same ∙ ap (λ (p : Place). p.table) taken.place; room = ap (λ (k : State). k.room + length entries) same ∙ room }
-  ends-led calls room (Err why) same = tt
+  pub ends-led : (calls : ℕ) → x.kernel.room + length entries ≡ calls → (report : Report) (result : Result Certificate Mismatch) → IfOk result (λ it. EndsWell x report it.section) → IfOk result (λ it. it.kernel ≡ x.kernel) →
+      IfOk result (λ it. IsLed text heirs calls (place_at from it.section.turns) entries it.kernel)
+  ends-led calls room report (Ok it) h same = record {
+    table =
+        ap (λ (k : State). k.table) same
+        ∙ (ap (λ (p : Place). p.table) (taken.place [])
+        ∙ (ap (λ (p : Place). (place_after_all text heirs p entries).table) (sym same-start) ∙ ap (λ (turns : List Turn). (place_under text heirs from turns entries).table) (sym h.turns)));
+    room = ap (λ (k : State). k.room + length entries) same ∙ room;
+  }
+  ends-led calls room report (Err why) h same = tt
 
-  pub ends-badly : (result : Result Certificate Mismatch) → IfErr result (λ why.
-      ((why ≡ mismatch.Short) × (IsOver (trail_of x.walk).rest → ⊥))
-      ⊎ ((why ≡ mismatch.Report) × IsOver (trail_of x.walk).rest × (Reports (sides_in x.walk) (trail_of x.walk) report → ⊥))) → IfErr result (FailsBy text heirs sides from entries report)
-  ends-badly (Ok it) h = tt
-  ends-badly (Err why) (inl short) =
-      subst (FailsBy text heirs sides from entries report) (sym short.0) (record { next = taken.next; left = λ over. short.1 (subst (λ (p : Place). IsOver p.trail.rest) (sym taken.place) over) })
-  ends-badly (Err why) (inr other) =
-      subst (FailsBy text heirs sides from entries report) (sym other.0) (record {
-        next = taken.next;
-        over = subst (λ (p : Place). IsOver p.trail.rest) taken.place other.1;
-        other = λ reports. other.2 (subst (λ (X : Type 0). X) (sym told) reports);
-      })
+  pub ends-badly : (report : Report) (result : Result Certificate Mismatch) → IfErr result (EndsBadly x report) → IfErr result (FailsBy text heirs sides from entries report)
+  ends-badly report (Ok it) h = tt
+  ends-badly report (Err mismatch.Refused) h = absurd h
+  ends-badly report (Err (mismatch.Step n)) h = absurd h
+  ends-badly report (Err mismatch.Memory) h = absurd h
+  ends-badly report (Err mismatch.Short) h = record {
+    turns = used_in x.turns ++ [];
+    next = taken.next [];
+    left = λ others path over. let it = ended others path in h it.0 (subst (λ (t : Trail). IsOver t.rest) it.1 over);
+  }
+  ends-badly report (Err mismatch.Report) h = record {
+    turns = used_in x.turns ++ [];
+    next = taken.next [];
+    over = λ others path. let it = ended others path in subst (λ (t : Trail). IsOver t.rest) (sym it.1) (h.0 it.0);
+    other = λ others path reports. let it = ended others path in h.1 it.0 (subst (λ (X : Type 0). X) (sym (told-so report it.0)) (subst (λ (t : Trail). Reports sides t report) it.1 reports));
+  }
 
 -- a replay that stops
-pub stops-so : (text heirs : List ℕ) (sides : Sides) (from : Place) (entries : List Entry) (report : Report) (why : Mismatch) → StopsBy text heirs from entries why → FailsBy text heirs sides from entries report why
+pub stops-so : (text heirs : List ℕ) (sides : Sides) (from : Start) (entries : List Entry) (report : Report) (why : Mismatch) → StopsBy text heirs from entries why → FailsBy text heirs sides from entries report why
 stops-so text heirs sides from entries report mismatch.Refused h = h
 stops-so text heirs sides from entries report (mismatch.Step n) h = h
 stops-so text heirs sides from entries report mismatch.Short h = absurd h

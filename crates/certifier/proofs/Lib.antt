@@ -1,7 +1,10 @@
 pub mod Shows
 pub mod Steps
+pub mod Turns
 pub mod Explaining
 pub mod Asking
+pub mod Starting
+pub mod Nexts
 pub mod Taking
 pub mod Holding
 pub mod Matching

@@ -1,5 +1,5 @@
 -- What the replay of a target's entries says of the target.
-use Rattle.std.proofs.Common.{◌≡◌, ◌⊎◌, inl, inr, ℕ, ◌+◌, ◌-◌, ◌<◌, ◌≤◌, List, [], ◌∷◌, ◌++◌, take, drop, Result, Ok, Err, true, refl, sym, ◌∙◌, ap, subst, arith}
+use Rattle.std.proofs.Common.{◌≡◌, ◌⊎◌, inl, inr, ℕ, ◌+◌, ◌-◌, ◌<◌, ◌≤◌, List, [], ◌∷◌, ◌++◌, take, drop, None, Result, Ok, Err, true, refl, sym, ◌∙◌, ap, subst, arith}
 use Rattle.std.specs.Prelude.{◌↔◌, IfOk, IfErr}
 use Rattle.std.specs.Result.{IsErrOf}
 use Rattle.std.proofs.lemmas.Bool.{false≢true, cases_order}
@@ -9,14 +9,14 @@ use Rattle.definitions.specs.Table.{Table}
 use Rattle.definitions.specs.Record.{Record}
 use Rattle.vocabulary.specs.declared.targets.Target.{Target}
 use Rattle.definitions.specs.Target.{text_handed, sides_of}
-use Rattle.definitions.specs.Plans.{plan_tree}
-use Rattle.definitions.specs.Path.{Entry, Report, Trail, IsOver, Reports, KeepsPathLaw}
-use Rattle.definitions.specs.Run.{Moment}
-use Rattle.definitions.specs.Claims.{refused_among, heirs_of}
+use Rattle.definitions.specs.Parts.{Turn}
+use Rattle.definitions.specs.Plans.{plan_tree, plan_length}
+use Rattle.definitions.specs.Path.{Entry, Report, KeepsPathLaw}
+use Rattle.definitions.specs.Claims.{refused_among, refusal_of, heirs_of}
 use Rattle.kernel_model.specs.Pattern.{moment_at}
+use Rattle.kernel_pattern.specs.declared.section.Section.{Section}
 use Rattle.kernel_model.specs.Room.{LacksNumbers}
 use Rattle.definitions.specs.After.{lacks_generation}
-use Rattle.definitions.specs.Tree.{height}
 use Rattle.reload_planner.specs.declared.refusal.PlanRefusal.{PlanRefusal}
 use Rattle.reload_planner.specs.declared.refusal.PlanRefusal.TheVariants as planner
 use Rattle.plan_executor.specs.declared.enactment.EnactRefusal.{EnactRefusal}
@@ -27,31 +27,42 @@ use Rattle.kernel_model.specs.State.{State}
 use Rattle.std.proofs.lemmas.Option.{none-some}
 use Rattle.plan_executor.proofs.Reporting.{whole-run}
 use Rattle.plan_executor.specs.Lawful.{IsWholeRun}
+use Rattle.plan_executor.specs.Merged.{ActsApart}
 use Rattle.certifier.specs.declared.mismatch.Mismatch.{Mismatch}
 use Rattle.certifier.specs.declared.mismatch.Mismatch.TheVariants as mismatch
 use Rattle.certifier.specs.Shown.{moments_shown}
-use Rattle.certifier.specs.Places.{AreNext, place_after_all, Shows, StopsBy, Holds, FailsBy}
-use Rattle.certifier.specs.Explained.{trail_by, IsExplained, IsReady, IsUnready, IsStrange, IsNoBeginning, IsMismatch, mismatch_of}
-use Rattle.certifier.specs.Certified.{IsBeginning, IsCertified, EnactsSo}
+use Rattle.certifier.specs.Places.{AreNext, place_after_all, place_under, AreShown, Shows, StopsBy, Holds, FailsBy}
+use Rattle.certifier.specs.Explained.{trail_by, IsExplainedBy, IsExplained, IsReady, IsUnready, IsStrange, IsNoBeginning, IsMismatch, mismatch_of}
+use Rattle.certifier.specs.Certified.{AreTurnsOf, IsBeginning, IsCertified, EnactsSo}
 use Rattle.certifier.proofs.Asking.{not-lost}
 use Rattle.certifier.proofs.Steps.{next-front}
-use Rattle.certifier.proofs.Explaining.{begins, goes-through, next-follows, next-edges, next-trail, next-replays, next-spares, is-explained, is-next}
+use Rattle.certifier.proofs.Turns.{trimmed-fewest}
+use Rattle.certifier.proofs.Explaining.{starts, begins, goes-through, next-follows, next-edges, next-replays, next-spares, is-explained, is-next}
+
+---- The turns that entries show
+
+pub turns-of : (t : Table) (r : Record) (target : Target) (entries : List Entry) (turns : List Turn) → AreShown (starts t r target) entries turns → AreTurnsOf r target entries turns
+turns-of t r target entries turns shown = record {
+  used = shown.used;
+  fewest = λ others path. trimmed-fewest others turns (shown.used others path) shown.trimmed;
+  trimmed = shown.trimmed;
+}
 
 ---- Entries that are to begin a run
 
 module _ (t : Table) (r : Record) (target : Target) (entries : List Entry) (ready : IsReady t r target) where
-  pub begun : (pattern : List (ℕ × Moment)) → Shows (text_handed r target) (heirs_of r target) (begins t r target) entries pattern → IsBeginning t r target entries pattern
-  begun pattern h = record { ready = ready; explained = is-explained t r target entries h.next; shown = h.shown }
+  pub begun : (section : Section) → Shows (text_handed r target) (heirs_of r target) (starts t r target) entries section → IsBeginning t r target entries section
+  begun section h = record { ready = ready; explained = is-explained t r target section.turns entries h.next; turns = turns-of t r target entries section.turns h.turns; shown = h.shown }
 
-  pub unbegun : (why : Mismatch) → StopsBy (text_handed r target) (heirs_of r target) (begins t r target) entries why → (why ≡ mismatch.Memory) ⊎ IsNoBeginning t r target entries why
+  pub unbegun : (why : Mismatch) → StopsBy (text_handed r target) (heirs_of r target) (starts t r target) entries why → (why ≡ mismatch.Memory) ⊎ IsNoBeginning t r target entries why
   unbegun mismatch.Refused h = absurd h
   unbegun (mismatch.Step n) h = inr (record {
     ready = ready;
     before = h.before;
     number = h.number;
     within = h.within;
-    explained = is-explained t r target (take h.before entries) h.next;
-    strange = λ all. h.stops (is-next t r target (take n entries) all);
+    explained = (h.turns, is-explained t r target h.turns (take h.before entries) h.next);
+    strange = λ all. h.stops all.0 (is-next t r target all.0 (take n entries) all.1);
   })
   unbegun mismatch.Short h = absurd h
   unbegun mismatch.Report h = absurd h
@@ -60,60 +71,62 @@ module _ (t : Table) (r : Record) (target : Target) (entries : List Entry) (read
 ---- Transcripts
 
 module _ (t : Table) (r : Record) (target : Target) (entries : List Entry) (report : Report) (ready : IsReady t r target) where
-  -- the trail at the end
-  ended : (place_after_all (text_handed r target) (heirs_of r target) (begins t r target) entries).trail ≡ trail_by r target entries
-  ended = next-trail (text_handed r target) (heirs_of r target) (begins t r target) entries
-
   ---- A transcript that holds
 
-  pub whole : (pattern : List (ℕ × Moment)) → Holds (text_handed r target) (heirs_of r target) (sides_of r target) (begins t r target) entries report pattern →
-      IsWholeRun r target (moment_at pattern) t entries (place_after_all (text_handed r target) (heirs_of r target) (begins t r target) entries).table report
-  whole pattern h =
+  pub whole : (section : Section) → Holds (text_handed r target) (heirs_of r target) (sides_of r target) (starts t r target) entries report section →
+      IsWholeRun r target section.turns (moment_at section.pattern) t entries (place_under (text_handed r target) (heirs_of r target) (starts t r target) section.turns entries).table report
+  whole section h =
       let text = text_handed r target in
       let heirs = heirs_of r target in
       let sides = sides_of r target in
-      let p = begins t r target in
-      let goes = goes-through (moment_at pattern) (moments_shown text t entries) h.shown in
-      let last = (place_after_all text heirs p entries).table in
-      let reports : Reports sides (trail_by r target entries) report = subst (λ (x : Trail). Reports sides x report) ended h.reports in
-      let edges = next-edges text heirs p entries refl h.next in
-      let law : KeepsPathLaw (plan_tree r target) r.note sides entries report = record {
-        path = next-follows text heirs p entries h.next;
-        report_is = reports;
-        lost = λ lost. absurd (not-lost sides (trail_by r target entries).rest (trail_by r target entries).lacking report.outcome edges reports.outcome lost);
+      let turns = section.turns in
+      let pattern = section.pattern in
+      let p = begins t r target turns in
+      let next = h.shows.next in
+      let goes = goes-through (moment_at pattern) (moments_shown text t entries) h.shows.shown in
+      let trail = trail_by r target turns entries in
+      let law : KeepsPathLaw (plan_tree r target turns) r.note sides entries report = record {
+        path = next-follows text heirs p entries next;
+        report_is = h.reports;
+        lost = λ lost. absurd (not-lost sides trail.rest trail.lacking report.outcome (next-edges text heirs p entries refl next) h.reports.outcome lost);
       } in
-      whole-run r target (moment_at pattern) t last entries report law (next-replays text heirs (moment_at pattern) 0 p entries goes h.next)
+      whole-run r target turns (moment_at pattern) t (place_after_all text heirs p entries).table entries report law (next-replays text heirs (moment_at pattern) 0 p entries goes next)
 
-  pub certified : (pattern : List (ℕ × Moment)) → Holds (text_handed r target) (heirs_of r target) (sides_of r target) (begins t r target) entries report pattern → IsCertified t r target entries report pattern
-  certified pattern h =
+  -- no executing master exits in its run
+  pub spares : (section : Section) → Holds (text_handed r target) (heirs_of r target) (sides_of r target) (starts t r target) entries report section → refusal_of r target section.turns (moment_at section.pattern) t ≡ None
+  spares section h =
       let text = text_handed r target in
       let heirs = heirs_of r target in
-      let p = begins t r target in
-      let goes = goes-through (moment_at pattern) (moments_shown text t entries) h.shown in
-      let run = whole pattern h in
-      record {
-        ready = ready;
-        shown = h.shown;
-        last = (place_after_all text heirs p entries).table;
-        is_run = run;
-        spared = ap (refused_among (r.generation.image ∷ []) heirs (moment_at pattern) 0) run.entries_are ∙ next-spares text heirs (moment_at pattern) 0 p entries goes h.next;
-      }
+      let p = begins t r target section.turns in
+      let goes = goes-through (moment_at section.pattern) (moments_shown text t entries) h.shows.shown in
+      ap (refused_among (r.generation.image ∷ []) heirs (moment_at section.pattern) 0) (whole section h).entries_are ∙ next-spares text heirs (moment_at section.pattern) 0 p entries goes h.shows.next
+
+  pub certified : (section : Section) → Holds (text_handed r target) (heirs_of r target) (sides_of r target) (starts t r target) entries report section → ActsApart r target section.turns entries → IsCertified t r target entries report section
+  certified section h apart = record {
+    ready = ready;
+    shown = h.shows.shown;
+    turns = turns-of t r target entries section.turns h.shows.turns;
+    last = (place_under (text_handed r target) (heirs_of r target) (starts t r target) section.turns entries).table;
+    is_run = whole section h;
+    spared = spares section h;
+    apart = apart;
+  }
 
   ---- One that does not
 
-  pub mismatched : (why : Mismatch) → FailsBy (text_handed r target) (heirs_of r target) (sides_of r target) (begins t r target) entries report why → (why ≡ mismatch.Memory) ⊎ IsMismatch t r target entries report why
+  pub mismatched : (why : Mismatch) → FailsBy (text_handed r target) (heirs_of r target) (sides_of r target) (starts t r target) entries report why → (why ≡ mismatch.Memory) ⊎ IsMismatch t r target entries report why
   mismatched mismatch.Refused h = unbegun t r target entries ready mismatch.Refused h
   mismatched (mismatch.Step n) h = unbegun t r target entries ready (mismatch.Step n) h
   mismatched mismatch.Short h = inr (record {
     ready = ready;
-    explained = is-explained t r target entries h.next;
-    unfinished = λ over. h.left (subst (λ (x : Trail). IsOver x.rest) (sym ended) over);
+    explained = (h.turns, is-explained t r target h.turns entries h.next);
+    unfinished = h.left;
   })
   mismatched mismatch.Report h = inr (record {
     ready = ready;
-    explained = is-explained t r target entries h.next;
-    over = subst (λ (x : Trail). IsOver x.rest) ended h.over;
-    other = λ reports. h.other (subst (λ (x : Trail). Reports (sides_of r target) x report) (sym ended) reports);
+    explained = (h.turns, is-explained t r target h.turns entries h.next);
+    over = h.over;
+    other = h.other;
   })
   mismatched mismatch.Memory h = unbegun t r target entries ready mismatch.Memory h
 
@@ -129,8 +142,8 @@ front-explained : (t : Table) (r : Record) (target : Target) (es more whole : Li
 front-explained t r target es more whole split all =
     let text = text_handed r target in
     let heirs = heirs_of r target in
-    is-explained t r target es
-    (next-front text heirs (begins t r target) es more (subst (AreNext text heirs (begins t r target)) split (is-next t r target whole all)))
+    let p = begins t r target all.0 in
+    (all.0, is-explained t r target all.0 es (next-front text heirs p es more (subst (AreNext text heirs p) split (is-next t r target all.0 whole all.1))))
 
 pub all-explained : (t : Table) (r : Record) (target : Target) (es : List Entry) (k : ℕ) → IsExplained t r target es → IsExplained t r target (take k es)
 all-explained t r target es k = front-explained t r target (take k es) (drop k es) es (sym (take-append-drop k es))
@@ -179,11 +192,11 @@ one t r target es report (mismatch.Step n) mismatch.Memory h k = absurd k
 one t r target es report mismatch.Short mismatch.Refused h k = absurd (not-both t r target k h.ready)
 one t r target es report mismatch.Short (mismatch.Step m) h k = absurd (k.strange (all-explained t r target es m h.explained))
 one t r target es report mismatch.Short mismatch.Short h k = refl
-one t r target es report mismatch.Short mismatch.Report h k = absurd (h.unfinished k.over)
+one t r target es report mismatch.Short mismatch.Report h k = absurd (h.unfinished h.explained.0 h.explained.1.path (k.over h.explained.0 h.explained.1.path))
 one t r target es report mismatch.Short mismatch.Memory h k = absurd k
 one t r target es report mismatch.Report mismatch.Refused h k = absurd (not-both t r target k h.ready)
 one t r target es report mismatch.Report (mismatch.Step m) h k = absurd (k.strange (all-explained t r target es m h.explained))
-one t r target es report mismatch.Report mismatch.Short h k = absurd (k.unfinished h.over)
+one t r target es report mismatch.Report mismatch.Short h k = absurd (k.unfinished h.explained.0 h.explained.1.path (h.over h.explained.0 h.explained.1.path))
 one t r target es report mismatch.Report mismatch.Report h k = refl
 one t r target es report mismatch.Report mismatch.Memory h k = absurd k
 one t r target es report mismatch.Memory other h k = absurd h
@@ -197,23 +210,29 @@ none-unbegun t r target es ready all mismatch.Report h = h
 none-unbegun t r target es ready all mismatch.Memory h = h
 
 -- none where the transcript holds
-none-fits : (t : Table) (r : Record) (target : Target) (es : List Entry) (report : Report) → IsReady t r target → (pattern : List (ℕ × Moment)) → Holds (text_handed r target) (heirs_of r target) (sides_of r target) (begins t r target) es report pattern → (why : Mismatch) → IsMismatch t r target es report why → ⊥
-none-fits t r target es report ready pattern holds mismatch.Refused h = none-unbegun t r target es ready (is-explained t r target es holds.next) mismatch.Refused h
-none-fits t r target es report ready pattern holds (mismatch.Step n) h = none-unbegun t r target es ready (is-explained t r target es holds.next) (mismatch.Step n) h
-none-fits t r target es report ready pattern holds mismatch.Short h = h.unfinished (subst (λ (x : Trail). IsOver x.rest) (ended t r target es report ready) holds.over)
-none-fits t r target es report ready pattern holds mismatch.Report h = h.other (subst (λ (x : Trail). Reports (sides_of r target) x report) (ended t r target es report ready) holds.reports)
-none-fits t r target es report ready pattern holds mismatch.Memory h = h
+none-fits : (t : Table) (r : Record) (target : Target) (es : List Entry) (report : Report) → IsReady t r target → (section : Section) → Holds (text_handed r target) (heirs_of r target) (sides_of r target) (starts t r target) es report section → (why : Mismatch) → IsMismatch t r target es report why → ⊥
+none-fits t r target es report ready section holds why h = fits why h
+  where
+    all : IsExplainedBy t r target section.turns es
+    all = is-explained t r target section.turns es holds.shows.next
 
----- What a certified pattern enacts
+    fits : (why : Mismatch) → IsMismatch t r target es report why → ⊥
+    fits mismatch.Refused h = none-unbegun t r target es ready (section.turns, all) mismatch.Refused h
+    fits (mismatch.Step n) h = none-unbegun t r target es ready (section.turns, all) (mismatch.Step n) h
+    fits mismatch.Short h = h.unfinished section.turns all.path holds.over
+    fits mismatch.Report h = h.other section.turns all.path holds.reports
+    fits mismatch.Memory h = h
 
-pub enacts-so : (first : State) (r : Record) (target : Target) (es : List Entry) (report : Report) (pattern : List (ℕ × Moment)) → IsCertified first.table r target es report pattern → EnactsSo first r target es report pattern
-enacts-so first r target es report pattern is = record {
+---- What a certified section enacts
+
+pub enacts-so : (first : State) (r : Record) (target : Target) (es : List Entry) (report : Report) (section : Section) → IsCertified first.table r target es report section → EnactsSo first r target es report section
+enacts-so first r target es report section is = record {
   unrefused = unrefused;
   same_entries = λ last e enacted. sym enacted.is_run.entries_are ∙ is.is_run.entries_are;
   same_report = λ last e enacted. enacted.is_run.report_is ∙ sym is.is_run.report_is;
 }
   where
-    unrefused : (why : EnactRefusal) → IsRefused first.table r target (moment_at pattern) why → ⊥
+    unrefused : (why : EnactRefusal) → IsRefused first.table r target section.turns (moment_at section.pattern) why → ⊥
     unrefused refusal.Memory h = h
     unrefused refusal.RecordDisagrees h = h is.ready.agrees
     unrefused (refusal.Plan p) h = no_plan r target p h.no_plan is.ready.has_plan
@@ -268,37 +287,37 @@ module _ (t : Table) (r : Record) (target : Target) (fits : Mismatch → Type 0)
   exact-planless result why is (inl memory) = λ _. inl (is ∙ ap (λ w. Err (mismatch_of w)) memory)
   exact-planless result why is (inr none) = exact-unready result (is ∙ ap (λ w. Err (mismatch_of w)) none.1) (inr (inl (planless r target none.0 none.2)))
 
-  pub exact-short : {T : Type 0} (result : Result T Mismatch) (why : EnactRefusal) → result ≡ Err (mismatch_of why) → (why ≡ refusal.Memory) ⊎ ((why ≡ refusal.NoNumbers) × LacksNumbers t (height (plan_tree r target))) → IsExactly fits result
+  pub exact-short : {T : Type 0} (result : Result T Mismatch) (why : EnactRefusal) → result ≡ Err (mismatch_of why) → (why ≡ refusal.Memory) ⊎ ((why ≡ refusal.NoNumbers) × LacksNumbers t (plan_length r target)) → IsExactly fits result
   exact-short result why is (inl memory) = λ _. inl (is ∙ ap (λ w. Err (mismatch_of w)) memory)
   exact-short result why is (inr none) = exact-unready result (is ∙ ap (λ w. Err (mismatch_of w)) none.0) (inr (inr none.1))
 
 ---- Targets that could be carried out
 
 -- what entries come to that are to begin a run
-pub answered-beginning : (t : Table) (r : Record) (target : Target) (es : List Entry) → IsReady t r target → (result : Result (List (ℕ × Moment)) Mismatch) →
-    IfOk result (Shows (text_handed r target) (heirs_of r target) (begins t r target) es) →
-    IfErr result (StopsBy (text_handed r target) (heirs_of r target) (begins t r target) es) →
+pub answered-beginning : (t : Table) (r : Record) (target : Target) (es : List Entry) → IsReady t r target → (result : Result Section Mismatch) →
+    IfOk result (Shows (text_handed r target) (heirs_of r target) (starts t r target) es) →
+    IfErr result (StopsBy (text_handed r target) (heirs_of r target) (starts t r target) es) →
     IfOk result (IsBeginning t r target es) × IsExactly (IsNoBeginning t r target es) result
-answered-beginning t r target es ready (Ok pattern) shows stops =
-    let is = begun t r target es ready pattern shows in (is, exact-held (IsNoBeginning t r target es) pattern (none-unbegun t r target es ready is.explained))
+answered-beginning t r target es ready (Ok section) shows stops =
+    let is = begun t r target es ready section shows in (is, exact-held (IsNoBeginning t r target es) section (none-unbegun t r target es ready (section.turns, is.explained)))
 answered-beginning t r target es ready (Err why) shows stops =
     (tt, exact-stopped t r target (IsNoBeginning t r target es) (plain-beginnings t r target es) why (unbegun t r target es ready why stops))
 
 -- entries that begin a run are refused, if at all, for want of memory
-pub complete-beginning : {T : Type 0} (t : Table) (r : Record) (target : Target) (es : List Entry) (pattern : List (ℕ × Moment)) (result : Result T Mismatch) → IsExactly (IsNoBeginning t r target es) result → IsBeginning t r target es pattern → IfErr result (λ why. why ≡ mismatch.Memory)
-complete-beginning t r target es pattern (Ok x) exact is = tt
-complete-beginning t r target es pattern (Err why) exact is = elim (exact why) [
+pub complete-beginning : {T : Type 0} (t : Table) (r : Record) (target : Target) (es : List Entry) (section : Section) (result : Result T Mismatch) → IsExactly (IsNoBeginning t r target es) result → IsBeginning t r target es section → IfErr result (λ why. why ≡ mismatch.Memory)
+complete-beginning t r target es section (Ok x) exact is = tt
+complete-beginning t r target es section (Err why) exact is = elim (exact why) [
   | inl memory ↦ (let e : why ≡ mismatch.Memory = cc in e)
-  | inr iff ↦ absurd (none-unbegun t r target es is.ready is.explained why (iff.0 refl))
+  | inr iff ↦ absurd (none-unbegun t r target es is.ready (section.turns, is.explained) why (iff.0 refl))
 ]
 
 -- what a transcript comes to
-pub answered : {T : Type 0} (pattern_in : T → List (ℕ × Moment)) (t : Table) (r : Record) (target : Target) (es : List Entry) (report : Report) → IsReady t r target → (result : Result T Mismatch) →
-    IfOk result (λ it. Holds (text_handed r target) (heirs_of r target) (sides_of r target) (begins t r target) es report (pattern_in it)) →
-    IfErr result (FailsBy (text_handed r target) (heirs_of r target) (sides_of r target) (begins t r target) es report) →
+pub answered : {T : Type 0} (section_in : T → Section) (t : Table) (r : Record) (target : Target) (es : List Entry) (report : Report) → IsReady t r target → (result : Result T Mismatch) →
+    IfOk result (λ it. Holds (text_handed r target) (heirs_of r target) (sides_of r target) (starts t r target) es report (section_in it)) →
+    IfErr result (FailsBy (text_handed r target) (heirs_of r target) (sides_of r target) (starts t r target) es report) →
     IsExact t r target es report result
-answered pattern_in t r target es report ready (Ok it) holds fails = exact-held (IsMismatch t r target es report) it (none-fits t r target es report ready (pattern_in it) holds)
-answered pattern_in t r target es report ready (Err why) holds fails =
+answered section_in t r target es report ready (Ok it) holds fails = exact-held (IsMismatch t r target es report) it (none-fits t r target es report ready (section_in it) holds)
+answered section_in t r target es report ready (Err why) holds fails =
     exact-stopped t r target (IsMismatch t r target es report) (plain-mismatches t r target es report) why (mismatched t r target es report ready why fails)
 
 -- exact is exact whatever else is given

@@ -1,39 +1,98 @@
 -- A replay that comes one entry further, and one that stops.
-use Rattle.std.proofs.Common.{◌≡◌, ℕ, ◌+◌, nat_eq, List, [], ◌∷◌, ◌++◌, length, length-append, sym, ◌∙◌, ap, subst}
+use Rattle.std.proofs.Common.{◌≡◌, ℕ, ◌+◌, nat_eq, List, [], ◌∷◌, ◌++◌, length, length-append, append_assoc, sym, ◌∙◌, ap, subst}
 use Rattle.std.specs.Prelude.{if◌then◌else◌}
-use Rattle.definitions.specs.Path.{Entry, Sides}
+use Rattle.definitions.specs.Parts.{Turn}
+use Rattle.definitions.specs.Apart.{Plays}
+use Rattle.definitions.specs.Path.{Entry, Sides, Trail, Asks, Follows, advance, trail_after}
 use Rattle.definitions.specs.Run.{Moment}
 use Rattle.plan_executor.specs.Naming.{listed}
 use Rattle.certifier.specs.declared.replay.Replay.{Replay}
 use Rattle.certifier.specs.Shown.{moment_shown, moments_shown, pattern_of}
-use Rattle.certifier.specs.Places.{Place, place_of, IsNext, place_after, place_after_all, AreNext, IsTaken, HasTaken}
-use Rattle.certifier.proofs.Steps.{next-push, next-last, place-push, moments-push, moments-length, pattern-push}
+use Rattle.certifier.specs.Turns.{used_in}
+use Rattle.certifier.specs.Places.{Place, Start, place_at, place_under, trail_to, place_of, IsNext, IsNextFor, place_after, AreNext, AreNextUnder, IsPathUnder, UseTurns, IsTaken, HasTaken}
+use Rattle.certifier.proofs.Explaining.{next-follows, next-trail}
+use Rattle.certifier.proofs.Steps.{next-push, next-last, next-front, place-push, moments-push, moments-length, pattern-push}
+use Rattle.certifier.proofs.Turns.{GoesOn, goes-on}
 
--- what is next for the replay is next behind its entries
-next-there : (text heirs : List ℕ) (sides : Sides) (from : Place) (es : List Entry) (e : Entry) (x : Replay) → HasTaken text heirs sides from es x → IsNext x.text.now (listed x.heir) (place_of x) e ≡ IsNext text heirs (place_after_all text heirs from es) e
-next-there text heirs sides from es e x h = λ i. IsNext (h.text_is i) (h.heirs_are i) (h.place i) e
+-- a path that is one entry longer goes on with a call that is asked for
+follows-last : (t : Trail) (es : List Entry) (e : Entry) → Follows t (es ++ e ∷ []) → Asks (trail_after t es).rest (trail_after t es).lacked e
+follows-last t [] e path = path.0
+follows-last t (x ∷ es) e path = follows-last (advance t x) es e path.1
 
-pub taken-on : (text heirs : List ℕ) (sides : Sides) (from : Place) (es : List Entry) (e : Entry) (old new : Replay) → HasTaken text heirs sides from es old → IsNext old.text.now (listed old.heir) (place_of old) e → IsTaken old e new → HasTaken text heirs sides from (es ++ e ∷ []) new
-taken-on text heirs sides from es e old new h next taken =
-    let last = place_after_all text heirs from es in
-    let m = moment_shown text last.table e in
-    let ms = moments_shown text from.table es in
-    let number : old.number + 1 ≡ length ms + 1 = ap (λ n. n + 1) (h.number ∙ sym (moments-length text from.table es)) in
-    let same : moment_shown old.text.now old.kernel.table e ≡ m = λ i. moment_shown (h.text_is i) ((h.place i).table) e in
-    let longer : length (es ++ e ∷ []) ≡ length es + 1 = length-append es (e ∷ []) in
-    record {
-      room = taken.room;
-      text_is = taken.text ∙ h.text_is;
-      heirs_are = ap listed taken.heir ∙ h.heirs_are;
-      sides_are = taken.sides ∙ h.sides_are;
-      number = taken.number ∙ (ap (λ n. n + 1) h.number ∙ sym longer);
-      next = next-push text heirs from es e h.next (subst (λ (X : Type 0). X) (next-there text heirs sides from es e old h) next);
-      place = taken.place ∙ ((λ i. place_after (h.text_is i) (h.heirs_are i) (h.place i) e) ∙ sym (place-push text heirs from es e));
-      pattern =
-          λ n. taken.pattern n
-          ∙ ((λ i. if nat_eq n (old.number + 1) then same i else h.pattern n i)
-          ∙ (sym (pattern-push ms m (old.number + 1) number n) ∙ ap (λ (all : List Moment). pattern_of all n) (sym (moments-push text heirs from es e))));
-    }
+follows-front : (t : Trail) (es : List Entry) (e : Entry) → Follows t (es ++ e ∷ []) → Follows t es
+follows-front t [] e path = tt
+follows-front t (x ∷ es) e path = (path.0, follows-front (advance t x) es e path.1)
 
-pub taken-stops : (text heirs : List ℕ) (sides : Sides) (from : Place) (es : List Entry) (e : Entry) (x : Replay) → HasTaken text heirs sides from es x → (IsNext x.text.now (listed x.heir) (place_of x) e → ⊥) → AreNext text heirs from (es ++ e ∷ []) → ⊥
-taken-stops text heirs sides from es e x h none all = none (subst (λ (X : Type 0). X) (sym (next-there text heirs sides from es e x h)) (next-last text heirs from es e all))
+module _ (text heirs : List ℕ) (sides : Sides) (from : Start) (es : List Entry) (e : Entry) (x : Replay) (h : HasTaken text heirs sides from es x) where
+  -- where the replay has come, with what it was given
+  there : (turns : List Turn) → IsNext x.text.now (listed x.heir) (place_of x turns) e ≡ IsNext text heirs (place_under text heirs from (used_in x.turns ++ turns) es) e
+  there turns = λ i. IsNext (h.text_is i) (h.heirs_are i) (h.place turns i) e
+
+  -- the trail to which the entries lead is where the replay has come
+  trail-there : (turns : List Turn) → trail_to from (used_in x.turns ++ turns) es ≡ (place_of x turns).trail
+  trail-there turns = sym (ap (λ (p : Place). p.trail) (h.place turns) ∙ next-trail text heirs (place_at from (used_in x.turns ++ turns)) es)
+
+  -- turns under which the entries are a path are those that were used, and then others
+  goes : (turns : List Turn) → IsPathUnder from turns es → GoesOn from.trail turns (used_in x.turns)
+  goes turns path = goes-on from.trail h.steady turns (used_in x.turns) (h.only turns path)
+
+  ---- An entry that is next
+
+  -- what is next then under some turns is next for the replay
+  pub next-then : (turns : List Turn) → AreNextUnder text heirs from turns (es ++ e ∷ []) → IsNextFor x e
+  next-then turns all =
+      let more = goes turns (next-follows text heirs (place_at from turns) es (next-front text heirs (place_at from turns) es (e ∷ []) all)) in
+      let next = subst (λ (t : Trail). AreNext text heirs (record { trail = t; table = from.table; executing = from.executing }) (es ++ e ∷ [])) more.same all in
+      (more.one ∷ more.rest, subst (λ (X : Type 0). X) (sym (there (more.one ∷ more.rest))) (next-last text heirs (place_at from (used_in x.turns ++ more.one ∷ more.rest)) es e next))
+
+  module _ (new : Replay) (taken : IsTaken x e new) where
+    -- the turns that are used then
+    used-then : (turns : List Turn) → used_in new.turns ++ turns ≡ used_in x.turns ++ (taken.taken ++ turns)
+    used-then turns = ap (λ (us : List Turn). us ++ turns) taken.used ∙ append_assoc (used_in x.turns) taken.taken turns
+
+    next-all : (turns : List Turn) → AreNextUnder text heirs from (used_in new.turns ++ turns) (es ++ e ∷ [])
+    next-all turns =
+        let given = taken.taken ++ turns in
+        subst (λ (us : List Turn). AreNextUnder text heirs from us (es ++ e ∷ [])) (sym (used-then turns))
+        (next-push text heirs (place_at from (used_in x.turns ++ given)) es e (h.next given) (subst (λ (X : Type 0). X) (there given) (taken.next turns)))
+
+    place-all : (turns : List Turn) → place_of new turns ≡ place_under text heirs from (used_in new.turns ++ turns) (es ++ e ∷ [])
+    place-all turns =
+        let given = taken.taken ++ turns in
+        taken.place turns
+        ∙ ((λ i. place_after (h.text_is i) (h.heirs_are i) (h.place given i) e)
+        ∙ (sym (place-push text heirs (place_at from (used_in x.turns ++ given)) es e)
+        ∙ ap (λ (us : List Turn). place_under text heirs from us (es ++ e ∷ [])) (sym (used-then turns))))
+
+    only-all : UseTurns from (es ++ e ∷ []) (used_in new.turns)
+    only-all turns path =
+        let more = goes turns (follows-front (from.trail turns) es e path) in
+        let asked = follows-last (from.trail turns) es e path in
+        let along = λ (t : Trail). Asks (trail_after t es).rest (trail_after t es).lacked e in
+        let there = subst (λ (t : Trail). Asks t.rest t.lacked e) (trail-there (more.one ∷ more.rest)) (subst along more.same asked) in
+        subst (λ (us : List Turn). Plays turns us) (sym taken.used) (more.more taken.taken (taken.only more.one more.rest there))
+
+    pub taken-on : HasTaken text heirs sides from (es ++ e ∷ []) new
+    taken-on =
+        let t = (place_under text heirs from (used_in x.turns ++ []) es).table in
+        let m = moment_shown text t e in
+        let ms = moments_shown text from.table es in
+        let number : x.number + 1 ≡ length ms + 1 = ap (λ n. n + 1) (h.number ∙ sym (moments-length text from.table es)) in
+        let same : moment_shown x.text.now x.kernel.table e ≡ m = λ i. moment_shown (h.text_is i) ((h.place [] i).table) e in
+        let longer : length (es ++ e ∷ []) ≡ length es + 1 = length-append es (e ∷ []) in
+        record {
+          steady = h.steady;
+          room = taken.room;
+          text_is = taken.text ∙ h.text_is;
+          heirs_are = ap listed taken.heir ∙ h.heirs_are;
+          sides_are = taken.sides ∙ h.sides_are;
+          number = taken.number ∙ (ap (λ n. n + 1) h.number ∙ sym longer);
+          trimmed = taken.trimmed h.trimmed;
+          next = next-all;
+          only = only-all;
+          place = place-all;
+          pattern =
+              λ n. taken.pattern n
+              ∙ ((λ i. if nat_eq n (x.number + 1) then same i else h.pattern n i)
+              ∙ (sym (pattern-push ms m (x.number + 1) number n) ∙ ap (λ (all : List Moment). pattern_of all n) (sym (moments-push text heirs (place_at from (used_in x.turns ++ [])) es e))));
+        }

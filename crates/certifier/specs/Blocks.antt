@@ -40,14 +40,14 @@ IsIdle (asks.Beat beat) old new =
 IsIdle (asks.Act target) old new = ⊥
 IsIdle (asks.Refused code) old new = new ≡ old
 
--- A word asks the master for a target. These calls and this report of it are certified by a section's pattern, and to carry the
--- target out in that section, which makes just these calls and this report, leads from the one standing to the other.
+-- A word asks the master for a target. These calls and this report of it are certified by a section, and to carry the target out
+-- in that, which makes just these calls and this report, leads from the one standing to the other.
 pub record IsFollowed (settings : Option Settings) (word : Word) (entries : List Entry) (report : Report) (old : Standing State) (section : Section) (new : Standing State) : Type 0 where
   pub master : Record
   pub runs : old.record ≡ Some master
   pub target : Target
   pub asks : asked_by word master old.workers settings ≡ asks.Act target
-  pub certified : IsCertified old.world.table master target entries report section.pattern
+  pub certified : IsCertified old.world.table master target entries report section
   pub room : ℕ
   pub carried_out : HasRun (EnactsAt (section ∷ [])) 0 old master target (record { entries = entries; room = room }) report new
 

@@ -5,8 +5,8 @@ use Rattle.definitions.specs.Record.{Record, Agrees}
 use Rattle.vocabulary.specs.declared.targets.Target.{Target}
 use Rattle.definitions.specs.Target.{text_handed, sides_of}
 use Rattle.definitions.specs.After.{lacks_generation}
-use Rattle.definitions.specs.Tree.{height}
-use Rattle.definitions.specs.Plans.{plan_tree}
+use Rattle.definitions.specs.Parts.{Turn}
+use Rattle.definitions.specs.Plans.{plan_tree, plan_length}
 use Rattle.definitions.specs.Path.{Entry, Report, Trail, begin, trail_after, Follows, IsOver, Reports}
 use Rattle.definitions.specs.Run.{Pattern, Replays}
 use Rattle.definitions.specs.Claims.{heirs_of, refused_among}
@@ -22,18 +22,26 @@ use Rattle.certifier.specs.declared.mismatch.Mismatch.TheVariants as mismatch
 abbrev pub pattern_shown : Table → Record → Target → List Entry → Pattern
 pattern_shown t r target entries = pattern_of (moments_shown (text_handed r target) t entries)
 
--- how far the target's plan has come by the entries
-abbrev pub trail_by : Record → Target → List Entry → Trail
-trail_by r target entries = trail_after (begin (plan_tree r target) r.note) entries
+-- how far the target's plan has come by the entries, where the masters take these turns
+abbrev pub trail_by : Record → Target → List Turn → List Entry → Trail
+trail_by r target turns entries = trail_after (begin (plan_tree r target turns) r.note) entries
 
--- The entries are a path of the target's plan, which has an edge for each of their answers; the kernel answers so under the
--- pattern that they show, and no executing master exits in that.
-pub record IsExplained (t : Table) (r : Record) (target : Target) (entries : List Entry) : Type 0 where
-  pub path : Follows (begin (plan_tree r target) r.note) entries
-  pub edges : is_some (trail_by r target entries).rest ≡ true
+-- the entries are a path of the target's plan under the turns
+abbrev pub IsPath : Record → Target → List Turn → List Entry → Type 0
+IsPath r target turns entries = Follows (begin (plan_tree r target turns) r.note) entries
+
+-- The entries are a path of the target's plan under the turns, which has an edge for each of their answers; the kernel answers so
+-- under the pattern that they show, and no executing master exits in that.
+pub record IsExplainedBy (t : Table) (r : Record) (target : Target) (turns : List Turn) (entries : List Entry) : Type 0 where
+  pub path : IsPath r target turns entries
+  pub edges : is_some (trail_by r target turns entries).rest ≡ true
   pub last : Table
   pub replays : Replays (text_handed r target) (pattern_shown t r target entries) 0 t entries last
   pub spares : refused_among (r.generation.image ∷ []) (heirs_of r target) (pattern_shown t r target entries) 0 entries ≡ None
+
+-- Under some turns they are.
+abbrev pub IsExplained : Table → Record → Target → List Entry → Type 0
+IsExplained t r target entries = (turns : List Turn) × IsExplainedBy t r target turns entries
 
 ---- What is wrong
 
@@ -46,11 +54,11 @@ mismatch_of _ = mismatch.Refused
 pub record IsReady (t : Table) (r : Record) (target : Target) : Type 0 where
   pub agrees : Agrees t r
   pub has_plan : HasPlan r target
-  pub numbers : LacksNumbers t (height (plan_tree r target)) → ⊥
+  pub numbers : LacksNumbers t (plan_length r target) → ⊥
 
 -- The record disagrees, there is no plan, or numbers are lacking.
 abbrev pub IsUnready : Table → Record → Target → Type 0
-IsUnready t r target = (Agrees t r → ⊥) ⊎ (lacks_generation r target ≡ true) ⊎ LacksNumbers t (height (plan_tree r target))
+IsUnready t r target = (Agrees t r → ⊥) ⊎ (lacks_generation r target ≡ true) ⊎ LacksNumbers t (plan_length r target)
 
 -- The entries before the n-th, counted from 1, are explained, and with it they are not.
 pub record IsStrange (t : Table) (r : Record) (target : Target) (entries : List Entry) (n : ℕ) : Type 0 where
@@ -61,18 +69,18 @@ pub record IsStrange (t : Table) (r : Record) (target : Target) (entries : List 
   pub explained : IsExplained t r target (take before entries)
   pub strange : IsExplained t r target (take n entries) → ⊥
 
--- All entries are explained, and a step is left.
+-- All entries are explained, and a step is left under all turns that they are a path under.
 pub record IsShort (t : Table) (r : Record) (target : Target) (entries : List Entry) : Type 0 where
   pub ready : IsReady t r target
   pub explained : IsExplained t r target entries
-  pub unfinished : IsOver (trail_by r target entries).rest → ⊥
+  pub unfinished : (turns : List Turn) → IsPath r target turns entries → IsOver (trail_by r target turns entries).rest → ⊥
 
--- All entries are explained, they are a whole path, and the report isn't its report.
+-- All entries are explained; under all turns that they are a path under it is a whole one, and the report isn't its report.
 pub record IsMisreported (t : Table) (r : Record) (target : Target) (entries : List Entry) (report : Report) : Type 0 where
   pub ready : IsReady t r target
   pub explained : IsExplained t r target entries
-  pub over : IsOver (trail_by r target entries).rest
-  pub other : Reports (sides_of r target) (trail_by r target entries) report → ⊥
+  pub over : (turns : List Turn) → IsPath r target turns entries → IsOver (trail_by r target turns entries).rest
+  pub other : (turns : List Turn) → IsPath r target turns entries → Reports (sides_of r target) (trail_by r target turns entries) report → ⊥
 
 -- When entries begin no run of the target so, want of memory aside. No two of these hold at once.
 abbrev pub IsNoBeginning : Table → Record → Target → List Entry → Mismatch → Type 0

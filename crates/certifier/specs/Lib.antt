@@ -1,4 +1,5 @@
 pub mod Shown
+pub mod Turns
 pub mod Places
 pub mod Explained
 pub mod Codes

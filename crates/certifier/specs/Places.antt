@@ -1,18 +1,24 @@
 -- How far entries have come, one after another.
-use Rattle.std.specs.Prelude.{ℕ, ◌≡◌, ◌≤◌, ◌<◌, ◌+◌, ◌^◌, ◌==◌, ◌∷◌, true, false, List, [], is_some, if◌then◌else◌, length, take, ⊤}
+use Rattle.std.specs.Prelude.{ℕ, ◌≡◌, ◌≤◌, ◌<◌, ◌+◌, ◌^◌, ◌==◌, ◌∷◌, ◌++◌, true, false, List, [], is_some, if◌then◌else◌, length, take, ⊤}
 use Rattle.definitions.specs.Table.{Table}
-use Rattle.definitions.specs.Path.{Entry, Report, Sides, Trail, Asks, IsOver, Reports, advance, follow}
-use Rattle.definitions.specs.Run.{Moment, quiet}
+use Rattle.definitions.specs.Parts.{Turn, New}
+use Rattle.definitions.specs.Apart.{Plays}
+use Rattle.definitions.specs.Path.{Entry, Report, Sides, Trail, Asks, Follows, IsOver, Reports, begin, advance, trail_after, follow}
+use Rattle.definitions.specs.Run.{quiet}
 use Rattle.definitions.specs.Claims.{names_any, executing_at, executing_after}
-use Rattle.plan_walk.specs.Walk.{trail_of, sides_in}
+use Rattle.rollback_plan.specs.declared.plan.Plan.{Plan}
+use Rattle.rollback_plan.specs.Plans.{tree_under, note_of}
+use Rattle.plan_walk.specs.Walk.{trail_under, sides_in}
 use Rattle.plan_walk.specs.Fit.{height_next}
 use Rattle.plan_executor.specs.Naming.{listed}
 use Rattle.kernel_model.specs.Pattern.{moment_at}
 use Rattle.kernel_model.specs.State.{State}
+use Rattle.kernel_pattern.specs.declared.section.Section.{Section}
 use Rattle.certifier.specs.declared.replay.Replay.{Replay}
 use Rattle.certifier.specs.declared.mismatch.Mismatch.{Mismatch}
 use Rattle.certifier.specs.declared.mismatch.Mismatch.TheVariants as mismatch
 use Rattle.certifier.specs.Shown.{moment_shown, moments_shown, pattern_of, stepped_at}
+use Rattle.certifier.specs.Turns.{used_in, IsTrimmed}
 
 -- How far a transcript has come: its trail, the table, and the images of the executing masters.
 pub record Place : Type 0 where
@@ -44,85 +50,167 @@ abbrev pub AreNext : List ℕ → List ℕ → Place → List Entry → Type 0
 AreNext text heirs p [] = Unit {0}
 AreNext text heirs p (e ∷ entries) = IsNext text heirs p e × AreNext text heirs (place_after text heirs p e) entries
 
+---- Whatever turns the masters take
+
+-- Where a transcript begins: its trail under each list of turns, the table, and the images of the executing masters.
+pub record Start : Type 0 where
+  pub trail : List Turn → Trail
+  pub table : Table
+  pub executing : List ℕ
+
+-- the start of a transcript of a plan
+abbrev pub planned_start : Plan → Table → ℕ → Start
+planned_start plan t image = record { trail = λ turns. begin (tree_under plan turns) (note_of plan); table = t; executing = image ∷ [] }
+
+abbrev pub place_at : Start → List Turn → Place
+place_at from turns = record { trail = from.trail turns; table = from.table; executing = from.executing }
+
+-- each entry is next, where the masters take these turns
+abbrev pub AreNextUnder : List ℕ → List ℕ → Start → List Turn → List Entry → Type 0
+AreNextUnder text heirs from turns entries = AreNext text heirs (place_at from turns) entries
+
+-- where entries lead under turns
+abbrev pub place_under : List ℕ → List ℕ → Start → List Turn → List Entry → Place
+place_under text heirs from turns entries = place_after_all text heirs (place_at from turns) entries
+
+-- the trail to which they lead
+abbrev pub trail_to : Start → List Turn → List Entry → Trail
+trail_to from turns entries = trail_after (from.trail turns) entries
+
+-- under turns the entries are a path
+abbrev pub IsPathUnder : Start → List Turn → List Entry → Type 0
+IsPathUnder from turns entries = Follows (from.trail turns) entries
+
+-- The entries use these turns: whatever turns they are a path under, those are these, New after their end.
+abbrev pub UseTurns : Start → List Entry → List Turn → Type 0
+UseTurns from entries used = (turns : List Turn) → IsPathUnder from turns entries → Plays turns used
+
+-- A turn of New behind the others changes nothing.
+abbrev pub IsSteady : Start → Type 0
+IsSteady from = (turns : List Turn) → from.trail (turns ++ New ∷ []) ≡ from.trail turns
+
 ---- The replay
 
--- how far a replay has come
-abbrev pub place_of : Replay → Place
-place_of x = record { trail = trail_of x.walk; table = x.kernel.table; executing = listed x.executing }
+-- how far a replay has come, where the masters take these turns from there on
+abbrev pub place_of : Replay → List Turn → Place
+place_of x turns = record { trail = trail_under x.walk turns; table = x.kernel.table; executing = listed x.executing }
+
+abbrev pub start_of : Replay → Start
+start_of x = record { trail = trail_under x.walk; table = x.kernel.table; executing = listed x.executing }
+
+-- the entry is next under some turns
+abbrev pub IsNextFor : Replay → Entry → Type 0
+IsNextFor x e = (turns : List Turn) × IsNext x.text.now (listed x.heir) (place_of x turns) e
 
 -- There is room for each step that is left, and the moments to come are quiet.
 pub record HasRoom (x : Replay) : Type 0 where
-  pub calls : height_next (trail_of x.walk).rest ≤ x.kernel.room
+  pub calls : (turns : List Turn) → height_next (trail_under x.walk turns).rest ≤ x.kernel.room
   pub countable : x.number + x.kernel.room < 2 ^ 32
+  pub uncounted : x.turns.late ≤ x.number
   pub later : (n : ℕ) → x.number < n → moment_at x.pattern n ≡ quiet
 
--- The replay has come one entry further.
+-- The replay has come one entry further, which has used a turn or none. Under this turn it is next, whatever turns come then, and
+-- its call is asked for under no other.
 pub record IsTaken (old : Replay) (e : Entry) (new : Replay) : Type 0 where
   pub room : HasRoom new
   pub text : new.text.now ≡ old.text.now
   pub heir : new.heir ≡ old.heir
   pub sides : sides_in new.walk ≡ sides_in old.walk
   pub number : new.number ≡ old.number + 1
-  pub place : place_of new ≡ place_after old.text.now (listed old.heir) (place_of old) e
+  pub trimmed : IsTrimmed old.turns.told → IsTrimmed new.turns.told
+  pub taken : List Turn
+  pub used : used_in new.turns ≡ used_in old.turns ++ taken
+  pub next : (turns : List Turn) → IsNext old.text.now (listed old.heir) (place_of old (taken ++ turns)) e
+  pub only : (one : Turn) (turns : List Turn) → Asks (trail_under old.walk (one ∷ turns)).rest (trail_under old.walk (one ∷ turns)).lacked e → Plays (one ∷ turns) taken
+  pub place : (turns : List Turn) → place_of new turns ≡ place_after old.text.now (listed old.heir) (place_of old (taken ++ turns)) e
   pub pattern : (n : ℕ) → moment_at new.pattern n ≡ (if n == old.number + 1 then moment_shown old.text.now old.kernel.table e else moment_at old.pattern n)
 
--- The replay has come from one place by these entries, each of which is next.
-pub record HasTaken (text heirs : List ℕ) (sides : Sides) (from : Place) (entries : List Entry) (x : Replay) : Type 0 where
+-- The replay has come from a start by these entries, each of which is next under the turns that they have used, whatever turns come
+-- then.
+pub record HasTaken (text heirs : List ℕ) (sides : Sides) (from : Start) (entries : List Entry) (x : Replay) : Type 0 where
+  pub steady : IsSteady from
   pub room : HasRoom x
   pub text_is : x.text.now ≡ text
   pub heirs_are : listed x.heir ≡ heirs
   pub sides_are : sides_in x.walk ≡ sides
   pub number : x.number ≡ length entries
-  pub next : AreNext text heirs from entries
-  pub place : place_of x ≡ place_after_all text heirs from entries
+  pub trimmed : IsTrimmed x.turns.told
+  pub next : (turns : List Turn) → AreNextUnder text heirs from (used_in x.turns ++ turns) entries
+  pub only : UseTurns from entries (used_in x.turns)
+  pub place : (turns : List Turn) → place_of x turns ≡ place_under text heirs from (used_in x.turns ++ turns) entries
   pub pattern : (n : ℕ) → moment_at x.pattern n ≡ pattern_of (moments_shown text from.table entries) n
 
--- The entries before the n-th, counted from 1, are next one after another, and with it they are not.
-pub record StopsAt (text heirs : List ℕ) (from : Place) (entries : List Entry) (n : ℕ) : Type 0 where
+-- The replay is at an end of the plan, the report is its report, and the section is what it has shown.
+pub record EndsWell (x : Replay) (report : Report) (section : Section) : Type 0 where
+  pub pattern : section.pattern ≡ x.pattern
+  pub turns : section.turns ≡ x.turns.told
+  pub over : (turns : List Turn) → IsOver (trail_under x.walk turns).rest
+  pub reports : (turns : List Turn) → Reports (sides_in x.walk) (trail_under x.walk turns) report
+
+-- It is at no end, or the report is another.
+abbrev pub EndsBadly : Replay → Report → Mismatch → Type 0
+EndsBadly x report mismatch.Short = (turns : List Turn) → IsOver (trail_under x.walk turns).rest → ⊥
+EndsBadly x report mismatch.Report =
+    ((turns : List Turn) → IsOver (trail_under x.walk turns).rest) × ((turns : List Turn) → Reports (sides_in x.walk) (trail_under x.walk turns) report → ⊥)
+EndsBadly x report _ = ⊥
+
+---- All entries
+
+-- These are the turns that the entries use, without those of the new master at the end.
+pub record AreShown (from : Start) (entries : List Entry) (turns : List Turn) : Type 0 where
+  pub used : UseTurns from entries turns
+  pub trimmed : IsTrimmed turns
+
+-- The entries before the n-th, counted from 1, are next one after another under some turns, and with it they are so under none.
+pub record StopsAt (text heirs : List ℕ) (from : Start) (entries : List Entry) (n : ℕ) : Type 0 where
   pub before : ℕ
   pub number : n ≡ before + 1
   pub within : n ≤ length entries
-  pub next : AreNext text heirs from (take before entries)
-  pub stops : AreNext text heirs from (take n entries) → ⊥
+  pub turns : List Turn
+  pub next : AreNextUnder text heirs from turns (take before entries)
+  pub stops : (others : List Turn) → AreNextUnder text heirs from others (take n entries) → ⊥
 
--- All entries are next one after another, and the pattern is what they show.
-pub record Shows (text heirs : List ℕ) (from : Place) (entries : List Entry) (pattern : List (ℕ × Moment)) : Type 0 where
-  pub next : AreNext text heirs from entries
-  pub shown : (n : ℕ) → moment_at pattern n ≡ pattern_of (moments_shown text from.table entries) n
+-- All entries are next one after another under the section's turns, and the section is what they show.
+pub record Shows (text heirs : List ℕ) (from : Start) (entries : List Entry) (section : Section) : Type 0 where
+  pub next : AreNextUnder text heirs from section.turns entries
+  pub turns : AreShown from entries section.turns
+  pub shown : (n : ℕ) → moment_at section.pattern n ≡ pattern_of (moments_shown text from.table entries) n
 
--- All entries are next one after another, then the path is over, and the report is its report. The pattern is what they show.
-pub record Holds (text heirs : List ℕ) (sides : Sides) (from : Place) (entries : List Entry) (report : Report) (pattern : List (ℕ × Moment)) : Type 0 where
-  pub next : AreNext text heirs from entries
-  pub shown : (n : ℕ) → moment_at pattern n ≡ pattern_of (moments_shown text from.table entries) n
-  pub over : IsOver (place_after_all text heirs from entries).trail.rest
-  pub reports : Reports sides (place_after_all text heirs from entries).trail report
+-- The same, then the path is over, and the report is its report.
+pub record Holds (text heirs : List ℕ) (sides : Sides) (from : Start) (entries : List Entry) (report : Report) (section : Section) : Type 0 where
+  pub shows : Shows text heirs from entries section
+  pub over : IsOver (trail_to from section.turns entries).rest
+  pub reports : Reports sides (trail_to from section.turns entries) report
 
 -- The kernel is as these entries leave it, and has room for the calls that are left of so many.
 pub record IsLed (text heirs : List ℕ) (calls : ℕ) (from : Place) (entries : List Entry) (k : State) : Type 0 where
   pub table : k.table ≡ (place_after_all text heirs from entries).table
   pub room : k.room + length entries ≡ calls
 
--- All entries are next one after another, and a step is left.
-pub record StopsShort (text heirs : List ℕ) (from : Place) (entries : List Entry) : Type 0 where
-  pub next : AreNext text heirs from entries
-  pub left : IsOver (place_after_all text heirs from entries).trail.rest → ⊥
+-- All entries are next one after another under some turns, and under none that they are a path under is that over.
+pub record StopsShort (text heirs : List ℕ) (from : Start) (entries : List Entry) : Type 0 where
+  pub turns : List Turn
+  pub next : AreNextUnder text heirs from turns entries
+  pub left : (others : List Turn) → IsPathUnder from others entries → IsOver (trail_to from others entries).rest → ⊥
 
--- All entries are next one after another, then the path is over, and the report is another.
-pub record ReportsOther (text heirs : List ℕ) (sides : Sides) (from : Place) (entries : List Entry) (report : Report) : Type 0 where
-  pub next : AreNext text heirs from entries
-  pub over : IsOver (place_after_all text heirs from entries).trail.rest
-  pub other : Reports sides (place_after_all text heirs from entries).trail report → ⊥
+-- All entries are next one after another under some turns; under all that they are a path under it is over then, and the report is
+-- another.
+pub record ReportsOther (text heirs : List ℕ) (sides : Sides) (from : Start) (entries : List Entry) (report : Report) : Type 0 where
+  pub turns : List Turn
+  pub next : AreNextUnder text heirs from turns entries
+  pub over : (others : List Turn) → IsPathUnder from others entries → IsOver (trail_to from others entries).rest
+  pub other : (others : List Turn) → IsPathUnder from others entries → Reports sides (trail_to from others entries) report → ⊥
 
--- Why entries are not next one after another from a place on. Want of memory may come at any time.
-abbrev pub StopsBy : List ℕ → List ℕ → Place → List Entry → Mismatch → Type 0
+-- Why entries are not next one after another from a start on. Want of memory may come at any time.
+abbrev pub StopsBy : List ℕ → List ℕ → Start → List Entry → Mismatch → Type 0
 StopsBy text heirs from entries mismatch.Refused = ⊥
 StopsBy text heirs from entries (mismatch.Step n) = StopsAt text heirs from entries n
 StopsBy text heirs from entries mismatch.Short = ⊥
 StopsBy text heirs from entries mismatch.Report = ⊥
 StopsBy text heirs from entries mismatch.Memory = ⊤
 
--- Why entries and a report do not hold from a place on: the entries stop, a step is left, or the report is another.
-abbrev pub FailsBy : List ℕ → List ℕ → Sides → Place → List Entry → Report → Mismatch → Type 0
+-- Why entries and a report do not hold from a start on: the entries stop, a step is left, or the report is another.
+abbrev pub FailsBy : List ℕ → List ℕ → Sides → Start → List Entry → Report → Mismatch → Type 0
 FailsBy text heirs sides from entries report mismatch.Short = StopsShort text heirs from entries
 FailsBy text heirs sides from entries report mismatch.Report = ReportsOther text heirs sides from entries report
 FailsBy text heirs sides from entries report why = StopsBy text heirs from entries why

@@ -1,12 +1,11 @@
 //! The beginning of a run, held against the modelled kernel.
-ghost use Rattle.std.specs.Prelude.{◌≡◌, ◌⊎◌, ◌↔◌, ℕ, List, [], ◌∷◌, IfOk, IfErr, IsErrOf};
-ghost use Rattle.definitions.specs.Path.{begin};
-ghost use Rattle.definitions.specs.Run.{Moment};
+ghost use Rattle.std.specs.Prelude.{◌≡◌, ◌⊎◌, ◌↔◌, IfOk, IfErr, IsErrOf};
 ghost use Rattle.definitions.specs.Target.{IsTarget};
-ghost use Rattle.rollback_plan.specs.Plans.{tree_of, length_of, note_of, text_of};
+ghost use Rattle.kernel_pattern.specs.declared.section.Section.{Section as Shown};
+ghost use Rattle.rollback_plan.specs.Plans.{length_of, text_of};
 ghost use Rattle.plan_executor.specs.Naming.{listed};
 ghost use Rattle.plan_executor.specs.Refusals.{IsPlannable};
-ghost use Rattle.certifier.specs.Places.{Shows, StopsBy};
+ghost use Rattle.certifier.specs.Places.{planned_start, Shows, StopsBy};
 ghost use Rattle.certifier.specs.Explained.{IsNoBeginning};
 ghost use Rattle.certifier.specs.Certified.{IsBeginning};
 ghost use Rattle.certifier.specs.declared.mismatch.Mismatch.{Mismatch as Why};
@@ -14,7 +13,7 @@ ghost use Rattle.certifier.specs.declared.mismatch.Mismatch.{Mismatch as Why};
 use crate::certification::replay_all;
 use crate::mismatch::Mismatch;
 use crate::replay::Replay;
-use kernel_model::{Kernel, Pattern};
+use kernel_model::{Kernel, Section};
 use plan_executor::{agrees, heir_of, plan_of, reserved_copy};
 use plan_walk::Transcript;
 use rollback_plan::Plan;
@@ -22,7 +21,7 @@ use service_state::Record;
 use std::alloc::Global;
 use vocabulary::Target;
 
-/// The pattern that entries show, each of which is next, on a kernel with room for the plan's longest path.
+/// The section that entries show, each of which is next, on a kernel with room for the plan's longest path.
 fn show_all(
     alloc: Global,
     plan: &Plan,
@@ -30,20 +29,20 @@ fn show_all(
     image: u32,
     heir: Option<u32>,
     log: &Transcript,
-) -> Result<Pattern, Mismatch>
+) -> Result<Section, Mismatch>
     requires { kernel.room ≡ length_of plan.now }
-    ensures ok { IfOk result (Shows (text_of plan.now) (listed heir) (record { trail = begin (tree_of plan.now) (note_of plan.now); table = kernel.table; executing = image ∷ [] }) log.now.entries) }
-    ensures err { IfErr result (StopsBy (text_of plan.now) (listed heir) (record { trail = begin (tree_of plan.now) (note_of plan.now); table = kernel.table; executing = image ∷ [] }) log.now.entries) }
+    ensures ok { IfOk result (Shows (text_of plan.now) (listed heir) (planned_start plan.now kernel.table image) log.now.entries) }
+    ensures err { IfErr result (StopsBy (text_of plan.now) (listed heir) (planned_start plan.now kernel.table image) log.now.entries) }
 {
     let mut replay = Replay::new(alloc, plan, kernel, image, heir);
     replay_all(&mut replay, log)?;
-    Ok(replay.pattern)
+    Ok(replay.shown())
 }
 
 /// Holds the beginning of a run of a target, its first calls with their answers, against the modelled kernel.
 ///
-/// A yes is the pattern that the calls show: under it the run of the target's plan on this kernel begins with them.
-/// Mismatches in their order, as those of `certify`: Y4 the target can't be carried out; Y1 the first entry that can't
+/// A yes is the section that the calls show: in it the run of the target's plan on this kernel begins with them, and no
+/// list of turns that leads to them is shorter. Mismatches in their order, as those of `certify`: Y4 the target can't be carried out; Y1 the first entry that can't
 /// stand there.
 pub fn certify_beginning(
     alloc: Global,
@@ -51,12 +50,12 @@ pub fn certify_beginning(
     state: &Record,
     target: &Target,
     log: &Transcript,
-) -> Result<Pattern, Mismatch>
+) -> Result<Section, Mismatch>
     requires { IsTarget target.now }
     ensures ok { IfOk result (IsBeginning kernel.now.table state.now target.now log.now.entries) }
     ensures exact { (why : Why)
         → IsErrOf result Mismatch.Memory ⊎ (IsErrOf result why ↔ IsNoBeginning kernel.now.table state.now target.now log.now.entries why) }
-    ensures complete { (pattern : List (ℕ × Moment)) → IsBeginning kernel.now.table state.now target.now log.now.entries pattern
+    ensures complete { (section : Shown) → IsBeginning kernel.now.table state.now target.now log.now.entries section
         → IfErr result (λ why. why ≡ Mismatch.Memory) }
     ensures memory { IsErrOf result Mismatch.Memory → IsPlannable kernel.now.table state.now target.now }
 {

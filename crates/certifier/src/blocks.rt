@@ -169,5 +169,5 @@ fn certify_run(
     let after = record_left(&running, &target, report, &certificate.kernel);
     standing.world = certificate.kernel;
     standing.follow(log, report, after);
-    Ok(Section::of(alloc, certificate.pattern))
+    Ok(certificate.section)
 }

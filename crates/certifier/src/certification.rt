@@ -1,12 +1,11 @@
 //! A transcript, held against the modelled kernel.
-ghost use Rattle.std.specs.Prelude.{◌≡◌, ◌+◌, ◌⊎◌, ◌↔◌, [], ◌∷◌, length, OnOk, IfOk, IfErr, IsErrOf};
-ghost use Rattle.definitions.specs.Path.{begin};
+ghost use Rattle.std.specs.Prelude.{◌≡◌, ◌+◌, ◌⊎◌, ◌↔◌, [], length, OnOk, IfOk, IfErr, IsErrOf};
 ghost use Rattle.definitions.specs.Target.{IsTarget};
-ghost use Rattle.rollback_plan.specs.Plans.{tree_of, length_of, note_of, sides_told, text_of};
+ghost use Rattle.rollback_plan.specs.Plans.{length_of, sides_told, text_of};
 ghost use Rattle.plan_walk.specs.Walk.{sides_in};
 ghost use Rattle.plan_executor.specs.Naming.{listed};
 ghost use Rattle.plan_executor.specs.Refusals.{IsPlannable};
-ghost use Rattle.certifier.specs.Places.{place_of, HasTaken, StopsBy, Holds, IsLed, FailsBy};
+ghost use Rattle.certifier.specs.Places.{start_of, place_at, planned_start, HasTaken, StopsBy, Holds, IsLed, FailsBy};
 ghost use Rattle.certifier.specs.Explained.{IsMismatch};
 ghost use Rattle.certifier.specs.Certified.{IsCertified, HasEnacted, EnactsSo, IsFaultyRun};
 ghost use Rattle.certifier.specs.declared.mismatch.Mismatch.{Mismatch as Why};
@@ -23,9 +22,9 @@ use vocabulary::{Report, Target};
 
 /// Replays all entries; the first that can't stand there is a mismatch.
 pub(crate) fn replay_all(replay: &mut Replay<'_>, log: &Transcript) -> Result<(), Mismatch>
-    requires { HasTaken replay.old.text.now (listed replay.old.heir) (sides_in replay.old.walk) (place_of replay.old) [] replay.old }
-    ensures ok { OnOk result (HasTaken replay.old.text.now (listed replay.old.heir) (sides_in replay.old.walk) (place_of replay.old) log.now.entries replay.new) }
-    ensures err { IfErr result (StopsBy replay.old.text.now (listed replay.old.heir) (place_of replay.old) log.now.entries) }
+    requires { HasTaken replay.old.text.now (listed replay.old.heir) (sides_in replay.old.walk) (start_of replay.old) [] replay.old }
+    ensures ok { OnOk result (HasTaken replay.old.text.now (listed replay.old.heir) (sides_in replay.old.walk) (start_of replay.old) log.now.entries replay.new) }
+    ensures err { IfErr result (StopsBy replay.old.text.now (listed replay.old.heir) (start_of replay.old) log.now.entries) }
     ensures left { OnOk result (replay.new.kernel.room + length log.now.entries ≡ replay.old.kernel.room) }
 {
     for place in 0..log.len() {
@@ -55,16 +54,16 @@ fn hold(
     report: &Report,
 ) -> Result<Certificate, Mismatch>
     requires { kernel.room ≡ length_of plan.now }
-    ensures ok { IfOk result (λ it. Holds (text_of plan.now) (listed masters.heir) (sides_told plan.now) (record { trail = begin (tree_of plan.now) (note_of plan.now); table = kernel.table; executing = masters.image ∷ [] }) log.now.entries report.now it.pattern) }
-    ensures led { IfOk result (λ it. IsLed (text_of plan.now) (listed masters.heir) (length_of plan.now) (record { trail = begin (tree_of plan.now) (note_of plan.now); table = kernel.table; executing = masters.image ∷ [] }) log.now.entries it.kernel) }
-    ensures err { IfErr result (FailsBy (text_of plan.now) (listed masters.heir) (sides_told plan.now) (record { trail = begin (tree_of plan.now) (note_of plan.now); table = kernel.table; executing = masters.image ∷ [] }) log.now.entries report.now) }
+    ensures ok { IfOk result (λ it. Holds (text_of plan.now) (listed masters.heir) (sides_told plan.now) (planned_start plan.now kernel.table masters.image) log.now.entries report.now it.section) }
+    ensures led { IfOk result (λ it. IsLed (text_of plan.now) (listed masters.heir) (length_of plan.now) (place_at (planned_start plan.now kernel.table masters.image) it.section.turns) log.now.entries it.kernel) }
+    ensures err { IfErr result (FailsBy (text_of plan.now) (listed masters.heir) (sides_told plan.now) (planned_start plan.now kernel.table masters.image) log.now.entries report.now) }
 {
     let mut replay = Replay::new(alloc, plan, kernel, masters.image, masters.heir);
     replay_all(&mut replay, log)?;
     replay.end(report)
 }
 
-/// The certificate of a transcript, as `certify` gives its pattern: under it the target was carried out on this kernel, which
+/// The certificate of a transcript, as `certify` gives its section: in it the target was carried out on this kernel, which
 /// the run leaves as the certificate's.
 pub(crate) fn certificate(
     alloc: Global,
@@ -98,11 +97,13 @@ pub(crate) fn certificate(
 
 /// Holds a transcript of a target, its calls with their answers and its report, against the modelled kernel.
 ///
-/// A yes is a section without turns, whose pattern is the one that the transcript shows: an exit at the entry that shows it, and a fate where the answer is a
-/// fault that the kernel would not give by itself. Under this pattern the run of the target's plan on this kernel is
-/// exactly these entries with this report, and no executing master exits. Mismatches in their order: Y4 the target
-/// can't be carried out; Y1 the first entry that can't stand there; Y3 the plan isn't at an end; Y2 the report is
-/// another. What a run under faults alone made is never refused by Y1, Y2 or Y3.
+/// A yes is the section that the transcript shows. Its pattern has an exit at the entry that shows it, and a fate where
+/// the answer is a fault that the kernel would not give by itself. Its turns are those that the entries use, without
+/// those of the new master at the end, so no list of turns that leads to these entries is shorter. In this section the
+/// run of the target's plan on this kernel is exactly these entries with this report, and no executing master exits.
+/// Mismatches in their order: Y4 the target can't be carried out; Y1 the first entry that can't stand there, whatever
+/// the turns are; Y3 the plan isn't at an end; Y2 the report is another. What a run by any turns and under faults alone
+/// made is never refused by Y1, Y2 or Y3.
 pub fn certify(
     alloc: Global,
     kernel: &Kernel,
@@ -112,17 +113,16 @@ pub fn certify(
     report: &Report,
 ) -> Result<Section, Mismatch>
     requires { IsTarget target.now }
-    ensures ok { IfOk result (λ section. IsCertified kernel.now.table state.now target.now log.now.entries report.now section.pattern) }
-    ensures turns { IfOk result (λ section. section.turns ≡ []) }
+    ensures ok { IfOk result (IsCertified kernel.now.table state.now target.now log.now.entries report.now) }
     ensures exact { (why : Why)
         → IsErrOf result Mismatch.Memory ⊎ (IsErrOf result why ↔ IsMismatch kernel.now.table state.now target.now log.now.entries report.now why) }
-    ensures enacts { IfOk result (λ section. EnactsSo kernel.now state.now target.now log.now.entries report.now section.pattern) }
+    ensures enacts { IfOk result (EnactsSo kernel.now state.now target.now log.now.entries report.now) }
     ensures complete { IsFaultyRun kernel.now.table state.now target.now log.now.entries report.now
         → IfErr result (λ why. (why ≡ Mismatch.Refused) ⊎ (why ≡ Mismatch.Memory)) }
     ensures memory { IsErrOf result Mismatch.Memory → IsPlannable kernel.now.table state.now target.now }
 {
     match certificate(alloc, kernel, state, target, log, report) {
-        Ok(certificate) => Ok(Section::of(alloc, certificate.pattern)),
+        Ok(certificate) => Ok(certificate.section),
         Err(why) => Err(why),
     }
 }

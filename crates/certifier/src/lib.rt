@@ -8,6 +8,7 @@ mod mismatch;
 mod replay;
 mod sameness;
 mod showing;
+mod turns_used;
 
 pub use beginning::certify_beginning;
 pub use blocks::{BlockMismatch, certify_block, certify_blocks};

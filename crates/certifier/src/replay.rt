@@ -1,22 +1,24 @@
 //! A transcript, replayed entry by entry.
-ghost use Rattle.std.specs.Prelude.{◌≡◌, ◌+◌, ◌↔◌, ◌⊎◌, [], ◌∷◌, IsTrue, IfOk, IfErr};
-ghost use Rattle.definitions.specs.Path.{Asks, IsOver, Reports, begin};
-ghost use Rattle.rollback_plan.specs.Plans.{tree_of, length_of, note_of, sides_told, text_of};
-ghost use Rattle.plan_walk.specs.Walk.{trail_of, sides_in};
+ghost use Rattle.std.specs.Prelude.{◌≡◌, ◌+◌, ◌↔◌, List, [], IsTrue, IfOk, IfErr};
+ghost use Rattle.definitions.specs.Parts.{Turn};
+ghost use Rattle.definitions.specs.Path.{Asks};
+ghost use Rattle.rollback_plan.specs.Plans.{length_of, sides_told, text_of};
+ghost use Rattle.plan_walk.specs.Walk.{trail_under, sides_in, IsTurnOf};
 ghost use Rattle.plan_executor.specs.Naming.{listed};
-ghost use Rattle.certifier.specs.Places.{place_of, HasRoom, HasTaken, IsNext, IsTaken};
+ghost use Rattle.certifier.specs.Places.{start_of, planned_start, EndsBadly, EndsWell, HasRoom, HasTaken, IsNextFor, IsTaken};
 
 use crate::mismatch::Mismatch;
 use crate::sameness::{is_same_answer, is_same_call, is_same_report};
 use crate::showing::show;
-use kernel_model::{Kernel, Pattern};
+use crate::turns_used::TurnsUsed;
+use kernel_model::{Kernel, Pattern, Section};
 use plan_executor::{executing_after, names_executing};
 use plan_walk::Walk;
 use rollback_plan::Plan;
 use std::alloc::{AllocError, Global};
-use vocabulary::{Entry, Report};
+use vocabulary::{Entry, Report, Turn};
 
-/// How far a transcript has been replayed, and the pattern that its entries have shown so far.
+/// How far a transcript has been replayed, and the pattern and the turns that its entries have shown so far.
 #[derive(Drop)]
 pub(crate) struct Replay<'a> {
     pub(crate) walk: Walk<'a>,
@@ -27,22 +29,23 @@ pub(crate) struct Replay<'a> {
     /// The image of the master that takes over.
     pub(crate) heir: Option<u32>,
     pub(crate) pattern: Pattern,
+    pub(crate) turns: TurnsUsed,
     /// How many entries there were.
     pub(crate) number: u32,
 }
 
-/// The pattern that explains a run, and the kernel as the run leaves it.
+/// The section that explains a run, and the kernel as the run leaves it.
 #[derive(Drop)]
 pub(crate) struct Certificate {
-    pub(crate) pattern: Pattern,
+    pub(crate) section: Section,
     pub(crate) kernel: Kernel,
 }
 
-/// Whether an entry is the plan's next step.
-fn asks(walk: &Walk<'_>, entry: &Entry) -> bool
-    ensures { IsTrue result ↔ Asks (trail_of walk.now).rest (trail_of walk.now).lacked entry.now }
+/// Whether an entry is the plan's next step at this turn.
+fn asks(walk: &Walk<'_>, turn: Turn, entry: &Entry) -> bool
+    ensures { (turns : List Turn) → IsTurnOf walk.now turn turns → (IsTrue result ↔ Asks (trail_under walk.now turns).rest (trail_under walk.now turns).lacked entry.now) }
 {
-    match walk.due() {
+    match walk.due_at(turn) {
         Some(due) => due.by == entry.by && is_same_call(&due.call, &entry.call),
         None => false,
     }
@@ -58,12 +61,12 @@ impl<'a> Replay<'a> {
         heir: Option<u32>,
     ) -> Replay<'a>
         requires { kernel.room ≡ length_of plan.now }
-        ensures place { place_of result ≡ record { trail = begin (tree_of plan.now) (note_of plan.now); table = kernel.table; executing = image ∷ [] } }
+        ensures start { start_of result ≡ planned_start plan.now kernel.table image }
         ensures text { result.text.now ≡ text_of plan.now }
         ensures heir { result.heir ≡ heir }
         ensures sides { sides_in result.walk ≡ sides_told plan.now }
         ensures room { result.kernel.room ≡ kernel.room }
-        ensures taken { HasTaken result.text.now (listed result.heir) (sides_in result.walk) (place_of result) [] result }
+        ensures taken { HasTaken result.text.now (listed result.heir) (sides_in result.walk) (start_of result) [] result }
     {
         Replay {
             walk: Walk::new(plan),
@@ -72,6 +75,7 @@ impl<'a> Replay<'a> {
             executing: Some(image),
             heir,
             pattern: Pattern::new(alloc),
+            turns: TurnsUsed::none(alloc),
             number: 0,
         }
     }
@@ -79,11 +83,12 @@ impl<'a> Replay<'a> {
     /// Replays one entry more, under the moment that it shows; whether it can stand there.
     pub(crate) fn take(&mut self, entry: &Entry) -> Result<bool, AllocError>
         requires { HasRoom self.old }
-        ensures next { IfOk result (λ next. IsTrue next ↔ IsNext self.old.text.now (listed self.old.heir) (place_of self.old) entry.now) }
+        ensures next { IfOk result (λ next. IsTrue next ↔ IsNextFor self.old entry.now) }
         ensures taken { IfOk result (λ next. IsTrue next → IsTaken self.old entry.now self.new) }
         ensures left { IfOk result (λ next. IsTrue next → self.new.kernel.room + 1 ≡ self.old.kernel.room) }
     {
-        if !asks(&self.walk, entry) {
+        let turn = self.walk.turn_of(entry);
+        if !asks(&self.walk, turn, entry) {
             return Ok(false);
         }
         let number = self.number + 1;
@@ -96,28 +101,41 @@ impl<'a> Replay<'a> {
         if !is_same_answer(&answer, &entry.answer) {
             return Ok(false);
         }
-        self.walk = self.walk.after(entry);
+        self.turns.follow(&self.walk, turn)?;
+        self.walk = self.walk.after_at(turn, entry);
         self.executing = executing_after(&entry.call, self.executing, self.heir);
         self.number = number;
         Ok(!self.walk.is_lost())
     }
 
-    /// The pattern that was shown and the kernel, where the plan is at an end and the report is the run's.
-    pub(crate) fn end(self, report: &Report) -> Result<Certificate, Mismatch>
-        ensures ok { IfOk result (λ it. (it.pattern ≡ self.entry.pattern) × IsOver (trail_of self.entry.walk).rest × Reports (sides_in self.entry.walk) (trail_of self.entry.walk) report.now) }
-        ensures kernel { IfOk result (λ it. it.kernel ≡ self.entry.kernel) }
-        ensures err { IfErr result (λ why.
-            ((why ≡ Mismatch.Short) × (IsOver (trail_of self.entry.walk).rest → ⊥))
-            ⊎ ((why ≡ Mismatch.Report) × IsOver (trail_of self.entry.walk).rest × (Reports (sides_in self.entry.walk) (trail_of self.entry.walk) report.now → ⊥))) }
+    /// The section that was shown.
+    pub(crate) fn shown(self) -> Section
+        ensures pattern { result.pattern ≡ self.entry.pattern }
+        ensures turns { result.turns ≡ self.entry.turns.told }
     {
-        if let Some(_) = self.walk.due() {
+        Section {
+            pattern: self.pattern,
+            turns: self.turns.told,
+        }
+    }
+
+    /// The section that was shown and the kernel, where the plan is at an end and the report is the run's.
+    pub(crate) fn end(self, report: &Report) -> Result<Certificate, Mismatch>
+        ensures ok { IfOk result (λ it. EndsWell self.entry report.now it.section) }
+        ensures kernel { IfOk result (λ it. it.kernel ≡ self.entry.kernel) }
+        ensures err { IfErr result (EndsBadly self.entry report.now) }
+    {
+        if !self.walk.is_over() {
             return Err(Mismatch::Short);
         }
         if !is_same_report(&self.walk.report(), report) {
             return Err(Mismatch::Report);
         }
         Ok(Certificate {
-            pattern: self.pattern,
+            section: Section {
+                pattern: self.pattern,
+                turns: self.turns.told,
+            },
             kernel: self.kernel,
         })
     }

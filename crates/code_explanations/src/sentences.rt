@@ -11,8 +11,9 @@ pub const FAULTS: [Explanation; 36] = [
         remedy: "\
 An argument is unknown, missing or given twice, or its value is not allowed.
 N and K are decimal numbers up to 4294967295 without leading zeros; --events
-is 1 or 2, --forbid is 'degraded', --require is 'done'. `prefork --help` has
-the subcommands, and `prefork enact --help` the options of one.",
+is 1 or 2, --turns has letters n and o, --forbid is 'degraded', --require is
+'done'. `prefork --help` has the subcommands, and `prefork enact --help` the
+options of one.",
     },
     Explanation {
         code: "word",

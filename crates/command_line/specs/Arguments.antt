@@ -94,9 +94,10 @@ plan_app = with_rule (with_rule (with_answer (new_app (codes "plan"))) (flag_rul
 abbrev pub with_list : App → App
 with_list app = with_rule (with_rule (with_rule (with_answer app) (option_rule (codes "held"))) (flag_rule (codes "list"))) (flag_rule (codes "progress"))
 
--- `[--events K] [--limit N] [--forbid END] [--require END] [--least N]`
+-- `[--events K] [--turns TEXT] [--limit N] [--forbid END] [--require END] [--least N]`
 abbrev pub with_runs : App → App
-with_runs app = with_rule (with_rule (with_rule app (option_rule (codes "events"))) (option_rule (codes "limit"))) (option_rule (codes "forbid"))
+with_runs app =
+    with_rule (with_rule (with_rule (with_rule app (option_rule (codes "events"))) (option_rule (codes "turns"))) (option_rule (codes "limit"))) (option_rule (codes "forbid"))
 
 abbrev pub with_demands : App → App
 with_demands app = with_rule (with_rule app (option_rule (codes "require"))) (option_rule (codes "least"))
@@ -184,6 +185,7 @@ pub record Exploration : Type 0 where
   pub start : Start
   pub held : Option Text
   pub events : Option ℕ
+  pub turns : Option Text
   pub limit : Option ℕ
   pub forbid : Option Text
   pub require : Option Text
@@ -246,6 +248,7 @@ exploration_of options = record {
   start = start_of options.start;
   held = option_map (λ text. text.now) options.held;
   events = options.events;
+  turns = option_map (λ text. text.now) options.turns;
   limit = options.limit;
   forbid = option_map (λ text. text.now) options.forbid;
   require = option_map (λ text. text.now) options.require;
@@ -319,6 +322,7 @@ pub record FindsExploration (rows : List Row) (values : Exploration) : Type 0 wh
   pub start : FindsStart rows values.start
   pub held : values.held ≡ first_of (codes "held") rows
   pub events : IsNumber (first_of (codes "events") rows) values.events
+  pub turns : values.turns ≡ first_of (codes "turns") rows
   pub limit : IsNumber (first_of (codes "limit") rows) values.limit
   pub forbid : values.forbid ≡ first_of (codes "forbid") rows
   pub require : values.require ≡ first_of (codes "require") rows

@@ -9,7 +9,8 @@ use crate::help::{
     CODE_HELP, DOT_HELP, ENACT_NOTES, EVENTS_HELP, EXPLAIN_NOTES, EXPLORE_NOTES, FILES_HELP,
     FORBID_HELP, FROM_HELP, HELD_HELP, JSON_HELP, LEAST_HELP, LIMIT_HELP, LIST_HELP, PLAN_NOTES,
     PROGRAM_HELP, PROGRAM_NOTES, PROGRESS_HELP, READY_HELP, REQUIRE_HELP, STATE_HELP,
-    SUPERVISE_NOTES, TO_HELP, VERBOSE_HELP, WHY_HELP, WORD_HELP, WORDS_HELP, WORKERS_HELP,
+    SUPERVISE_NOTES, TO_HELP, TURNS_HELP, VERBOSE_HELP, WHY_HELP, WORD_HELP, WORDS_HELP,
+    WORKERS_HELP,
 };
 use clap::{Arg, ArgAction, Command};
 use std::alloc::{AllocError, Global};
@@ -123,6 +124,7 @@ fn with_runs<'a>(alloc: Global, command: Command<'a>) -> Result<Command<'a>, All
 {
     command
         .arg(option(alloc, "events", "K", EVENTS_HELP))?
+        .arg(option(alloc, "turns", "TEXT", TURNS_HELP))?
         .arg(option(alloc, "limit", "N", LIMIT_HELP))?
         .arg(option(alloc, "forbid", "END", FORBID_HELP))
 }

@@ -41,6 +41,8 @@ pub(crate) const STATE_HELP: &str = "Print processes, files and service after th
 
 pub(crate) const EVENTS_HELP: &str = "At most K events in a run, 1 or 2 [default: 1]";
 
+pub(crate) const TURNS_HELP: &str = "Whose call is next in an upgrade, letters n and o";
+
 pub(crate) const LIMIT_HELP: &str = "Stop after N runs, and say 'cut' if runs are left";
 
 pub(crate) const FORBID_HELP: &str = "With 'degraded': status 4 if a run ended so";
@@ -142,7 +144,9 @@ Example: an error line ends with C4 workers:
 pub(crate) const EXPLORE_NOTES: &str = "\
 It carries out WORD under no event, under each single event and, with --events
 2, under each pair. An event is a call that fails, a question that is answered
-back, or the exit of a worker or of the new master.
+back, or the exit of a worker or of the new master. Where both masters of an
+upgrade have a call to make, the turns of --turns say whose is next, n the new
+one's and o the old one's; after their end, or without them, the new one's is.
 Status: 0 counted, 1 refused, 2 usage, 4 degraded with --forbid degraded or too
 few workers with --least, 6 not known: no run was done with --require done, no
 address stays with --least, or --limit left runs out with any of the three.

@@ -62,6 +62,8 @@ pub struct ExploreOptions<'a> {
     pub held: Option<&'a str>,
     /// `--events`: how many events a run has at most. Without it one.
     pub events: Option<u32>,
+    /// `--turns`: a letter for each turn of two masters, `n` or `o`. Without it the new one goes first.
+    pub turns: Option<&'a str>,
     /// `--limit`: how many runs there are at most. Without it as many as it takes.
     pub limit: Option<u32>,
     /// `--forbid`: the end that is to be answered with a status of its own.
@@ -190,6 +192,7 @@ pub(crate) fn explore_options<'a>(found: &ArgMatches<'a>) -> Result<ExploreOptio
         start,
         held: address,
         events,
+        turns: text_of(found, "turns"),
         limit,
         forbid: text_of(found, "forbid"),
         require: text_of(found, "require"),

@@ -1,5 +1,5 @@
 -- What a master's record becomes once a plan has ended.
-use Rattle.std.specs.Prelude.{ℕ, ◌+◌, ◌==◌, nat_lt, nat_le, Bool, true, false, ◌&&◌, ◌||◌, not, List, [], ◌∷◌, Option, Some, None, is_none, option_map, option_and_then, unwrap_or, filter, bytes_eq, length, if◌then◌else◌}
+use Rattle.std.specs.Prelude.{ℕ, ◌+◌, ◌==◌, nat_lt, nat_le, Bool, true, false, ◌&&◌, not, List, [], ◌∷◌, Option, Some, None, is_none, option_map, option_and_then, unwrap_or, filter, bytes_eq, length, if◌then◌else◌}
 use Rattle.std.specs.List.{list_any}
 use Rattle.listener_set.specs.AddressList.{has}
 use Rattle.listener_set.specs.Numbers.{first_from}

@@ -1,5 +1,5 @@
 -- What the run of a plan keeps, and how it ends.
-use Rattle.std.specs.Prelude.{map, ℕ, ◌≡◌, ◌≤◌, ◌+◌, min, sum, Bool, true, false, ◌&&◌, ◌||◌, ◌==◌, ◌++◌, List, [], if◌then◌else◌, ◌∷◌, length, Option, Some, None, is_some, count_by, bytes_eq, ⊤}
+use Rattle.std.specs.Prelude.{map, ℕ, ◌≡◌, ◌≤◌, ◌+◌, ◌*◌, min, sum, Bool, true, false, ◌&&◌, ◌||◌, ◌==◌, ◌++◌, List, [], if◌then◌else◌, ◌∷◌, length, Option, Some, None, is_some, count_by, bytes_eq, ⊤}
 use Rattle.std.specs.List.{list_any, AllByRecursion}
 use Rattle.listener_set.specs.Numbers.{IsRising, RisesFrom, is_in}
 use Rattle.listener_set.specs.AddressList.{has}
@@ -10,9 +10,10 @@ use Rattle.definitions.specs.Formed.{IsFormed}
 use Rattle.definitions.specs.Service.{Service, is_live_with, service, IsSame}
 use Rattle.definitions.specs.Record.{Listener, Record, IsRecord, Agrees, layout_of, PidNote, InPlace, AtOldbin, OldbinLeft, Left, NoFile, oldbin}
 use Rattle.definitions.specs.Crew.{Layout, short_at}
-use Rattle.definitions.specs.Target.{Target, Workers, Mend, Reopen, Reload, Upgrade, Attended, Stop, want, wanted_at, layout_wanted, sides_of, upgrade_generation, text_handed}
+use Rattle.definitions.specs.Target.{Target, Workers, Mend, Reopen, Reload, Upgrade, Attended, Stop, want, wanted_at, numbers_wanted, addresses_wanted, layout_wanted, sides_of, upgrade_generation, text_handed}
 use Rattle.definitions.specs.Tree.{Tree, height}
-use Rattle.definitions.specs.Plans.{plan_tree}
+use Rattle.definitions.specs.Parts.{Turn}
+use Rattle.definitions.specs.Plans.{plan_tree, plan_length}
 use Rattle.definitions.specs.Path.{Report, Outcome, Entry}
 use Rattle.vocabulary.specs.declared.reports.Outcome.TheVariants as outcome
 use Rattle.vocabulary.specs.declared.plans.Side.TheVariants as side
@@ -65,14 +66,14 @@ heirs_of r Reopen = []
 heirs_of r (Reload s) = []
 heirs_of r (Stop quick) = []
 
--- The run of a target's plan.
-abbrev pub run_of : Record → Target → Pattern → Table → Ran
-run_of r target pattern t = run_with (text_handed r target) (plan_tree r target) pattern (start_at t r.note)
+-- The run of a target's plan under the turns.
+abbrev pub run_of : Record → Target → List Turn → Pattern → Table → Ran
+run_of r target turns pattern t = run_with (text_handed r target) (plan_tree r target turns) pattern (start_at t r.note)
 
 -- The first moment of the run in which an executing master exits: a pattern with such a moment is refused, with its number.
 -- Moments after the run's end aren't looked at.
-abbrev pub refusal_of : Record → Target → Pattern → Table → Option ℕ
-refusal_of r target pattern t = refused_among (r.generation.image ∷ []) (heirs_of r target) pattern 0 (run_of r target pattern t).entries
+abbrev pub refusal_of : Record → Target → List Turn → Pattern → Table → Option ℕ
+refusal_of r target turns pattern t = refused_among (r.generation.image ∷ []) (heirs_of r target) pattern 0 (run_of r target turns pattern t).entries
 
 ---- How it ends
 
@@ -237,54 +238,65 @@ Accepts t r (Upgrade s) = IsInRange s × HasDescriptors t r × (is_some (next_im
 Accepts t r (Attended s) = IsInRange s × HasDescriptors t r × (is_some (next_image r.generation) ≡ true)
 Accepts t r (Stop quick) = ⊤
 
-pub record IsAccepted (t : Table) (r : Record) (target : Target) (pattern : Pattern) : Type 0 where
+pub record IsAccepted (t : Table) (r : Record) (target : Target) (turns : List Turn) (pattern : Pattern) : Type 0 where
   pub start : IsStart t r
   pub accepts : Accepts t r target
-  pub spared : refusal_of r target pattern t ≡ None
+  pub spared : refusal_of r target turns pattern t ≡ None
 
 -- Each headline: whatever fails and whoever exits but an executing master, the target's plan ends as it reports.
 abbrev pub WorkersHeadline : Type 0
 WorkersHeadline =
-    (t : Table) (r : Record) (n : ℕ) (pattern : Pattern) → IsAccepted t r (Workers n) pattern →
-    EndsAsReported t r (Workers n) (run_of r (Workers n) pattern t) × KeepsFloor t r (Workers n) (run_of r (Workers n) pattern t)
+    (t : Table) (r : Record) (n : ℕ) (turns : List Turn) (pattern : Pattern) → IsAccepted t r (Workers n) turns pattern →
+    EndsAsReported t r (Workers n) (run_of r (Workers n) turns pattern t) × KeepsFloor t r (Workers n) (run_of r (Workers n) turns pattern t)
 
 abbrev pub MendHeadline : Type 0
 MendHeadline =
-    (t : Table) (r : Record) (overdue : List ℕ) (pattern : Pattern) → IsAccepted t r (Mend overdue) pattern →
-    EndsAsReported t r (Mend overdue) (run_of r (Mend overdue) pattern t)
+    (t : Table) (r : Record) (overdue : List ℕ) (turns : List Turn) (pattern : Pattern) → IsAccepted t r (Mend overdue) turns pattern →
+    EndsAsReported t r (Mend overdue) (run_of r (Mend overdue) turns pattern t)
 
 abbrev pub ReopenHeadline : Type 0
-ReopenHeadline = (t : Table) (r : Record) (pattern : Pattern) → IsAccepted t r Reopen pattern → EndsAsReported t r Reopen (run_of r Reopen pattern t)
+ReopenHeadline = (t : Table) (r : Record) (turns : List Turn) (pattern : Pattern) → IsAccepted t r Reopen turns pattern → EndsAsReported t r Reopen (run_of r Reopen turns pattern t)
 
 -- And keeps the floor: it touches no worker, and starts what is lacking.
 abbrev pub ReopenFloor : Type 0
-ReopenFloor = (t : Table) (r : Record) (pattern : Pattern) → IsAccepted t r Reopen pattern → KeepsFloor t r Reopen (run_of r Reopen pattern t)
+ReopenFloor = (t : Table) (r : Record) (turns : List Turn) (pattern : Pattern) → IsAccepted t r Reopen turns pattern → KeepsFloor t r Reopen (run_of r Reopen turns pattern t)
 
 abbrev pub ReloadHeadline : Type 0
 ReloadHeadline =
-    (t : Table) (r : Record) (s : Settings) (pattern : Pattern) → IsAccepted t r (Reload s) pattern →
-    EndsAsReported t r (Reload s) (run_of r (Reload s) pattern t) × KeepsFloor t r (Reload s) (run_of r (Reload s) pattern t)
+    (t : Table) (r : Record) (s : Settings) (turns : List Turn) (pattern : Pattern) → IsAccepted t r (Reload s) turns pattern →
+    EndsAsReported t r (Reload s) (run_of r (Reload s) turns pattern t) × KeepsFloor t r (Reload s) (run_of r (Reload s) turns pattern t)
 
 abbrev pub StopHeadline : Type 0
 StopHeadline =
-    (t : Table) (r : Record) (quick : Bool) (pattern : Pattern) → IsAccepted t r (Stop quick) pattern → EndsAsReported t r (Stop quick) (run_of r (Stop quick) pattern t)
+    (t : Table) (r : Record) (quick : Bool) (turns : List Turn) (pattern : Pattern) → IsAccepted t r (Stop quick) turns pattern → EndsAsReported t r (Stop quick) (run_of r (Stop quick) turns pattern t)
 
 abbrev pub UpgradeHeadline : Type 0
 UpgradeHeadline =
-    (t : Table) (r : Record) (s : Settings) (pattern : Pattern) → IsAccepted t r (Upgrade s) pattern →
-    EndsAsReported t r (Upgrade s) (run_of r (Upgrade s) pattern t) × KeepsFloor t r (Upgrade s) (run_of r (Upgrade s) pattern t)
+    (t : Table) (r : Record) (s : Settings) (turns : List Turn) (pattern : Pattern) → IsAccepted t r (Upgrade s) turns pattern →
+    EndsAsReported t r (Upgrade s) (run_of r (Upgrade s) turns pattern t) × KeepsFloor t r (Upgrade s) (run_of r (Upgrade s) turns pattern t)
 
 abbrev pub AttendedHeadline : Type 0
 AttendedHeadline =
-    (t : Table) (r : Record) (s : Settings) (pattern : Pattern) → IsAccepted t r (Attended s) pattern →
-    EndsAsReported t r (Attended s) (run_of r (Attended s) pattern t) × KeepsAttendedFloor t r (Attended s) (run_of r (Attended s) pattern t)
+    (t : Table) (r : Record) (s : Settings) (turns : List Turn) (pattern : Pattern) → IsAccepted t r (Attended s) turns pattern →
+    EndsAsReported t r (Attended s) (run_of r (Attended s) turns pattern t) × KeepsAttendedFloor t r (Attended s) (run_of r (Attended s) turns pattern t)
 
 -- And its run has the target's manner.
 abbrev pub InManner : Target → Type 0
 InManner target =
-    (t : Table) (r : Record) (pattern : Pattern) → IsAccepted t r target pattern →
-    Manner r target (report_of (sides_of r target) (run_of r target pattern t)).outcome t (run_of r target pattern t)
+    (t : Table) (r : Record) (turns : List Turn) (pattern : Pattern) → IsAccepted t r target turns pattern →
+    Manner r target (report_of (sides_of r target) (run_of r target turns pattern t)).outcome t (run_of r target turns pattern t)
 
--- A run makes no more calls than the longest path of its plan has steps.
+-- A run makes no more calls than the longest path of its plan has steps; and under any turns a plan has no longer one than its
+-- stretches have together.
+abbrev pub PlansFit : Type 0
+PlansFit = (r : Record) (target : Target) (turns : List Turn) → height (plan_tree r target turns) ≤ plan_length r target
+
+-- That is bounded, attended or not.
+abbrev pub most_calls : Record → Target → ℕ
+most_calls r target = 9 * (length r.ready + length (numbers_wanted r target)) + 3 * (length r.listeners + length (addresses_wanted r target)) + 16 * r.retries + 48
+
+abbrev pub UpgradesAreShort : Type 0
+UpgradesAreShort = (r : Record) (s : Settings) → (plan_length r (Upgrade s) ≤ most_calls r (Upgrade s)) × (plan_length r (Attended s) ≤ most_calls r (Attended s))
+
 abbrev pub RunsWithin : Type 0
 RunsWithin = (text : List ℕ) (plan : Tree) (pattern : Pattern) (p : Progress) → length (run_with text plan pattern p).entries ≤ height plan

@@ -2,6 +2,7 @@ pub mod Table
 pub mod Exits
 pub mod Handover
 pub mod Calls
+pub mod Aside
 pub mod Crew
 pub mod Formed
 pub mod Service
@@ -9,11 +10,12 @@ pub mod Record
 pub mod Start
 pub mod Target
 pub mod Tree
+pub mod Parts
 pub mod Plans
 pub mod Path
+pub mod Apart
 pub mod Run
 pub mod After
 pub mod Manner
 pub mod Claims
 pub mod Settling
-pub mod Parts

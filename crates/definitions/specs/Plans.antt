@@ -1,5 +1,5 @@
 -- The tree of each target, from named pieces.
-use Rattle.std.specs.Prelude.{ℕ, zero, suc, not, ◌||◌, nat_lt, Bool, true, false, List, [], ◌∷◌, ◌++◌, Option, Some, None, filter, map, reverse, if◌then◌else◌}
+use Rattle.std.specs.Prelude.{ℕ, zero, suc, max, ◌+◌, not, ◌||◌, nat_lt, Bool, true, false, List, [], ◌∷◌, ◌++◌, Option, Some, None, filter, map, reverse, if◌then◌else◌}
 use Rattle.listener_set.specs.Numbers.{numbers_below, is_in}
 use Rattle.definitions.specs.Table.{Address, FilePath, Generation}
 use Rattle.definitions.specs.Calls.{Call, OpenAt, CloseAt, AwaitReady, Quit, Kill, Census, AwaitGone, SpawnMaster, Adopt, WritePid, MovePid, RemovePid, Alive, Leave, Usr1, TermMaster, Ask}
@@ -7,7 +7,8 @@ use Rattle.definitions.specs.Crew.{Crew, fork_of}
 use Rattle.definitions.specs.Record.{Record, PidNote, InPlace, AtOldbin, OldbinLeft, Left, NoFile, oldbin, addresses_of, crew_of}
 use Rattle.definitions.specs.Target.{Target, Workers, Mend, Reopen, Reload, Upgrade, Attended, Stop, only_in}
 use Rattle.definitions.specs.After.{crew_wanted, lacks_generation}
-use Rattle.definitions.specs.Tree.{Reply, plain_reply, replies_to, Side, End, Done, RolledBack, ShortOld, ShortTarget, Make, ForkLacking, AwaitLacking, KillLacking, Tree, Branches, Ends, Does, Nothing, Branch}
+use Rattle.definitions.specs.Tree.{Reply, plain_reply, replies_to, Side, End, Done, RolledBack, ShortOld, ShortTarget, Split, JoinReady, JoinBack, Join, Make, ForkLacking, AwaitLacking, KillLacking, Tree, Branches, Ends, Does, Nothing, Branch, height}
+use Rattle.definitions.specs.Parts.{Turn, weave, joined}
 use Rattle.vocabulary.specs.declared.plans.Side.TheVariants as side
 use Rattle.vocabulary.specs.declared.calls.Reply.TheVariants as reply
 
@@ -222,12 +223,22 @@ abbrev pub pid_calls : Option FilePath → (FilePath → Call) → List Call
 pid_calls None call = []
 pid_calls (Some path) call = call path ∷ []
 
--- What the new master does before it is counted: it adopts, closes the dropped addresses and opens the added ones, forks its
--- workers and waits for them, and writes its pid.
-abbrev pub new_calls : Crew → Option FilePath → List Address → List Address → ℕ → List Call
-new_calls crew path held wanted n =
+-- What the new master does on its own: it adopts, closes the dropped addresses and opens the added ones, forks its workers and
+-- waits for them.
+abbrev pub new_calls : Crew → List Address → List Address → ℕ → List Call
+new_calls crew held wanted n =
     Adopt ∷ map CloseAt (only_in held wanted) ++ map OpenAt (only_in wanted held) ++ map (fork_of crew) (numbers_below n)
-    ++ map (AwaitReady crew.generation) (numbers_below n) ++ pid_calls path WritePid
+    ++ map (AwaitReady crew.generation) (numbers_below n)
+
+-- The new master's part is ready after the last of these calls; any other answer than the plain one ends it.
+abbrev pub new_part : Crew → List Address → List Address → ℕ → Tree
+new_part crew held wanted n = tries_all crew.generation.image (new_calls crew held wanted n) (Ends JoinReady) (Ends JoinBack)
+
+-- The old master meanwhile mends its own workers: it counts those that were ready, and starts what is lacking, so many rounds; what the
+-- last count says is no matter.
+abbrev pub old_part : ℕ → Crew → List ℕ → ℕ → Tree
+old_part by crew ready zero = census by crew.generation ready (on (reply.Full ∷ reply.Short ∷ []) (Ends Join) Nothing)
+old_part by crew ready (suc rounds) = census by crew.generation ready (census_edges (Ends Join) (round by crew (old_part by crew ready rounds)))
 
 -- The pid file goes aside, where it isn't yet.
 abbrev pub move_aside : ℕ → Option FilePath → PidNote → Tree → Tree → Tree
@@ -288,29 +299,57 @@ relieve attended by old new ready retries path n =
 abbrev pub spawn_edges : Tree → Tree → Branches
 spawn_edges ok bad = on (reply.Spawned ∷ []) ok (on (reply.Again ∷ reply.NoMemory ∷ reply.NoImage ∷ []) bad Nothing)
 
-abbrev pub upgrade_tree : Bool → ℕ → Crew → Crew → List ℕ → ℕ → Option FilePath → PidNote → List Address → List Address → ℕ → Tree
-upgrade_tree attended by old new ready retries path note held wanted n =
+-- Both parts have ended and the new master is ready: it writes its pid, and is counted.
+abbrev pub taken_over : Bool → ℕ → Crew → Crew → List ℕ → ℕ → Option FilePath → ℕ → Tree → Tree
+taken_over attended by old new ready retries path n back =
+    let heir = new.generation.image in
+    tries_all heir (pid_calls path WritePid) (tries heir (Census new.generation) (numbers_below n) (relieve attended by old new ready retries path n) back) back
+
+abbrev pub upgrade_tree : Bool → ℕ → Crew → Crew → List ℕ → ℕ → Option FilePath → PidNote → List Address → List Address → ℕ → List Turn → Tree
+upgrade_tree attended by old new ready retries path note held wanted n turns =
     let heir = new.generation.image in
     let back = back_from by heir old ready retries path in
     move_aside by path note
     (does by (SpawnMaster heir) (spawn_edges
-    (tries_all heir (new_calls new path held wanted n) (tries heir (Census new.generation) (numbers_below n) (relieve attended by old new ready retries path n) back) back)
+    (weave (joined (taken_over attended by old new ready retries path n back) back) (new_part new held wanted n) turns (old_part by old ready retries))
     (back_alone by old ready retries path)))
     (settle by old ready side.Old retries)
 
+-- The steps on its longest path: those before the parts, both parts, and the longer of what follows them.
+abbrev pub upgrade_length : Bool → ℕ → Crew → Crew → List ℕ → ℕ → Option FilePath → PidNote → List Address → List Address → ℕ → ℕ
+upgrade_length attended by old new ready retries path note held wanted n =
+    let heir = new.generation.image in
+    let back = back_from by heir old ready retries path in
+    height (move_aside by path note (does by (SpawnMaster heir) (spawn_edges (Ends Split) (Ends Done))) (Ends Done))
+    + height (new_part new held wanted n) + height (old_part by old ready retries)
+    + max (height (taken_over attended by old new ready retries path n back)) (height back)
+
 ---- The plan of a target
 
-abbrev pub plan_tree : Record → Target → Tree
-plan_tree r (Workers n) = workers_tree r.generation.image (crew_of r) r.ready r.retries n
-plan_tree r (Mend overdue) = mend_tree r.generation.image (crew_of r) r.ready r.retries overdue r.wanted
-plan_tree r Reopen = reopen_tree r.generation.image (crew_of r) r.ready r.retries
-plan_tree r (Reload s) = reload_tree r.generation.image (crew_of r) (crew_wanted r (Reload s)) r.ready r.retries (addresses_of r) s.listeners s.workers
-plan_tree r (Upgrade s) =
-    upgrade_tree false r.generation.image (crew_of r) (crew_wanted r (Upgrade s)) r.ready r.retries r.pid_path r.note (addresses_of r) s.listeners s.workers
-plan_tree r (Attended s) =
-    upgrade_tree true r.generation.image (crew_of r) (crew_wanted r (Attended s)) r.ready r.retries r.pid_path r.note (addresses_of r) s.listeners s.workers
-plan_tree r (Stop quick) = stop_tree r.generation.image r.generation r.ready r.pid_path r.note quick
+-- Turns are used in upgrades alone, attended or not.
+abbrev pub plan_tree : Record → Target → List Turn → Tree
+plan_tree r (Workers n) turns = workers_tree r.generation.image (crew_of r) r.ready r.retries n
+plan_tree r (Mend overdue) turns = mend_tree r.generation.image (crew_of r) r.ready r.retries overdue r.wanted
+plan_tree r Reopen turns = reopen_tree r.generation.image (crew_of r) r.ready r.retries
+plan_tree r (Reload s) turns = reload_tree r.generation.image (crew_of r) (crew_wanted r (Reload s)) r.ready r.retries (addresses_of r) s.listeners s.workers
+plan_tree r (Upgrade s) turns =
+    upgrade_tree false r.generation.image (crew_of r) (crew_wanted r (Upgrade s)) r.ready r.retries r.pid_path r.note (addresses_of r) s.listeners s.workers turns
+plan_tree r (Attended s) turns =
+    upgrade_tree true r.generation.image (crew_of r) (crew_wanted r (Attended s)) r.ready r.retries r.pid_path r.note (addresses_of r) s.listeners s.workers turns
+plan_tree r (Stop quick) turns = stop_tree r.generation.image r.generation r.ready r.pid_path r.note quick
+
+-- The steps on the longest path of a target's plan.
+abbrev pub plan_length : Record → Target → ℕ
+plan_length r (Workers n) = height (plan_tree r (Workers n) [])
+plan_length r (Mend overdue) = height (plan_tree r (Mend overdue) [])
+plan_length r Reopen = height (plan_tree r Reopen [])
+plan_length r (Reload s) = height (plan_tree r (Reload s) [])
+plan_length r (Upgrade s) =
+    upgrade_length false r.generation.image (crew_of r) (crew_wanted r (Upgrade s)) r.ready r.retries r.pid_path r.note (addresses_of r) s.listeners s.workers
+plan_length r (Attended s) =
+    upgrade_length true r.generation.image (crew_of r) (crew_wanted r (Attended s)) r.ready r.retries r.pid_path r.note (addresses_of r) s.listeners s.workers
+plan_length r (Stop quick) = height (plan_tree r (Stop quick) [])
 
 -- The plan of a target for a running master. There is none where a number of the target's generation would pass its limit.
-abbrev pub planned : Record → Target → Option Tree
+abbrev pub planned : Record → Target → Option (List Turn → Tree)
 planned r target = if lacks_generation r target then None else Some (plan_tree r target)

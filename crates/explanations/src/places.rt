@@ -59,21 +59,43 @@ fn tell_values<E: Write>(request: &Request<'_>, errors: &mut E) {
         let _ = writeln!(errors, "  --json {option}: give one of the two");
     }
     if let Request::Explore(options) = request {
-        if let Some(events) = options.events {
-            if events != 1 && events != 2 {
-                let _ = writeln!(errors, "  --events {events}: 1 and 2 are allowed");
-            }
+        tell_events(options.events, errors);
+        tell_turns(options.turns, errors);
+        tell_end("--forbid", options.forbid, "degraded", errors);
+        tell_end("--require", options.require, "done", errors);
+    }
+}
+
+/// The number of events, where runs can't have so many.
+fn tell_events<E: Write>(events: Option<u32>, errors: &mut E) {
+    match events {
+        None | Some(1) | Some(2) => (),
+        Some(events) => {
+            let _ = writeln!(errors, "  --events {events}: 1 and 2 are allowed");
         }
-        if let Some(end) = options.forbid {
-            if end != "degraded" {
-                let _ = writeln!(errors, "  --forbid {end}: only degraded is allowed");
-            }
-        }
-        if let Some(end) = options.require {
-            if end != "done" {
-                let _ = writeln!(errors, "  --require {end}: only done is allowed");
-            }
-        }
+    }
+}
+
+/// The turns, where they have another letter or none.
+fn tell_turns<E: Write>(turns: Option<&str>, errors: &mut E) {
+    let Some(turns) = turns else {
+        return;
+    };
+    if turns.is_empty() || !turns.bytes().all(|byte| byte == b'n' || byte == b'o') {
+        let _ = writeln!(
+            errors,
+            "  --turns {turns}: only the letters n and o are allowed"
+        );
+    }
+}
+
+/// The end that an option names, where it is not the one that is allowed.
+fn tell_end<E: Write>(option: &str, end: Option<&str>, allowed: &str, errors: &mut E) {
+    let Some(end) = end else {
+        return;
+    };
+    if end != allowed {
+        let _ = writeln!(errors, "  {option} {end}: only {allowed} is allowed");
     }
 }
 

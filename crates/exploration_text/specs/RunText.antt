@@ -1,11 +1,13 @@
 -- Runs as they are listed.
 use Rattle.std.specs.Prelude.{ℕ, List, [], ◌++◌, codes}
 use Rattle.vocabulary.specs.declared.reports.Report.{Report}
+use Rattle.definitions.specs.Parts.{Turn}
 use Rattle.call_text.specs.ReportText.{report_text}
 use Rattle.pattern_text.specs.declared.pattern_line.PatternLine.{PatternLine}
 use Rattle.pattern_text.specs.declared.pattern_line.PatternLine.TheVariants as line
 use Rattle.pattern_text.specs.LineText.{line_text}
 use Rattle.pattern_text.specs.PatternsWriting.{ended_line}
+use Rattle.pattern_text.specs.TurnsText.{turns_text}
 use Rattle.explorer.specs.declared.events.Mishap.{Mishap}
 use Rattle.explorer.specs.declared.events.Mishap.TheVariants.{Exit, Fail}
 use Rattle.explorer.specs.declared.events.Event.{Event}
@@ -30,6 +32,6 @@ events_text Nothing = []
 events_text (One e) = ended_line (event_line e)
 events_text (Two e f) = ended_line (event_line e) ++ ended_line (event_line f)
 
--- what went wrong in a run, and what it reports
-abbrev pub run_text : Tried → Report → List ℕ
-run_text tried report = events_text tried ++ report_text report ++ codes "\n"
+-- by whose turns a run goes, where that is given, what goes wrong in it, and what it reports
+abbrev pub run_text : List Turn → Tried → Report → List ℕ
+run_text turns tried report = turns_text turns ++ (events_text tried ++ report_text report ++ codes "\n")

@@ -11,6 +11,7 @@ use Rattle.definitions.specs.Record.{Record}
 use Rattle.definitions.specs.Calls.{Stepped, step_with}
 use Rattle.definitions.specs.Exits.{after_exits}
 use Rattle.definitions.specs.Tree.{Tree, Ends, Does, Branches, branch, reply_of, call_of}
+use Rattle.definitions.specs.Parts.{Turn}
 use Rattle.definitions.specs.Path.{advance, Asks, follow, rest_after, lacked_by}
 use Rattle.definitions.specs.Run.{Moment, Pattern, Progress, Ran, run_with, with_entry, after_moment, after_call, answered}
 use Rattle.definitions.specs.Target.{text_handed}
@@ -91,11 +92,11 @@ weaker : (n : ℕ) (p q : Pattern) → IsSameUpTo (n + 1) p q → IsSameUpTo n p
 weaker n p q same m le = same m (omega (arith, le))
 
 -- So far has the run come after one call more, of this step.
-come-step : (r : Record) (target : Target) (t : Table) (pattern : Pattern) (n : ℕ) (heirs : List ℕ) (by : ℕ) (order : Order) (set : List ℕ) (branches : Branches) (p : Progress) (m : Moment) →
+come-step : (r : Record) (target : Target) (turns : List Turn) (t : Table) (pattern : Pattern) (n : ℕ) (heirs : List ℕ) (by : ℕ) (order : Order) (set : List ℕ) (branches : Branches) (p : Progress) (m : Moment) →
     let text = text_handed r target in
-    HasCome r target t pattern n (Some (Does by order set branches)) heirs p → pattern (n + 1) ≡ m →
-    HasCome r target t pattern (n + 1) (rest_after (found text by order set branches p m)) (waiting (call_of order (lacked_by by p.lacked)) heirs) (further text by order set branches p m)
-come-step r target t pattern n heirs by order set branches p m come is =
+    HasCome r target turns t pattern n (Some (Does by order set branches)) heirs p → pattern (n + 1) ≡ m →
+    HasCome r target turns t pattern (n + 1) (rest_after (found text by order set branches p m)) (waiting (call_of order (lacked_by by p.lacked)) heirs) (further text by order set branches p m)
+come-step r target turns t pattern n heirs by order set branches p m come is =
     let text = text_handed r target in
     let moment : (q : Pattern) → IsSameUpTo (n + 1) pattern q → q (n + 1) ≡ m = λ q same. same (n + 1) (omega arith) ∙ is in
     let goes : (q : Pattern) → IsSameUpTo (n + 1) pattern q → run_with text (Does by order set branches) q p ≡ with_entry (entry_in text by order set branches p m) p (after_moment m.exits p) (rest_run text (rest_after (found text by order set branches p m)) q (further text by order set branches p m)) =
@@ -120,8 +121,8 @@ pub record Goes (r : Record) (target : Target) (rest : Option Tree) (p : Progres
   pub trail : advance (trail_at rest p) e ≡ trail_at (rest_after (follow rest e.answer)) (moved (text_handed r target) rest m p)
   pub onto : rest_after (follow rest e.answer) ≡ rest_moved (text_handed r target) rest m p
   pub table : (moved (text_handed r target) rest m p).table ≡ (step_with (text_handed r target) e.by e.call m.fate (after_exits m.exits p.table)).table
-  pub come : (t : Table) (pattern : Pattern) (n : ℕ) (heirs : List ℕ) → HasCome r target t pattern n rest heirs p → pattern (n + 1) ≡ m →
-      HasCome r target t pattern (n + 1) (rest_after (follow rest e.answer)) (waiting e.call heirs) (moved (text_handed r target) rest m p)
+  pub come : (turns : List Turn) (t : Table) (pattern : Pattern) (n : ℕ) (heirs : List ℕ) → HasCome r target turns t pattern n rest heirs p → pattern (n + 1) ≡ m →
+      HasCome r target turns t pattern (n + 1) (rest_after (follow rest e.answer)) (waiting e.call heirs) (moved (text_handed r target) rest m p)
   pub entries : (q : Pattern) → q (p.calls + 1) ≡ m →
       (rest_run (text_handed r target) rest q p).entries ≡ e ∷ (rest_run (text_handed r target) (rest_after (follow rest e.answer)) q (moved (text_handed r target) rest m p)).entries
 
@@ -137,6 +138,6 @@ goes r target (Some (Does by order set branches)) p m e asks answer =
       trail = trail-behind text by order set branches p m;
       onto = refl;
       table = further-table text by order set branches p m;
-      come = λ t pattern n heirs come is. come-step r target t pattern n heirs by order set branches p m come is;
+      come = λ turns t pattern n heirs come is. come-step r target turns t pattern n heirs by order set branches p m come is;
       entries = λ q is. ap (λ (ran : Ran). ran.entries) (runs-on text by order set branches p q m is);
     })

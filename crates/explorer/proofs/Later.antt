@@ -6,13 +6,15 @@ use Rattle.definitions.specs.Table.{Table}
 use Rattle.definitions.specs.Calls.{Stepped, step_with}
 use Rattle.definitions.specs.Exits.{after_exits}
 use Rattle.definitions.specs.Tree.{Tree}
+use Rattle.definitions.specs.Parts.{Turn}
 use Rattle.definitions.specs.Path.{Trail, advance, Asks}
 use Rattle.definitions.specs.Run.{Moment, Pattern, Progress}
 use Rattle.definitions.specs.Target.{text_handed}
 use Rattle.kernel_model.specs.State.{State}
 use Rattle.plan_walk.specs.Fit.{height_next}
-use Rattle.plan_walk.specs.Walk.{trail_of, sides_in, AsksFor}
-use Rattle.plan_walk.specs.declared.walk.Walk.{Walk}
+use Rattle.plan_walk.specs.Course.{turns_of, trail_on, sides_on}
+use Rattle.plan_walk.specs.Walk.{AsksFor}
+use Rattle.plan_walk.specs.declared.course.Course.{Course}
 use Rattle.plan_walk.specs.declared.walk.Due.{Due}
 use Rattle.plan_executor.specs.Lawful.{trail_at}
 use Rattle.plan_executor.specs.Naming.{listed}
@@ -27,31 +29,33 @@ abbrev pub entry_of : Due → Answer → Entry
 entry_of due answer = record { by = due.by; call = due.call; answer = answer }
 
 -- What making the call that is due gave.
-pub record IsMade (before : Position) (due : Due) (m : Moment) (walk : Walk) (kernel : State) (waits : Option ℕ) (answer : Answer) : Type 0 where
+pub record IsMade (before : Position) (due : Due) (m : Moment) (course : Course) (kernel : State) (waits : Option ℕ) (answer : Answer) : Type 0 where
   pub step : record { answer = answer; table = kernel.table } ≡ step_with before.text.now due.by due.call m.fate (after_exits m.exits before.kernel.table)
   pub room : kernel.room + 1 ≡ before.kernel.room
-  pub trail : trail_of walk ≡ advance (trail_of before.walk) (entry_of due answer)
-  pub sides : sides_in walk ≡ sides_in before.walk
-  pub lower : height_next (trail_of walk).rest + 1 ≤ height_next (trail_of before.walk).rest
+  pub trail : trail_on course ≡ advance (trail_on before.course) (entry_of due answer)
+  pub sides : sides_on course ≡ sides_on before.course
+  pub turns : turns_of course ≡ turns_of before.course
+  pub lower : height_next (trail_on course).rest + 1 ≤ height_next (trail_on before.course).rest
   pub heir : listed waits ≡ waiting due.call (listed before.heir)
 
-pub later : (before : Position) (due : Due) (m : Moment) (walk : Walk) (kernel : State) (waits : Option ℕ) (answer : Answer) →
-    IsFit before → AsksFor (trail_of before.walk) due.by due.call → pattern_of before.tried (before.made + 1) ≡ m → IsMade before due m walk kernel waits answer →
-    IsLater before due m (record before { made = before.made + 1; walk = walk; kernel = kernel; heir = waits })
-later before due m walk kernel waits answer fit asks moment is =
+pub later : (before : Position) (due : Due) (m : Moment) (course : Course) (kernel : State) (waits : Option ℕ) (answer : Answer) →
+    IsFit before → AsksFor (trail_on before.course) due.by due.call → pattern_of before.tried (before.made + 1) ≡ m → IsMade before due m course kernel waits answer →
+    IsLater before due m (record before { made = before.made + 1; course = course; kernel = kernel; heir = waits })
+later before due m course kernel waits answer fit asks moment is =
     let e = entry_of due answer in
-    let T = trail_of before.walk in
+    let T = trail_on before.course in
     let text = text_handed before.state.now before.target.now in
     let stepped : (p : Progress) → IsAt before p → record { answer = answer; table = kernel.table } ≡ step_with text due.by due.call m.fate (after_exits m.exits p.table) =
     λ p at. is.step ∙ (λ i. step_with (at.text i) due.by due.call m.fate (after_exits m.exits (sym at.table i))) in
     let on : (p : Progress) → IsAt before p → Goes before.state.now before.target.now T.rest p m e =
     λ p at. goes before.state.now before.target.now T.rest p m e (subst (λ ks. Asks T.rest ks e) (sym (ap (λ (t : Trail). t.lacked) at.trail)) (asks answer)) (ap (λ (s : Stepped). s.answer) (stepped p at)) in
-    let trails : (p : Progress) → IsAt before p → trail_of walk ≡ advance (trail_at T.rest p) e =
+    let trails : (p : Progress) → IsAt before p → trail_on course ≡ advance (trail_at T.rest p) e =
     λ p at. is.trail ∙ ap (λ (t : Trail). advance t e) (sym at.trail) in
     record {
       first = refl;
       state = refl;
       target = refl;
+      turns = is.turns;
       tried = refl;
       made = refl;
       fit = record { room = omega (arith, is.lower, fit.room, is.room); countable = omega (arith, is.room, fit.countable) };
@@ -66,9 +70,10 @@ later before due m walk kernel waits answer fit asks moment is =
             text = at.text;
             sides = is.sides ∙ at.sides;
             come =
-                subst (λ (rest : Option Tree). HasCome before.state.now before.target.now before.first.now.table (pattern_of before.tried) (before.made + 1) rest (listed waits) (moved text T.rest m p)) (sym (ap (λ (t : Trail). t.rest) w))
-                (subst (λ (heirs : List ℕ). HasCome before.state.now before.target.now before.first.now.table (pattern_of before.tried) (before.made + 1) (advance (trail_at T.rest p) e).rest heirs (moved text T.rest m p)) (sym is.heir)
-                (g.come before.first.now.table (pattern_of before.tried) before.made (listed before.heir) at.come moment));
+                subst (λ (given : List Turn). HasCome before.state.now before.target.now given before.first.now.table (pattern_of before.tried) (before.made + 1) (trail_on course).rest (listed waits) (moved text T.rest m p)) (sym is.turns)
+                (subst (λ (rest : Option Tree). HasCome before.state.now before.target.now (turns_of before.course) before.first.now.table (pattern_of before.tried) (before.made + 1) rest (listed waits) (moved text T.rest m p)) (sym (ap (λ (t : Trail). t.rest) w))
+                (subst (λ (heirs : List ℕ). HasCome before.state.now before.target.now (turns_of before.course) before.first.now.table (pattern_of before.tried) (before.made + 1) (advance (trail_at T.rest p) e).rest heirs (moved text T.rest m p)) (sym is.heir)
+                (g.come (turns_of before.course) before.first.now.table (pattern_of before.tried) before.made (listed before.heir) at.come moment)));
           };
       left = λ p last at.
           let g = on p at in

@@ -9,7 +9,7 @@ use Rattle.definitions.specs.Tree.{Tree, Ends, Does}
 use Rattle.definitions.specs.Path.{IsOver}
 use Rattle.definitions.specs.Target.{text_handed}
 use Rattle.definitions.specs.Run.{Pattern, Progress}
-use Rattle.plan_walk.specs.Walk.{trail_of}
+use Rattle.plan_walk.specs.Course.{trail_on}
 use Rattle.plan_executor.specs.Naming.{listed}
 use Rattle.explorer.specs.declared.events.Event.{Event}
 use Rattle.explorer.specs.declared.position.Position.{Position}
@@ -44,8 +44,8 @@ none-left text last q heirs n t None p over = refl
 none-left text last q heirs n t (Some (Ends end)) p over = refl
 none-left text last q heirs n t (Some (Does by order set branches)) p over = absurd over
 
-pub left-over : (run : Position) (p : Progress) (last : Option Event) → IsOver (trail_of run.walk).rest → left run p last ≡ []
-left-over run p last over = none-left (text_handed run.state.now run.target.now) last (pattern_of run.tried) (listed run.heir) run.made run.kernel.table (trail_of run.walk).rest p over
+pub left-over : (run : Position) (p : Progress) (last : Option Event) → IsOver (trail_on run.course).rest → left run p last ≡ []
+left-over run p last over = none-left (text_handed run.state.now run.target.now) last (pattern_of run.tried) (listed run.heir) run.made run.kernel.table (trail_on run.course).rest p over
 
 -- behind an event all is open
 pub open-behind : (text : List ℕ) (by : ℕ) (call : Call) (heirs : List ℕ) (e : Event) (n : ℕ) (t : Table) → e.number < n → open_at text by call heirs (Some e) n t ≡ mishaps_at text by call heirs 0 t

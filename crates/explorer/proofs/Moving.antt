@@ -1,5 +1,5 @@
 -- An exit before a call that passes its worker by, and before the next call: the same run.
-use Rattle.std.proofs.Common.{◌≡◌, ◌≢◌, ◌≤◌, ◌<◌, ◌+◌, ℕ, Bool, true, false, List, [], ◌∷◌, Option, Some, None, refl, sym, ◌∙◌, ap, subst, arith}
+use Rattle.std.proofs.Common.{◌≡◌, ◌≢◌, ◌<◌, ◌+◌, ℕ, true, false, List, [], ◌∷◌, Option, Some, None, refl, sym, ◌∙◌, ap, subst, arith}
 use Rattle.listener_set.specs.declared.generation.Generation.{Generation}
 use Rattle.vocabulary.specs.declared.names.Name.{Name}
 use Rattle.vocabulary.specs.declared.names.Name.TheVariants as name
@@ -9,21 +9,22 @@ use Rattle.vocabulary.specs.declared.reports.Entry.{Entry}
 use Rattle.vocabulary.specs.declared.targets.Target.{Target}
 use Rattle.definitions.specs.Table.{Table}
 use Rattle.definitions.specs.Record.{Record}
-use Rattle.definitions.specs.Exits.{after_exits, losses_of}
+use Rattle.definitions.specs.Exits.{losses_of}
 use Rattle.definitions.specs.Calls.{Call, Stepped, step_with}
 use Rattle.vocabulary.specs.declared.calls.Answer.TheVariants as answer
 use Rattle.definitions.specs.Tree.{Tree, Branches, Ends, Does, Nothing, Branch, Reply, among, branch, reply_of, call_of}
+use Rattle.definitions.specs.Parts.{Turn}
 use Rattle.definitions.specs.Path.{Trail, Sides, Asks, rest_after, Lack, lacked_by}
 use Rattle.definitions.specs.Run.{Moment, quiet, Pattern, Progress, Ran, run_with, goes_with, with_entry, answered, noted, after_moment, after_call, outcome_of, report_of}
 use Rattle.definitions.specs.Target.{sides_of, text_handed}
-use Rattle.definitions.specs.Claims.{run_of}
 use Rattle.kernel_pattern.specs.Pattern.{with_exit}
 use Rattle.explorer.specs.declared.events.Event.{Event}
 use Rattle.explorer.specs.declared.events.Mishap.TheVariants.{Exit}
 use Rattle.explorer.specs.declared.events.Tried.{Tried}
 use Rattle.explorer.specs.declared.events.Tried.TheVariants.{Nothing as NothingTried, One}
 use Rattle.explorer.specs.declared.position.Position.{Position}
-use Rattle.plan_walk.specs.Walk.{trail_of, AsksFor}
+use Rattle.plan_walk.specs.Course.{turns_of, trail_on}
+use Rattle.plan_walk.specs.Walk.{AsksFor}
 use Rattle.plan_walk.specs.declared.walk.Due.{Due}
 use Rattle.plan_executor.specs.Naming.{listed}
 use Rattle.explorer.specs.Events.{pattern_of, event_at}
@@ -155,12 +156,12 @@ quiet-but : (e : Event) (m : ℕ) → m ≢ e.number → pattern_of (One e) m �
 quiet-but e m not = other e (λ _. quiet) m not
 
 -- The run in which a worker exits before a call that passes it by is that in which it exits before the next call.
-later-exit : (r : Record) (to : Target) (t : Table) (n : ℕ) (heirs : List ℕ) (rest : Option Tree) (p : Progress) (e : Entry) (ls : List Lack) (next : Entry) (g : Generation) (k q : ℕ) →
-    HasCome r to t (pattern_of NothingTried) n rest heirs p → Asks rest p.lacked e → passes_by e.call (name.Worker g k) ≡ true → Asks (rest_moved (text_handed r to) rest quiet p) ls next →
-    report_under r to t (One (event_at (n + 1) (Exit (name.Worker g k) q))) ≡ report_under r to t (One (event_at (n + 1 + 1) (Exit (name.Worker g k) q)))
-later-exit r to t n heirs None p e ls next g k q come asks passes more = absurd asks
-later-exit r to t n heirs (Some (Ends end)) p e ls next g k q come asks passes more = absurd asks
-later-exit r to t n heirs (Some (Does by order set branches)) p e ls next g k q come asks passes more =
+later-exit : (r : Record) (to : Target) (turns : List Turn) (t : Table) (n : ℕ) (heirs : List ℕ) (rest : Option Tree) (p : Progress) (e : Entry) (ls : List Lack) (next : Entry) (g : Generation) (k q : ℕ) →
+    HasCome r to turns t (pattern_of NothingTried) n rest heirs p → Asks rest p.lacked e → passes_by e.call (name.Worker g k) ≡ true → Asks (rest_moved (text_handed r to) rest quiet p) ls next →
+    report_under r to turns t (One (event_at (n + 1) (Exit (name.Worker g k) q))) ≡ report_under r to turns t (One (event_at (n + 1 + 1) (Exit (name.Worker g k) q)))
+later-exit r to turns t n heirs None p e ls next g k q come asks passes more = absurd asks
+later-exit r to turns t n heirs (Some (Ends end)) p e ls next g k q come asks passes more = absurd asks
+later-exit r to turns t n heirs (Some (Does by order set branches)) p e ls next g k q come asks passes more =
     let text = text_handed r to in
     let tree = Does by order set branches in
     let first = event_at (n + 1) (Exit (name.Worker g k) q) in
@@ -184,19 +185,19 @@ later-exit r to t n heirs (Some (Does by order set branches)) p e ls next g k q 
     reports (sides_of r to) _ _ (alike-on _ _ _ (alike-on _ _ _ one (alike _ _ onto)) (alike-on _ _ _ join (alike-back _ _ two)))
 
 -- What is known of an exit before the call that is due is so of the exit before the next one, where the call passes the worker by.
-pub known-later : (run : Position) (due : Due) (after : Position) (p : Progress) (by : ℕ) (call : Call) (name : Name) (q : ℕ) → IsAt run p → AsksFor (trail_of run.walk) due.by due.call → run.tried ≡ NothingTried →
-    IsLater run due quiet after → AsksFor (trail_of after.walk) by call → passes_by due.call name ≡ true →
-    report_under run.state.now run.target.now run.first.now.table (One (event_at (run.made + 1) (Exit name q))) ≡ report_under after.state.now after.target.now after.first.now.table (One (event_at (after.made + 1) (Exit name q)))
+pub known-later : (run : Position) (due : Due) (after : Position) (p : Progress) (by : ℕ) (call : Call) (name : Name) (q : ℕ) → IsAt run p → AsksFor (trail_on run.course) due.by due.call → run.tried ≡ NothingTried →
+    IsLater run due quiet after → AsksFor (trail_on after.course) by call → passes_by due.call name ≡ true →
+    report_under run.state.now run.target.now (turns_of run.course) run.first.now.table (One (event_at (run.made + 1) (Exit name q))) ≡ report_under after.state.now after.target.now (turns_of after.course) after.first.now.table (One (event_at (after.made + 1) (Exit name q)))
 known-later run due after p by call (name.Worker g k) q at asks tried is next passes =
     let r = run.state.now in
     let to = run.target.now in
-    let T = trail_of run.walk in
+    let T = trail_on run.course in
     let e : Entry = record { by = due.by; call = due.call; answer = answer.Fine } in
     let here : Asks T.rest p.lacked e = subst (λ ks. Asks T.rest ks e) (sym (ap (λ (t : Trail). t.lacked) at.trail)) (asks answer.Fine) in
-    let there : Asks (rest_moved (text_handed r to) T.rest quiet p) (trail_of after.walk).lacked (record { by = by; call = call; answer = answer.Fine }) =
-    subst (λ rest. Asks rest (trail_of after.walk).lacked (record { by = by; call = call; answer = answer.Fine })) (is.rest p at) (next answer.Fine) in
-    let come = subst (λ (x : Tried). HasCome r to run.first.now.table (pattern_of x) run.made T.rest (listed run.heir) p) tried at.come in
-    later-exit r to run.first.now.table run.made (listed run.heir) T.rest p e _ _ g k q come here passes there
-    ∙ (λ i. report_under (sym is.state i) (sym is.target i) (sym is.first i).table (One (event_at (sym is.made i + 1) (Exit (name.Worker g k) q))))
+    let there : Asks (rest_moved (text_handed r to) T.rest quiet p) (trail_on after.course).lacked (record { by = by; call = call; answer = answer.Fine }) =
+    subst (λ rest. Asks rest (trail_on after.course).lacked (record { by = by; call = call; answer = answer.Fine })) (is.rest p at) (next answer.Fine) in
+    let come = subst (λ (x : Tried). HasCome r to (turns_of run.course) run.first.now.table (pattern_of x) run.made T.rest (listed run.heir) p) tried at.come in
+    later-exit r to (turns_of run.course) run.first.now.table run.made (listed run.heir) T.rest p e _ _ g k q come here passes there
+    ∙ (λ i. report_under (sym is.state i) (sym is.target i) (sym is.turns i) (sym is.first i).table (One (event_at (sym is.made i + 1) (Exit (name.Worker g k) q))))
 known-later run due after p by call (name.Draining g k) q at asks tried is next passes = absurd (cc passes)
 known-later run due after p by call (name.Master i) q at asks tried is next passes = absurd (cc passes)

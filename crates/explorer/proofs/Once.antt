@@ -11,6 +11,7 @@ use Rattle.vocabulary.specs.declared.calls.Fate.TheVariants as fate
 use Rattle.vocabulary.specs.declared.targets.Target.{Target}
 use Rattle.definitions.specs.Table.{Process, Master, Worker, Foreign, Table, number_of, is_active}
 use Rattle.definitions.specs.Record.{Record}
+use Rattle.definitions.specs.Parts.{Turn}
 use Rattle.definitions.specs.Exits.{after_exits}
 use Rattle.definitions.specs.Calls.{Call, Fate, step_with}
 use Rattle.definitions.specs.Path.{Entry}
@@ -246,70 +247,70 @@ first_of Nothing = None
 first_of (One e) = Some e
 first_of (Two e f) = Some e
 
-module _ (r : Record) (target : Target) (t : Table) (pairs : Bool) where
+module _ (r : Record) (target : Target) (turns : List Turn) (t : Table) (pairs : Bool) where
   abbrev second : Event → List Event
-  second e = events_after r target t (One e)
+  second e = events_after r target turns t (One e)
 
-  with-all : (P : Tried → Type 0) (e : Event) → P (One e) → AllByRecursion (λ f. P (Two e f)) (second e) → AllByRecursion P (with_pairs r target t pairs e)
+  with-all : (P : Tried → Type 0) (e : Event) → P (One e) → AllByRecursion (λ f. P (Two e f)) (second e) → AllByRecursion P (with_pairs r target turns t pairs e)
   with-all P e one two = (one, cond_both pairs (map (Two e) (second e)) [] (AllByRecursion P) (λ is. all-map P (Two e) (second e) two) (λ is. tt))
 
-  each-all : (P : Tried → Type 0) → ((e : Event) → AllByRecursion P (with_pairs r target t pairs e)) → (es : List Event) → AllByRecursion P (each_with_pairs r target t pairs es)
+  each-all : (P : Tried → Type 0) → ((e : Event) → AllByRecursion P (with_pairs r target turns t pairs e)) → (es : List Event) → AllByRecursion P (each_with_pairs r target turns t pairs es)
   each-all P h [] = tt
-  each-all P h (e ∷ es) = all-append P (with_pairs r target t pairs e) (each_with_pairs r target t pairs es) (h e) (each-all P h es)
+  each-all P h (e ∷ es) = all-append P (with_pairs r target turns t pairs e) (each_with_pairs r target turns t pairs es) (h e) (each-all P h es)
 
-  begins : (e : Event) → AllByRecursion (λ x. first_of x ≡ Some e) (with_pairs r target t pairs e)
+  begins : (e : Event) → AllByRecursion (λ x. first_of x ≡ Some e) (with_pairs r target turns t pairs e)
   begins e = with-all (λ x. first_of x ≡ Some e) e refl (everywhere (λ f. first_of (Two e f) ≡ Some e) (λ f. refl) (second e))
 
-  begins-else : (e : Event) (es : List Event) → AllByRecursion (λ d. e ≢ d) es → AllByRecursion (λ x. first_of x ≢ Some e) (each_with_pairs r target t pairs es)
+  begins-else : (e : Event) (es : List Event) → AllByRecursion (λ d. e ≢ d) es → AllByRecursion (λ x. first_of x ≢ Some e) (each_with_pairs r target turns t pairs es)
   begins-else e [] h = tt
   begins-else e (d ∷ ds) h =
-      all-append (λ x. first_of x ≢ Some e) (with_pairs r target t pairs d) (each_with_pairs r target t pairs ds)
-      (weaken (λ x. first_of x ≡ Some d) (λ x. first_of x ≢ Some e) (λ x is same. h.0 (same-event (sym same ∙ is))) (with_pairs r target t pairs d) (begins d)) (begins-else e ds h.1)
+      all-append (λ x. first_of x ≢ Some e) (with_pairs r target turns t pairs d) (each_with_pairs r target turns t pairs ds)
+      (weaken (λ x. first_of x ≡ Some d) (λ x. first_of x ≢ Some e) (λ x is same. h.0 (same-event (sym same ∙ is))) (with_pairs r target turns t pairs d) (begins d)) (begins-else e ds h.1)
     where
       same-event : {a b : Event} → Some a ≡ Some b → a ≡ b
       same-event same = cc
 
   module _ (rises : Rises t) where
-    with-differ : (e : Event) → Differ (with_pairs r target t pairs e)
+    with-differ : (e : Event) → Differ (with_pairs r target turns t pairs e)
     with-differ e =
         let es = second e in
         cond_both pairs (map (Two e) es) [] (λ xs. AllByRecursion (λ y. One e ≢ y) xs × Differ xs)
         (λ is. (
           all-map (λ y. One e ≢ y) (Two e) es (everywhere (λ f. One e ≢ Two e f) (λ f same. cc) es),
           differ-map (Two e) (λ x y same. cc) es
-              (met-differ (text_handed r target) (Some e) (pattern_of (One e)) (heirs_of r target) 0 t (run_of r target (pattern_of (One e)) t).entries rises).0,
+              (met-differ (text_handed r target) (Some e) (pattern_of (One e)) (heirs_of r target) 0 t (run_of r target turns (pattern_of (One e)) t).entries rises).0,
         ))
         (λ is. (tt, tt))
 
-    each-differ : (es : List Event) → Differ es → Differ (each_with_pairs r target t pairs es)
+    each-differ : (es : List Event) → Differ es → Differ (each_with_pairs r target turns t pairs es)
     each-differ [] h = tt
     each-differ (e ∷ es) h =
-        let rest = each_with_pairs r target t pairs es in
+        let rest = each_with_pairs r target turns t pairs es in
         let else : AllByRecursion (λ y. first_of y ≢ Some e) rest = begins-else e es h.0 in
-        differ-append (with_pairs r target t pairs e) rest (with-differ e) (each-differ es h.1)
+        differ-append (with_pairs r target turns t pairs e) rest (with-differ e) (each-differ es h.1)
         (weaken (λ x. first_of x ≡ Some e) (λ x. AllByRecursion (λ y. x ≢ y) rest)
-        (λ x is. weaken (λ y. first_of y ≢ Some e) (λ y. x ≢ y) (λ y not same. not (sym (ap first_of same) ∙ is)) rest else) (with_pairs r target t pairs e) (begins e))
+        (λ x is. weaken (λ y. first_of y ≢ Some e) (λ y. x ≢ y) (λ y not same. not (sym (ap first_of same) ∙ is)) rest else) (with_pairs r target turns t pairs e) (begins e))
 
-    all-differ : Differ (all_tried r target t pairs)
+    all-differ : Differ (all_tried r target turns t pairs)
     all-differ =
-        let first = met-differ (text_handed r target) None (pattern_of Nothing) (heirs_of r target) 0 t (run_of r target (pattern_of Nothing) t).entries rises in (
-          each-all (λ y. Nothing ≢ y) (λ e. with-all (λ y. Nothing ≢ y) e (λ same. cc) (everywhere (λ f. Nothing ≢ Two e f) (λ f same. cc) (second e))) (events_after r target t Nothing),
-          each-differ (events_after r target t Nothing) first.0,
+        let first = met-differ (text_handed r target) None (pattern_of Nothing) (heirs_of r target) 0 t (run_of r target turns (pattern_of Nothing) t).entries rises in (
+          each-all (λ y. Nothing ≢ y) (λ e. with-all (λ y. Nothing ≢ y) e (λ same. cc) (everywhere (λ f. Nothing ≢ Two e f) (λ f same. cc) (second e))) (events_after r target turns t Nothing),
+          each-differ (events_after r target turns t Nothing) first.0,
         )
 
-  ordered : (e : Event) → AllByRecursion IsInOrder (with_pairs r target t pairs e)
-  ordered e = with-all IsInOrder e tt (met-behind (text_handed r target) e (pattern_of (One e)) (heirs_of r target) 0 t (run_of r target (pattern_of (One e)) t).entries)
+  ordered : (e : Event) → AllByRecursion IsInOrder (with_pairs r target turns t pairs e)
+  ordered e = with-all IsInOrder e tt (met-behind (text_handed r target) e (pattern_of (One e)) (heirs_of r target) 0 t (run_of r target turns (pattern_of (One e)) t).entries)
 
-few : (r : Record) (target : Target) (t : Table) (pairs : Bool) (e : Event) → AllByRecursion (λ x. events_in x ≤ most_events pairs) (with_pairs r target t pairs e)
-few r target t true e =
-    with-all r target t true (λ x. events_in x ≤ 2) e (omega arith) (everywhere (λ f. events_in (Two e f) ≤ 2) (λ f. omega arith) (second r target t true e))
-few r target t false e = (omega arith, tt)
+few : (r : Record) (target : Target) (turns : List Turn) (t : Table) (pairs : Bool) (e : Event) → AllByRecursion (λ x. events_in x ≤ most_events pairs) (with_pairs r target turns t pairs e)
+few r target turns t true e =
+    with-all r target turns t true (λ x. events_in x ≤ 2) e (omega arith) (everywhere (λ f. events_in (Two e f) ≤ 2) (λ f. omega arith) (second r target turns t true e))
+few r target turns t false e = (omega arith, tt)
 
-pub all-once : (r : Record) (target : Target) (t : Table) (pairs : Bool) → IsFormed t → AreOnce (most_events pairs) (all_tried r target t pairs)
-all-once r target t pairs formed =
-    let es = events_after r target t Nothing in
+pub all-once : (r : Record) (target : Target) (turns : List Turn) (t : Table) (pairs : Bool) → IsFormed t → AreOnce (most_events pairs) (all_tried r target turns t pairs)
+all-once r target turns t pairs formed =
+    let es = events_after r target turns t Nothing in
     record {
-      distinct = all-pairs (all_tried r target t pairs) (all-differ r target t pairs formed.ascending);
-      in_order = (tt, each-all r target t pairs IsInOrder (ordered r target t pairs) es);
-      few = (omega arith, each-all r target t pairs (λ x. events_in x ≤ most_events pairs) (few r target t pairs) es);
+      distinct = all-pairs (all_tried r target turns t pairs) (all-differ r target turns t pairs formed.ascending);
+      in_order = (tt, each-all r target turns t pairs IsInOrder (ordered r target turns t pairs) es);
+      few = (omega arith, each-all r target turns t pairs (λ x. events_in x ≤ most_events pairs) (few r target turns t pairs) es);
     }

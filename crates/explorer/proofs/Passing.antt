@@ -9,7 +9,7 @@ use Rattle.vocabulary.specs.declared.names.Name.TheVariants as name
 use Rattle.vocabulary.specs.declared.table.Stance.{Stance}
 use Rattle.vocabulary.specs.declared.table.Stance.TheVariants.{Starting, Ready, Draining, Exited}
 use Rattle.definitions.specs.Table.{Process, Master, Worker, Foreign, Table, Caller, caller_if, live_master, bears, same_generation, with_rows, is_own, is_any, is_active, is_starting, is_exited, is_named, is_worker}
-use Rattle.definitions.specs.Exits.{change, made_exited, worker_exits, after_exits, losses_of, is_active_worker}
+use Rattle.definitions.specs.Exits.{change, made_exited, after_exits, losses_of, is_active_worker}
 use Rattle.definitions.specs.Calls.{Stepped, Answer, Call, OpenAt, CloseAt, Fork, AwaitReady, Quit, Kill, Census, AwaitGone, SpawnMaster, Adopt, WritePid, MovePid, RemovePid, Alive, Leave, Usr1, TermMaster, Ask, step_with, step_by, own_step, gives, each_row, drop_where, made_ready, made_draining, has_process_room, with_new_row, shared}
 use Rattle.vocabulary.specs.declared.calls.Answer.TheVariants as answer
 use Rattle.theorems.proofs.Rows.{one, worth, weigh, change-same, count-weigh, weigh-append, every-any, pick, and-left, and-right, both-true}

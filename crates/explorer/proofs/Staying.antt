@@ -1,12 +1,12 @@
 -- Ready workers that stay where a process exits.
-use Rattle.std.proofs.Common.{◌≡◌, ◌≤◌, ℕ, ◌+◌, ◌-◌, ◌^◌, Bool, true, false, cond, ◌&&◌, ◌||◌, count_by, List, [], ◌∷◌, Option, Some, None, refl, sym, ap, subst, ◌∙◌, arith}
+use Rattle.std.proofs.Common.{◌≡◌, ◌≤◌, ℕ, ◌+◌, ◌-◌, ◌^◌, Bool, true, false, cond, ◌||◌, count_by, List, [], ◌∷◌, Option, Some, None, refl, sym, ap, subst, ◌∙◌, arith}
 use Rattle.std.specs.Prelude.{min, if◌then◌else◌}
 use Rattle.std.specs.List.{list_any}
 use Rattle.std.proofs.lemmas.Bool.{false≢true}
 use Rattle.std.proofs.lemmas.List.Sums.{sum_by-cons}
-use Rattle.definitions.specs.Table.{Address, Generation, Stance, Starting, Ready, Draining, Exited, Hold, Process, Master, Worker, Foreign, Table, has_address, bears, is_active, is_draining, is_named, is_ready}
+use Rattle.definitions.specs.Table.{Address, Generation, Starting, Ready, Draining, Exited, Hold, Process, Master, Worker, Foreign, Table, has_address, is_active, is_draining, is_named}
 use Rattle.vocabulary.specs.declared.names.Name.TheVariants as name
-use Rattle.definitions.specs.Exits.{Name, made_exited, first_changed, worker_exits, draining_exits, after_exits}
+use Rattle.definitions.specs.Exits.{Name, made_exited, worker_exits, draining_exits, after_exits}
 use Rattle.definitions.specs.Service.{is_live_with}
 use Rattle.explorer.specs.Least.{exits_between}
 use Rattle.explorer.specs.Readiness.{is_ready_at, ready_at, HaveAtLeast, AreNamedOnce, low_without, low_after_exits}

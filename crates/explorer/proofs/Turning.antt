@@ -2,7 +2,7 @@
 use Rattle.std.proofs.Common.{◌≡◌, ◌++◌, [], List, Option, sym, ap, ◌∙◌}
 use Rattle.definitions.specs.Path.{IsOver}
 use Rattle.definitions.specs.Run.{Progress, quiet}
-use Rattle.plan_walk.specs.Walk.{trail_of}
+use Rattle.plan_walk.specs.Course.{trail_on}
 use Rattle.plan_walk.specs.declared.walk.Due.{Due}
 use Rattle.explorer.specs.declared.events.Event.{Event}
 use Rattle.explorer.specs.declared.position.Position.{Position}
@@ -36,7 +36,7 @@ module _ (start : Position) (last : Option Event) (add : List Event → Tally �
       )
 
   -- nothing is left behind the last call
-  pub over : (run : Position) (before tally : Tally) → IsOver (trail_of run.walk).rest → Reaches run before tally → (p : Progress) → IsAt start p → tally ≡ add (left start p last) before
+  pub over : (run : Position) (before tally : Tally) → IsOver (trail_on run.course).rest → Reaches run before tally → (p : Progress) → IsAt start p → tally ≡ add (left start p last) before
   over run before tally ends reaches p at =
       let q = reaches p at in
       sym (counting.none tally) ∙ ap (λ (es : List Event). add es tally) (sym (left-over run q.0 last ends)) ∙ q.2

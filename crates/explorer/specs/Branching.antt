@@ -5,7 +5,8 @@ use Rattle.definitions.specs.Exits.{after_exits}
 use Rattle.definitions.specs.Path.{Report}
 use Rattle.definitions.specs.Run.{quiet}
 use Rattle.definitions.specs.Target.{text_handed}
-use Rattle.plan_walk.specs.Walk.{trail_of, AsksFor}
+use Rattle.plan_walk.specs.Course.{turns_of, trail_on}
+use Rattle.plan_walk.specs.Walk.{AsksFor}
 use Rattle.plan_executor.specs.Naming.{listed}
 use Rattle.explorer.specs.declared.branching.BranchPoint.{BranchPoint}
 use Rattle.explorer.specs.declared.events.Event.{Event}
@@ -20,7 +21,7 @@ use Rattle.explorer.specs.Known.{IsKnownAt}
 
 -- The call is due in the run.
 abbrev pub IsDue : BranchPoint → Type 0
-IsDue point = AsksFor (trail_of point.run.now.walk) point.due.now.by point.due.now.call
+IsDue point = AsksFor (trail_on point.run.now.course) point.due.now.by point.due.now.call
 
 -- What is known is the report of a run in which a process exits before the call.
 abbrev pub AreKnown : BranchPoint → Type 0
@@ -34,7 +35,7 @@ event_here point m = event_at (point.run.now.made + 1) m
 
 -- what the target's run reports in which this goes wrong
 abbrev pub report_of_run : Position → Tried → Report
-report_of_run run tried = report_under run.state.now run.target.now run.first.now.table tried
+report_of_run run tried = report_under run.state.now run.target.now (turns_of run.course) run.first.now.table tried
 
 -- The same of the run with this mishap at the call.
 abbrev pub report_with : BranchPoint → Mishap → Report
@@ -42,11 +43,11 @@ report_with point m = report_of_run point.run.now (One (event_here point m))
 
 -- The run in which this goes wrong at the call and, where pairs are asked for, each in which one thing more does.
 abbrev pub runs_with : BranchPoint → Bool → Mishap → List Tried
-runs_with point pairs m = with_pairs point.run.now.state.now point.run.now.target.now point.run.now.first.now.table pairs (event_here point m)
+runs_with point pairs m = with_pairs point.run.now.state.now point.run.now.target.now (turns_of point.run.now.course) point.run.now.first.now.table pairs (event_here point m)
 
 -- The same for each of these events of a run.
 abbrev pub runs_with_each : Position → Bool → List Event → List Tried
-runs_with_each run pairs events = each_with_pairs run.state.now run.target.now run.first.now.table pairs events
+runs_with_each run pairs events = each_with_pairs run.state.now run.target.now (turns_of run.course) run.first.now.table pairs events
 
 -- The same for each of these mishaps at the call.
 abbrev pub runs_with_all : BranchPoint → Bool → List Mishap → List Tried
@@ -71,7 +72,7 @@ pairs_beside point first = pairs_here point first (beside_here point first.misha
 
 -- These runs of the target are counted, after those that were.
 abbrev pub AreCounted : Position → List Tried → Tally → Tally → Type 0
-AreCounted run runs before after = after ≡ with_runs run.state.now run.target.now run.first.now.table runs before
+AreCounted run runs before after = after ≡ with_runs run.state.now run.target.now (turns_of run.course) run.first.now.table runs before
 
 abbrev pub AreCountedHere : BranchPoint → List Tried → Tally → Tally → Type 0
 AreCountedHere point runs before after = AreCounted point.run.now runs before after

@@ -1,9 +1,10 @@
--- What the runs of a target come to, under no event, each single one that its run meets, and each pair of those.
+-- What the runs of a target come to by given turns, under no event, each single one that its run meets, and each pair of those.
 use Rattle.std.specs.Prelude.{ℕ, ◌≡◌, ◌≢◌, ◌≤◌, ◌<◌, Bool, List, [], ◌∷◌, ◌++◌, map, Option, Some, None, if◌then◌else◌, ◌⊎◌, ⊤}
 use Rattle.std.specs.List.{AllPairs, AllByRecursion}
 use Rattle.vocabulary.specs.declared.targets.Target.{Target}
 use Rattle.definitions.specs.Table.{Table}
 use Rattle.definitions.specs.Record.{Record}
+use Rattle.definitions.specs.Parts.{Turn}
 use Rattle.definitions.specs.Path.{Report}
 use Rattle.definitions.specs.Run.{report_of}
 use Rattle.definitions.specs.Target.{sides_of, text_handed}
@@ -18,8 +19,8 @@ use Rattle.explorer.specs.Events.{pattern_of, events_in, met}
 use Rattle.explorer.specs.Tallies.{counted}
 
 -- What the run of a target reports where this goes wrong.
-abbrev pub report_under : Record → Target → Table → Tried → Report
-report_under r target t tried = report_of (sides_of r target) (run_of r target (pattern_of tried) t)
+abbrev pub report_under : Record → Target → List Turn → Table → Tried → Report
+report_under r target turns t tried = report_of (sides_of r target) (run_of r target turns (pattern_of tried) t)
 
 ---- Which runs there are
 
@@ -29,20 +30,20 @@ last_of (One e) = Some e
 last_of (Two e f) = Some f
 
 -- What more can go wrong in the run in which this goes wrong: the events that it meets behind the last one.
-abbrev pub events_after : Record → Target → Table → Tried → List Event
-events_after r target t tried = met (text_handed r target) (last_of tried) (pattern_of tried) (heirs_of r target) 0 t (run_of r target (pattern_of tried) t).entries
+abbrev pub events_after : Record → Target → List Turn → Table → Tried → List Event
+events_after r target turns t tried = met (text_handed r target) (last_of tried) (pattern_of tried) (heirs_of r target) 0 t (run_of r target turns (pattern_of tried) t).entries
 
 -- The run in which this goes wrong and, where pairs are asked for, each in which one thing more does.
-abbrev pub with_pairs : Record → Target → Table → Bool → Event → List Tried
-with_pairs r target t pairs e = One e ∷ (if pairs then map (Two e) (events_after r target t (One e)) else [])
+abbrev pub with_pairs : Record → Target → List Turn → Table → Bool → Event → List Tried
+with_pairs r target turns t pairs e = One e ∷ (if pairs then map (Two e) (events_after r target turns t (One e)) else [])
 
-abbrev pub each_with_pairs : Record → Target → Table → Bool → List Event → List Tried
-each_with_pairs r target t pairs [] = []
-each_with_pairs r target t pairs (e ∷ es) = with_pairs r target t pairs e ++ each_with_pairs r target t pairs es
+abbrev pub each_with_pairs : Record → Target → List Turn → Table → Bool → List Event → List Tried
+each_with_pairs r target turns t pairs [] = []
+each_with_pairs r target turns t pairs (e ∷ es) = with_pairs r target turns t pairs e ++ each_with_pairs r target turns t pairs es
 
 -- All runs of a target: under no event, under each that this run meets, and under each pair of those.
-abbrev pub all_tried : Record → Target → Table → Bool → List Tried
-all_tried r target t pairs = Nothing ∷ each_with_pairs r target t pairs (events_after r target t Nothing)
+abbrev pub all_tried : Record → Target → List Turn → Table → Bool → List Tried
+all_tried r target turns t pairs = Nothing ∷ each_with_pairs r target turns t pairs (events_after r target turns t Nothing)
 
 ---- That none comes twice
 
@@ -75,9 +76,9 @@ pub record AreOnce (most : ℕ) (runs : List Tried) : Type 0 where
 ---- How they are counted
 
 -- These runs, counted one after another by what they report.
-abbrev pub with_runs : Record → Target → Table → List Tried → Tally → Tally
-with_runs r target t [] tally = tally
-with_runs r target t (tried ∷ more) tally = with_runs r target t more (counted tried (report_under r target t tried).outcome tally)
+abbrev pub with_runs : Record → Target → List Turn → Table → List Tried → Tally → Tally
+with_runs r target turns t [] tally = tally
+with_runs r target turns t (tried ∷ more) tally = with_runs r target turns t more (counted tried (report_under r target turns t tried).outcome tally)
 
-abbrev pub explored_from : Record → Target → Table → Bool → Tally → Tally
-explored_from r target t pairs tally = with_runs r target t (all_tried r target t pairs) tally
+abbrev pub explored_from : Record → Target → List Turn → Table → Bool → Tally → Tally
+explored_from r target turns t pairs tally = with_runs r target turns t (all_tried r target turns t pairs) tally

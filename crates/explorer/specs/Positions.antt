@@ -7,20 +7,17 @@ use Rattle.definitions.specs.Table.{Table}
 use Rattle.definitions.specs.Record.{Record}
 use Rattle.definitions.specs.Exits.{after_exits}
 use Rattle.definitions.specs.Path.{rest_after}
-use Rattle.definitions.specs.Tree.{Tree, Ends, Does, branch, reply_of, height}
-use Rattle.definitions.specs.Plans.{plan_tree}
+use Rattle.definitions.specs.Tree.{Tree, Ends, Does, branch, reply_of}
+use Rattle.definitions.specs.Parts.{Turn}
 use Rattle.definitions.specs.Target.{sides_of, text_handed}
 use Rattle.definitions.specs.Run.{Moment, quiet, Pattern, Progress, start_at, Ran, Lost, ends_at, run_with, after_moment, after_call, answered, noted}
 use Rattle.definitions.specs.Claims.{run_of, heirs_of}
 use Rattle.kernel_pattern.specs.Pattern.{with_exit}
-use Rattle.rollback_plan.specs.declared.plan.Plan.{Plan}
-use Rattle.rollback_plan.specs.Plans.{tree_of, length_of, note_of, sides_told, text_of}
 use Rattle.plan_walk.specs.Fit.{height_next}
-use Rattle.plan_walk.specs.Walk.{trail_of, sides_in}
+use Rattle.plan_walk.specs.Course.{turns_of, trail_on, sides_on}
 use Rattle.plan_walk.specs.declared.walk.Due.{Due}
 use Rattle.plan_executor.specs.Lawful.{trail_at}
 use Rattle.plan_executor.specs.Naming.{listed}
-use Rattle.plan_executor.specs.Refusals.{HasPlan}
 use Rattle.explorer.specs.declared.events.Event.{Event}
 use Rattle.explorer.specs.declared.events.Tried.TheVariants.{Nothing}
 use Rattle.explorer.specs.declared.position.Position.{Position}
@@ -44,33 +41,33 @@ pub record EndsAlike (a b : Ran) : Type 0 where
   pub ending : a.ending ≡ b.ending
   pub last : a.last ≡ b.last
 
--- After n calls of a target's run under a pattern this is left of its plan, these have yet to take over, and so far has it come:
+-- After n calls of a target's run, by these turns and under a pattern, this is left of its plan, these have yet to take over, and so far has it come:
 -- each run that is the same so far goes on from here, and meets the same events.
-pub record HasCome (r : Record) (target : Target) (t : Table) (pattern : Pattern) (n : ℕ) (rest : Option Tree) (heirs : List ℕ) (p : Progress) : Type 0 where
+pub record HasCome (r : Record) (target : Target) (turns : List Turn) (t : Table) (pattern : Pattern) (n : ℕ) (rest : Option Tree) (heirs : List ℕ) (p : Progress) : Type 0 where
   pub calls : p.calls ≡ n
-  pub ends : (q : Pattern) → IsSameUpTo n pattern q → EndsAlike (run_of r target q t) (rest_run (text_handed r target) rest q p)
+  pub ends : (q : Pattern) → IsSameUpTo n pattern q → EndsAlike (run_of r target turns q t) (rest_run (text_handed r target) rest q p)
   pub meets : (q : Pattern) (e : Event) → IsSameUpTo n pattern q → n < e.number →
-      met (text_handed r target) (Some e) q (heirs_of r target) 0 t (run_of r target q t).entries
+      met (text_handed r target) (Some e) q (heirs_of r target) 0 t (run_of r target turns q t).entries
       ≡ met (text_handed r target) (Some e) q heirs n p.table (rest_run (text_handed r target) rest q p).entries
 
 -- There is room for all calls that can be left.
 pub record IsFit (run : Position) : Type 0 where
-  pub room : height_next (trail_of run.walk).rest ≤ run.kernel.room
+  pub room : height_next (trail_on run.course).rest ≤ run.kernel.room
   pub countable : run.made + run.kernel.room < 2 ^ 32
 
 -- The run has come so far.
 pub record IsAt (run : Position) (p : Progress) : Type 0 where
-  pub trail : trail_at (trail_of run.walk).rest p ≡ trail_of run.walk
+  pub trail : trail_at (trail_on run.course).rest p ≡ trail_on run.course
   pub table : p.table ≡ run.kernel.table
   pub text : run.text.now ≡ text_handed run.state.now run.target.now
-  pub sides : sides_in run.walk ≡ sides_of run.state.now run.target.now
-  pub come : HasCome run.state.now run.target.now run.first.now.table (pattern_of run.tried) run.made (trail_of run.walk).rest (listed run.heir) p
+  pub sides : sides_on run.course ≡ sides_of run.state.now run.target.now
+  pub come : HasCome run.state.now run.target.now (turns_of run.course) run.first.now.table (pattern_of run.tried) run.made (trail_on run.course).rest (listed run.heir) p
 
 -- The events that are left for it to meet, behind an event where there is one.
 abbrev pub left : Position → Progress → Option Event → List Event
 left run p last =
     let text = text_handed run.state.now run.target.now in
-    met text last (pattern_of run.tried) (listed run.heir) run.made run.kernel.table (rest_run text (trail_of run.walk).rest (pattern_of run.tried) p).entries
+    met text last (pattern_of run.tried) (listed run.heir) run.made run.kernel.table (rest_run text (trail_on run.course).rest (pattern_of run.tried) p).entries
 
 ---- One call more
 
@@ -95,7 +92,7 @@ rest_moved text (Some (Does by order set branches)) moment p =
     rest_after (branch branches (reply_of set (answered text by order moment.fate (after_moment moment.exits p)).answer))
 
 abbrev pub after_due : Position → Moment → Progress → Progress
-after_due run moment p = moved (text_handed run.state.now run.target.now) (trail_of run.walk).rest moment p
+after_due run moment p = moved (text_handed run.state.now run.target.now) (trail_on run.course).rest moment p
 
 -- what can go wrong at the call that is due, in this moment
 abbrev pub open_now : Position → Due → Moment → Option Event → List Event
@@ -107,37 +104,30 @@ pub record IsLater (before : Position) (due : Due) (moment : Moment) (after : Po
   pub first : after.first.now ≡ before.first.now
   pub state : after.state.now ≡ before.state.now
   pub target : after.target.now ≡ before.target.now
+  pub turns : turns_of after.course ≡ turns_of before.course
   pub tried : after.tried ≡ before.tried
   pub made : after.made ≡ before.made + 1
   pub fit : IsFit after
-  pub lower : height_next (trail_of after.walk).rest + 1 ≤ height_next (trail_of before.walk).rest
-  pub rest : (p : Progress) → IsAt before p → (trail_of after.walk).rest ≡ rest_moved (text_handed before.state.now before.target.now) (trail_of before.walk).rest moment p
+  pub lower : height_next (trail_on after.course).rest + 1 ≤ height_next (trail_on before.course).rest
+  pub rest : (p : Progress) → IsAt before p → (trail_on after.course).rest ≡ rest_moved (text_handed before.state.now before.target.now) (trail_on before.course).rest moment p
   pub at : (p : Progress) → IsAt before p → IsAt after (after_due before moment p)
   pub left : (p : Progress) (last : Option Event) → IsAt before p → left before p last ≡ open_now before due moment last ++ left after (after_due before moment p) last
 
 ---- Beginnings
 
--- the plan is the target's
-pub record IsPlanOf (r : Record) (target : Target) (plan : Plan) : Type 0 where
-  pub has_plan : HasPlan r target
-  pub tree : tree_of plan ≡ plan_tree r target
-  pub longest : length_of plan ≡ height (plan_tree r target)
-  pub note : note_of plan ≡ r.note
-  pub sides : sides_told plan ≡ sides_of r target
-  pub text : text_of plan ≡ text_handed r target
-
--- the run of this target from this table
-pub record IsOf (t : Table) (r : Record) (to : Target) (run : Position) : Type 0 where
+-- the run of this target by these turns, from this table
+pub record IsOf (t : Table) (r : Record) (to : Target) (given : List Turn) (run : Position) : Type 0 where
   pub first : run.first.now.table ≡ t
   pub state : run.state.now ≡ r
   pub target : run.target.now ≡ to
+  pub turns : turns_of run.course ≡ given
 
-pub record IsStartOf (t : Table) (r : Record) (target : Target) (run : Position) : Type 0 where
+pub record IsStartOf (t : Table) (r : Record) (target : Target) (turns : List Turn) (run : Position) : Type 0 where
   pub fit : IsFit run
   pub at : IsAt run (start_at t r.note)
-  pub of : IsOf t r target run
+  pub of : IsOf t r target turns run
   pub tried : run.tried ≡ Nothing
-  pub meets : left run (start_at t r.note) None ≡ events_after r target t Nothing
+  pub meets : left run (start_at t r.note) None ≡ events_after r target turns t Nothing
 
 -- The process that exits at a call already, where there is one.
 abbrev pub moment_of : Option Name → Moment

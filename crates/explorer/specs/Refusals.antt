@@ -1,4 +1,6 @@
 -- Why runs are not all counted.
+use Rattle.std.specs.Prelude.{List}
+use Rattle.definitions.specs.Parts.{Turn}
 use Rattle.definitions.specs.Run.{Pattern}
 use Rattle.plan_executor.specs.Refusals.{IsRefused}
 use Rattle.plan_executor.specs.declared.enactment.EnactRefusal.{EnactRefusal}
@@ -14,6 +16,6 @@ abbrev pub unexplored : ExploreRefusal → Unexplored
 unexplored Memory = un.Enact enact.Memory
 unexplored Enough = un.Enough
 
--- To enact the target is refused so whatever goes wrong.
+-- To enact the target is refused so whatever the turns, and whatever goes wrong.
 abbrev pub IsRefusedAlways : Search → EnactRefusal → Type 0
-IsRefusedAlways search why = (pattern : Pattern) → IsRefused search.kernel.now.table search.state.now search.target.now pattern why
+IsRefusedAlways search why = (turns : List Turn) (pattern : Pattern) → IsRefused search.kernel.now.table search.state.now search.target.now turns pattern why

@@ -21,17 +21,19 @@ use crate::known::{self, Known, RestOfRun};
 use crate::position::Position;
 use kernel_model::Kernel;
 use plan_executor::{EnactRefusal, agrees, plan_of};
+use plan_walk::Turns;
 use service_state::Record;
 use std::alloc::{AllocError, Global};
 use vocabulary::{Name, Target};
 
-/// What is explored: the runs of a target, from a kernel and what its master knows of itself, and with pairs of events where
-/// these are asked for.
+/// What is explored: the runs of a target, from a kernel and what its master knows of itself, by turns where two masters have
+/// parts of the plan, and with pairs of events where these are asked for.
 #[derive(Clone, Copy)]
 pub struct Search<'a> {
     pub kernel: &'a Kernel,
     pub state: &'a Record,
     pub target: &'a Target,
+    pub turns: &'a Turns,
     pub pairs: bool,
 }
 
@@ -294,11 +296,12 @@ fn count_events<A: Audience>(
 
 /// Counts the run of a target under no event, and a run for each event that this run meets: each exit that matters
 /// before one of its calls, and each failure of the call that takes effect; where pairs are asked for, also a run for each
-/// pair of these of which the run with the first one meets the second. Each report is that of `enact` under the pattern.
+/// pair of these of which the run with the first one meets the second. All runs are by the same turns. Each report is that of
+/// `enact` in the section of these turns and the pattern.
 ///
 /// The audience hears of each run, and may end them. What was counted until then, or until memory was refused, stays
-/// counted. A target is refused exactly where `enact` refuses it whatever the pattern, and so: E2, E3, E5. Want of memory is
-/// told only where neither E2 nor E3 is due.
+/// counted. A target is refused exactly where `enact` refuses it in whatever section, and so: E2, E3, E5. Want of memory
+/// is told only where neither E2 nor E3 is due.
 pub fn explore<A: Audience>(
     alloc: Global,
     search: &Search<'_>,
@@ -306,8 +309,8 @@ pub fn explore<A: Audience>(
     audience: &mut A,
 ) -> Result<(), Unexplored>
     requires { IsTarget search.now.target.now }
-    ensures counted { OnOk result (found.new.tally ≡ explored_from search.now.state.now search.now.target.now search.now.kernel.now.table search.now.pairs found.old.tally) }
-    ensures once { OnOk result (AreOnce (most_events search.now.pairs) (all_tried search.now.state.now search.now.target.now search.now.kernel.now.table search.now.pairs)) }
+    ensures counted { OnOk result (found.new.tally ≡ explored_from search.now.state.now search.now.target.now search.now.turns.now search.now.kernel.now.table search.now.pairs found.old.tally) }
+    ensures once { OnOk result (AreOnce (most_events search.now.pairs) (all_tried search.now.state.now search.now.target.now search.now.turns.now search.now.kernel.now.table search.now.pairs)) }
     ensures exact { (why : Refusal)
         → IsErrOf result (Unexplored.Enact EnactRefusal.Memory) ⊎ (IsErrOf result (Unexplored.Enact why) ↔ IsRefusedAlways search.now why) }
     ensures memory { IsErrOf result (Unexplored.Enact EnactRefusal.Memory) → IsPlannable search.now.kernel.now.table search.now.state.now search.now.target.now }
@@ -316,6 +319,7 @@ pub fn explore<A: Audience>(
         kernel,
         state,
         target,
+        turns,
         pairs,
     } = *search;
     if !agrees(state, kernel) {
@@ -323,8 +327,8 @@ pub fn explore<A: Audience>(
     }
     let plan = plan_of(alloc, state, target)?;
     let common = common_addresses(alloc, kernel, state, target)?;
-    let whole = Position::start(kernel, state, target, &plan)?;
-    let run = Position::start(kernel, state, target, &plan)?;
+    let whole = Position::start(kernel, state, target, turns, &plan)?;
+    let run = Position::start(kernel, state, target, turns, &plan)?;
     found.begin(common);
     count_run(whole, 0, found, audience)?;
     count_events(alloc, run, pairs, found, audience)?;

@@ -2,16 +2,18 @@
 ghost use Rattle.std.specs.Prelude.{◌≡◌, ◌≤◌, ◌<◌, ◌+◌, ◌⊎◌, IsTrue, IfOk, IfErr, IfSome, IfNone};
 ghost use Rattle.definitions.specs.Exits.{after_exits};
 ghost use Rattle.definitions.specs.Calls.{step_with};
-ghost use Rattle.definitions.specs.Tree.{height, is_listed};
+ghost use Rattle.definitions.specs.Tree.{is_listed};
 ghost use Rattle.definitions.specs.Path.{IsOver};
 ghost use Rattle.definitions.specs.Formed.{IsFormed};
-ghost use Rattle.definitions.specs.Plans.{plan_tree};
+ghost use Rattle.definitions.specs.Plans.{plan_length};
 ghost use Rattle.definitions.specs.Run.{Progress};
 ghost use Rattle.kernel_model.specs.Room.{LacksNumbers};
-ghost use Rattle.plan_walk.specs.Walk.{trail_of, AsksFor};
+ghost use Rattle.plan_walk.specs.Course.{trail_on};
+ghost use Rattle.plan_walk.specs.Walk.{AsksFor};
 ghost use Rattle.plan_executor.specs.Naming.{listed};
+ghost use Rattle.plan_executor.specs.Prepared.{IsPlanFor};
 ghost use Rattle.explorer.specs.Events.{pattern_of, mishaps_at, waiting};
-ghost use Rattle.explorer.specs.Positions.{IsFit, IsAt, IsQuietFrom, IsPlanOf, IsStartOf, IsLater};
+ghost use Rattle.explorer.specs.Positions.{IsFit, IsAt, IsQuietFrom, IsStartOf, IsLater};
 ghost use Rattle.explorer.specs.Branching.{report_of_run};
 
 use crate::effects;
@@ -20,14 +22,14 @@ use crate::findings::{Findings, low_after};
 use kernel_model::Kernel;
 use kernel_pattern::Moment;
 use plan_executor::{EnactRefusal, heir_of, reserved_copy};
-use plan_walk::{Due, Walk};
+use plan_walk::{Course, Due, Turns};
 use rollback_plan::Plan;
 use service_state::Record;
 use std::alloc::{AllocError, Global};
 use vocabulary::{Entry, Fate, Name, Report, Target};
 
 /// The run of a target in which this goes wrong, after so many calls: the kernel as they left it, how far the plan was
-/// followed, and the master that has yet to take over.
+/// followed, by which turns, and the master that has yet to take over.
 #[derive(Drop)]
 pub(crate) struct Position<'a> {
     pub(crate) first: &'a Kernel,
@@ -36,25 +38,26 @@ pub(crate) struct Position<'a> {
     pub(crate) text: &'a [u8],
     pub(crate) tried: Tried,
     pub(crate) made: u32,
-    pub(crate) walk: Walk<'a>,
+    pub(crate) course: Course<'a>,
     pub(crate) kernel: Kernel,
     pub(crate) heir: Option<u32>,
 }
 
 impl<'a> Position<'a> {
-    /// Before the first call, where nothing goes wrong. The plan is the target's.
+    /// Before the first call of the run by these turns, where nothing goes wrong. The plan is the target's.
     pub(crate) fn start(
         first: &'a Kernel,
         state: &'a Record,
         target: &'a Target,
+        turns: &'a Turns,
         plan: &'a Plan,
     ) -> Result<Position<'a>, EnactRefusal>
-        requires { IsPlanOf state.now target.now plan.now }
-        ensures start { IfOk result (IsStartOf first.now.table state.now target.now) }
+        requires { IsPlanFor state.now target.now plan.now }
+        ensures start { IfOk result (IsStartOf first.now.table state.now target.now turns.now) }
         ensures formed { IfOk result (λ _. IsFormed first.now.table) }
-        ensures numbers { IfOk result (λ _. LacksNumbers first.now.table (height (plan_tree state.now target.now)) → ⊥) }
+        ensures numbers { IfOk result (λ _. LacksNumbers first.now.table (plan_length state.now target.now) → ⊥) }
         ensures refused { IfErr result (λ why.
-            (why ≡ EnactRefusal.Memory) ⊎ ((why ≡ EnactRefusal.NoNumbers) × LacksNumbers first.now.table (height (plan_tree state.now target.now)))) }
+            (why ≡ EnactRefusal.Memory) ⊎ ((why ≡ EnactRefusal.NoNumbers) × LacksNumbers first.now.table (plan_length state.now target.now))) }
     {
         Ok(Position {
             first,
@@ -63,7 +66,7 @@ impl<'a> Position<'a> {
             text: plan.text(),
             tried: Tried::Nothing,
             made: 0,
-            walk: Walk::new(plan),
+            course: Course::new(plan, turns),
             kernel: reserved_copy(first, plan.longest())?,
             heir: heir_of(state, target),
         })
@@ -71,10 +74,10 @@ impl<'a> Position<'a> {
 
     /// The call that is due; none where the run is over.
     pub(crate) fn due(&self) -> Option<Due>
-        ensures some { IfSome result (λ due. AsksFor (trail_of self.now.walk) due.by due.call) }
-        ensures none { IfNone result (IsOver (trail_of self.now.walk).rest) }
+        ensures some { IfSome result (λ due. AsksFor (trail_on self.now.course) due.by due.call) }
+        ensures none { IfNone result (IsOver (trail_on self.now.course).rest) }
     {
-        self.walk.due()
+        self.course.due()
     }
 
     /// What can go wrong at the call that is due. Only processes with a higher number than `above` exit.
@@ -93,12 +96,12 @@ impl<'a> Position<'a> {
     /// Makes the call that is due, in its moment of the run: these exit before it, and so it fails.
     pub(crate) fn make(&mut self, due: &Due, exits: &[Name], fate: Option<Fate>)
         requires fit { IsFit self.old }
-        requires due { AsksFor (trail_of self.old.walk) due.now.by due.now.call }
+        requires due { AsksFor (trail_on self.old.course) due.now.by due.now.call }
         requires moment { pattern_of self.old.tried (self.old.made + 1) ≡ record { exits = exits.now; fate = fate } }
         ensures { IsLater self.old due.now (record { exits = exits.now; fate = fate }) self.new }
     {
         let entry = answered(&mut self.kernel, due, self.text, exits, fate);
-        self.walk = self.walk.after(&entry);
+        self.course = self.course.after(&entry);
         self.made += 1;
         self.heir = effects::waiting(&due.call, self.heir);
     }
@@ -113,7 +116,7 @@ impl<'a> Position<'a> {
         fate: Option<Fate>,
     ) -> Result<Position<'a>, AllocError>
         requires fit { IsFit self.now }
-        requires due { AsksFor (trail_of self.now.walk) due.now.by due.now.call }
+        requires due { AsksFor (trail_on self.now.course) due.now.by due.now.call }
         requires moment { pattern_of tried (self.now.made + 1) ≡ record { exits = exits.now; fate = fate } }
         ensures { IfOk result (IsLater (record self.now { tried = tried }) due.now (record { exits = exits.now; fate = fate })) }
     {
@@ -126,7 +129,7 @@ impl<'a> Position<'a> {
             text: self.text,
             tried,
             made: self.made + 1,
-            walk: self.walk.after(&entry),
+            course: self.course.after(&entry),
             kernel,
             heir: effects::waiting(&due.call, self.heir),
         })
@@ -146,7 +149,7 @@ impl<'a> Position<'a> {
             let after = low_after(&due.call, low);
             low = found.look(&self.kernel, after, &self.tried, self.made)?;
         }
-        Ok(self.walk.report())
+        Ok(self.course.report())
     }
 }
 

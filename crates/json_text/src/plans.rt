@@ -9,6 +9,14 @@ struct PlanValue<'a> {
     code: Option<&'a str>,
     longest: u64,
     steps: Vec<StepValue<'a>>,
+    join: Option<JoinValue>,
+}
+
+/// Where a plan of two parts goes on.
+#[derive(Clone, Copy, Serialize)]
+struct JoinValue {
+    ready: u64,
+    back: u64,
 }
 
 #[derive(Drop, Serialize)]
@@ -34,6 +42,7 @@ pub fn plan_json(alloc: Global, answer: &[u8]) -> Result<Vec<u8>, AllocError> {
         code: None,
         longest: 0,
         steps: Vec::new(alloc),
+        join: None,
     };
     for line in text_of(answer).lines() {
         add_line(alloc, &mut value, line)?;
@@ -41,7 +50,7 @@ pub fn plan_json(alloc: Global, answer: &[u8]) -> Result<Vec<u8>, AllocError> {
     line_of(alloc, &value)
 }
 
-/// Takes the next line: the first one says what the answer is, and each other one is a step.
+/// Takes the next line: the first one says what the answer is, and each other one is a step, or says where two parts go on.
 fn add_line<'a>(alloc: Global, value: &mut PlanValue<'a>, line: &'a str) -> Result<(), AllocError> {
     if value.outcome.is_empty() {
         let (outcome, rest) = parted(line, " ");
@@ -52,6 +61,14 @@ fn add_line<'a>(alloc: Global, value: &mut PlanValue<'a>, line: &'a str) -> Resu
         } else {
             None
         };
+        return Ok(());
+    }
+    if let Some(places) = line.strip_prefix("join ready ") {
+        let (ready, back) = parted(places, " back ");
+        value.join = Some(JoinValue {
+            ready: number_in(ready),
+            back: number_in(back),
+        });
         return Ok(());
     }
     let step = step_of(alloc, line)?;

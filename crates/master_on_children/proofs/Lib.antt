@@ -1,3 +1,4 @@
+pub mod Alternating
 pub mod Answering
 pub mod Hearing
 pub mod Lists

@@ -6,4 +6,5 @@ pub mod Lines
 pub mod Questions
 pub mod Starts
 pub mod Summaries
+pub mod TakingTurns
 pub mod Typed

@@ -6,9 +6,10 @@ ghost use Rattle.upgrade_planner.specs.Planned.{HasPlan};
 ghost use Rattle.master_on_children.specs.Carried.{IsUnplanned, IsCarriedOut};
 
 use crate::Attended;
+use crate::taking_turns::turns_by_turns;
 use child_family::Family;
 use log::Log;
-use plan_walk::{Transcript, Turns, execute};
+use plan_walk::{Transcript, execute};
 use reload_planner::PlanRefusal;
 use service_state::Record;
 use std::alloc::Global;
@@ -52,7 +53,7 @@ impl<F: Family + Drop, I: Read + Drop, L: Log + Drop> Enactor for OnChildren<F, 
 }
 
 /// Carries a target out on the children of an edge, with the operator's answers: its plan is made, memory for all of its
-/// calls is taken, that of the edge last, and then the calls are made.
+/// calls is taken, that of the edge last, and then the calls are made. In an upgrade the two masters take turns.
 fn carry_out<F: Family + Drop, I: Read + Drop, L: Log + Drop>(
     alloc: Global,
     world: &mut Attended<F, I, L>,
@@ -74,10 +75,13 @@ fn carry_out<F: Family + Drop, I: Read + Drop, L: Log + Drop>(
     let Ok(mut log) = Transcript::with_room(alloc, longest) else {
         return Err(TargetRefusal::Memory);
     };
+    let Ok(turns) = turns_by_turns(alloc, state.retries) else {
+        return Err(TargetRefusal::Memory);
+    };
     if world.reserve(longest, plan.text()).is_err() {
         return Err(TargetRefusal::Memory);
     }
-    let report = execute(&plan, world, &Turns::new(alloc), &mut log);
+    let report = execute(&plan, world, &turns, &mut log);
     let after = state.after(target, &report, state.pid);
     Ok(Enacted { log, report, after })
 }

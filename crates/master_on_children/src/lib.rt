@@ -10,6 +10,7 @@ mod next;
 mod said;
 mod summary;
 mod supervising;
+mod taking_turns;
 mod waiting;
 
 pub use attended::Attended;

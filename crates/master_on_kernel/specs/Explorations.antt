@@ -3,6 +3,7 @@ use Rattle.std.specs.Prelude.{◌≡◌, Bool, List, Option, Some, None}
 use Rattle.vocabulary.specs.declared.targets.Target.{Target}
 use Rattle.definitions.specs.Table.{Table}
 use Rattle.definitions.specs.Record.{Record}
+use Rattle.definitions.specs.Parts.{Turn}
 use Rattle.definitions.specs.Run.{Pattern}
 use Rattle.control_words.specs.declared.words.Word.{Word}
 use Rattle.worker_table.specs.Beats.{Workers}
@@ -21,9 +22,9 @@ use Rattle.master_on_kernel.specs.declared.exploring.Explored.{Explored}
 use Rattle.master_on_kernel.specs.declared.exploring.Explored.TheVariants.{All, Cut, Told}
 use Rattle.master_on_kernel.specs.declared.rehearsal.Rehearsal.{Rehearsal}
 
--- A target that can't be carried out, whatever goes wrong or doesn't.
+-- A target that can't be carried out, whatever the turns are, and whatever goes wrong or doesn't.
 abbrev pub IsHopeless : Table → Record → Target → EnactRefusal → Type 0
-IsHopeless t r target why = (pattern : Pattern) → IsRefused t r target pattern why
+IsHopeless t r target why = (turns : List Turn) (pattern : Pattern) → IsRefused t r target turns pattern why
 
 -- There is no such reason.
 abbrev pub HasRuns : Table → Record → Target → Type 0
@@ -35,12 +36,12 @@ pub record HasNoRuns (t : Table) (r : Record) (target : Target) (body : Body) : 
   pub due : IsHopeless t r target why
   pub told : body ≡ Refused (enact_code why)
 
--- Where all runs of a target are counted, the tally has each of them once. Where it is cut, there are some. Where there is
--- none, it is told why.
-abbrev pub AreCounted : Record → Target → Table → Bool → Tally → Tally → Explored → Type 0
-AreCounted r target t pairs before after All = after ≡ explored_from r target t pairs before
-AreCounted r target t pairs before after Cut = HasRuns t r target
-AreCounted r target t pairs before after (Told body) = HasNoRuns t r target body
+-- Where all runs of a target by these turns are counted, the tally has each of them once. Where it is cut, there are some. Where
+-- there is none, it is told why.
+abbrev pub AreCounted : Record → Target → List Turn → Table → Bool → Tally → Tally → Explored → Type 0
+AreCounted r target turns t pairs before after All = after ≡ explored_from r target turns t pairs before
+AreCounted r target turns t pairs before after Cut = HasRuns t r target
+AreCounted r target turns t pairs before after (Told body) = HasNoRuns t r target body
 
 -- what is told of a word that a master is asked, where it has no runs
 abbrev pub IsToldOf : Asked → Record → Rehearsal → Body → Type 0
@@ -54,10 +55,10 @@ abbrev pub IsToldInstead : Option Record → Rehearsal → Word → Body → Typ
 IsToldInstead None m word body = body ≡ Nothing
 IsToldInstead (Some r) m word body = IsToldOf (asked_by word r m.standing.workers (Some m.next)) r m body
 
--- Where all runs of a word are counted, they are those of the target that it asks for. Where it has none, it is told what it
--- comes to instead.
-abbrev pub IsExplored : Rehearsal → Word → Bool → Tally → Tally → Explored → Type 0
-IsExplored m word pairs before after All =
-    AsksTarget (λ r target. after ≡ explored_from r target m.standing.world.table pairs before) m.standing.record (Some m.next) word m.standing.workers
-IsExplored m word pairs before after Cut = AsksTarget (HasRuns m.standing.world.table) m.standing.record (Some m.next) word m.standing.workers
-IsExplored m word pairs before after (Told body) = IsToldInstead m.standing.record m word body
+-- Where all runs of a word by these turns are counted, they are those of the target that it asks for. Where it has none, it is told
+-- what it comes to instead.
+abbrev pub IsExplored : Rehearsal → Word → List Turn → Bool → Tally → Tally → Explored → Type 0
+IsExplored m word turns pairs before after All =
+    AsksTarget (λ r target. after ≡ explored_from r target turns m.standing.world.table pairs before) m.standing.record (Some m.next) word m.standing.workers
+IsExplored m word turns pairs before after Cut = AsksTarget (HasRuns m.standing.world.table) m.standing.record (Some m.next) word m.standing.workers
+IsExplored m word turns pairs before after (Told body) = IsToldInstead m.standing.record m word body

@@ -4,10 +4,11 @@ use Rattle.definitions.specs.Record.{Record}
 use Rattle.reload_planner.specs.Codes.{plan_code}
 use Rattle.reload_planner.specs.declared.refusal.PlanRefusal.{PlanRefusal}
 use Rattle.upgrade_planner.specs.Planned.{HasPlan, HasNoPlan}
+use Rattle.definitions.specs.Parts.{Turn}
 use Rattle.definitions.specs.Plans.{plan_tree}
 use Rattle.vocabulary.specs.declared.targets.Target.{Target}
 use Rattle.rollback_plan.specs.declared.plan.Plan.{Plan}
-use Rattle.rollback_plan.specs.Plans.{tree_of, length_of, parts_of, steps_of}
+use Rattle.rollback_plan.specs.Plans.{tree_under, length_of, parts_of, steps_of}
 use Rattle.plan_text.specs.PlanText.{plan_text}
 use Rattle.plan_text.specs.Graph.{graph_text}
 use Rattle.transcript.specs.Block.{body_text}
@@ -36,11 +37,11 @@ pub record Tells (body : Body) (outlook : Outlook) : Type 0 where
   pub text : outlook.text.items ≡ body_text body
   pub status : outlook.status ≡ body_status body
 
--- the plan of a target
+-- the plan of a target, whatever turns two masters take
 pub record Shows (r : Record) (target : Target) (form : Form) (outlook : Outlook) : Type 0 where
   pub plan : Plan
   pub has_plan : HasPlan r target
-  pub is_its : tree_of plan ≡ plan_tree r target
+  pub is_its : (turns : List Turn) → tree_under plan turns ≡ plan_tree r target turns
   pub text : outlook.text.items ≡ shown form plan
   pub status : outlook.status ≡ 0
 

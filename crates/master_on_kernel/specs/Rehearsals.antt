@@ -1,11 +1,10 @@
 -- Words on a master that was started on the modelled kernel.
-use Rattle.std.specs.Prelude.{◌≡◌, ◌+◌, ◌⊎◌, ℕ, false, true, List, [], Option, Some, None, Result, Ok, Err}
+use Rattle.std.specs.Prelude.{◌≡◌, ◌+◌, ◌⊎◌, ℕ, false, true, List, Option, Some, None, Result, Ok, Err}
 use Rattle.listener_set.specs.AddressText.{reading}
 use Rattle.listener_set.specs.declared.address.AddressRefusal.{AddressRefusal}
 use Rattle.definitions.specs.Table.{Table, is_held}
 use Rattle.definitions.specs.Record.{Record}
 use Rattle.definitions.specs.Path.{Entry}
-use Rattle.definitions.specs.Run.{Moment}
 use Rattle.vocabulary.specs.declared.targets.Target.{Target}
 use Rattle.kernel_table.specs.Foreign.{with_foreign}
 use Rattle.kernel_table.specs.Room.{LacksNumbers}
@@ -21,7 +20,7 @@ use Rattle.certifier.specs.Certified.{IsBeginning}
 use Rattle.certifier.specs.Explained.{IsNoBeginning}
 use Rattle.certifier.specs.declared.mismatch.Mismatch.{Mismatch}
 use Rattle.kernel_pattern.specs.declared.section.Section.{Section}
-use Rattle.plan_executor.specs.Words.{EnactsAt, DeclinesAt}
+use Rattle.plan_executor.specs.Words.{quiet_section, EnactsAt, DeclinesAt}
 use Rattle.faults.specs.declared.fault.Fault.{Fault}
 use Rattle.faults.specs.declared.fault.Fault.TheVariants.{Address, Foreign, Memory}
 use Rattle.master_on_kernel.specs.declared.rehearsal.Rehearsal.{Rehearsal}
@@ -52,20 +51,20 @@ pub record IsRehearsed (sections : List Section) (words : List Word) (old : Rehe
 
 ---- What the first calls of a word show
 
--- The pattern that entries show which begin a run of the target; a quiet one where they begin none.
-abbrev pub IsShownOf : Table → Record → Target → List Entry → List (ℕ × Moment) → Type 0
-IsShownOf t r target entries pattern =
-    IsBeginning t r target entries pattern ⊎ ((pattern ≡ []) × (why : Mismatch) × IsNoBeginning t r target entries why)
+-- The section that entries show which begin a run of the target; a quiet one where they begin none.
+abbrev pub IsShownOf : Table → Record → Target → List Entry → Section → Type 0
+IsShownOf t r target entries section =
+    IsBeginning t r target entries section ⊎ ((section ≡ quiet_section) × (why : Mismatch) × IsNoBeginning t r target entries why)
 
 -- a word that asks for no target has no first calls
-abbrev pub IsShownWhere : Asked → Table → Record → List Entry → List (ℕ × Moment) → Type 0
-IsShownWhere (asks.Act target) t r entries pattern = IsShownOf t r target entries pattern
-IsShownWhere _ t r entries pattern = pattern ≡ []
+abbrev pub IsShownWhere : Asked → Table → Record → List Entry → Section → Type 0
+IsShownWhere (asks.Act target) t r entries section = IsShownOf t r target entries section
+IsShownWhere _ t r entries section = section ≡ quiet_section
 
-abbrev pub IsShownTo : Option Record → Rehearsal → Word → List Entry → List (ℕ × Moment) → Type 0
-IsShownTo None it word entries pattern = pattern ≡ []
-IsShownTo (Some r) it word entries pattern = IsShownWhere (asked_by word r it.standing.workers (Some it.next)) it.standing.world.table r entries pattern
+abbrev pub IsShownTo : Option Record → Rehearsal → Word → List Entry → Section → Type 0
+IsShownTo None it word entries section = section ≡ quiet_section
+IsShownTo (Some r) it word entries section = IsShownWhere (asked_by word r it.standing.workers (Some it.next)) it.standing.world.table r entries section
 
--- The pattern that entries show which are a word's first calls; a quiet one where they begin no run of the master.
-abbrev pub IsShownBy : Rehearsal → Word → List Entry → List (ℕ × Moment) → Type 0
-IsShownBy it word entries pattern = IsShownTo it.standing.record it word entries pattern
+-- The section that entries show which are a word's first calls; a quiet one where they begin no run of the master.
+abbrev pub IsShownBy : Rehearsal → Word → List Entry → Section → Type 0
+IsShownBy it word entries section = IsShownTo it.standing.record it word entries section

@@ -4,6 +4,7 @@ ghost use Rattle.definitions.specs.Target.{IsTarget};
 ghost use Rattle.master_on_kernel.specs.Explorations.{AreCounted};
 
 use explorer::{Audience, Findings, Search, Unexplored, explore};
+use kernel_model::Turns;
 use std::alloc::{AllocError, Global};
 use word_runner::{Body, TargetRefusal};
 
@@ -18,6 +19,15 @@ pub enum Explored {
     Told(Body),
 }
 
+/// Which runs of a word are counted.
+#[derive(Clone, Copy)]
+pub struct Trials<'a> {
+    /// By whose turns they go, where two masters have parts of the plan.
+    pub turns: &'a Turns,
+    /// Whether there are runs with pairs of events.
+    pub pairs: bool,
+}
+
 /// Counts how a target ends under no event, under each event that this run meets, and under each pair where these are
 /// asked for.
 pub(crate) fn count_runs<A: Audience>(
@@ -27,7 +37,7 @@ pub(crate) fn count_runs<A: Audience>(
     audience: &mut A,
 ) -> Result<Explored, AllocError>
     requires { IsTarget search.now.target.now }
-    ensures { IfOk result (AreCounted search.now.state.now search.now.target.now search.now.kernel.now.table search.now.pairs found.old.tally found.new.tally) }
+    ensures { IfOk result (AreCounted search.now.state.now search.now.target.now search.now.turns.now search.now.kernel.now.table search.now.pairs found.old.tally found.new.tally) }
 {
     match explore(alloc, search, found, audience) {
         Ok(()) => Ok(Explored::All),

@@ -15,7 +15,7 @@ mod summing;
 pub use beginning::begin;
 pub use certifying::certify_all;
 pub use enacting::{rehearse, show_state};
-pub use exploring::Explored;
+pub use exploring::{Explored, Trials};
 pub use instead::line_instead;
 pub use planning::{Form, Outlook, look_ahead, told};
 pub use rehearsal::Rehearsal;

@@ -13,13 +13,13 @@ ghost use Rattle.definitions.specs.Target.{IsTarget};
 ghost use Rattle.master_on_kernel.specs.Explorations.{IsExplored};
 ghost use Rattle.master_on_kernel.specs.Rehearsals.{Held, IsOfHeld, IsRehearsed, IsShownOf, IsShownBy};
 
-use crate::exploring::{Explored, count_runs};
+use crate::exploring::{Explored, Trials, count_runs};
 use crate::start::{Start, silent_workers};
 use certifier::{BlockMismatch, Mismatch, certify_beginning, certify_blocks};
 use control_words::Word;
 use explorer::{Audience, Findings, Search};
 use faults::Fault;
-use kernel_model::{Kernel, Pattern, Section, WIDEST_LIMITS};
+use kernel_model::{Kernel, Section, WIDEST_LIMITS};
 use listener_set::{Address, WORKER_LIMIT};
 use plan_executor::run_words;
 use plan_walk::Transcript;
@@ -133,45 +133,45 @@ impl Rehearsal {
     ) -> Result<Option<Block>, AllocError>
         ensures { IfOk result (λ found. (block : Done) × (section : Decided)
             × (found ≡ Some block)
-            × IsShownBy self.old word begun.now.entries section.pattern
+            × IsShownBy self.old word begun.now.entries section
             × IsRehearsed (section ∷ []) (word ∷ []) self.old (block ∷ []) self.new) }
     {
-        let section = Section::of(alloc, self.pattern_of(alloc, word, begun)?);
+        let section = self.section_of(alloc, word, begun)?;
         let mut blocks = Vec::new(alloc);
         self.act(alloc, &[word], &[section], &mut blocks)?;
         Ok(blocks.pop())
     }
 
-    /// The pattern that the first calls of a word show; a quiet one where they begin no run of the master.
-    fn pattern_of(
+    /// The section that the first calls of a word show; a quiet one where they begin no run of the master.
+    fn section_of(
         &self,
         alloc: Global,
         word: Word,
         begun: &Transcript,
-    ) -> Result<Pattern, AllocError>
+    ) -> Result<Section, AllocError>
         ensures { IfOk result (IsShownBy self.now word begun.now.entries) }
     {
         let Some(record) = self.standing.record else {
-            return Ok(Pattern::new(alloc));
+            return Ok(Section::new(alloc));
         };
         let Asked::Act(target) = asked_by(word, &record, &self.standing.workers, Some(&self.next))
         else {
-            return Ok(Pattern::new(alloc));
+            return Ok(Section::new(alloc));
         };
         shown_of(alloc, &self.standing.world, &record, &target, begun)
     }
 
     /// Counts how a word ends under no event and under each event that this run meets and, where pairs are asked for, under
-    /// each pair of these. The audience hears of each run.
+    /// each pair of these, all by the same turns. The audience hears of each run.
     pub fn explore<A: Audience>(
         &mut self,
         alloc: Global,
         word: Word,
-        pairs: bool,
+        trials: &Trials<'_>,
         found: &mut Findings,
         audience: &mut A,
     ) -> Result<Explored, AllocError>
-        ensures { IfOk result (IsExplored self.old word pairs found.old.tally found.new.tally) }
+        ensures { IfOk result (IsExplored self.old word trials.now.turns.now trials.now.pairs found.old.tally found.new.tally) }
     {
         let Some(record) = self.standing.record else {
             return Ok(Explored::Told(Body::Nothing));
@@ -182,7 +182,8 @@ impl Rehearsal {
                     kernel: &self.standing.world,
                     state: &record,
                     target: &target,
-                    pairs,
+                    turns: trials.turns,
+                    pairs: trials.pairs,
                 };
                 count_runs(alloc, &search, found, audience)
             }
@@ -200,22 +201,22 @@ impl Rehearsal {
     }
 }
 
-/// The pattern that calls show which begin a run of a target; a quiet one where they begin none.
+/// The section that calls show which begin a run of a target; a quiet one where they begin none.
 fn shown_of(
     alloc: Global,
     kernel: &Kernel,
     state: &Record,
     target: &Target,
     begun: &Transcript,
-) -> Result<Pattern, AllocError>
+) -> Result<Section, AllocError>
     requires { IsTarget target.now }
     ensures { IfOk result (IsShownOf kernel.now.table state.now target.now begun.now.entries) }
 {
     match certify_beginning(alloc, kernel, state, target, begun) {
-        Ok(pattern) => Ok(pattern),
+        Ok(section) => Ok(section),
         Err(Mismatch::Memory) => Err(AllocError),
         Err(Mismatch::Refused | Mismatch::Step(_) | Mismatch::Short | Mismatch::Report) => {
-            Ok(Pattern::new(alloc))
+            Ok(Section::new(alloc))
         }
     }
 }

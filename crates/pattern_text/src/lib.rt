@@ -10,4 +10,5 @@ mod writing;
 
 pub use pattern_line::PatternLine;
 pub use patterns::read_patterns;
+pub use turns_line::{turns_in, write_turns};
 pub use writing::write_patterns;

@@ -61,6 +61,18 @@ pub(crate) fn read_turns(alloc: Global, line: &[u8]) -> Result<Turns, AllocError
     }
 }
 
+/// The turns of a text of one letter at least, `n` for the new master and `o` for the old one; none of any other text. The
+/// only refusal is out of memory.
+pub fn turns_in(alloc: Global, letters: &[u8]) -> Result<Option<Turns>, AllocError>
+    ensures { IfOk result (λ found. found ≡ some_turns letters.now) }
+{
+    if !are_turns(letters) {
+        return Ok(None);
+    }
+    let turns = read_letters(alloc, letters)?;
+    Ok(Some(turns))
+}
+
 fn read_letters(alloc: Global, letters: &[u8]) -> Result<Turns, AllocError>
     ensures { IfOk result (λ turns. IfSome (turns_for letters.now) (λ told. turns ≡ told)) }
 {
@@ -74,7 +86,7 @@ fn read_letters(alloc: Global, letters: &[u8]) -> Result<Turns, AllocError>
 }
 
 /// Appends the line of turns with its newline; nothing where there are none. The only refusal is out of memory.
-pub(crate) fn write_turns(out: &mut Vec<u8>, turns: &Turns) -> Result<(), AllocError>
+pub fn write_turns(out: &mut Vec<u8>, turns: &Turns) -> Result<(), AllocError>
     ensures { IfOk result (λ _. out.new.items ≡ out.old.items ++ turns_text turns.now) }
 {
     if turns.is_empty() {

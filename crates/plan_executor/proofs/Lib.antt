@@ -4,7 +4,7 @@ pub mod Reporting
 pub mod Replaying
 pub mod Refused
 pub mod Reigning
+pub mod Merging
 pub mod Enacting
 pub mod Exact
 pub mod Truth
-pub mod Planning

@@ -30,11 +30,11 @@ use Rattle.plan_executor.proofs.Exact.{IsExact}
 ---- A refused target
 
 -- the refusal that an enactment answers with fits, unless it is want of memory
-fits : (t : Table) (r : Record) (target : Target) (sections : List Section) (place : ℕ) (why : EnactRefusal) → IsExact t r target (moment_at (section_at sections place).pattern) (Err why) → (why ≡ Memory → ⊥) → IsRefused t r target (moment_at (section_at sections place).pattern) why
+fits : (t : Table) (r : Record) (target : Target) (sections : List Section) (place : ℕ) (why : EnactRefusal) → IsExact t r target (section_at sections place).turns (moment_at (section_at sections place).pattern) (Err why) → (why ≡ Memory → ⊥) → IsRefused t r target (section_at sections place).turns (moment_at (section_at sections place).pattern) why
 fits t r target sections place why exact other = elim (exact why) [ inl memory ↦ absurd (other (cc)) | inr only ↦ only.0 refl ]
 
 pub declined-is : (sections : List Section) (first : State) (place : ℕ) (r : Record) (target : Target) (why : EnactRefusal) →
-    IsExact first.table r target (moment_at (section_at sections place).pattern) (Err why) → HasCode (DeclinesAt sections first place r target) (target_refusal why)
+    IsExact first.table r target (section_at sections place).turns (moment_at (section_at sections place).pattern) (Err why) → HasCode (DeclinesAt sections first place r target) (target_refusal why)
 declined-is sections first place r target Memory exact = tt
 declined-is sections first place r target RecordDisagrees exact = record { why = RecordDisagrees; is_refused = fits first.table r target sections place RecordDisagrees exact (λ e. cc); code_is = refl }
 declined-is sections first place r target (Plan refusal) exact = record { why = Plan refusal; is_refused = fits first.table r target sections place (Plan refusal) exact (λ e. cc); code_is = refl }
@@ -60,7 +60,7 @@ left-true (Stop quick) r state ran is after = subst (IsTrueOf ran.last.table) (s
 ran-true : (sections : List Section) (place : ℕ) (old : Standing State) (r : Record) (target : Target) (log : Told) (report : Report) (new : Standing State) → HasRun (EnactsAt sections) place old r target log report new → IsTrueOf new.world.table new.record
 ran-true sections place old r target log report new h =
     let is = h.enacted in
-    let ran = run_of r target (moment_at (section_at sections place).pattern) old.world.table in
+    let ran = run_of r target (section_at sections place).turns (moment_at (section_at sections place).pattern) old.world.table in
     let left : new.record ≡ next_record r target (report_of (sides_of r target) ran) ran.last.table = is.after ∙ (λ i. next_record r target (is.is_run.report_is i) (sym is.is_run.table i)) in
     subst (λ (t : Table). IsTrueOf t new.record) is.is_run.table (left-true target r new.record ran left is.ends.after)
 

@@ -3,6 +3,7 @@ use Rattle.std.specs.Prelude.{◌≡◌, Option, Some, None, List}
 use Rattle.definitions.specs.Table.{Table}
 use Rattle.definitions.specs.Tree.{Tree, Ends, Does}
 use Rattle.vocabulary.specs.declared.reports.Entry.{Entry}
+use Rattle.definitions.specs.Parts.{Turn}
 use Rattle.definitions.specs.Path.{Trail}
 use Rattle.vocabulary.specs.declared.reports.Report.{Report}
 use Rattle.definitions.specs.Run.{Pattern, Progress, Ending, At, Lost, Ran, report_of}
@@ -28,8 +29,8 @@ pub record IsRun (entries : List Entry) (last : Table) (t : Trail) (ran : Ran) :
   pub ending : ran.ending ≡ ending_of t.rest
   pub trail : trail_at t.rest ran.last ≡ t
 
--- These are the entries, the last table and the report of the run of the target's plan from a table under a pattern.
-pub record IsWholeRun (r : Record) (target : Target) (pattern : Pattern) (first : Table) (entries : List Entry) (last : Table) (report : Report) : Type 0 where
-  pub entries_are : (run_of r target pattern first).entries ≡ entries
-  pub table : (run_of r target pattern first).last.table ≡ last
-  pub report_is : report ≡ report_of (sides_of r target) (run_of r target pattern first)
+-- These are the entries, the last table and the report of the run of the target's plan by these turns, from a table under a pattern.
+pub record IsWholeRun (r : Record) (target : Target) (turns : List Turn) (pattern : Pattern) (first : Table) (entries : List Entry) (last : Table) (report : Report) : Type 0 where
+  pub entries_are : (run_of r target turns pattern first).entries ≡ entries
+  pub table : (run_of r target turns pattern first).last.table ≡ last
+  pub report_is : report ≡ report_of (sides_of r target) (run_of r target turns pattern first)

@@ -4,6 +4,7 @@ pub mod Codes
 pub mod Refusals
 pub mod Patterned
 pub mod Prepared
+pub mod Merged
 pub mod Enacted
 pub mod Words
 pub mod Range

@@ -3,8 +3,7 @@ use Rattle.std.specs.Prelude.{◌≡◌, List, []}
 use Rattle.vocabulary.specs.declared.targets.Target.{Target}
 use Rattle.definitions.specs.Record.{Record}
 use Rattle.definitions.specs.Target.{sides_of, text_handed}
-use Rattle.definitions.specs.Tree.{height}
-use Rattle.definitions.specs.Plans.{plan_tree}
+use Rattle.definitions.specs.Plans.{plan_tree, plan_length}
 use Rattle.definitions.specs.Claims.{IsStart, HasDescriptors}
 use Rattle.kernel_model.specs.Room.{LacksNumbers}
 use Rattle.kernel_model.specs.State.{State}
@@ -17,8 +16,8 @@ use Rattle.plan_executor.specs.Refusals.{HasPlan}
 -- The target has a plan, and this is it, whatever turns the masters take.
 pub record IsPlanFor (r : Record) (target : Target) (plan : Plan) : Type 0 where
   pub has_plan : HasPlan r target
-  pub tree : (turns : List Turn) → tree_under plan turns ≡ plan_tree r target
-  pub longest : length_of plan ≡ height (plan_tree r target)
+  pub tree : (turns : List Turn) → tree_under plan turns ≡ plan_tree r target turns
+  pub longest : length_of plan ≡ plan_length r target
   pub note : note_of plan ≡ r.note
   pub sides : sides_told plan ≡ sides_of r target
   pub text : text_of plan ≡ text_handed r target
@@ -29,6 +28,6 @@ pub record IsReady (first : State) (r : Record) (target : Target) (plan : Plan) 
   pub start : IsStart first.table r
   pub descriptors : HasDescriptors first.table r
   pub planned : IsPlanFor r target plan
-  pub numbers : LacksNumbers first.table (height (plan_tree r target)) → ⊥
-  pub room : first.room ≡ height (plan_tree r target)
-  pub empty : log ≡ record { entries = []; room = height (plan_tree r target) }
+  pub numbers : LacksNumbers first.table (plan_length r target) → ⊥
+  pub room : first.room ≡ plan_length r target
+  pub empty : log ≡ record { entries = []; room = plan_length r target }

@@ -1,10 +1,10 @@
 -- Why a target is not carried out.
-use Rattle.std.specs.Prelude.{ℕ, ◌≡◌, Some}
+use Rattle.std.specs.Prelude.{ℕ, ◌≡◌, List, Some}
 use Rattle.definitions.specs.Table.{Table}
 use Rattle.definitions.specs.Record.{Record, Agrees}
 use Rattle.vocabulary.specs.declared.targets.Target.{Target}
-use Rattle.definitions.specs.Tree.{height}
-use Rattle.definitions.specs.Plans.{plan_tree}
+use Rattle.definitions.specs.Parts.{Turn}
+use Rattle.definitions.specs.Plans.{plan_length}
 use Rattle.definitions.specs.Run.{Pattern}
 use Rattle.definitions.specs.Claims.{refusal_of}
 use Rattle.kernel_model.specs.Room.{LacksNumbers}
@@ -29,23 +29,23 @@ pub record IsUnplanned (t : Table) (r : Record) (target : Target) (refusal : Pla
 pub record IsShortOfNumbers (t : Table) (r : Record) (target : Target) : Type 0 where
   pub agrees : Agrees t r
   pub has_plan : HasPlan r target
-  pub lacks : LacksNumbers t (height (plan_tree r target))
+  pub lacks : LacksNumbers t (plan_length r target)
 
--- The record agrees and there is a plan, for which enough numbers are left, but the run under the pattern has moments in which
--- an executing master exits, and this is the first.
-pub record NamesMaster (t : Table) (r : Record) (target : Target) (pattern : Pattern) (moment : ℕ) : Type 0 where
+-- The record agrees and there is a plan, for which enough numbers are left, but the run by the turns under the pattern has moments in
+-- which an executing master exits, and this is the first.
+pub record NamesMaster (t : Table) (r : Record) (target : Target) (turns : List Turn) (pattern : Pattern) (moment : ℕ) : Type 0 where
   pub agrees : Agrees t r
   pub has_plan : HasPlan r target
-  pub numbers : LacksNumbers t (height (plan_tree r target)) → ⊥
-  pub first : refusal_of r target pattern t ≡ Some moment
+  pub numbers : LacksNumbers t (plan_length r target) → ⊥
+  pub first : refusal_of r target turns pattern t ≡ Some moment
 
 -- When a target is refused so, want of memory aside. No two of these hold at once.
-abbrev pub IsRefused : Table → Record → Target → Pattern → EnactRefusal → Type 0
-IsRefused t r target pattern Memory = ⊥
-IsRefused t r target pattern RecordDisagrees = Agrees t r → ⊥
-IsRefused t r target pattern (Plan refusal) = IsUnplanned t r target refusal
-IsRefused t r target pattern NoNumbers = IsShortOfNumbers t r target
-IsRefused t r target pattern (MasterNamed moment) = NamesMaster t r target pattern moment
+abbrev pub IsRefused : Table → Record → Target → List Turn → Pattern → EnactRefusal → Type 0
+IsRefused t r target turns pattern Memory = ⊥
+IsRefused t r target turns pattern RecordDisagrees = Agrees t r → ⊥
+IsRefused t r target turns pattern (Plan refusal) = IsUnplanned t r target refusal
+IsRefused t r target turns pattern NoNumbers = IsShortOfNumbers t r target
+IsRefused t r target turns pattern (MasterNamed moment) = NamesMaster t r target turns pattern moment
 
 -- what a kernel's refusal of room comes to
 abbrev pub without_room : ReserveRefusal → EnactRefusal

@@ -22,12 +22,12 @@ section_at sections place = unwrap_or (slice_get sections place) quiet_section
 
 -- What a target that is carried out says: it was enacted from the one kernel to the other, in the section of its word.
 abbrev pub EnactsAt : List Section → State → ℕ → Record → Target → Enacted → State → Type 0
-EnactsAt sections first place r target e last = IsEnacted first last r target (moment_at (section_at sections place).pattern) e
+EnactsAt sections first place r target e last = IsEnacted first last r target (section_at sections place).turns (moment_at (section_at sections place).pattern) e
 
 -- What a code says that a target is refused with: it is the code of a refusal that fits, in the section of its word.
 pub record DeclinesAt (sections : List Section) (first : State) (place : ℕ) (r : Record) (target : Target) (code : List ℕ) : Type 0 where
   pub why : EnactRefusal
-  pub is_refused : IsRefused first.table r target (moment_at (section_at sections place).pattern) why
+  pub is_refused : IsRefused first.table r target (section_at sections place).turns (moment_at (section_at sections place).pattern) why
   pub code_is : code ≡ enact_code why
 
 -- When memory can be wanted for a target: only where the record agrees and there is a plan.

@@ -50,8 +50,8 @@ pub(crate) fn carry_out(
 ) -> Enacted
     requires target { IsTarget target.now }
     requires ready { IsReady kernel.old state.now target.now prepared.plan prepared.log }
-    requires spared { refusal_of state.now target.now (moment_at section.now.pattern) kernel.old.table ≡ None }
-    ensures { IsEnacted kernel.old kernel.new state.now target.now (moment_at section.now.pattern) result }
+    requires spared { refusal_of state.now target.now section.now.turns (moment_at section.now.pattern) kernel.old.table ≡ None }
+    ensures { IsEnacted kernel.old kernel.new state.now target.now section.now.turns (moment_at section.now.pattern) result }
 {
     let Prepared { plan, mut log } = prepared;
     let report = run(&plan, kernel, section, &mut log);

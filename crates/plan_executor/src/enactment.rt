@@ -4,11 +4,10 @@ ghost use Rattle.definitions.specs.Claims.{refusal_of};
 ghost use Rattle.definitions.specs.Formed.{IsFormed};
 ghost use Rattle.definitions.specs.Record.{Agrees};
 ghost use Rattle.definitions.specs.Parts.{Turn};
-ghost use Rattle.definitions.specs.Plans.{plan_tree};
+ghost use Rattle.definitions.specs.Plans.{plan_tree, plan_length};
 ghost use Rattle.definitions.specs.Target.{IsTarget, sides_of, text_handed};
 ghost use Rattle.kernel_model.specs.Pattern.{moment_at};
 ghost use Rattle.kernel_model.specs.Room.{LacksNumbers};
-ghost use Rattle.definitions.specs.Tree.{height};
 ghost use Rattle.rollback_plan.specs.Plans.{tree_under, length_of, note_of, sides_told, text_of};
 ghost use Rattle.reload_planner.specs.declared.refusal.PlanRefusal.{PlanRefusal as Unplannable};
 ghost use Rattle.plan_executor.specs.Enacted.{IsEnacted};
@@ -86,10 +85,10 @@ pub fn enact(
     section: &Section,
 ) -> Result<Enacted, EnactRefusal>
     requires { IsTarget target.now }
-    ensures ok { IfOk result (IsEnacted kernel.old kernel.new state.now target.now (moment_at section.now.pattern)) }
+    ensures ok { IfOk result (IsEnacted kernel.old kernel.new state.now target.now section.now.turns (moment_at section.now.pattern)) }
     ensures disagrees { IsErrOf result EnactRefusal.RecordDisagrees ↔ (Agrees kernel.old.table state.now → ⊥) }
     ensures exact { (why : Refusal)
-        → IsErrOf result EnactRefusal.Memory ⊎ (IsErrOf result why ↔ IsRefused kernel.old.table state.now target.now (moment_at section.now.pattern) why) }
+        → IsErrOf result EnactRefusal.Memory ⊎ (IsErrOf result why ↔ IsRefused kernel.old.table state.now target.now section.now.turns (moment_at section.now.pattern) why) }
     ensures memory { IsErrOf result EnactRefusal.Memory → IsPlannable kernel.old.table state.now target.now }
     ensures err { OnErr result (kernel.new ≡ kernel.old) }
 {
@@ -117,9 +116,9 @@ fn prepare(
     requires { IsTarget target.now }
     ensures ready { IfOk result (λ p. IsReady kernel.new state.now target.now p.plan p.log) }
     ensures table { OnOk result (kernel.new.table ≡ kernel.old.table) }
-    ensures spared { OnOk result (refusal_of state.now target.now (moment_at section.now.pattern) kernel.old.table ≡ None) }
+    ensures spared { OnOk result (refusal_of state.now target.now section.now.turns (moment_at section.now.pattern) kernel.old.table ≡ None) }
     ensures disagrees { IsErrOf result EnactRefusal.RecordDisagrees ↔ (Agrees kernel.old.table state.now → ⊥) }
-    ensures refused { IfErr result (λ why. (why ≡ EnactRefusal.Memory) ⊎ IsRefused kernel.old.table state.now target.now (moment_at section.now.pattern) why) }
+    ensures refused { IfErr result (λ why. (why ≡ EnactRefusal.Memory) ⊎ IsRefused kernel.old.table state.now target.now section.now.turns (moment_at section.now.pattern) why) }
     ensures memory { IsErrOf result EnactRefusal.Memory → IsPlannable kernel.old.table state.now target.now }
     ensures err { OnErr result (kernel.new ≡ kernel.old) }
 {
@@ -137,8 +136,8 @@ fn prepare(
 pub fn plan_of(alloc: Global, state: &Record, target: &Target) -> Result<Plan, EnactRefusal>
     requires { IsTarget target.now }
     ensures planned { IfOk result (λ _. HasPlan state.now target.now) }
-    ensures tree { IfOk result (λ plan. (turns : List Turn) → tree_under plan turns ≡ plan_tree state.now target.now) }
-    ensures longest { IfOk result (λ plan. length_of plan ≡ height (plan_tree state.now target.now)) }
+    ensures tree { IfOk result (λ plan. (turns : List Turn) → tree_under plan turns ≡ plan_tree state.now target.now turns) }
+    ensures longest { IfOk result (λ plan. length_of plan ≡ plan_length state.now target.now) }
     ensures note { IfOk result (λ plan. note_of plan ≡ state.now.note) }
     ensures sides { IfOk result (λ plan. sides_told plan ≡ sides_of state.now target.now) }
     ensures text { IfOk result (λ plan. text_of plan ≡ text_handed state.now target.now) }

@@ -6,8 +6,9 @@ ghost use Rattle.plan_executor.specs.Range.{HasRange};
 
 use vocabulary::{Settings, Target};
 
-/// Whatever fails and whoever exits but an executing master, the run of a target that can be carried out ends as it
-/// reports, and keeps what it has to. Nothing is done for it.
+/// Whatever fails and whoever exits but an executing master, and whatever turns two masters take, the run of a target that
+/// can be carried out ends as it reports, keeps what it has to, and is a merge of what each master does. Nothing is done
+/// for it.
 pub fn ends_as_reported(target: &Target)
     requires { IsTarget target.now }
     ensures { EndsSo target.now }
@@ -20,6 +21,7 @@ pub fn ends_as_reported(target: &Target)
     theorems::upgrades_end_as_reported();
     theorems::attended_upgrades_end_as_reported();
     theorems::stops_end_as_reported();
+    theorems::parts_are_walked();
 }
 
 /// A target's settings are in range, which only a reading of them tells.

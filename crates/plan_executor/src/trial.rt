@@ -31,8 +31,8 @@ pub(crate) fn spare(
 ) -> Result<(), EnactRefusal>
     requires agrees { Agrees kernel.now.table state.now }
     requires plan { IsPlanFor state.now target.now plan.now }
-    ensures spared { OnOk result (refusal_of state.now target.now (moment_at section.now.pattern) kernel.now.table ≡ None) }
-    ensures refused { IfErr result (λ why. (why ≡ EnactRefusal.Memory) ⊎ IsRefused kernel.now.table state.now target.now (moment_at section.now.pattern) why) }
+    ensures spared { OnOk result (refusal_of state.now target.now section.now.turns (moment_at section.now.pattern) kernel.now.table ≡ None) }
+    ensures refused { IfErr result (λ why. (why ≡ EnactRefusal.Memory) ⊎ IsRefused kernel.now.table state.now target.now section.now.turns (moment_at section.now.pattern) why) }
 {
     if !section.pattern.names_master() {
         return Ok(());
@@ -57,8 +57,8 @@ fn spare_on(
     requires numbers { LacksNumbers copy.old.table (length_of plan.now) → ⊥ }
     requires room { copy.old.room ≡ length_of plan.now }
     requires empty { log.old ≡ record { entries = []; room = length_of plan.now } }
-    ensures spared { OnOk result (refusal_of state.now target.now (moment_at section.now.pattern) copy.old.table ≡ None) }
-    ensures refused { IfErr result (IsRefused copy.old.table state.now target.now (moment_at section.now.pattern)) }
+    ensures spared { OnOk result (refusal_of state.now target.now section.now.turns (moment_at section.now.pattern) copy.old.table ≡ None) }
+    ensures refused { IfErr result (IsRefused copy.old.table state.now target.now section.now.turns (moment_at section.now.pattern)) }
 {
     run(plan, copy, section, log);
     let heir = heir_of(state, target);

@@ -95,16 +95,24 @@ is_before steps k = nat_lt 0 (to_split (at_place steps k))
 abbrev pub is_off : List Step → ℕ → Bool
 is_off steps k = nat_eq (to_split (at_place steps k)) 0
 
--- each edge that leads to two places leads to these
+-- an edge that leads to two places leads to these
 abbrev pub splits_to : ℕ → ℕ → Next → Bool
-splits_to a b (Over end) = nat_eq (split_end end) 0
+splits_to a b (Over end) = true
 splits_to a b (Both new old) = nat_eq new.0 a && nat_eq old.0 b
 splits_to a b (To place) = true
+
+-- each of these edges does so
+abbrev pub all_split_to : ℕ → ℕ → List PlanEdge → Bool
+all_split_to a b edges = list_all (λ e. splits_to a b e.next) edges
+
+-- each edge of each step does so
+abbrev pub steps_split_to : ℕ → ℕ → List Step → Bool
+steps_split_to a b steps = list_all (λ s. all_split_to a b s.edges.items) steps
 
 -- These are the parts of what begins at a place: it leads to them, by one pair of places, and ends otherwise; the parts end at
 -- their own marks; and what follows them ends.
 pub record AreParts (steps : List Step) (first : ℕ) (parts : Parts) : Type 0 where
-  pub splits : list_all (λ s. list_all (λ e. splits_to parts.new.0 parts.old.0 e.next) s.edges.items) steps ≡ true
+  pub splits : steps_split_to parts.new.0 parts.old.0 steps ≡ true
   pub low : (parts.new.0 < length steps) × (parts.old.0 < length steps) × (parts.ready.0 < length steps) × (parts.back.0 < length steps)
   pub begins : is_before steps first ≡ true
   pub before : ends_at is_onward (at_place steps first) ≡ true

@@ -4,3 +4,4 @@ pub mod WorkerAnswers
 pub mod Slots
 pub mod Rests
 pub mod Walk
+pub mod Course

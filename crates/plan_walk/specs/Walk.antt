@@ -3,7 +3,7 @@ use Rattle.std.specs.Prelude.{ℕ, List, []}
 use Rattle.vocabulary.specs.declared.calls.Call.{Call}
 use Rattle.vocabulary.specs.declared.calls.Answer.{Answer}
 use Rattle.definitions.specs.Parts.{Turn}
-use Rattle.definitions.specs.Path.{Trail, Sides, Entry, Asks}
+use Rattle.definitions.specs.Path.{Trail, Sides, Entry, Asks, IsOver}
 use Rattle.rollback_plan.specs.Bounds.{lacking_in, lacked_in}
 use Rattle.plan_walk.specs.declared.walk.Walk.{Walk}
 use Rattle.plan_walk.specs.Rests.{rest_in, left_in, IsTurnIn}
@@ -41,3 +41,8 @@ pub record IsAsked (w : Walk) (turn : Turn) (e : Entry) : Type 0 where
   pub turns : List Turn
   pub first : IsTurnOf w turn turns
   pub asks : Asks (trail_under w turns).rest (trail_under w turns).lacked e
+
+-- no step is next
+pub record IsAtEnd (w : Walk) : Type 0 where
+  pub turns : List Turn
+  pub over : IsOver (trail_under w turns).rest

@@ -1,15 +1,11 @@
 //! Execution of a plan.
-ghost use Rattle.std.specs.Prelude.{◌≡◌, ◌+◌, ◌≤◌, ◌<◌, ◌^◌, List, [], length, drop};
+ghost use Rattle.std.specs.Prelude.{◌≡◌, ◌+◌, ◌≤◌, [], length};
 ghost use Rattle.definitions.specs.Path.{KeepsPathLaw};
-ghost use Rattle.definitions.specs.Parts.{Turn};
-ghost use Rattle.rollback_plan.specs.Places.{turn_of};
 ghost use Rattle.rollback_plan.specs.Plans.{tree_under, length_of, note_of, sides_told};
-ghost use Rattle.plan_walk.specs.Walk.{left_by};
 
-use crate::walk::Walk;
-use crate::{Calls, Transcript, Turns};
+use crate::{Calls, Course, Transcript, Turns};
 use rollback_plan::Plan;
-use vocabulary::{Entry, Report, Turn};
+use vocabulary::{Entry, Report};
 
 /// Makes the calls of a plan one after another, as their answers lead, and writes them down. Where both masters have a
 /// part, they take turns as the list says, and after its end the new master goes on first.
@@ -26,9 +22,8 @@ pub fn execute<C: Calls>(plan: &Plan, calls: &mut C, turns: &Turns, log: &mut Tr
     ensures longest { length log.new.entries ≤ length_of plan.now }
     ensures room_left { C.room calls.old ≤ C.room calls.new + length log.new.entries }
 {
-    let mut walk = Walk::new(plan);
-    let mut used = 0;
-    while let Some(due) = walk.due_at(turn_at(turns, used)) {
+    let mut course = Course::new(plan, turns);
+    while let Some(due) = course.due() {
         let answer = calls.make(due.by, &due.call);
         let entry = Entry {
             by: due.by,
@@ -36,25 +31,7 @@ pub fn execute<C: Calls>(plan: &Plan, calls: &mut C, turns: &Turns, log: &mut Tr
             answer,
         };
         log.push(&entry);
-        let turn = turn_at(turns, used);
-        used = used_after(&walk, used);
-        walk = walk.after_at(turn, &entry);
+        course = course.after(&entry);
     }
-    walk.report()
-}
-
-/// Whose turn is next where so many are used: after the end of the list, the new master's.
-fn turn_at(turns: &Turns, used: usize) -> Turn
-    ensures { result ≡ turn_of (drop used turns.now) }
-{
-    turns.get(used).unwrap_or(Turn::New)
-}
-
-/// How many turns are used after a call, of which so many were used before it.
-fn used_after(walk: &Walk<'_>, used: usize) -> usize
-    requires { used < 2 ^ 32 }
-    ensures left { (turns : List Turn) → left_by walk.now (drop used turns) ≡ drop result turns }
-    ensures few { result ≤ used + 1 }
-{
-    if walk.takes_turns() { used + 1 } else { used }
+    course.report()
 }

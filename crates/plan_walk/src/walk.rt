@@ -1,5 +1,5 @@
 //! How far the execution of a plan has come.
-ghost use Rattle.std.specs.Prelude.{◌≡◌, ◌+◌, ◌<◌, ◌≤◌, ◌^◌, true, false, List, IsTrue, IfSome, IfNone, None, is_none};
+ghost use Rattle.std.specs.Prelude.{◌≡◌, ◌+◌, ◌<◌, ◌≤◌, ◌^◌, ◌↔◌, true, false, List, IsTrue, IfSome, IfNone, None, is_none};
 ghost use Rattle.definitions.specs.Parts.{Turn};
 ghost use Rattle.vocabulary.specs.declared.calls.Answer.TheVariants.{MasterGone};
 ghost use Rattle.definitions.specs.Crew.{shortfalls_of};
@@ -39,7 +39,7 @@ impl<'a> Walk<'a> {
     ghost use Rattle.definitions.specs.Tree.{is_listed};
     ghost use Rattle.definitions.specs.Path.{begin, advance, Asks, IsOver, IsOutcome, Reports};
     ghost use Rattle.rollback_plan.specs.Places.{without_first};
-    ghost use Rattle.plan_walk.specs.Walk.{trail_under, trail_of, left_by, sides_in, IsTurnOf, IsAsked, IsDue, AsksFor};
+    ghost use Rattle.plan_walk.specs.Walk.{trail_under, trail_of, left_by, sides_in, IsTurnOf, IsAsked, IsAtEnd, IsDue, AsksFor};
 
     /// Before the first call.
     pub fn new(plan: &'a Plan) -> Walk<'a>
@@ -86,6 +86,16 @@ impl<'a> Walk<'a> {
         match self.rest {
             Some(cursor) => cursor.takes_turns(),
             None => false,
+        }
+    }
+
+    /// At whose turn an entry's call is due: as no master has steps in both parts, at no other.
+    pub fn turn_of(&self, entry: &Entry) -> Turn
+        ensures { (turns : List Turn) → Asks (trail_under self.now turns).rest (trail_under self.now turns).lacked entry.now → IsTurnOf self.now result turns }
+    {
+        match self.rest {
+            Some(cursor) => cursor.turn_of(entry.by),
+            None => Turn::New,
         }
     }
 
@@ -148,9 +158,19 @@ impl<'a> Walk<'a> {
         self.rest.is_none()
     }
 
+    /// Whether the walk is over: at an end, or where the last answer had no edge.
+    pub fn is_over(&self) -> bool
+        ensures { (turns : List Turn) → IsTrue result ↔ IsOver (trail_under self.now turns).rest }
+    {
+        match self.rest {
+            Some(cursor) => cursor.end().is_some(),
+            None => true,
+        }
+    }
+
     /// What the report says of a walk that is over.
     pub fn report(&self) -> Report
-        requires { IsOver (trail_of self.now).rest }
+        requires { IsAtEnd self.now }
         ensures { (turns : List Turn) → Reports (sides_in self.now) (trail_under self.now turns) result }
     {
         Report {
@@ -162,7 +182,7 @@ impl<'a> Walk<'a> {
     }
 
     fn outcome(&self) -> Outcome
-        requires { IsOver (trail_of self.now).rest }
+        requires { IsAtEnd self.now }
         ensures { (turns : List Turn) → IsOutcome (sides_in self.now) (trail_under self.now turns).rest (trail_under self.now turns).lacking result }
     {
         let Some(cursor) = self.rest else {
@@ -173,7 +193,7 @@ impl<'a> Walk<'a> {
             Some(End::RolledBack) => Outcome::RolledBack,
             Some(End::ShortOld) => self.degraded(Side::Old, &self.sides.old),
             Some(End::ShortTarget) => self.degraded(Side::Target, &self.sides.target),
-            // (marks: no plan has them yet)
+            // No run ends at a mark.
             Some(End::Split | End::JoinReady | End::JoinBack | End::Join) => Outcome::Done,
             None => unreachable!(),
         }

@@ -8,6 +8,7 @@ use command_line::ExploreOptions;
 use exploration_text::write_run;
 use explorer::{Audience, Findings, Tried};
 use faults::Fault;
+use kernel_model::Turns;
 use master_on_kernel::Explored;
 use std::alloc::Global;
 use std::io::Write;
@@ -24,18 +25,20 @@ pub struct Listing<'a, O, E> {
     errors: &'a mut E,
     is_listing: bool,
     is_telling: bool,
+    turns: &'a Turns,
     heard: u64,
     left: Option<u32>,
     fault: Option<Fault>,
 }
 
 impl<'a, O: Write, E: Write> Listing<'a, O, E> {
-    /// Before the first run.
+    /// Before the first run. All go by the same turns.
     pub fn new(
         alloc: Global,
         output: &'a mut O,
         errors: &'a mut E,
         options: &ExploreOptions<'_>,
+        turns: &'a Turns,
     ) -> Self {
         Listing {
             alloc,
@@ -43,6 +46,7 @@ impl<'a, O: Write, E: Write> Listing<'a, O, E> {
             errors,
             is_listing: options.list,
             is_telling: options.progress,
+            turns,
             heard: 0,
             left: options.limit,
             fault: None,
@@ -85,7 +89,7 @@ impl<O: Write, E: Write> Audience for Listing<'_, O, E> {
         if !self.is_listing {
             return true;
         }
-        match list(self.alloc, &mut *self.output, tried, report) {
+        match list(self.alloc, &mut *self.output, self.turns, tried, report) {
             Ok(()) => true,
             Err(fault) => {
                 self.fault = Some(fault);
@@ -115,14 +119,15 @@ pub fn tell_findings<E: Write>(explored: &Explored, found: &Findings, errors: &m
 fn list<O: Write>(
     alloc: Global,
     output: &mut O,
+    turns: &Turns,
     tried: &Tried,
     report: &Report,
 ) -> Result<(), Fault>
-    ensures ok { OnOk result (Appends (O.contents output.old) (O.contents output.new) (run_text tried.now report.now)) }
+    ensures ok { OnOk result (Appends (O.contents output.old) (O.contents output.new) (run_text turns.now tried.now report.now)) }
     ensures err { IfErr result IsOfFile }
 {
     let mut text = Vec::new(alloc);
-    write_run(&mut text, tried, report)?;
+    write_run(&mut text, turns, tried, report)?;
     output.write_all(text.as_slice())?;
     Ok(())
 }

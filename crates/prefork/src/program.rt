@@ -1,5 +1,6 @@
 //! The program over any reader and any two writers.
-ghost use Rattle.std.specs.Prelude.{◌≡◌, ◌↔◌, map, Some, IsTrue, IfOk, IfErr, IfSome, OnOk, Ok};
+ghost use Rattle.std.specs.Prelude.{◌≡◌, ◌↔◌, [], map, None, Some, IsTrue, IfOk, IfErr, IfSome, OnOk, Ok};
+ghost use Rattle.pattern_text.specs.TurnsText.{some_turns};
 ghost use Rattle.pattern_text.specs.Courses.{course_of};
 ghost use Rattle.pattern_text.specs.PatternsText.{patterns_of};
 ghost use Rattle.transcript.specs.Reading.{blocks_of};
@@ -19,10 +20,12 @@ use explanations::{
 use explorer::Findings;
 use faults::Fault;
 use json_text::{blocks_json, exploration_json, patterns_json, plan_json};
-use kernel_model::Section;
+use kernel_model::{Section, Turns};
 use master_on_kernel::{
-    Demands, Form, Start, certify_all, line_instead, look_ahead, rehearse, show_state, summary,
+    Demands, Explored, Form, Start, Trials, certify_all, line_instead, look_ahead, rehearse,
+    show_state, summary,
 };
+use pattern_text::turns_in;
 use std::alloc::{AllocError, Global};
 use std::env::Env;
 use std::io::{Read, Write};
@@ -318,11 +321,12 @@ fn explore<R: AllocGlobal + Files, O: Write, E: Write>(
     let word = control_words::read(options.word.as_bytes()).map_err(|refusal| Fault::Word(
         1, refusal,
     ))?;
-    let mut rehearsal = begin(rt, &options.start, options.held)?;
-    let mut found = Findings::new(alloc);
-    let mut listing = Listing::new(alloc, output, errors, options);
-    let explored = rehearsal.explore(alloc, word, pairs, &mut found, &mut listing)?;
-    listing.finish()?;
+    let turns = turns_of(alloc, options.turns)?;
+    let trials = Trials {
+        turns: &turns,
+        pairs,
+    };
+    let (explored, found) = explored_by(rt, options, word, &trials, output, errors)?;
     let outlook = summary(alloc, &explored, &found, &demands)?;
     if options.start.json {
         write(
@@ -339,6 +343,24 @@ fn explore<R: AllocGlobal + Files, O: Write, E: Write>(
     Ok(outlook.status)
 }
 
+/// The runs of a word, printed where that is asked for, and what was found of them.
+fn explored_by<R: AllocGlobal + Files, O: Write, E: Write>(
+    rt: &R,
+    options: &ExploreOptions<'_>,
+    word: Word,
+    trials: &Trials<'_>,
+    output: &mut O,
+    errors: &mut E,
+) -> Result<(Explored, Findings), Fault> {
+    let alloc = rt.alloc();
+    let mut rehearsal = begin(rt, &options.start, options.held)?;
+    let mut found = Findings::new(alloc);
+    let mut listing = Listing::new(alloc, output, errors, options, trials.turns);
+    let explored = rehearsal.explore(alloc, word, trials, &mut found, &mut listing)?;
+    listing.finish()?;
+    Ok((explored, found))
+}
+
 /// Whether runs with two events are asked for; there are none with more.
 fn asks_for_pairs(events: Option<u32>) -> Result<bool, Fault>
     ensures { IfOk result (λ pairs. IsTrue pairs ↔ (events ≡ Some 2)) }
@@ -347,6 +369,20 @@ fn asks_for_pairs(events: Option<u32>) -> Result<bool, Fault>
         None | Some(1) => Ok(false),
         Some(2) => Ok(true),
         Some(_) => Err(Fault::Usage),
+    }
+}
+
+/// By whose turns runs go; where none are given, by none.
+fn turns_of(alloc: Global, text: Option<&str>) -> Result<Turns, Fault>
+    ensures none { text.entry ≡ None → IfOk result (λ turns. turns ≡ []) }
+    ensures some { IfSome text.entry (λ letters. IfOk result (λ turns. some_turns letters.now ≡ Some turns)) }
+{
+    let Some(text) = text else {
+        return Ok(Turns::new(alloc));
+    };
+    match turns_in(alloc, text.as_bytes())? {
+        Some(turns) => Ok(turns),
+        None => Err(Fault::Usage),
     }
 }
 

@@ -1,6 +1,6 @@
 -- A reload is the one of its definition.
-use Rattle.std.proofs.Common.{◌≡◌, ℕ, ◌+◌, Bool, true, false, List, Option, Some, None, Result, Ok, Err, nat_lt, refl, sym, ◌∙◌, ap}
-use Rattle.std.specs.Prelude.{if◌then◌else◌, IfOk, IsErrOf, ◌↔◌, is_none}
+use Rattle.std.proofs.Common.{◌≡◌, ℕ, ◌+◌, Bool, true, false, List, [], Some, None, Result, Ok, Err, nat_lt, refl, sym, ◌∙◌, ap}
+use Rattle.std.specs.Prelude.{if◌then◌else◌, IfOk}
 use Rattle.listener_set.specs.Numbers.{numbers_below}
 use Rattle.listener_set.specs.declared.generation.Generation.{Generation}
 use Rattle.definitions.specs.Table.{Address}
@@ -10,11 +10,12 @@ use Rattle.definitions.specs.After.{next_config, numbered, posts_wanted}
 use Rattle.definitions.specs.Record.{Record, addresses_of, crew_of}
 use Rattle.vocabulary.specs.Settings.{Settings}
 use Rattle.vocabulary.specs.declared.targets.Target.TheVariants.{Reload}
-use Rattle.definitions.specs.Plans.{reload_tree, plan_tree, planned}
+use Rattle.definitions.specs.Parts.{Turn}
+use Rattle.definitions.specs.Tree.{Tree, height}
+use Rattle.definitions.specs.Plans.{reload_tree, plan_tree}
 use Rattle.rollback_plan.specs.declared.plan.Plan.{Plan}
-use Rattle.rollback_plan.specs.Plans.{tree_of}
+use Rattle.rollback_plan.specs.Plans.{tree_of, tree_under, length_of}
 use Rattle.reload_planner.specs.declared.refusal.PlanRefusal.{PlanRefusal}
-use Rattle.reload_planner.specs.declared.refusal.PlanRefusal.TheVariants.{NoGeneration}
 use Rattle.reload_planner.specs.Changes.{renewal_tree, next_crew}
 
 pub next_is : (g new : Generation) → next_config g ≡ Some new → new ≡ reload_generation g
@@ -30,14 +31,10 @@ renewal_is by old g posts ready leaving rounds held listeners n added dropped wa
 
 -- the reload of a record
 pub reload_is : (r : Record) (s : Settings) (crew : Crew) (posts : Posts) (held : List Address) → crew ≡ crew_of r → posts ≡ posts_wanted r (Reload s) → held ≡ addresses_of r
-    → reload_tree r.generation.image crew (next_crew crew posts) r.ready r.retries held s.listeners s.workers ≡ plan_tree r (Reload s)
-reload_is r s crew posts held c p h = rw (c, p, h) refl
+    → (turns : List Turn) → reload_tree r.generation.image crew (next_crew crew posts) r.ready r.retries held s.listeners s.workers ≡ plan_tree r (Reload s) turns
+reload_is r s crew posts held c p h turns = rw (c, p, h) refl
 
--- where there is a plan, there is a generation
-pub planned_is : (r : Record) (s : Settings) (crew : Crew) (result : Result Plan PlanRefusal) → crew ≡ crew_of r → (IsErrOf result NoGeneration ↔ (next_config crew.generation ≡ None)) → IfOk result (λ plan. tree_of plan ≡ plan_tree r (Reload s)) → IfOk result (λ plan. planned r (Reload s) ≡ Some (tree_of plan))
-planned_is r s crew (Err e) same lacks is = tt
-planned_is r s crew (Ok plan) same lacks is = one (next_config r.generation) refl
-  where
-    one : (o : Option Generation) → next_config r.generation ≡ o → planned r (Reload s) ≡ Some (tree_of plan)
-    one (Some g) e = ap (λ (h : Option Generation). if is_none h then None else Some (plan_tree r (Reload s))) e ∙ ap Some (sym is)
-    one None e = let error : IsErrOf {T = Plan} (Ok plan) NoGeneration = lacks.1 (ap (λ (k : Crew). next_config k.generation) same ∙ e) in cc
+-- a plan of a tree is as long as the tree is high
+pub as_long : (result : Result Plan PlanRefusal) (tree : Tree) → IfOk result (λ plan. (turns : List Turn) → tree_under plan turns ≡ tree) → IfOk result (λ plan. length_of plan ≡ height (tree_of plan)) → IfOk result (λ plan. length_of plan ≡ height tree)
+as_long (Err e) tree is long = tt
+as_long (Ok plan) tree is long = long ∙ ap height (is [])

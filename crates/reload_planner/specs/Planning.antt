@@ -10,7 +10,7 @@ use Rattle.definitions.specs.After.{next_image}
 -- and the rounds of a settle
 abbrev pub most_steps : Record → Target → ℕ
 most_steps r t =
-    9 * (length r.ready + length (numbers_wanted r t)) + 3 * (length r.listeners + length (addresses_wanted r t)) + 12 * r.retries + 44
+    9 * (length r.ready + length (numbers_wanted r t)) + 3 * (length r.listeners + length (addresses_wanted r t)) + 16 * r.retries + 48
 
 -- an upgrade that has a generation: it is planned apart
 abbrev pub is_apart : Record → Target → Bool

@@ -1,12 +1,13 @@
 //! The plan that replaces workers that are lost or overdue.
-ghost use Rattle.std.specs.Prelude.{◌≡◌, ◌≤◌, ◌<◌, ◌+◌, ◌*◌, [], None, length, IfOk, IsErrOf, IsOkUnless, OnOk};
+ghost use Rattle.std.specs.Prelude.{◌≡◌, ◌≤◌, ◌<◌, ◌+◌, ◌*◌, List, [], None, length, IfOk, IsErrOf, IsOkUnless, OnOk};
 ghost use Rattle.std.specs.List.{AllByRecursion};
+ghost use Rattle.definitions.specs.Parts.{Turn};
 ghost use Rattle.definitions.specs.Plans.{mend_tree};
 ghost use Rattle.rollback_plan.specs.declared.draft.DraftRefusal.TheVariants.{TooLarge};
 ghost use Rattle.rollback_plan.specs.declared.draft.TheConstants.{MOST_STEPS};
 ghost use Rattle.rollback_plan.specs.Drafts.{trees_of, IsMade};
 ghost use Rattle.definitions.specs.Tree.{height};
-ghost use Rattle.rollback_plan.specs.Plans.{tree_of, length_of, parts_of, note_of, sides_told, text_of, trees_in};
+ghost use Rattle.rollback_plan.specs.Plans.{tree_of, tree_under, length_of, parts_of, note_of, sides_told, text_of, trees_in};
 ghost use Rattle.reload_planner.specs.Changes.{repair_tree};
 
 use crate::{PlanRefusal, Scene};
@@ -49,7 +50,7 @@ pub fn plan_mend(
     requires wanted { wanted ≤ WORKER_LIMIT }
     requires ready { AllByRecursion (λ k. k < wanted) scene.now.ready }
     requires rounds { scene.now.rounds ≤ 8 }
-    ensures tree { IfOk result (λ plan. tree_of plan ≡ mend_tree scene.now.by scene.now.crew scene.now.ready scene.now.rounds overdue.now wanted) }
+    ensures tree { IfOk result (λ plan. (turns : List Turn) → tree_under plan turns ≡ mend_tree scene.now.by scene.now.crew scene.now.ready scene.now.rounds overdue.now wanted) }
     ensures longest { IfOk result (λ plan. length_of plan ≡ height (tree_of plan)) }
     ensures alone { IfOk result (λ plan. parts_of plan ≡ None) }
     ensures note { IfOk result (λ plan. note_of plan ≡ note) }

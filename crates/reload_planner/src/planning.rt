@@ -1,10 +1,10 @@
 //! The plan of a target.
-ghost use Rattle.std.specs.Prelude.{◌≡◌, ◌≤◌, ◌↔◌, [], None, Some, length, IfOk, IsErrOf, IsTrue};
+ghost use Rattle.std.specs.Prelude.{◌≡◌, ◌≤◌, ◌↔◌, List, [], None, length, IfOk, IsErrOf, IsTrue};
 ghost use Rattle.definitions.specs.Target.{IsTarget, sides_of};
 ghost use Rattle.definitions.specs.After.{lacks_generation};
-ghost use Rattle.definitions.specs.Plans.{planned};
-ghost use Rattle.definitions.specs.Tree.{height};
-ghost use Rattle.rollback_plan.specs.Plans.{tree_of, length_of, parts_of, note_of, sides_told, text_of, trees_in};
+ghost use Rattle.definitions.specs.Parts.{Turn};
+ghost use Rattle.definitions.specs.Plans.{plan_tree, plan_length};
+ghost use Rattle.rollback_plan.specs.Plans.{tree_under, length_of, parts_of, note_of, sides_told, text_of, trees_in};
 ghost use Rattle.reload_planner.specs.Planning.{most_steps, is_apart};
 
 use crate::{PlanRefusal, Scene, plan_mend, plan_reload, plan_reopen, plan_stop, plan_workers};
@@ -19,11 +19,11 @@ use vocabulary::{Actor, Target};
 /// configuration of a reload or an upgrade, or the image of an upgrade. `Unplanned` (P2) exactly for
 /// every other upgrade, which is planned apart. No plan is too large: with `n` workers that are ready
 /// or wanted before and after, and `a` addresses before and after, it has at most
-/// `9 n + 3 a + 12 retries + 44` steps.
+/// `9 n + 3 a + 16 retries + 48` steps.
 pub fn plan(alloc: Global, state: &Record, target: &Target) -> Result<Plan, PlanRefusal>
     requires { IsTarget target.now }
-    ensures tree { IfOk result (λ plan. planned state.now target.now ≡ Some (tree_of plan)) }
-    ensures longest { IfOk result (λ plan. length_of plan ≡ height (tree_of plan)) }
+    ensures tree { IfOk result (λ plan. (turns : List Turn) → tree_under plan turns ≡ plan_tree state.now target.now turns) }
+    ensures longest { IfOk result (λ plan. length_of plan ≡ plan_length state.now target.now) }
     ensures alone { IfOk result (λ plan. parts_of plan ≡ None) }
     ensures note { IfOk result (λ plan. note_of plan ≡ state.now.note) }
     ensures sides { IfOk result (λ plan. sides_told plan ≡ sides_of state.now target.now) }

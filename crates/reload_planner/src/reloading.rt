@@ -2,12 +2,13 @@
 ghost use Rattle.std.specs.Prelude.{◌≡◌, ◌≤◌, ◌<◌, ◌+◌, ◌*◌, ◌↔◌, List, ℕ, [], None, length, reverse, take, IfOk, IfNone, IsErrOf, IsTrue, OnOk};
 ghost use Rattle.definitions.specs.After as after;
 ghost use Rattle.definitions.specs.Tree.{height, Tree};
+ghost use Rattle.definitions.specs.Parts.{Turn};
 ghost use Rattle.definitions.specs.Plans.{census, census_edges, reload_tree};
 ghost use Rattle.rollback_plan.specs.declared.draft.DraftRefusal.TheVariants.{TooLarge};
 ghost use Rattle.rollback_plan.specs.declared.draft.TheConstants.{MOST_STEPS};
 ghost use Rattle.rollback_plan.specs.Drafts.{trees_of, tree_at, are_places, IsMade, Grows};
 ghost use Rattle.rollback_plan.specs.Back.{AreMade};
-ghost use Rattle.rollback_plan.specs.Plans.{tree_of, length_of, parts_of, note_of, sides_told, text_of, trees_in};
+ghost use Rattle.rollback_plan.specs.Plans.{tree_of, tree_under, length_of, parts_of, note_of, sides_told, text_of, trees_in};
 ghost use Rattle.reload_planner.specs.Changes.{on_tree, trial_tree, renewal_tree, next_crew};
 
 use crate::{PlanRefusal, Scene};
@@ -144,7 +145,7 @@ pub fn plan_reload(
     note: PidNote,
 ) -> Result<Plan, PlanRefusal>
     requires rounds { scene.now.rounds ≤ 8 }
-    ensures tree { IfOk result (λ plan. tree_of plan ≡ reload_tree scene.now.by scene.now.crew (next_crew scene.now.crew posts.now) scene.now.ready scene.now.rounds old.now settings.now.listeners settings.now.workers) }
+    ensures tree { IfOk result (λ plan. (turns : List Turn) → tree_under plan turns ≡ reload_tree scene.now.by scene.now.crew (next_crew scene.now.crew posts.now) scene.now.ready scene.now.rounds old.now settings.now.listeners settings.now.workers) }
     ensures longest { IfOk result (λ plan. length_of plan ≡ height (tree_of plan)) }
     ensures alone { IfOk result (λ plan. parts_of plan ≡ None) }
     ensures note { IfOk result (λ plan. note_of plan ≡ note) }

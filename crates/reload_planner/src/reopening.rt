@@ -1,12 +1,13 @@
 //! The plan that has each worker open its logs anew.
-ghost use Rattle.std.specs.Prelude.{◌≡◌, ◌≤◌, ◌<◌, ◌+◌, ◌*◌, [], None, length, IfOk, IsErrOf, IsOkUnless, OnOk};
+ghost use Rattle.std.specs.Prelude.{◌≡◌, ◌≤◌, ◌<◌, ◌+◌, ◌*◌, List, [], None, length, IfOk, IsErrOf, IsOkUnless, OnOk};
+ghost use Rattle.definitions.specs.Parts.{Turn};
 ghost use Rattle.definitions.specs.Plans.{reopen_tree, settle, usr1s};
 ghost use Rattle.vocabulary.specs.declared.plans.Side.TheVariants as side;
 ghost use Rattle.rollback_plan.specs.declared.draft.DraftRefusal.TheVariants.{TooLarge};
 ghost use Rattle.rollback_plan.specs.declared.draft.TheConstants.{MOST_STEPS};
 ghost use Rattle.rollback_plan.specs.Drafts.{trees_of, IsMade};
 ghost use Rattle.definitions.specs.Tree.{height};
-ghost use Rattle.rollback_plan.specs.Plans.{tree_of, length_of, parts_of, note_of, sides_told, text_of, trees_in};
+ghost use Rattle.rollback_plan.specs.Plans.{tree_of, tree_under, length_of, parts_of, note_of, sides_told, text_of, trees_in};
 
 use crate::{PlanRefusal, Scene};
 use plan_pieces::{add_each, listed};
@@ -30,7 +31,7 @@ fn add_reopening(draft: &mut Draft, scene: &Scene, ready: &[u32]) -> Result<Plac
 /// is refused: no such plan is too large.
 pub fn plan_reopen(alloc: Global, scene: &Scene, note: PidNote) -> Result<Plan, PlanRefusal>
     requires rounds { scene.now.rounds ≤ 8 }
-    ensures tree { IfOk result (λ plan. tree_of plan ≡ reopen_tree scene.now.by scene.now.crew scene.now.ready scene.now.rounds) }
+    ensures tree { IfOk result (λ plan. (turns : List Turn) → tree_under plan turns ≡ reopen_tree scene.now.by scene.now.crew scene.now.ready scene.now.rounds) }
     ensures longest { IfOk result (λ plan. length_of plan ≡ height (tree_of plan)) }
     ensures alone { IfOk result (λ plan. parts_of plan ≡ None) }
     ensures note { IfOk result (λ plan. note_of plan ≡ note) }

@@ -1,13 +1,14 @@
 //! The plan that ends all workers and the master.
-ghost use Rattle.std.specs.Prelude.{◌≡◌, ◌≤◌, ◌<◌, ◌+◌, ◌*◌, [], None, length, IfOk, IsErrOf, IsOkUnless, OnOk};
+ghost use Rattle.std.specs.Prelude.{◌≡◌, ◌≤◌, ◌<◌, ◌+◌, ◌*◌, List, [], None, length, IfOk, IsErrOf, IsOkUnless, OnOk};
 ghost use Rattle.vocabulary.specs.Settings.{HasSuffixRoom};
+ghost use Rattle.definitions.specs.Parts.{Turn};
 ghost use Rattle.definitions.specs.Plans as plans;
 ghost use Rattle.definitions.specs.Plans.{stop_tree, stopped, removes};
 ghost use Rattle.rollback_plan.specs.declared.draft.DraftRefusal.TheVariants.{TooLarge};
 ghost use Rattle.rollback_plan.specs.declared.draft.TheConstants.{MOST_STEPS};
 ghost use Rattle.rollback_plan.specs.Drafts.{trees_of, tree_at, IsMade, Grows, GrowsWithin};
 ghost use Rattle.definitions.specs.Tree.{height};
-ghost use Rattle.rollback_plan.specs.Plans.{tree_of, length_of, parts_of, note_of, sides_told, text_of, trees_in};
+ghost use Rattle.rollback_plan.specs.Plans.{tree_of, tree_under, length_of, parts_of, note_of, sides_told, text_of, trees_in};
 ghost use Rattle.reload_planner.specs.Changes.{ends_tree};
 
 use crate::{PlanRefusal, Scene};
@@ -122,7 +123,7 @@ pub fn plan_stop(
     quick: bool,
 ) -> Result<Plan, PlanRefusal>
     requires room { HasSuffixRoom path }
-    ensures tree { IfOk result (λ plan. tree_of plan ≡ stop_tree scene.now.by scene.now.crew.generation scene.now.ready path note quick) }
+    ensures tree { IfOk result (λ plan. (turns : List Turn) → tree_under plan turns ≡ stop_tree scene.now.by scene.now.crew.generation scene.now.ready path note quick) }
     ensures longest { IfOk result (λ plan. length_of plan ≡ height (tree_of plan)) }
     ensures alone { IfOk result (λ plan. parts_of plan ≡ None) }
     ensures note { IfOk result (λ plan. note_of plan ≡ note) }

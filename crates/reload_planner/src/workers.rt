@@ -1,11 +1,12 @@
 //! The plan that changes the number of workers.
-ghost use Rattle.std.specs.Prelude.{◌≡◌, ◌≤◌, ◌<◌, ◌+◌, ◌*◌, [], None, length, reverse, IfOk, IsErrOf, IsOkUnless, OnOk};
+ghost use Rattle.std.specs.Prelude.{◌≡◌, ◌≤◌, ◌<◌, ◌+◌, ◌*◌, List, [], None, length, reverse, IfOk, IsErrOf, IsOkUnless, OnOk};
+ghost use Rattle.definitions.specs.Parts.{Turn};
 ghost use Rattle.definitions.specs.Plans.{workers_tree};
 ghost use Rattle.rollback_plan.specs.declared.draft.DraftRefusal.TheVariants.{TooLarge};
 ghost use Rattle.rollback_plan.specs.declared.draft.TheConstants.{MOST_STEPS};
 ghost use Rattle.rollback_plan.specs.Drafts.{trees_of, IsMade};
 ghost use Rattle.definitions.specs.Tree.{height};
-ghost use Rattle.rollback_plan.specs.Plans.{tree_of, length_of, parts_of, note_of, sides_told, text_of, trees_in};
+ghost use Rattle.rollback_plan.specs.Plans.{tree_of, tree_under, length_of, parts_of, note_of, sides_told, text_of, trees_in};
 ghost use Rattle.reload_planner.specs.Changes.{change_tree};
 
 use crate::{PlanRefusal, Scene};
@@ -51,7 +52,7 @@ pub fn plan_workers(
 ) -> Result<Plan, PlanRefusal>
     requires wanted { wanted ≤ WORKER_LIMIT }
     requires rounds { scene.now.rounds ≤ 8 }
-    ensures tree { IfOk result (λ plan. tree_of plan ≡ workers_tree scene.now.by scene.now.crew scene.now.ready scene.now.rounds wanted) }
+    ensures tree { IfOk result (λ plan. (turns : List Turn) → tree_under plan turns ≡ workers_tree scene.now.by scene.now.crew scene.now.ready scene.now.rounds wanted) }
     ensures longest { IfOk result (λ plan. length_of plan ≡ height (tree_of plan)) }
     ensures alone { IfOk result (λ plan. parts_of plan ≡ None) }
     ensures note { IfOk result (λ plan. note_of plan ≡ note) }

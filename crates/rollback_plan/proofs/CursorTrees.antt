@@ -60,7 +60,7 @@ tree_there : (steps : List Step) (place : Place) (s : Step) → all_lead_on 1 st
 tree_there steps place s on at = tree_at_place steps place.0 s on at
 
 -- some step stands there
-some_step : (steps : List Step) (place : Place) → is_within steps (To place) ≡ true → (s : Step) × (slice_get steps (place.0 - 1) ≡ Some s)
+pub some_step : (steps : List Step) (place : Place) → is_within steps (To place) ≡ true → (s : Step) × (slice_get steps (place.0 - 1) ≡ Some s)
 some_step steps place w = some_at steps (place.0 - 1) (within_at steps (To place) place refl w)
 
 -- ---- both parts

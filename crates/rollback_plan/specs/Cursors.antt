@@ -11,6 +11,7 @@ use Rattle.plan_steps.specs.declared.step.Next.{Next}
 use Rattle.plan_steps.specs.Steps.{edge_for, is_within}
 use Rattle.rollback_plan.specs.declared.cursor.Cursor.{Cursor}
 use Rattle.rollback_plan.specs.Places.{tree_at, turn_of, left_at, led_at, begins, is_both}
+use Rattle.rollback_plan.specs.Masters.{leads_apart}
 
 -- the rest of the tree, where the two masters take these turns
 abbrev pub rest_under : Cursor → List Turn → Tree
@@ -35,3 +36,4 @@ pub record IsNextStep (c : Cursor) (turn : Turn) (s : Step) : Type 0 where
   pub first : (turns : List Turn) → IsTurn c turn turns → begins (rest_under c turns) s
   pub leads : (turns : List Turn) (answer : Answer) → IsTurn c turn turns → follow (Some (rest_under c turns)) answer ≡ option_map (λ e. (e.note, led_to c turn e.next (left_after c turns))) (edge_for s.edges.items (reply_of s.set answer))
   pub within : list_all (λ e. is_within c.plan.now.steps.items e.next) s.edges.items ≡ true
+  pub apart : list_all (λ e. leads_apart c.plan.now.steps.items c.at turn e.next) s.edges.items ≡ true

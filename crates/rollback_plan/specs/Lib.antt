@@ -3,5 +3,6 @@ pub mod Back
 pub mod Ways
 pub mod Plans
 pub mod Places
+pub mod Masters
 pub mod Cursors
 pub mod Bounds

@@ -6,11 +6,12 @@ ghost use Rattle.definitions.specs.Path.{follow};
 ghost use Rattle.plan_steps.specs.Steps.{is_within};
 ghost use Rattle.plan_steps.specs.Woven.{answers, woven_behind};
 ghost use Rattle.rollback_plan.specs.Places.{is_at, tree_at, is_step, is_split, goes_new, chosen_at, end_behind};
+ghost use Rattle.rollback_plan.specs.Masters.{are_apart, is_apart, leads_apart, begins_by};
 
 use crate::Plan;
 use call_replies::reply_to;
 use plan_steps::{Next, Place, Step};
-use vocabulary::{Answer, End, PidNote, Turn};
+use vocabulary::{Actor, Answer, End, PidNote, Turn};
 
 /// Where a cursor stands: before the parts of two masters, as always in a plan without parts; in both of them, of which
 /// one may have ended; or behind them.
@@ -27,6 +28,7 @@ pub struct Cursor<'a> {
     plan: &'a Plan,
     at: At,
     ghost within: { IsTrue (is_at plan.now.steps.items plan.now.parts at) },
+    ghost apart: { IsTrue (is_apart plan.now.steps.items at) },
 }
 
 /// Where an answer leads.
@@ -64,6 +66,7 @@ impl Plan {
         requires { IsTrue (is_within self.now.steps.items next) }
         ensures rest { (turns : List Turn) → tree_at self.now.steps.items self.now.parts result turns ≡ woven_behind self.now.steps.items self.now.parts next turns }
         ensures within { IsTrue (is_at self.now.steps.items self.now.parts result) }
+        ensures apart { IsTrue (is_apart self.now.steps.items result) }
     {
         match self.parts {
             Some(parts) if is_split(next) => At::Beside(Next::To(parts.new), Next::To(parts.old)),
@@ -75,8 +78,10 @@ impl Plan {
     fn beside(&self, new: Next, old: Next) -> At
         requires new { IsTrue (is_within self.now.steps.items new) }
         requires old { IsTrue (is_within self.now.steps.items old) }
+        requires apart { IsTrue (are_apart (tree_behind self.now.steps.items new) (tree_behind self.now.steps.items old)) }
         ensures rest { (turns : List Turn) → tree_at self.now.steps.items self.now.parts result turns ≡ weave (joined_in self.now.steps.items self.now.parts) (tree_behind self.now.steps.items new) turns (tree_behind self.now.steps.items old) }
         ensures within { IsTrue (is_at self.now.steps.items self.now.parts result) }
+        ensures apart { IsTrue (is_apart self.now.steps.items result) }
     {
         if is_step(new) || is_step(old) {
             At::Beside(new, old)
@@ -137,6 +142,16 @@ impl<'a> Cursor<'a> {
         }
     }
 
+    /// Whose turn it is where the step that is next is this master's. No master has steps in both parts.
+    pub fn turn_of(&self, by: Actor) -> Turn
+        ensures { (turns : List Turn) → begins_by by (rest_under self.now turns) → IsTurn self.now result turns }
+    {
+        match self.step(Turn::Old) {
+            Some(step) => if step.by == by { Turn::Old } else { Turn::New },
+            None => Turn::New,
+        }
+    }
+
     /// How the plan ends here; none at a step.
     pub fn end(&self) -> Option<End>
         ensures { (turns : List Turn) → result ≡ end_of (rest_under self.now turns) }
@@ -162,7 +177,8 @@ impl<'a> Cursor<'a> {
 
     /// Where an edge of the step of this turn leads.
     fn led(&self, turn: Turn, next: Next) -> Cursor<'a>
-        requires { IsTrue (is_within self.now.plan.now.steps.items next) }
+        requires within { IsTrue (is_within self.now.plan.now.steps.items next) }
+        requires apart { IsTrue (leads_apart self.now.plan.now.steps.items self.now.at turn next) }
         ensures { (turns : List Turn) → rest_under result turns ≡ led_to self.now turn next turns }
     {
         let at = match self.at {

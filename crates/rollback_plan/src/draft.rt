@@ -2,6 +2,7 @@
 ghost use Rattle.std.specs.Prelude.{◌≡◌, ◌++◌, ◌∷◌, [], ◌+◌, ◌<◌, ◌≤◌, ◌↔◌, length, IsTrue, IfOk, IsErrOf, OnOk, OnErr, vec_len, vec_capacity, take};
 ghost use Rattle.definitions.specs.Tree.{Does};
 ghost use Rattle.plan_steps.specs.Steps.{step_tree, leads_back, all_lead_back, all_below};
+ghost use Rattle.plan_steps.specs.Stretches.{all_split_to};
 
 use listener_set::Numbers;
 use plan_steps::{Place, PlanEdge, Step};
@@ -53,11 +54,13 @@ pub struct Draft {
 }
 
 impl Draft {
-    ghost use Rattle.rollback_plan.specs.Drafts.{trees_of, branches_in, IsMade, Keeps};
+    ghost use Rattle.std.specs.Prelude.{ℕ};
+    ghost use Rattle.rollback_plan.specs.Drafts.{trees_of, branches_in, splits_in, are_plain, IsMade, Extends, Keeps};
 
     /// A draft without steps.
     pub fn new(alloc: Global) -> Draft
-        ensures { trees_of result ≡ [] }
+        ensures none { trees_of result ≡ [] }
+        ensures splits { (a : ℕ) (b : ℕ) → IsTrue (splits_in a b result) }
     {
         Draft {
             steps: Vec::new(alloc),
@@ -67,6 +70,7 @@ impl Draft {
     /// A draft without steps, with memory for so many.
     pub fn with_room(alloc: Global, steps: usize) -> Result<Draft, AllocError>
         ensures none { IfOk result (λ draft. trees_of draft ≡ []) }
+        ensures splits { IfOk result (λ draft. (a : ℕ) (b : ℕ) → IsTrue (splits_in a b draft)) }
         ensures room { IfOk result (λ draft. steps ≤ vec_capacity draft.steps) }
     {
         Ok(Draft {
@@ -87,6 +91,7 @@ impl Draft {
         requires { IsTrue (leads_back (length (trees_of self.old)) step) }
         ensures place { IfOk result (λ place. place.0 ≡ length (trees_of self.old)) }
         ensures ok { OnOk result (trees_of self.new ≡ trees_of self.old ++ step_tree 0 (trees_of self.old) step ∷ []) }
+        ensures splits { (a : ℕ) (b : ℕ) → IsTrue (all_split_to a b step.edges.items) → IsTrue (splits_in a b self.old) → IsTrue (splits_in a b self.new) }
         ensures err { OnErr result (trees_of self.new ≡ trees_of self.old) }
         ensures too_large { IsErrOf result DraftRefusal.TooLarge ↔ (length (trees_of self.old) ≡ MOST_STEPS) }
     {
@@ -98,8 +103,28 @@ impl Draft {
         Ok(Place(place as u32))
     }
 
-    /// Adds a step of these parts, whose edges lead to places made before or to ends.
+    /// Adds a step of these parts, whose edges lead to a place made before or to an end.
     pub fn add(
+        &mut self,
+        by: Actor,
+        order: Order,
+        set: &Numbers,
+        edges: &[PlanEdge],
+    ) -> Result<Place, DraftRefusal>
+        requires { IsTrue (are_plain (length (trees_of self.old)) edges.now) }
+        ensures made { IfOk result (λ place. IsMade self.new place (Does by order set.now (branches_in self.old edges.now))) }
+        ensures count { OnOk result (length (trees_of self.new) ≡ length (trees_of self.old) + 1) }
+        ensures keeps { Keeps self.old self.new }
+        ensures err { OnErr result (trees_of self.new ≡ trees_of self.old) }
+        ensures too_large { IsErrOf result DraftRefusal.TooLarge → MOST_STEPS < length (trees_of self.old) + 1 }
+        ensures full { length (trees_of self.old) ≡ MOST_STEPS → IsErrOf result DraftRefusal.TooLarge }
+    {
+        self.add_split(by, order, set, edges)
+    }
+
+    /// Adds a step of these parts, whose edges lead to places made before or to ends, and may lead to the first steps of
+    /// two masters' parts.
+    pub fn add_split(
         &mut self,
         by: Actor,
         order: Order,
@@ -109,7 +134,8 @@ impl Draft {
         requires { IsTrue (all_below (length (trees_of self.old)) edges.now) }
         ensures made { IfOk result (λ place. IsMade self.new place (Does by order set.now (branches_in self.old edges.now))) }
         ensures count { OnOk result (length (trees_of self.new) ≡ length (trees_of self.old) + 1) }
-        ensures keeps { Keeps self.old self.new }
+        ensures extends { Extends self.old self.new }
+        ensures splits { (a : ℕ) (b : ℕ) → IsTrue (all_split_to a b edges.now) → IsTrue (splits_in a b self.old) → IsTrue (splits_in a b self.new) }
         ensures err { OnErr result (trees_of self.new ≡ trees_of self.old) }
         ensures too_large { IsErrOf result DraftRefusal.TooLarge → MOST_STEPS < length (trees_of self.old) + 1 }
         ensures full { length (trees_of self.old) ≡ MOST_STEPS → IsErrOf result DraftRefusal.TooLarge }
@@ -123,7 +149,8 @@ impl Draft {
 
     /// Takes all steps out but the first so many.
     pub(crate) fn shorten(&mut self, steps: usize)
-        ensures { trees_of self.new ≡ take steps (trees_of self.old) }
+        ensures trees { trees_of self.new ≡ take steps (trees_of self.old) }
+        ensures splits { (a : ℕ) (b : ℕ) → IsTrue (splits_in a b self.old) → IsTrue (splits_in a b self.new) }
     {
         self.steps.truncate(steps);
     }

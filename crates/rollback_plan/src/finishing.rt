@@ -5,6 +5,7 @@ ghost use Rattle.definitions.specs.Tree.{is_fit, height};
 ghost use Rattle.plan_steps.specs.Numbering.{IsNumbering};
 ghost use Rattle.plan_steps.specs.Stretches.{AreParts, longest_at};
 ghost use Rattle.plan_steps.specs.Woven.{woven_at, IsNumberedInParts};
+ghost use Rattle.rollback_plan.specs.Masters.{are_apart};
 
 use crate::{Draft, Plan};
 use plan_steps::{Parts, Place, number_in_parts, number_steps};
@@ -27,7 +28,7 @@ impl Draft {
     ) -> Result<Plan, AllocError>
         requires made { first.0 < length (trees_of self) }
         requires fit { IsTrue (is_fit false (tree_at self first)) }
-        ensures tree { IfOk result (λ plan. tree_of plan ≡ tree_at self first) }
+        ensures tree { IfOk result (λ plan. (turns : List Turn) → tree_under plan turns ≡ tree_at self first) }
         ensures note { IfOk result (λ plan. note_of plan ≡ note) }
         ensures sides { IfOk result (λ plan. sides_told plan ≡ sides.now) }
         ensures text { IfOk result (λ plan. text_of plan ≡ text.items) }
@@ -49,7 +50,7 @@ impl Draft {
         })
     }
 
-    /// The plan that begins at a place and has parts of two masters. It stands for the two trees at their places, woven
+    /// The plan that begins at a place and has parts of two masters, of which neither has steps in both. It stands for the two trees at their places, woven
     /// by whatever turns the masters take. Four stretches are numbered one after another: the steps that lead to the
     /// parts, the new master's part, the old one's, and the rest.
     pub fn finish_in_parts(
@@ -62,6 +63,7 @@ impl Draft {
     ) -> Result<Plan, AllocError>
         requires made { first.0 < length (trees_of self) }
         requires parts { AreParts (steps_in self) first.0 parts.now }
+        requires apart { IsTrue (are_apart (tree_at self parts.now.new) (tree_at self parts.now.old)) }
         requires fit { AreFit self first parts.now }
         ensures tree { IfOk result (λ plan. (turns : List Turn) → tree_under plan turns ≡ woven_at (steps_in self) first.0 parts.now turns) }
         ensures note { IfOk result (λ plan. note_of plan ≡ note) }

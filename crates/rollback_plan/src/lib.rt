@@ -9,6 +9,7 @@ mod bound;
 mod cursor;
 mod draft;
 mod finishing;
+mod mending;
 mod plan;
 mod settling;
 
@@ -16,5 +17,5 @@ pub use bound::Bound;
 pub use cursor::Cursor;
 pub use draft::{Draft, DraftRefusal, MOST_STEPS};
 pub use plan::Plan;
-pub use plan_steps::{Batch, Errand, Next, Place, PlanEdge, Step, WorkerCall};
+pub use plan_steps::{Batch, Errand, Next, Parts, Place, PlanEdge, Step, WorkerCall};
 pub use settling::{Undone, WaysBack};

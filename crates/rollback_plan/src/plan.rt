@@ -3,6 +3,7 @@ ghost use Rattle.std.specs.Prelude.{◌≡◌, ◌-◌, ◌<◌, ◌≤◌, IsTr
 ghost use Rattle.std.specs.Option.{option_copied, option_map};
 ghost use Rattle.plan_steps.specs.Steps.{all_lead_on};
 ghost use Rattle.plan_steps.specs.Woven.{length_in, plan_answers, IsNumberedWith, parts_placed};
+ghost use Rattle.rollback_plan.specs.Masters.{parts_apart};
 
 use plan_steps::{Parts, Step};
 use vocabulary::{PidNote, Sides};
@@ -11,7 +12,7 @@ use vocabulary::{PidNote, Sides};
 ///
 /// Steps are numbered from 1 by the greatest number of steps on a path from the first step to
 /// them, equal ones in the order in which a walk, first edge first, first meets them. A plan may have parts of two
-/// masters, which take turns: then it numbers four stretches in a row, and stands for a tree under each list of turns.
+/// masters, which take turns, and of which neither has steps in both: then it numbers four stretches in a row, and stands for a tree under each list of turns.
 #[derive(Drop)]
 pub struct Plan {
     pub(crate) steps: Vec<Step>,
@@ -23,6 +24,7 @@ pub struct Plan {
     ghost begins: { 0 < vec_len steps },
     ghost leads_on: { IsTrue (all_lead_on 1 steps.items) },
     ghost placed: { IsTrue (parts_placed steps.items parts) },
+    ghost apart: { IsTrue (parts_apart steps.items parts) },
     ghost answers: { IsTrue (plan_answers steps.items parts) },
     ghost tall: { longest ≡ length_in steps.items parts },
     ghost numbered: { ∥ IsNumberedWith steps.items parts ∥₁ },

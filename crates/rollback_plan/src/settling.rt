@@ -4,7 +4,8 @@ ghost use Rattle.vocabulary.specs.declared.plans.Side.TheVariants.{Old};
 ghost use Rattle.definitions.specs.Tree.{Ends};
 ghost use Rattle.definitions.specs.Plans as plans;
 ghost use Rattle.rollback_plan.specs.declared.draft.TheConstants.{MOST_STEPS};
-ghost use Rattle.plan_steps.specs.Steps.{is_below, tree_among};
+ghost use Rattle.plan_steps.specs.Steps.{tree_among};
+ghost use Rattle.rollback_plan.specs.Drafts.{is_plain};
 ghost use Rattle.plan_steps.specs.Batches.{calls_of, size_of};
 ghost use Rattle.rollback_plan.specs.Back.{told_back, quits_back, closes_back, AreMade};
 
@@ -55,7 +56,8 @@ pub struct WaysBack {
 }
 
 impl Draft {
-    ghost use Rattle.rollback_plan.specs.Drafts.{trees_of, tree_at, IsMade, Keeps, Grows};
+    ghost use Rattle.std.specs.Prelude.{ℕ};
+    ghost use Rattle.rollback_plan.specs.Drafts.{trees_of, tree_at, splits_in, IsMade, Keeps, Grows};
     ghost use Rattle.rollback_plan.specs.Ways.{steps_back, AreWaysBack};
 
     /// Adds a settle: a census of the set and, where it lacks a number, a start of the lowest one
@@ -89,6 +91,7 @@ impl Draft {
         ensures same { result ≡ added }
         ensures ok { OnOk added (self.new ≡ self.old) }
         ensures err { OnErr added (trees_of self.new ≡ take before (trees_of self.old)) }
+        ensures splits { (a : ℕ) (b : ℕ) → IsTrue (splits_in a b self.old) → IsTrue (splits_in a b self.new) }
     {
         if added.is_err() {
             self.shorten(before);
@@ -108,26 +111,26 @@ impl Draft {
         ensures made { IfOk result (λ place. IsMade self.new place (plans.settle by crew.now set.now side rounds)) }
         ensures grows { Grows self.old self.new result (1 + 4 * rounds) }
     {
-        let short = Next::Over(short_end(side));
-        let mut place = self.census(by, crew.generation, set, side, short)?;
+        let (full, short) = (full_end(side), Next::Over(short_end(side)));
+        let mut place = self.census(by, crew.generation, set, full, short)?;
         for _round in 0..rounds {
             let start = self.add_round(by, crew, place)?;
-            place = self.census(by, crew.generation, set, side, Next::To(start))?;
+            place = self.census(by, crew.generation, set, full, Next::To(start))?;
         }
         Ok(place)
     }
 
-    /// Adds a census that ends well where it is full.
-    fn census(
+    /// Adds a census that leads to an end where it is full.
+    pub(crate) fn census(
         &mut self,
         by: Actor,
         generation: Generation,
         set: &Numbers,
-        side: Side,
+        full: End,
         short: Next,
     ) -> Result<Place, DraftRefusal>
-        requires { IsTrue (is_below (length (trees_of self.old)) short) }
-        ensures made { IfOk result (λ place. IsMade self.new place (plans.census by generation set.now (plans.census_edges (Ends (plans.full_end side)) (tree_among 0 (trees_of self.old) short)))) }
+        requires { IsTrue (is_plain (length (trees_of self.old)) short) }
+        ensures made { IfOk result (λ place. IsMade self.new place (plans.census by generation set.now (plans.census_edges (Ends full) (tree_among 0 (trees_of self.old) short)))) }
         ensures grows { Grows self.old self.new result 1 }
     {
         self.add(
@@ -135,7 +138,7 @@ impl Draft {
             Order::Make(Call::Census(generation)),
             set,
             &[
-                PlanEdge::over(&[Reply::Full], full_end(side)),
+                PlanEdge::over(&[Reply::Full], full),
                 PlanEdge::new(&[Reply::Short], short),
             ],
         )
@@ -143,7 +146,12 @@ impl Draft {
 
     /// Adds the start of the lowest number that the last census lacked, before the rest. A refused
     /// call may leave some steps of it.
-    fn add_round(&mut self, by: Actor, crew: &Crew, rest: Place) -> Result<Place, DraftRefusal>
+    pub(crate) fn add_round(
+        &mut self,
+        by: Actor,
+        crew: &Crew,
+        rest: Place,
+    ) -> Result<Place, DraftRefusal>
         requires { rest.0 < length (trees_of self.old) }
         ensures made { IfOk result (λ place. IsMade self.new place (plans.round by crew.now (tree_at self.old rest))) }
         ensures grows { Grows self.old self.new result 3 }

@@ -9,14 +9,28 @@ use plan_walk::{Calls, Transcript, Turns, execute};
 use service_state::Record;
 use std::alloc::Global;
 use std::test::Fail;
-use vocabulary::{Answer, Call, Outcome, Settings, Target};
+use vocabulary::{Answer, Call, Outcome, Settings, Target, Turn};
 
-/// Carries a target out. Gives what the master knows then, or none where nothing runs.
+/// The new master's turn and then the old one's, so many times; and the same the other way round.
+fn by_turns(alloc: Global, count: u32) -> Result<[Turns; 2], Fail> {
+    let mut new_first = Turns::new(alloc);
+    let mut old_first = Turns::new(alloc);
+    for _ in 0..count {
+        new_first.add(Turn::New)?;
+        new_first.add(Turn::Old)?;
+        old_first.add(Turn::Old)?;
+        old_first.add(Turn::New)?;
+    }
+    Ok([new_first, old_first])
+}
+
+/// Carries a target out under turns. Gives what the master knows then, or none where nothing runs.
 fn carry_out(
     alloc: Global,
     edge: &mut Edge<Recorded>,
     known: &Record,
     target: &Target,
+    turns: &Turns,
 ) -> Result<(Outcome, Option<Record>), Fail>
     requires { IsTarget target.now }
 {
@@ -29,7 +43,7 @@ fn carry_out(
     if edge.room() < longest {
         return Ok((Outcome::Lost, None));
     }
-    let report = execute(&plan, edge, &Turns::new(alloc), &mut log);
+    let report = execute(&plan, edge, turns, &mut log);
     Ok((report.outcome, known.after(target, &report, known.pid)))
 }
 
@@ -75,16 +89,21 @@ fn has_left(edge: &mut Edge<Recorded>) -> Result<bool, Fail> {
     Ok(ask(edge, 1, Call::Adopt) == Some(Answer::MasterGone))
 }
 
-/// How a start of two workers and a change of them end, where a call of the family fails. A run that is lost once the
-/// edge's own master has left counts as done.
-fn outcomes(alloc: Global, change: &Target, fails: Option<usize>) -> Result<[Outcome; 2], Fail>
+/// How a start of two workers and a change of them under turns end, where a call of the family fails. A run that is lost
+/// once the edge's own master has left counts as done.
+fn outcomes(
+    alloc: Global,
+    change: &Target,
+    turns: &Turns,
+    fails: Option<usize>,
+) -> Result<[Outcome; 2], Fail>
     requires { IsTarget change.now }
 {
     let known = Record::start(&Settings::plain(), 0, &Numbers::none(), 100);
     let mut edge = Edge::new(alloc, Recorded::new(alloc, fails), &known, 0)?;
-    let (started, next) = carry_out(alloc, &mut edge, &known, &Target::Workers(2))?;
+    let (started, next) = carry_out(alloc, &mut edge, &known, &Target::Workers(2), turns)?;
     let known = next.unwrap_or(known);
-    let (changed, next) = carry_out(alloc, &mut edge, &known, change)?;
+    let (changed, next) = carry_out(alloc, &mut edge, &known, change, turns)?;
     if !hears_no_answer_twice(edge.family().calls()) {
         return Ok([Outcome::Lost, Outcome::Lost]);
     }
@@ -92,7 +111,13 @@ fn outcomes(alloc: Global, change: &Target, fails: Option<usize>) -> Result<[Out
         return Ok([started, Outcome::Done]);
     }
     if let Some(known) = next {
-        let _ = carry_out(alloc, &mut edge, &known, &Target::Stop { quick: true })?;
+        let _ = carry_out(
+            alloc,
+            &mut edge,
+            &known,
+            &Target::Stop { quick: true },
+            turns,
+        )?;
     }
     Ok([started, changed])
 }
@@ -106,8 +131,10 @@ fn carries_targets_out(rt: HostRuntime) -> Result<(), Fail> {
         Target::Upgrade(Settings::plain()),
         Target::Stop { quick: false },
     ] {
-        let ended = outcomes(alloc, change, None)?;
-        assert!(rt; ended == [Outcome::Done, Outcome::Done]);
+        for turns in &by_turns(alloc, 4)? {
+            let ended = outcomes(alloc, change, turns, None)?;
+            assert!(rt; ended == [Outcome::Done, Outcome::Done]);
+        }
     }
     Ok(())
 }
@@ -115,16 +142,18 @@ fn carries_targets_out(rt: HostRuntime) -> Result<(), Fail> {
 #[test]
 fn no_failing_call_loses_a_master(rt: HostRuntime) -> Result<(), Fail> {
     let alloc = rt.alloc();
-    for fails in 0..40 {
-        for change in &[
-            Target::Reload(Settings::plain()),
-            Target::Upgrade(Settings::plain()),
-        ] {
-            let ended = outcomes(alloc, change, Some(fails))?;
-            assert!(rt;
-                ended[0] != Outcome::Lost && ended[1] != Outcome::Lost,
-                "at {fails}"
-            );
+    for change in &[
+        Target::Reload(Settings::plain()),
+        Target::Upgrade(Settings::plain()),
+    ] {
+        for turns in &by_turns(alloc, 13)? {
+            for fails in 0..40 {
+                let ended = outcomes(alloc, change, turns, Some(fails))?;
+                assert!(rt;
+                    ended[0] != Outcome::Lost && ended[1] != Outcome::Lost,
+                    "at {fails}"
+                );
+            }
         }
     }
     Ok(())

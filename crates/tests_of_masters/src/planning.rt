@@ -192,7 +192,7 @@ fn an_upgrade_hands_a_text_over(rt: HostRuntime) -> Result<(), Fail> {
     let settings = settings(&["0.0.0.0:8080"], 2)?;
     let mut state = running(2, PidNote::InPlace)?;
     let plan = upgrade_planner::plan(rt.alloc(), &state, &settings)?;
-    assert_eq!(rt; plan.len(), 46);
+    assert_eq!(rt; plan.len(), 55);
     let text =
         b"handover 2\nold-pid 100\ngeneration 2 2\nlistener 3 0.0.0.0:8080\nlistener 4 0.0.0.0:9090\ngroup 2\nwant 0.0.0.0:8080\npid-file /run/a.pid\nend\n";
     assert!(rt; plan.text() == &text[..]);

@@ -49,34 +49,35 @@ const GO: &[u8] = b"WINCH\n";
 const TO_THE_FIRST: &[u8] = b"word USR2 attended\n\
     1 m1 spawn-master 2 : spawned\n\
     2 m2 adopt : adopted\n\
-    3 m2 fork 2.2 0 : forked\n\
-    4 m2 await-ready 2.2 0 : ready\n\
-    5 m2 census 2.2 : counted 0\n";
+    3 m1 census 1.1 : counted 0\n\
+    4 m2 fork 2.2 0 : forked\n\
+    5 m2 await-ready 2.2 0 : ready\n\
+    6 m2 census 2.2 : counted 0\n";
 
 /// From the first question on where it goes back there.
-const BACK_AT_THE_FIRST: &[u8] = b"6 m1 ask 1 : back\n\
-    7 m1 term-master 2 : ok\n\
-    8 m1 census 1.1 : counted 0\n\
-    rolled-back cause 6 pid no-file\n";
+const BACK_AT_THE_FIRST: &[u8] = b"7 m1 ask 1 : back\n\
+    8 m1 term-master 2 : ok\n\
+    9 m1 census 1.1 : counted 0\n\
+    rolled-back cause 7 pid no-file\n";
 
 /// From the first question to the second where it goes on.
-const TO_THE_SECOND: &[u8] = b"6 m1 ask 1 : go\n\
-    7 m1 quit 1.1 0 : ok\n\
-    8 m1 await-gone 1.1 0 : gone\n";
+const TO_THE_SECOND: &[u8] = b"7 m1 ask 1 : go\n\
+    8 m1 quit 1.1 0 : ok\n\
+    9 m1 await-gone 1.1 0 : gone\n";
 
 /// From the second question on where it goes back there.
-const BACK_AT_THE_SECOND: &[u8] = b"9 m1 ask 2 : back\n\
-    10 m1 fork 1.1 0 : forked\n\
-    11 m1 await-ready 1.1 0 : ready\n\
-    12 m1 term-master 2 : ok\n\
-    13 m1 census 1.1 : counted 0\n\
-    rolled-back cause 9 pid no-file\n";
+const BACK_AT_THE_SECOND: &[u8] = b"10 m1 ask 2 : back\n\
+    11 m1 fork 1.1 0 : forked\n\
+    12 m1 await-ready 1.1 0 : ready\n\
+    13 m1 term-master 2 : ok\n\
+    14 m1 census 1.1 : counted 0\n\
+    rolled-back cause 10 pid no-file\n";
 
 /// From the second question on where it goes on.
-const GONE_OVER: &[u8] = b"9 m1 ask 2 : go\n\
-    10 m1 alive 2 : alive\n\
-    11 m1 leave : ok\n\
-    12 m2 census 2.2 : counted 0\n\
+const GONE_OVER: &[u8] = b"10 m1 ask 2 : go\n\
+    11 m1 alive 2 : alive\n\
+    12 m1 leave : ok\n\
+    13 m2 census 2.2 : counted 0\n\
     done cause none pid no-file\n";
 
 /// How the first master quits, and how the second does.
@@ -370,17 +371,18 @@ fn the_second_master_asks_too(rt: HostRuntime) -> Result<(), Fail> {
     let asks = b"word USR2 attended\n\
         1 m2 spawn-master 3 : spawned\n\
         2 m3 adopt : adopted\n\
-        3 m3 fork 3.3 0 : forked\n\
-        4 m3 await-ready 3.3 0 : ready\n\
-        5 m3 census 3.3 : counted 0\n\
-        6 m2 ask 1 : go\n\
-        7 m2 quit 2.2 0 : ok\n\
-        8 m2 await-gone 2.2 0 : gone\n"
+        3 m2 census 2.2 : counted 0\n\
+        4 m3 fork 3.3 0 : forked\n\
+        5 m3 await-ready 3.3 0 : ready\n\
+        6 m3 census 3.3 : counted 0\n\
+        7 m2 ask 1 : go\n\
+        8 m2 quit 2.2 0 : ok\n\
+        9 m2 await-gone 2.2 0 : gone\n"
         .as_slice();
-    let went = b"9 m2 ask 2 : go\n\
-        10 m2 alive 3 : alive\n\
-        11 m2 leave : ok\n\
-        12 m3 census 3.3 : counted 0\n\
+    let went = b"10 m2 ask 2 : go\n\
+        11 m2 alive 3 : alive\n\
+        12 m2 leave : ok\n\
+        13 m3 census 3.3 : counted 0\n\
         done cause none pid no-file\n\
         word QUIT\n\
         1 m3 quit 3.3 0 : ok\n\
@@ -401,13 +403,14 @@ fn the_second_master_goes_back_too(rt: HostRuntime) -> Result<(), Fail> {
     let asks = b"word USR2 attended\n\
         1 m2 spawn-master 3 : spawned\n\
         2 m3 adopt : adopted\n\
-        3 m3 fork 3.3 0 : forked\n\
-        4 m3 await-ready 3.3 0 : ready\n\
-        5 m3 census 3.3 : counted 0\n\
-        6 m2 ask 1 : back\n\
-        7 m2 term-master 3 : ok\n\
-        8 m2 census 2.2 : counted 0\n\
-        rolled-back cause 6 pid no-file\n"
+        3 m2 census 2.2 : counted 0\n\
+        4 m3 fork 3.3 0 : forked\n\
+        5 m3 await-ready 3.3 0 : ready\n\
+        6 m3 census 3.3 : counted 0\n\
+        7 m2 ask 1 : back\n\
+        8 m2 term-master 3 : ok\n\
+        9 m2 census 2.2 : counted 0\n\
+        rolled-back cause 7 pid no-file\n"
         .as_slice();
     let input = b"USR2 attended\nQUIT\nWINCH\nUSR2 attended\nHUP\n";
     assert!(rt; leads_to(alloc, input, &[over.as_slice(), asks, SECOND_QUITS], 3)?);

@@ -8,4 +8,6 @@ mod generations;
 #[cfg(test)]
 mod grouped;
 #[cfg(test)]
+mod replacing;
+#[cfg(test)]
 mod supervising;

@@ -327,7 +327,7 @@ fn ends_where_a_write_fails(rt: HostRuntime) -> Result<(), Fail> {
 }
 
 /// Whether the master was lost in a block.
-fn is_lost(block: &Block) -> bool {
+pub(crate) fn is_lost(block: &Block) -> bool {
     match block {
         Block::Heard(_, Body::Ran(_, report)) => report.outcome == Outcome::Lost,
         _ => false,
@@ -378,7 +378,7 @@ fn goes_over_to_a_new_master(rt: HostRuntime) -> Result<(), Fail> {
     let alloc = rt.alloc();
     let mut text = FIRST_TICK.to_vec(alloc)?;
     text.extend_from_slice(
-        b"word USR2\n1 m1 spawn-master 2 : spawned\n2 m2 adopt : adopted\n3 m2 fork 2.2 0 : forked\n4 m2 await-ready 2.2 0 : ready\n5 m2 census 2.2 : counted 0\n6 m1 quit 1.1 0 : ok\n7 m1 await-gone 1.1 0 : gone\n8 m1 alive 2 : alive\n9 m1 leave : ok\n10 m2 census 2.2 : counted 0\ndone cause none pid no-file\n",
+        b"word USR2\n1 m1 spawn-master 2 : spawned\n2 m2 adopt : adopted\n3 m1 census 1.1 : counted 0\n4 m2 fork 2.2 0 : forked\n5 m2 await-ready 2.2 0 : ready\n6 m2 census 2.2 : counted 0\n7 m1 quit 1.1 0 : ok\n8 m1 await-gone 1.1 0 : gone\n9 m1 alive 2 : alive\n10 m1 leave : ok\n11 m2 census 2.2 : counted 0\ndone cause none pid no-file\n",
     )?;
     let mut output = Vec::new(alloc);
     let family = Recorded::new(alloc, None);

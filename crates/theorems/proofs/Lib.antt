@@ -11,7 +11,12 @@ pub mod Begins
 pub mod After
 pub mod Refusals
 pub mod Logic
+pub mod Aside
 pub mod Heights
+pub mod PartHeights
+pub mod UpgradeHeights
+pub mod Parting
+pub mod LastTurns
 pub mod Rules
 pub mod Ends
 pub mod Duo
@@ -20,12 +25,14 @@ pub mod UpgradeStage
 pub mod UpgradeBack
 pub mod UpgradeServing
 pub mod UpgradeNew
+pub mod UpgradeBeside
 pub mod UpgradeCalls
 pub mod UpgradeRelief
 pub mod Upgrade
 pub mod Absent
 pub mod Traces
 pub mod Waits
+pub mod UpgradeMends
 pub mod UpgradeWalk
 pub mod UpgradeManner
 pub mod Workers

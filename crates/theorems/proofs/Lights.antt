@@ -53,7 +53,7 @@ pub record Light (image : ℕ) (mild : Exiting) (due : Asked) : Type 1 where
   pub kills : (text : List ℕ) (g : Generation) (x : ℕ) (fate : Option Fate) (t : Table) → Holds t → May g x t → Holds (step_with text image (Kill g x) fate t).table
 
 -- the first that a count lacks stands in the set, and not in the count
-first-lacks : (S cs : List ℕ) (x : ℕ) (xs : List ℕ) → lacks S cs ≡ x ∷ xs → (is_in S x ≡ true) × (is_in cs x ≡ false)
+pub first-lacks : (S cs : List ℕ) (x : ℕ) (xs : List ℕ) → lacks S cs ≡ x ∷ xs → (is_in S x ≡ true) × (is_in cs x ≡ false)
 first-lacks S cs x xs e =
     let on : is_in (lacks S cs) x ≡ true = ap (λ l. is_in l x) e ∙ in-here x x xs refl in
     let o = in-filter-of (λ k. not (is_in cs k)) S x on in

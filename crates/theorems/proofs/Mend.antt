@@ -168,5 +168,5 @@ module _ (t : Table) (rec : Record) (overdue : List ℕ) (pattern : Pattern) (s 
       b1
 
 pub mend_headline : MendHeadline
-mend_headline t rec overdue pattern a =
-    (whole t rec (Mend overdue) pattern a.start (like_mend rec overdue a.start.record_in_range.wanted) (plan_tree rec (Mend overdue)) (goes t rec overdue pattern a.start) a.spared).0
+mend_headline t rec overdue turns pattern a =
+    (whole t rec (Mend overdue) pattern a.start (like_mend rec overdue a.start.record_in_range.wanted) (plan_tree rec (Mend overdue) []) (goes t rec overdue pattern a.start) a.spared).0

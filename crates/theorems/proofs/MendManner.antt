@@ -182,12 +182,12 @@ ended t r overdue pattern s p k on (At e) q not_lost h = no-process p q.table.ro
 ended t r overdue pattern s p k on Lost q not_lost h = absurd (not_lost refl)
 
 pub mend_manner : (overdue : List ℕ) → InManner (Mend overdue)
-mend_manner overdue t r pattern a =
-    let ran = run_of r (Mend overdue) pattern t in
+mend_manner overdue t r turns pattern a =
+    let ran = run_of r (Mend overdue) [] pattern t in
     let co = own_course r pattern in
-    let tree = plan_tree r (Mend overdue) in
+    let tree = plan_tree r (Mend overdue) [] in
     let at = start_at t r.note in
-    let keeps = mend_headline t r overdue pattern a in (
+    let keeps = mend_headline t r overdue turns pattern a in (
       λ p k on need. stays-from t r a.start p k on co tree (λ e q. ⊤) (stays-along t r overdue pattern a.start p k on (not-is (is_in overdue k) need)) a.spared tt,
       λ p k on over.
           let post = goes_away t r overdue pattern a.start p k on in

@@ -645,14 +645,14 @@ module _ (t : Table) (rec : Record) (st : Settings) (pattern : Pattern) (s : IsS
           held-map (h ∷ hs) = ap (λ b. bytes_eq h.address a || b) (held-map hs)
 
 pub reload_headline : ReloadHeadline
-reload_headline t rec st pattern a =
+reload_headline t rec st turns pattern a =
     let (range, ds, numbered) = a.accepts in
     let at = start_at t rec.note in
-    let tree = plan_tree rec (Reload st) in
+    let tree = plan_tree rec (Reload st) [] in
     let i = inv t rec st pattern a.start range ds numbered in
     let c = co t rec st pattern a.start range ds numbered in
     let all = from-along i (post t rec st pattern a.start range ds numbered) Anyhow Unasked c tree at (goes t rec st pattern a.start range ds numbered) a.spared (are-mild-anyhow c tree at) in
-    let ran = run_of rec (Reload st) pattern t in
+    let ran = run_of rec (Reload st) [] pattern t in
     let target = want rec (Reload st) in (
       record {
         says = all.last.0;

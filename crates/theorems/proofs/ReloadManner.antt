@@ -136,7 +136,7 @@ module _ (t : Table) (r : Record) (st : Settings) (pattern : Pattern) (s : IsSta
       (start_at t r.note) (first-untouched t r s p k on)
 
 pub reload_manner : (st : Settings) → InManner (Reload st)
-reload_manner st t r pattern a = (
-  λ back p k on need. stays-from t r a.start p k on (own_course r pattern) (plan_tree r (Reload st)) (λ e q. is_old_side (outcome_of (sides_of r (Reload st)) e q.lacking) ≡ true) (stays-along t r st pattern a.start p k on) a.spared back,
-  kills-from t r (own_course r pattern) (plan_tree r (Reload st)) (λ e q. ⊤) a.spared (λ p k on. untaken-along t r st pattern a.start p k on),
+reload_manner st t r turns pattern a = (
+  λ back p k on need. stays-from t r a.start p k on (own_course r pattern) (plan_tree r (Reload st) []) (λ e q. is_old_side (outcome_of (sides_of r (Reload st)) e q.lacking) ≡ true) (stays-along t r st pattern a.start p k on) a.spared back,
+  kills-from t r (own_course r pattern) (plan_tree r (Reload st) []) (λ e q. ⊤) a.spared (λ p k on. untaken-along t r st pattern a.start p k on),
 )

@@ -61,10 +61,10 @@ module _ (t : Table) (rec : Record) (pattern : Pattern) (s : IsStart t rec) wher
       (start-band t rec Reopen pattern s like (λ a. omega arith))
 
 pub reopen_headline : ReopenHeadline
-reopen_headline t rec pattern a = (whole t rec Reopen pattern a.start (like_reopen t rec a.start) (plan_tree rec Reopen) (goes t rec pattern a.start) a.spared).0
+reopen_headline t rec turns pattern a = (whole t rec Reopen pattern a.start (like_reopen t rec a.start) (plan_tree rec Reopen []) (goes t rec pattern a.start) a.spared).0
 
 pub reopen_floor : ReopenFloor
-reopen_floor t rec pattern a =
+reopen_floor t rec turns pattern a =
     let like = like_reopen t rec a.start in
-    let all = whole t rec Reopen pattern a.start like (plan_tree rec Reopen) (goes t rec pattern a.start) a.spared in
-    every-more (Level t rec Reopen pattern a.start like) (Floor (service t) (want rec Reopen) t (wanted_at rec Reopen)) (λ q h address common. omega (arith, h address common)) (run_of rec Reopen pattern t).passed all.1
+    let all = whole t rec Reopen pattern a.start like (plan_tree rec Reopen []) (goes t rec pattern a.start) a.spared in
+    every-more (Level t rec Reopen pattern a.start like) (Floor (service t) (want rec Reopen) t (wanted_at rec Reopen)) (λ q h address common. omega (arith, h address common)) (run_of rec Reopen [] pattern t).passed all.1

@@ -104,10 +104,10 @@ not-lost r target first (At end) q says same = cc same
 not-lost r target first Lost q says same = says
 
 pub reopen_manner : InManner Reopen
-reopen_manner t r pattern a =
-    let ran = run_of r Reopen pattern t in
-    let keeps = reopen_headline t r pattern a in (
-      λ p k on need. stays-from t r a.start p k on (own_course r pattern) (plan_tree r Reopen) (λ e q. ⊤) (stays-along t r pattern a.start p k on) a.spared tt,
+reopen_manner t r turns pattern a =
+    let ran = run_of r Reopen [] pattern t in
+    let keeps = reopen_headline t r turns pattern a in (
+      λ p k on need. stays-from t r a.start p k on (own_course r pattern) (plan_tree r Reopen []) (λ e q. ⊤) (stays-along t r pattern a.start p k on) a.spared tt,
       told r.generation.image r.generation r.ready (settle r.generation.image (crew_of r) r.ready Target r.retries) pattern (start_at t r.note) (not-lost r Reopen t ran.ending ran.last keeps.says),
-      kills-from t r (own_course r pattern) (plan_tree r Reopen) (λ e q. ⊤) a.spared (λ p k on. untaken-along t r pattern a.start p k on),
+      kills-from t r (own_course r pattern) (plan_tree r Reopen []) (λ e q. ⊤) a.spared (λ p k on. untaken-along t r pattern a.start p k on),
     )

@@ -510,10 +510,9 @@ module _ (u : View) (sc : Scene u.number u.image) (gr : Ground u sc) where
   abbrev pub Part : View → Names → ℕ → Generation → List ℕ → Type 0
   Part v t n g T = (rows : List Process) → Looks v rows → weigh (ready_in u.number t) rows + length T ≤ weigh (ready_in u.number (named g (is_in T))) rows + n
 
-  pub rule-count : (ok short : Tree) (g : Generation) (T : List ℕ) (r t : Names) (n c : ℕ) (w : Bool) (ls : List ℕ) (p : Progress) → Distinct T → ((k : ℕ) → is_in T k ≡ true → k < 1024) → ((k : ℕ) → r g k ≡ true → k < 1024) → Part (view u none r) t n g T → ((cs : List ℕ) (q : Progress) → lacks T cs ≡ [] → Band u sc none (seen r g cs) t n c w [] q → q.lacking ≡ [] → Saw g T q → Exact g q → Runs ok q) → ((cs : List ℕ) (x : ℕ) (xs : List ℕ) (q : Progress) → lacks T cs ≡ x ∷ xs → Band u sc none (seen r g cs) t n c true (x ∷ xs) q → q.lacking ≡ x ∷ xs → Saw g T q → Exact g q → Runs short q) → Band u sc none r t n c w ls p → Runs (census u.image g T (census_edges ok short)) p
-  rule-count ok short g T r t n c w ls p dT below_T below_r part on_full on_short b =
+  pub rule-count-on : (bs : Branches) (g : Generation) (T : List ℕ) (r t : Names) (n c : ℕ) (w : Bool) (ls : List ℕ) (p : Progress) → Distinct T → ((k : ℕ) → is_in T k ≡ true → k < 1024) → ((k : ℕ) → r g k ≡ true → k < 1024) → Part (view u none r) t n g T → ((cs : List ℕ) (q : Progress) → lacks T cs ≡ [] → Band u sc none (seen r g cs) t n c w [] q → q.lacking ≡ [] → Saw g T q → Exact g q → Edge bs reply.Full q) → ((cs : List ℕ) (x : ℕ) (xs : List ℕ) (q : Progress) → lacks T cs ≡ x ∷ xs → Band u sc none (seen r g cs) t n c true (x ∷ xs) q → q.lacking ≡ x ∷ xs → Saw g T q → Exact g q → Edge bs reply.Short q) → Band u sc none r t n c w ls p → Runs (census u.image g T bs) p
+  rule-count-on bs g T r t n c w ls p dT below_T below_r part on_full on_short b =
       let order = Make (Census g) in
-      let bs = census_edges ok short in
       rule-step order T bs none r t n c w ls p refl b (λ q b' fate.
       let cs = census_of u.number g q.table.rows in
       let rows' = filter_map (drop_where (is_exited_of u.number)) q.table.rows in
@@ -531,10 +530,13 @@ module _ (u : View) (sc : Scene u.number u.image) (gr : Ground u sc) where
         | x ∷ xs ↦ λ e. on_short cs x xs (after (x ∷ xs)) e (record { looks = looks'; enough = b'.enough; secured = λ a e. omega (arith, b'.secured a e, same); budget = omega (arith, b'.budget, same); lacking = own-lacked u.image T cs q.lacked ∙ e; still = b'.still; marks = marks-wrong w q.faults q.faults q.losses (q.calls + 1) q.cause (omega (arith, before (x ∷ xs) e)) b'.marks; beside = sc.drops (is_exited_of u.number) q.table.rows q.losses q.faults (mine-exited u.number, λ z zs. refl) b'.beside }) e saw exact
       ] refl))
 
+  pub rule-count : (ok short : Tree) (g : Generation) (T : List ℕ) (r t : Names) (n c : ℕ) (w : Bool) (ls : List ℕ) (p : Progress) → Distinct T → ((k : ℕ) → is_in T k ≡ true → k < 1024) → ((k : ℕ) → r g k ≡ true → k < 1024) → Part (view u none r) t n g T → ((cs : List ℕ) (q : Progress) → lacks T cs ≡ [] → Band u sc none (seen r g cs) t n c w [] q → q.lacking ≡ [] → Saw g T q → Exact g q → Runs ok q) → ((cs : List ℕ) (x : ℕ) (xs : List ℕ) (q : Progress) → lacks T cs ≡ x ∷ xs → Band u sc none (seen r g cs) t n c true (x ∷ xs) q → q.lacking ≡ x ∷ xs → Saw g T q → Exact g q → Runs short q) → Band u sc none r t n c w ls p → Runs (census u.image g T (census_edges ok short)) p
+  rule-count ok short g T r t n c w ls p dT below_T below_r part on_full on_short b = rule-count-on (census_edges ok short) g T r t n c w ls p dT below_T below_r part on_full on_short b
+
   ---- Settle
 
   -- a worker that a count lacks
-  in-filter : (t : ℕ → Bool) (S : List ℕ) (x : ℕ) (xs : List ℕ) → filter t S ≡ x ∷ xs → (is_in S x ≡ true) × (t x ≡ true)
+  pub in-filter : (t : ℕ → Bool) (S : List ℕ) (x : ℕ) (xs : List ℕ) → filter t S ≡ x ∷ xs → (is_in S x ≡ true) × (t x ≡ true)
   in-filter t [] x xs e = absurd (cc)
   in-filter t (y ∷ S) x xs e = go (t y) refl e (in-filter t S x xs)
     where
@@ -546,35 +548,35 @@ module _ (u : View) (sc : Scene u.number u.image) (gr : Ground u sc) where
           let both = ih e in
           (in-there y x S both.0, both.1)
 
-  not-true : (b : Bool) → not b ≡ true → b ≡ false
+  pub not-true : (b : Bool) → not b ≡ true → b ≡ false
   not-true true e = cc
   not-true false e = refl
 
-  unseen : (a b c : Bool) → b ≡ false → c ≡ true → (a && (b || not c)) ≡ false
+  pub unseen : (a b c : Bool) → b ≡ false → c ≡ true → (a && (b || not c)) ≡ false
   unseen true true c e f = cc
   unseen true false true e f = refl
   unseen true false false e f = cc
   unseen false b c e f = refl
 
-  only-plus : (g : Generation) (S : List ℕ) (r : Names) (x : ℕ) → is_in S x ≡ true → Only g S r → Only g S (plus r g x)
+  pub only-plus : (g : Generation) (S : List ℕ) (r : Names) (x : ℕ) → is_in S x ≡ true → Only g S r → Only g S (plus r g x)
   only-plus g S r x in_x only h k e =
       ⊎_elim (λ a. only h k a) (λ b. let is = bears-is g x h k b in (is.0, subst (λ y. is_in S y ≡ true) (sym is.1) in_x)) (or-elim (r h k) (bears g x h k) e)
 
-  only-seen : (g : Generation) (S cs : List ℕ) (r : Names) → Only g S r → Only g S (seen r g cs)
+  pub only-seen : (g : Generation) (S cs : List ℕ) (r : Names) → Only g S r → Only g S (seen r g cs)
   only-seen g S cs r only h k e = only h k (and-left (r h k) _ e)
 
   -- a step that names its worker when it runs
-  to-fork : (crew : Crew) (bs : Branches) (q : Progress) (x : ℕ) (xs : List ℕ) → lacked_by u.image q.lacked ≡ x ∷ xs → Runs (does u.image (fork_of crew x) bs) q → Runs (Does u.image (ForkLacking crew) [] bs) q
+  pub to-fork : (crew : Crew) (bs : Branches) (q : Progress) (x : ℕ) (xs : List ℕ) → lacked_by u.image q.lacked ≡ x ∷ xs → Runs (does u.image (fork_of crew x) bs) q → Runs (Does u.image (ForkLacking crew) [] bs) q
   to-fork crew bs q x xs e h = subst (λ (l : List ℕ). Runs (does u.image (fork_of crew (lowest l)) bs) q) (sym e) h
 
-  to-await : (g : Generation) (bs : Branches) (q : Progress) (x : ℕ) (xs : List ℕ) → lacked_by u.image q.lacked ≡ x ∷ xs → Runs (does u.image (AwaitReady g x) bs) q → Runs (Does u.image (AwaitLacking g) [] bs) q
+  pub to-await : (g : Generation) (bs : Branches) (q : Progress) (x : ℕ) (xs : List ℕ) → lacked_by u.image q.lacked ≡ x ∷ xs → Runs (does u.image (AwaitReady g x) bs) q → Runs (Does u.image (AwaitLacking g) [] bs) q
   to-await g bs q x xs e h = subst (λ (l : List ℕ). Runs (does u.image (AwaitReady g (lowest l)) bs) q) (sym e) h
 
-  to-kill : (g : Generation) (bs : Branches) (q : Progress) (x : ℕ) (xs : List ℕ) → lacked_by u.image q.lacked ≡ x ∷ xs → Runs (does u.image (Kill g x) bs) q → Runs (Does u.image (KillLacking g) [] bs) q
+  pub to-kill : (g : Generation) (bs : Branches) (q : Progress) (x : ℕ) (xs : List ℕ) → lacked_by u.image q.lacked ≡ x ∷ xs → Runs (does u.image (Kill g x) bs) q → Runs (Does u.image (KillLacking g) [] bs) q
   to-kill g bs q x xs e h = subst (λ (l : List ℕ). Runs (does u.image (Kill g (lowest l)) bs) q) (sym e) h
 
   -- no name is Starting once the one that was forked is left out
-  over : (g : Generation) (x : ℕ) (h : Generation) (k : ℕ) → minus (plus none g x) g x h k ≡ true → none h k ≡ true
+  pub over : (g : Generation) (x : ℕ) (h : Generation) (k : ℕ) → minus (plus none g x) g x h k ≡ true → none h k ≡ true
   over g x h k e = go (bears g x h k) e
     where
       go : (b : Bool) → (b && not b) ≡ true → false ≡ true

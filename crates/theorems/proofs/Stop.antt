@@ -348,18 +348,18 @@ all-done t rec quick pattern s (At ShortTarget) q h = absurd h
 all-done t rec quick pattern s (At _) q h = absurd h
 all-done t rec quick pattern s Lost q h = absurd h
 
-goes : (t : Table) (rec : Record) (quick : Bool) (pattern : Pattern) (s : IsStart t rec) → Goes t rec quick pattern s (plan_tree rec (Stop quick)) (start_at t rec.note)
+goes : (t : Table) (rec : Record) (quick : Bool) (pattern : Pattern) (s : IsStart t rec) → Goes t rec quick pattern s (plan_tree rec (Stop quick) []) (start_at t rec.note)
 goes t rec true pattern s = goes-quick t rec true pattern s
 goes t rec false pattern s = goes-slowly t rec false pattern s
 
 pub stop_headline : StopHeadline
-stop_headline t rec quick pattern a =
+stop_headline t rec quick turns pattern a =
     let at = start_at t rec.note in
-    let tree = plan_tree rec (Stop quick) in
+    let tree = plan_tree rec (Stop quick) [] in
     let i = inv t rec quick pattern a.start in
     let c = co t rec quick pattern a.start in
     let all = from-along i (post t rec quick pattern a.start) Anyhow Unasked c tree at (goes t rec quick pattern a.start) a.spared (are-mild-anyhow c tree at) in
-    let ran = run_of rec (Stop quick) pattern t in
+    let ran = run_of rec (Stop quick) [] pattern t in
     let done = all-done t rec quick pattern a.start ran.ending ran.last all.last in
     let failed : ran.last.note ≡ Left → was_failed (paths_of rec.pid_path) ran.entries ≡ true = λ e.
     ⊎_elim (λ x. absurd (not-left rec.note rec.pid_path rec.pid t.files a.start.agrees.files x)) (λ x. x)

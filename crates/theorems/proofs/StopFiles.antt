@@ -218,20 +218,20 @@ removed-at path owner co past (At end) q on h = h
 removed-at path owner co past Lost q on h = absurd on
 
 -- What a good tree says of its run.
-removed-by : (path : FilePath) (t : Table) (r : Record) (quick : Bool) (pattern : Pattern) → refusal_of r (Stop quick) pattern t ≡ None → Ended (run_of r (Stop quick) pattern t).ending →
-    IsGood path (owner_at path t.files) (own_course r pattern) (owner_at path t.files) false (removes r.generation.image r.pid_path r.note (stopped r.generation.image)) → IsRemoved path (run_of r (Stop quick) pattern t)
+removed-by : (path : FilePath) (t : Table) (r : Record) (quick : Bool) (pattern : Pattern) → refusal_of r (Stop quick) [] pattern t ≡ None → Ended (run_of r (Stop quick) [] pattern t).ending →
+    IsGood path (owner_at path t.files) (own_course r pattern) (owner_at path t.files) false (removes r.generation.image r.pid_path r.note (stopped r.generation.image)) → IsRemoved path (run_of r (Stop quick) [] pattern t)
 removed-by path t r quick pattern spared ends good =
     let o = owner_at path t.files in
     let c = own_course r pattern in
     let at = start_at t r.note in
-    let tree = plan_tree r (Stop quick) in
-    let ran = run_of r (Stop quick) pattern t in
+    let tree = plan_tree r (Stop quick) [] in
+    let ran = run_of r (Stop quick) [] pattern t in
     let all = from-traced (due path o c) (Removed path o c) Anyhow c [] tree at (stop-good path o c r.generation.image r.generation r.ready r.pid_path r.note quick good [] at refl refl) spared (are-mild-anyhow c tree at) in
     removed-at path o c ran.entries ran.ending ran.last ends all.last
     ∙ ap (λ x. if was_failed (path ∷ []) ran.entries then x else None) (sym (owned-first path [] tree pattern at))
 
-pub files-removed : (path : FilePath) (t : Table) (r : Record) (quick : Bool) (pattern : Pattern) → r.pid_path ≡ Some path → FilesAre r.note r.pid_path r.pid t.files → refusal_of r (Stop quick) pattern t ≡ None → Ended (run_of r (Stop quick) pattern t).ending →
-    IsRemoved path (run_of r (Stop quick) pattern t) × IsRemoved (oldbin path) (run_of r (Stop quick) pattern t)
+pub files-removed : (path : FilePath) (t : Table) (r : Record) (quick : Bool) (pattern : Pattern) → r.pid_path ≡ Some path → FilesAre r.note r.pid_path r.pid t.files → refusal_of r (Stop quick) [] pattern t ≡ None → Ended (run_of r (Stop quick) [] pattern t).ending →
+    IsRemoved path (run_of r (Stop quick) [] pattern t) × IsRemoved (oldbin path) (run_of r (Stop quick) [] pattern t)
 files-removed path t r quick pattern is are spared ends =
     let c = own_course r pattern in
     let by = r.generation.image in

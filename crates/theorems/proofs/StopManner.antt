@@ -159,11 +159,11 @@ leave-due g ready past Leave t e h = h
 leave-due g ready past _ t e h = absurd (cc e)
 
 pub stop_manner : (quick : Bool) → InManner (Stop quick)
-stop_manner true t r pattern a =
-    never-called is_quit_call [] (plan_tree r (Stop true)) pattern (start_at t r.note)
+stop_manner true t r turns pattern a =
+    never-called is_quit_call [] (plan_tree r (Stop true) []) pattern (start_at t r.note)
     (never-kills r.generation.image r.generation r.ready (removes r.generation.image r.pid_path r.note (stopped r.generation.image)) (never-removes r.generation.image r.pid_path r.note (stopped r.generation.image) (refl, (tt, tt))))
-stop_manner false t r pattern a =
-    let tree = plan_tree r (Stop false) in
+stop_manner false t r turns pattern a =
+    let tree = plan_tree r (Stop false) [] in
     let at = start_at t r.note in
     let c = own_course r pattern in
     let asked = InOrder r.generation r.ready in

@@ -20,7 +20,7 @@ use Rattle.theorems.proofs.Views.{eqb-is, eqb-refl, eqb-off}
 use Rattle.theorems.proofs.Effects.{bears-is, bears-refl}
 use Rattle.theorems.proofs.Counts.{census-in}
 use Rattle.theorems.proofs.Logic.{Anyhow}
-use Rattle.theorems.proofs.Processes.{Lasts, Lets, Fact, fact-exits, fact-steps, fact-census}
+use Rattle.theorems.proofs.Processes.{AnyCall, Lasts, Lets, Fact, fact-any, fact-exits, fact-steps, fact-census}
 use Rattle.theorems.proofs.Lights.{Light}
 
 -- a kill that does not take the process
@@ -232,6 +232,9 @@ module _ (m image n : ℕ) (g0 : Generation) (k0 : ℕ) (low : k0 < 1024) where
 
   pub may-steps : (text : List ℕ) (call : Call) (fate : Option Fate) (t : Table) (g : Generation) (x : ℕ) → Lets IsFree call → May g x t → May g x (step_with text image call fate t).table
   may-steps text call fate t g x lets may = ⊎_elim (λ free. inl free) (λ gone. inr (fact-steps m image n (IsOther n) (λ g x. ⊤) (gone-lasts m n) text call fate t (lets-any call lets) gone)) may
+
+  pub may-any : (text : List ℕ) (by : ℕ) (call : Call) (fate : Option Fate) (t : Table) (g : Generation) (x : ℕ) → AnyCall image call → May g x t → May g x (step_with text by call fate t).table
+  may-any text by call fate t g x is may = ⊎_elim (λ free. inl free) (λ gone. inr (fact-any m image n (IsOther n) (λ g x. ⊤) (gone-lasts m n) [] text by call fate t is gone)) may
 
   abbrev pub untouched : Light image Anyhow (NotTaken n)
   untouched = record {

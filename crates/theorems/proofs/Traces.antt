@@ -7,6 +7,7 @@ use Rattle.vocabulary.specs.declared.calls.Answer.{Answer}
 use Rattle.vocabulary.specs.declared.calls.Reply.{Reply}
 use Rattle.vocabulary.specs.declared.calls.Fate.{Fate}
 use Rattle.vocabulary.specs.declared.plans.PidNote.{PidNote}
+use Rattle.vocabulary.specs.declared.plans.Order.{Order}
 use Rattle.vocabulary.specs.declared.plans.Order.TheVariants.{Make}
 use Rattle.vocabulary.specs.declared.reports.Entry.{Entry}
 use Rattle.vocabulary.specs.declared.names.Name.{Name}
@@ -187,6 +188,21 @@ module _ (due : Asking) (post : Finally) (mild : Exiting) (co : Course) (lost : 
       let after : course_after order co ≡ co = go (is_leave order) stays in
       let h' = exits moment.exits p.table (subst (λ images. names_any images moment.exits ≡ false) at spared) calm h in
       (asks past middle.table k h', subst (λ (x : Course). TracedBehind due post mild x (past ++ entry_of by call s.answer ∷ []) bs (reply_of set s.answer) (after_call by order set s middle)) (sym after) (next past middle moment.fate k h'))
+    where
+      go : (b : Bool) → b ≡ false → record { text = co.text; pattern = co.pattern; executing = if b then co.heirs else co.executing; heirs = co.heirs } ≡ co
+      go true e = absurd (cc)
+      go false e = refl
+
+  -- A step of any order, with a fact on the table.
+  pub ordered-step : (Q : Table → Type 0) (by : ℕ) (order : Order) (set : List ℕ) (bs : Branches) (past : List Entry) (p : Progress) → is_leave order ≡ false → ((es : List Name) (t : Table) → names_any co.executing es ≡ false → mild es t.rows → Q t → Q (after_exits es t)) → Q p.table → ((t : Table) → Q t → due past (call_of order (lacked_by by p.lacked)) t) → ((q : Progress) (fate : Option Fate) → Q q.table → q.lacked ≡ p.lacked → let st = step_with co.text by (call_of order (lacked_by by p.lacked)) fate q.table in TracedBehind due post mild co (past ++ entry_of by (call_of order (lacked_by by p.lacked)) st.answer ∷ []) bs (reply_of set st.answer) (after_call by order set st q)) → Traced due post mild co past (Does by order set bs) p
+  ordered-step Q by order set bs past p stays exits h asks next = λ spared calm.
+      let moment = co.pattern (p.calls + 1) in
+      let middle = after_moment moment.exits p in
+      let s = answered co.text by order moment.fate middle in
+      let at : (if is_leave order then co.executing ++ co.heirs else co.executing) ≡ co.executing = rw stays in
+      let after : course_after order co ≡ co = go (is_leave order) stays in
+      let h' = exits moment.exits p.table (subst (λ images. names_any images moment.exits ≡ false) at spared) calm h in
+      (asks middle.table h', subst (λ (x : Course). TracedBehind due post mild x (past ++ entry_of by (call_of order (lacked_by by p.lacked)) s.answer ∷ []) bs (reply_of set s.answer) (after_call by order set s middle)) (sym after) (next middle moment.fate h' refl))
     where
       go : (b : Bool) → b ≡ false → record { text = co.text; pattern = co.pattern; executing = if b then co.heirs else co.executing; heirs = co.heirs } ≡ co
       go true e = absurd (cc)

@@ -1,7 +1,7 @@
 -- The headline for an upgrade.
 use Rattle.std.proofs.Common.{◌≡◌, ◌≢◌, ℕ, ◌+◌, ◌<◌, true, false, List, [], ◌∷◌, length, Option, Some, None, refl, sym, ap, ◌∙◌, subst, arith, inl}
 use Rattle.std.specs.Prelude.{option_and_then}
-use Rattle.listener_set.specs.Numbers.{is_in, numbers_below}
+use Rattle.listener_set.specs.Numbers.{is_in}
 use Rattle.vocabulary.specs.Settings.{Settings}
 use Rattle.vocabulary.specs.declared.reports.Report.{Report}
 use Rattle.vocabulary.specs.declared.reports.Outcome.{Outcome}
@@ -11,7 +11,7 @@ use Rattle.vocabulary.specs.declared.plans.PidNote.{PidNote}
 use Rattle.vocabulary.specs.declared.plans.PidNote.TheVariants.{InPlace, AtOldbin, OldbinLeft, Left, NoFile}
 use Rattle.vocabulary.specs.declared.plans.Order.TheVariants.{Make}
 use Rattle.vocabulary.specs.declared.plans.Side.TheVariants.{Old}
-use Rattle.vocabulary.specs.declared.calls.Call.TheVariants.{MovePid, SpawnMaster, Census}
+use Rattle.vocabulary.specs.declared.calls.Call.TheVariants.{MovePid, SpawnMaster}
 use Rattle.vocabulary.specs.declared.calls.Answer.TheVariants as answer
 use Rattle.vocabulary.specs.declared.calls.Reply.TheVariants as reply
 use Rattle.vocabulary.specs.declared.targets.Target.TheVariants.{Upgrade, Attended}
@@ -21,7 +21,9 @@ use Rattle.definitions.specs.Record.{Record, FilesAre, oldbin}
 use Rattle.definitions.specs.Target.{want, wanted_at, sides_of}
 use Rattle.definitions.specs.After.{next_record, record_from, master_of, setup_after}
 use Rattle.definitions.specs.Tree.{Tree, Nothing}
-use Rattle.definitions.specs.Plans.{back_from, plan_tree, on, does, settle, spawn_edges, move_aside, back_alone, tries, tries_all, new_calls, relieve, upgrade_tree}
+use Rattle.vocabulary.specs.declared.plans.Turn.{Turn}
+use Rattle.definitions.specs.Parts.{weave, joined}
+use Rattle.definitions.specs.Plans.{back_from, plan_tree, on, does, settle, spawn_edges, move_aside, back_alone, new_part, old_part, taken_over, relieve, upgrade_tree}
 use Rattle.definitions.specs.Service.{service}
 use Rattle.definitions.specs.Run.{Ending, Progress, faults_since, after_call, after_moment, start_at, report_of}
 use Rattle.definitions.specs.Claims.{Kept, Floor, AttendedFloor, Says, AgreesAfter, IsBlamed, run_of, UpgradeHeadline, AttendedHeadline}
@@ -38,7 +40,7 @@ use Rattle.theorems.proofs.UpgradeBack.{Aside, settle-old, goes-back-alone}
 use Rattle.theorems.proofs.UpgradeCalls.{new-goes}
 use Rattle.theorems.proofs.UpgradeRelief.{relieves}
 
-module _ (c : Given) where
+module _ (c : Given) (turns : List Turn) where
   abbrev I : Progress → Type 0
   I = inv c
 
@@ -61,7 +63,9 @@ module _ (c : Given) where
   back = back_from c.rec.generation.image image (old_crew c) (R c) c.rec.retries c.rec.pid_path
 
   abbrev ok : Tree
-  ok = tries_all image (new_calls (new_crew c) c.rec.pid_path (A0 c) (wanted c) (n c)) (tries image (Census (new c)) (numbers_below (n c)) rest back) back
+  ok =
+      weave (joined (taken_over c.attended c.rec.generation.image (old_crew c) (new_crew c) (R c) c.rec.retries c.rec.pid_path (n c) back) back) (new_part (new_crew c) (A0 c) (wanted c) (n c)) turns
+      (old_part c.rec.generation.image (old_crew c) (R c) c.rec.retries)
 
   abbrev bad : Tree
   bad = back_alone c.rec.generation.image (old_crew c) (R c) c.rec.retries c.rec.pid_path
@@ -84,8 +88,8 @@ module _ (c : Given) where
       let ne : m ≢ c.rec.pid = λ e. absurd (omega (arith, e, next, above)) in
       let t' = with_new_row p.table (λ k. Master k c.rec.pid image true (H0 c)) in
       let two = spawned-looks (view (u c) none r) (w c m (H0 c) none none) c.rec.pid p.table.rows (λ k. refl) (λ e. ne (sym e)) (eqb-refl c.rec.pid c.rec.pid refl) (λ e. absurd (omega (arith, e))) b'.looks in
-      new-goes c m ne r only rest files (after_call c.rec.generation.image order [] (gives answer.Spawned t') p) aside
-      (λ hs r' files' q' lists keys laid common aside' written only' b''. relieves c m ne (omega (arith, next, above, c.start.record_in_range.pid)) r only hs r' only' lists keys laid common files' q' aside' written b'')
+      new-goes c m ne rest files (after_call c.rec.generation.image order [] (gives answer.Spawned t') p) turns r aside only
+      (λ hs r0 r' ls files' q' lists keys laid common aside' written only0 only' b''. relieves c m ne (omega (arith, next, above, c.start.record_in_range.pid)) r0 only0 hs r' only' lists keys laid common ls files' q' aside' written b'')
       (record {
         looks = two.old.looks;
         enough = b'.enough;
@@ -133,7 +137,7 @@ module _ (c : Given) where
   begins (Some path) Left r q only is same are next b = absurd are
   begins (Some path) NoFile r q only is same are next b = absurd are
 
-  pub goes : Goes c (co c) (upgrade_tree c.attended c.rec.generation.image (old_crew c) (new_crew c) (R c) c.rec.retries c.rec.pid_path c.rec.note (A0 c) (wanted c) (n c)) (start_at c.t c.rec.note)
+  pub goes : Goes c (co c) (upgrade_tree c.attended c.rec.generation.image (old_crew c) (new_crew c) (R c) c.rec.retries c.rec.pid_path c.rec.note (A0 c) (wanted c) (n c) turns) (start_at c.t c.rec.note)
   goes =
       let count = begin-count c.t c.rec c.start in
       begins c.rec.pid_path c.rec.note (named (g c) (is_in (R c))) (start_at c.t c.rec.note) (λ h k e. (same-is h (g c) (and-left _ _ e), and-right (same_generation h (g c)) _ e)) refl refl c.start.agrees.files refl
@@ -149,13 +153,13 @@ module _ (c : Given) where
       })
 
 pub upgrade_headline : UpgradeHeadline
-upgrade_headline t rec st pattern a =
+upgrade_headline t rec st turns pattern a =
     let (range, ds, numbered) = a.accepts in
     let c : Given = record { t = t; rec = rec; st = st; pattern = pattern; attended = false; start = a.start; range = range; ds = ds; numbered = numbered } in
     let at = start_at t rec.note in
-    let tree = plan_tree rec (Upgrade st) in
-    let all = from-along (inv c) (post c) Anyhow Unasked (co c) tree at (goes c) a.spared (are-mild-anyhow (co c) tree at) in
-    let ran = run_of rec (Upgrade st) pattern t in
+    let tree = plan_tree rec (Upgrade st) turns in
+    let all = from-along (inv c) (post c) Anyhow Unasked (co c) tree at (goes c turns) a.spared (are-mild-anyhow (co c) tree at) in
+    let ran = run_of rec (Upgrade st) turns pattern t in
     let target = want rec (Upgrade st) in (
       record {
         says = all.last.0;
@@ -191,13 +195,13 @@ after-attended r s report t a =
     record { record_then = a.record_then; is = same ∙ a.is; agrees = a.agrees; record_in_range = a.record_in_range; same_master = a.same_master }
 
 pub attended_headline : AttendedHeadline
-attended_headline t rec st pattern a =
+attended_headline t rec st turns pattern a =
     let (range, ds, numbered) = a.accepts in
     let c : Given = record { t = t; rec = rec; st = st; pattern = pattern; attended = true; start = a.start; range = range; ds = ds; numbered = numbered } in
     let at = start_at t rec.note in
-    let tree = plan_tree rec (Attended st) in
-    let all = from-along (inv c) (post c) Anyhow Unasked (co c) tree at (goes c) a.spared (are-mild-anyhow (co c) tree at) in
-    let ran = run_of rec (Attended st) pattern t in
+    let tree = plan_tree rec (Attended st) turns in
+    let all = from-along (inv c) (post c) Anyhow Unasked (co c) tree at (goes c turns) a.spared (are-mild-anyhow (co c) tree at) in
+    let ran = run_of rec (Attended st) turns pattern t in
     let target = want rec (Attended st) in
     let report = report_of (sides_of rec (Attended st)) ran in (
       record {

@@ -20,7 +20,7 @@ use Rattle.definitions.specs.Table.{Table, Caller, bears, is_worker, is_any}
 use Rattle.definitions.specs.Crew.{Crew}
 use Rattle.definitions.specs.Target.{sides_of}
 use Rattle.definitions.specs.Exits.{after_exits}
-use Rattle.definitions.specs.Calls.{Stepped, gives, each_row, drop_where, step_by, step_with}
+use Rattle.definitions.specs.Calls.{Stepped, gives, each_row, drop_where, census_of, is_exited_of, step_by, step_with}
 use Rattle.definitions.specs.Tree.{Tree, Branches, Ends, Does, Nothing, Branch, among, reply_of, call_of}
 use Rattle.definitions.specs.Plans.{upgrade_tree, settle, quits, awaits_gone, gone_edges, then_edge, does}
 use Rattle.definitions.specs.Run.{Progress, Lost, start_at, outcome_of, noted, after_call}
@@ -34,9 +34,13 @@ use Rattle.theorems.proofs.Sets.{in-here, in-there, in-cases}
 use Rattle.theorems.proofs.Small.{in-reverse}
 use Rattle.theorems.proofs.Logic.{Unasked, Anyhow, Course, course_after, are-mild-anyhow, gone-cases, unfailing, refused_in, run_in}
 use Rattle.theorems.proofs.Processes.{AnyCall, Fact, one-found, fact-any, fact-exits, fact-steps}
-use Rattle.theorems.proofs.Lights.{settle-along}
+use Rattle.listener_set.specs.Numbers.{lacks}
+use Rattle.vocabulary.specs.declared.plans.Turn.{Turn}
+use Rattle.definitions.specs.Path.{ready_after}
+use Rattle.theorems.proofs.UpgradeMends.{Spares}
+use Rattle.theorems.proofs.Lights.{settle-along, first-lacks}
 use Rattle.theorems.proofs.Staying.{Unlost, Stands, standing, stands-any, stands-exits}
-use Rattle.theorems.proofs.Taken.{NotTaken, IsOther, OnlyOurs, InAny, IsUntouched, untouched, close-lasts, loose-lasts, loosens, not-gone-taken, not-killed}
+use Rattle.theorems.proofs.Taken.{NotTaken, IsOther, OnlyOurs, InAny, IsUntouched, untouched, may-exits, may-any, close-lasts, loose-lasts, loosens, not-gone-taken, not-killed}
 use Rattle.theorems.proofs.Absent.{Absent, absent-exits, absent-steps}
 use Rattle.theorems.proofs.Firsts.{first-in, first-low, first-stands, first-untouched, stands-ready}
 use Rattle.theorems.proofs.Manners.{are-unlost}
@@ -45,9 +49,17 @@ use Rattle.theorems.proofs.UpgradeStage.{Given, g, old_crew, new_crew, R, A0, wa
 use Rattle.theorems.proofs.UpgradeWalk.{Free, IsGood, upgrade-good, any-stays}
 use Rattle.theorems.proofs.Waits.{Told, AllWaited, told-on, all-waited-on, quits-told, waits-told, leaves-traced}
 
+-- Whom a count of the old master lacks, where the count tells who is Ready.
+lacks-for : (c : Given) (May : ℕ → Table → Type 0) (text : List ℕ) (fate : Option Fate) (t : Table) → step_with text c.rec.generation.image (Census (g c)) fate t ≡ gives (answer.Counted (census_of c.rec.pid (g c) t.rows)) (each_row (drop_where (is_exited_of c.rec.pid)) t) → ((x : ℕ) → is_in (R c) x ≡ true → is_in (census_of c.rec.pid (g c) t.rows) x ≡ false → May x (each_row (drop_where (is_exited_of c.rec.pid)) t)) → (cs : List ℕ) → (step_with text c.rec.generation.image (Census (g c)) fate t).answer ≡ answer.Counted cs → (x : ℕ) (xs : List ℕ) → lacks (R c) cs ≡ x ∷ xs → May x (step_with text c.rec.generation.image (Census (g c)) fate t).table
+lacks-for c May text fate t is may cs e x xs l =
+    let same : answer.Counted (census_of c.rec.pid (g c) t.rows) ≡ answer.Counted cs = sym (ap (λ (s : Stepped). s.answer) is) ∙ e in
+    let cs_is : census_of c.rec.pid (g c) t.rows ≡ cs = ap (λ a. ready_after a []) same in
+    let o = first-lacks (R c) cs x xs l in
+    subst (λ (s : Stepped). May x s.table) (sym is) (may x o.0 (subst (λ z. is_in z x ≡ false) (sym cs_is) o.1))
+
 -- the plan
-abbrev tree_of : Given → Tree
-tree_of c = upgrade_tree c.attended c.rec.generation.image (old_crew c) (new_crew c) (R c) c.rec.retries c.rec.pid_path c.rec.note (A0 c) (wanted c) (n c)
+abbrev tree_of : Given → List Turn → Tree
+tree_of c turns = upgrade_tree c.attended c.rec.generation.image (old_crew c) (new_crew c) (R c) c.rec.retries c.rec.pid_path c.rec.note (A0 c) (wanted c) (n c) turns
 
 ---- Who stays
 
@@ -103,9 +115,27 @@ module _ (c : Given) (p k : ℕ) (on : has_ready c.t p k ≡ true) where
       quits-told c.rec.generation.image (g c) no_asking stays (Unlost p) (co c) never-lost (λ t. ⊤) (λ es t spared mild h. tt) (λ past x t h. tt) (λ text x fate t h. tt) (reverse (R c)) (awaits_gone c.rec.generation.image (g c) (reverse (R c)) rest) Free (λ past e h. tt)
       (λ past q' k' told h'. waited-any (reverse (R c)) x xs rest is past q') past q tt tt
 
-  pub stays-traced : Traced no_asking stays (Unlost p) (co c) [] (tree_of c) (start_at c.t c.rec.note)
-  stays-traced =
-      upgrade-good c no_asking stays (Unlost p) never-lost F exits-it (λ text by call fate t is h. stands-any c.rec.pid c.rec.generation.image p c.rec.generation k low text by call fate t is h) (λ past call t is h. tt) settled-it relieved-it
+  any-it : (text : List ℕ) (by : ℕ) (call : Call) (fate : Option Fate) (t : Table) → AnyCall c.rec.generation.image call → F t → F (step_with text by call fate t).table
+  any-it text by call fate t is h = stands-any c.rec.pid c.rec.generation.image p c.rec.generation k low text by call fate t is h
+
+  asks-it : (past : List Entry) (call : Call) (t : Table) → AnyCall c.rec.generation.image call → F t → no_asking past call t
+  asks-it past call t is h = tt
+
+  spares-it : Spares c no_asking stays (Unlost p) never-lost F exits-it any-it asks-it
+  spares-it =
+      let light = standing c.rec.pid c.rec.generation.image p c.rec.generation k low in
+      record {
+        May = λ x t. light.May (g c) x t;
+        may_exits = λ x es t spared mild m. m;
+        may_any = λ x text image call fate t is m. m;
+        lacked = λ text fate t h cs e x xs l. lacks-for c (λ x t. light.May (g c) x t) text fate t (light.counted text (g c) fate t h) (λ x on off. light.lacking (g c) (R c) t x tt h on off) cs e x xs l;
+        kill_due = λ past x t h m. tt;
+        kills = λ text x fate t h m. light.kills text (g c) x fate t h m;
+      }
+
+  pub stays-traced : (turns : List Turn) → Traced no_asking stays (Unlost p) (co c) [] (tree_of c turns) (start_at c.t c.rec.note)
+  stays-traced turns =
+      upgrade-good c no_asking stays (Unlost p) never-lost F exits-it any-it asks-it settled-it relieved-it spares-it turns
       [] (start_at c.t c.rec.note) tt (first-stands c.t c.rec c.start p k on)
 
   ---- No kill takes it but when it was late
@@ -224,9 +254,27 @@ module _ (c : Given) (p k : ℕ) (on : has_ready c.t p k ≡ true) where
       (λ past q' k' told h'. waits-late (reverse (R c)) rest (in-reverse (R c) k ∙ first-in c.t c.rec c.start p k on) past q' told h') past q tt
       (loosens c.rec.pid c.rec.generation.image p c.rec.generation k low q.table h)
 
-  pub late-traced : Traced LateFirst anyway Anyhow (co c) [] (tree_of c) (start_at c.t c.rec.note)
-  late-traced =
-      upgrade-good c LateFirst anyway Anyhow not-lost Close exits-close (λ text by call fate t is h. fact-any c.rec.pid c.rec.generation.image p _ _ (close-lasts c.rec.pid c.rec.generation.image p c.rec.generation k low) [] text by call fate t is h) (λ past call t is h. unasked-late past call t is) settled-close relieved-close
+  any-close : (text : List ℕ) (by : ℕ) (call : Call) (fate : Option Fate) (t : Table) → AnyCall c.rec.generation.image call → Close t → Close (step_with text by call fate t).table
+  any-close text by call fate t is h = fact-any c.rec.pid c.rec.generation.image p _ _ (close-lasts c.rec.pid c.rec.generation.image p c.rec.generation k low) [] text by call fate t is h
+
+  asks-close : (past : List Entry) (call : Call) (t : Table) → AnyCall c.rec.generation.image call → Close t → LateFirst past call t
+  asks-close past call t is h = unasked-late past call t is
+
+  spares-close : Spares c LateFirst anyway Anyhow not-lost Close exits-close any-close asks-close
+  spares-close =
+      let light = untouched c.rec.pid c.rec.generation.image p c.rec.generation k low in
+      record {
+        May = λ x t. light.May (g c) x t;
+        may_exits = λ x es t spared mild m. may-exits c.rec.pid c.rec.generation.image p c.rec.generation k low es t (g c) x (spares-each (co c).executing c.rec.generation.image es (acts c) spared) m;
+        may_any = λ x text image call fate t is m. may-any c.rec.pid c.rec.generation.image p c.rec.generation k low text image call fate t (g c) x is m;
+        lacked = λ text fate t h cs e x xs l. lacks-for c (λ x t. light.May (g c) x t) text fate t (light.counted text (g c) fate t h) (λ x on off. light.lacking (g c) (R c) t x tt h on off) cs e x xs l;
+        kill_due = λ past x t h m. not-taken-late past (Kill (g c) x) t (light.kill_due (g c) x t h m);
+        kills = λ text x fate t h m. light.kills text (g c) x fate t h m;
+      }
+
+  pub late-traced : (turns : List Turn) → Traced LateFirst anyway Anyhow (co c) [] (tree_of c turns) (start_at c.t c.rec.note)
+  late-traced turns =
+      upgrade-good c LateFirst anyway Anyhow not-lost Close exits-close any-close asks-close settled-close relieved-close spares-close turns
       [] (start_at c.t c.rec.note) tt (first-untouched c.t c.rec c.start p k on)
 
 ---- Before a Leave all were waited for
@@ -302,10 +350,26 @@ module _ (c : Given) where
       asked past Leave t k h = k
       asked past _ t k h = tt
 
-  pub leave-traced : Traced WaitedFirst whatever Anyhow (co c) [] (tree_of c) (start_at c.t c.rec.note)
-  leave-traced =
-      upgrade-good c WaitedFirst whatever Anyhow not-lost-either Any exits-any (λ text by call fate t is h. tt) (λ past call t is h. stays-on past call t (any-stays c.rec.generation.image call is))
-      (λ past q k h. no-leave (co c) (settle c.rec.generation.image (old_crew c) (R c) Old c.rec.retries) past q (no-leave-settle c.rec.generation.image (old_crew c) (R c) Old c.rec.retries)) relieved-waits
+  any-any : (text : List ℕ) (by : ℕ) (call : Call) (fate : Option Fate) (t : Table) → AnyCall c.rec.generation.image call → Any t → Any (step_with text by call fate t).table
+  any-any text by call fate t is h = tt
+
+  asks-any : (past : List Entry) (call : Call) (t : Table) → AnyCall c.rec.generation.image call → Any t → WaitedFirst past call t
+  asks-any past call t is h = stays-on past call t (any-stays c.rec.generation.image call is)
+
+  spares-any : Spares c WaitedFirst whatever Anyhow not-lost-either Any exits-any any-any asks-any
+  spares-any = record {
+    May = λ x t. ⊤;
+    may_exits = λ x es t spared mild m. tt;
+    may_any = λ x text image call fate t is m. tt;
+    lacked = λ text fate t h cs e x xs l. tt;
+    kill_due = λ past x t h m. tt;
+    kills = λ text x fate t h m. tt;
+  }
+
+  pub leave-traced : (turns : List Turn) → Traced WaitedFirst whatever Anyhow (co c) [] (tree_of c turns) (start_at c.t c.rec.note)
+  leave-traced turns =
+      upgrade-good c WaitedFirst whatever Anyhow not-lost-either Any exits-any any-any asks-any
+      (λ past q k h. no-leave (co c) (settle c.rec.generation.image (old_crew c) (R c) Old c.rec.retries) past q (no-leave-settle c.rec.generation.image (old_crew c) (R c) Old c.rec.retries)) relieved-waits spares-any turns
       [] (start_at c.t c.rec.note) tt tt
 
 ---- The manner
@@ -325,35 +389,35 @@ leave-due : (c : Given) (past : List Entry) (call : Call) (t : Table) → is_lea
 leave-due c past Leave t e h = h
 leave-due c past _ t e h = absurd (cc e)
 
-manner-of : (c : Given) → refused_in (co c) (tree_of c) (start_at c.t c.rec.note) ≡ None → let ran = run_in (co c) (tree_of c) (start_at c.t c.rec.note) in Manner c.rec (Upgrade c.st) (outcome_of (sides_of c.rec (Upgrade c.st)) ran.ending ran.last.lacking) c.t ran
-manner-of c spared =
+manner-of : (c : Given) (turns : List Turn) → refused_in (co c) (tree_of c turns) (start_at c.t c.rec.note) ≡ None → let ran = run_in (co c) (tree_of c turns) (start_at c.t c.rec.note) in Manner c.rec (Upgrade c.st) (outcome_of (sides_of c.rec (Upgrade c.st)) ran.ending ran.last.lacking) c.t ran
+manner-of c turns spared =
     let at = start_at c.t c.rec.note in
-    let tree = tree_of c in
+    let tree = tree_of c turns in
     let ran = run_in (co c) tree at in
-    let left = from-traced (WaitedFirst c) (λ past e q. ⊤) Anyhow (co c) [] tree at (leave-traced c) spared (are-mild-anyhow (co c) tree at) in (
+    let left = from-traced (WaitedFirst c) (λ past e q. ⊤) Anyhow (co c) [] tree at (leave-traced c turns) spared (are-mild-anyhow (co c) tree at) in (
       (λ old none p k on need. stays-it c p k on spared old none (is_lost p ran.passed) refl),
-      kills-due c [] ran.entries ran.passed left.dues (λ p k on. (from-traced (LateFirst c p k on) (λ past e q. ⊤) Anyhow (co c) [] tree at (late-traced c p k on) spared (are-mild-anyhow (co c) tree at)).dues),
+      kills-due c [] ran.entries ran.passed left.dues (λ p k on. (from-traced (LateFirst c p k on) (λ past e q. ⊤) Anyhow (co c) [] tree at (late-traced c p k on turns) spared (are-mild-anyhow (co c) tree at)).dues),
       leaves-traced c.rec (WaitedFirst c) (leave-due c) ran.entries ran.passed left.dues,
     )
   where
     stays-it : (c : Given) (p k : ℕ) (on : has_ready c.t p k ≡ true) →
-        let tree = tree_of c in
+        let tree = tree_of c turns in
         let at = start_at c.t c.rec.note in
         let ran = run_in (co c) tree at in
         refused_in (co c) tree at ≡ None → is_old_side (outcome_of (sides_of c.rec (Upgrade c.st)) ran.ending ran.last.lacking) ≡ true → list_any (λ e. is_wait_call e.call) ran.entries ≡ false → (b : Bool) → is_lost p ran.passed ≡ b → (has_ready ran.last.table p k ≡ true) ⊎ (is_lost p ran.passed ≡ true)
     stays-it c p k on spared old none true e = inr e
     stays-it c p k on spared old none false e =
-        let tree = tree_of c in
+        let tree = tree_of c turns in
         let at = start_at c.t c.rec.note in
-        let all = from-traced (λ past call t. ⊤) (λ past e q. is_old_side (outcome_of (sides_of c.rec (Upgrade c.st)) e q.lacking) ≡ true → list_any (λ e. is_wait_call e.call) past ≡ false → Stands c.rec.pid c.rec.generation.image p c.rec.generation k (first-low c.t c.rec c.start p k on) q.table) (Unlost p) (co c) [] tree at (stays-traced c p k on) spared (are-unlost p (co c) tree at e) in
+        let all = from-traced (λ past call t. ⊤) (λ past e q. is_old_side (outcome_of (sides_of c.rec (Upgrade c.st)) e q.lacking) ≡ true → list_any (λ e. is_wait_call e.call) past ≡ false → Stands c.rec.pid c.rec.generation.image p c.rec.generation k (first-low c.t c.rec c.start p k on) q.table) (Unlost p) (co c) [] tree at (stays-traced c p k on turns) spared (are-unlost p (co c) tree at e) in
         inl (stands-ready c.rec.pid c.rec.generation.image p c.rec.generation k (first-low c.t c.rec c.start p k on) (run_in (co c) tree at).last.table (all.last old none))
 
 pub upgrade_manner : (s : Settings) → InManner (Upgrade s)
-upgrade_manner s t r pattern a =
+upgrade_manner s t r turns pattern a =
     let (range, ds, numbered) = a.accepts in
-    manner-of (record { t = t; rec = r; st = s; pattern = pattern; attended = false; start = a.start; range = range; ds = ds; numbered = numbered }) a.spared
+    manner-of (record { t = t; rec = r; st = s; pattern = pattern; attended = false; start = a.start; range = range; ds = ds; numbered = numbered }) turns a.spared
 
 pub attended_manner : (s : Settings) → InManner (Attended s)
-attended_manner s t r pattern a =
+attended_manner s t r turns pattern a =
     let (range, ds, numbered) = a.accepts in
-    manner-of (record { t = t; rec = r; st = s; pattern = pattern; attended = true; start = a.start; range = range; ds = ds; numbered = numbered }) a.spared
+    manner-of (record { t = t; rec = r; st = s; pattern = pattern; attended = true; start = a.start; range = range; ds = ds; numbered = numbered }) turns a.spared

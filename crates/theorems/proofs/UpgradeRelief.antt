@@ -32,7 +32,7 @@ use Rattle.theorems.proofs.UpgradeBack.{Aside, goes-back-from, goes-back-late}
 use Rattle.theorems.proofs.UpgradeServing.{goes-back-serving}
 use Rattle.theorems.proofs.UpgradeCalls.{Written}
 
-module _ (c : Given) (m : ℕ) (ne : m ≢ c.rec.pid) (some : 1 ≤ m) (r0 : Names) (only0 : Only (g c) (R c) r0) (hs : List Hold) (r : Names) (only : Only (new c) (numbers_below (n c)) r) (lists : Lists c hs) (keys : (a : Address) → has_address a hs ≡ has (wanted c) a) (laid : Laid c hs) (common : Common c hs) where
+module _ (c : Given) (m : ℕ) (ne : m ≢ c.rec.pid) (some : 1 ≤ m) (r0 : Names) (only0 : Only (g c) (R c) r0) (hs : List Hold) (r : Names) (only : Only (new c) (numbers_below (n c)) r) (lists : Lists c hs) (keys : (a : Address) → has_address a hs ≡ has (wanted c) a) (laid : Laid c hs) (common : Common c hs) (l0 : List ℕ) where
   abbrev I : Progress → Type 0
   I = inv c
 
@@ -63,9 +63,9 @@ module _ (c : Given) (m : ℕ) (ne : m ≢ c.rec.pid) (some : 1 ≤ m) (r0 : Nam
 
   -- the old master's workers of these names are there, and nothing of them is counted
   abbrev Beside : List File → Names → Names → Bool → Progress → Type 0
-  Beside files st rd b q = Band v (both files) st rd none 0 0 b [] q
+  Beside files st rd b q = Band v (both files) st rd none 0 0 b l0 q
 
-  beside : (files : List File) (st rd : Names) (b : Bool) (q : Progress) → Looks (view v st rd) q.table.rows → lacked_by v.image q.lacked ≡ [] → Marks b [] q.faults q.losses q.returns q.cause → Still (both files).files (both files).note (both files).limits q.table.files q.note q.table.limits → (both files).Holds q.table.rows q.losses q.faults → Beside files st rd b q
+  beside : (files : List File) (st rd : Names) (b : Bool) (q : Progress) → Looks (view v st rd) q.table.rows → lacked_by v.image q.lacked ≡ l0 → Marks b [] q.faults q.losses q.returns q.cause → Still (both files).files (both files).note (both files).limits q.table.files q.note q.table.limits → (both files).Holds q.table.rows q.losses q.faults → Beside files st rd b q
   beside files st rd b q looks lacking marks still holds = record {
     looks = looks;
     enough = λ a e. absurd (omega (arith, e));
@@ -78,7 +78,7 @@ module _ (c : Given) (m : ℕ) (ne : m ≢ c.rec.pid) (some : 1 ≤ m) (r0 : Nam
   }
 
   -- no worker of the old master is left
-  bared : (files : List File) (st rd : Names) (k : ℕ) (b : Bool) (q : Progress) → ((h : Generation) (j : ℕ) → st h j ≡ true → none h j ≡ true) → ((h : Generation) (j : ℕ) → rd h j ≡ true → none h j ≡ true) → Band v (both files) st rd none 0 k b [] q → Beside files none none b q
+  bared : (files : List File) (st rd : Names) (k : ℕ) (b : Bool) (q : Progress) → ((h : Generation) (j : ℕ) → st h j ≡ true → none h j ≡ true) → ((h : Generation) (j : ℕ) → rd h j ≡ true → none h j ≡ true) → Band v (both files) st rd none 0 k b l0 q → Beside files none none b q
   bared files st rd k b q off_st off_rd h =
       beside files none none b q
       (looks-allows (view v st rd) (view v none none) (record { number = refl; others = λ j e. e; image = refl; holds = refl; starting = off_st; ready = off_rd; held_starting = λ j i e. refl; held = λ j i e. refl }) q.table.rows h.looks)
@@ -100,7 +100,7 @@ module _ (c : Given) (m : ℕ) (ne : m ≢ c.rec.pid) (some : 1 ≤ m) (r0 : Nam
       c.rec.retries 0 (omega arith) b (λ e. absurd (cc e)) r ls q only h
 
   -- The old master's file goes, and the new one settles.
-  removes : (ls : List ℕ) (path : Option FilePath) (rest : Tree) (files : List File) (b : Bool) (q : Progress) → Written c m ne r0 only0 path files → ((files' : List File) (note' : PidNote) (b' : Bool) (q' : Progress) → FilesAre note' path m files' → Band (x c m hs r) (last files' note') none r T (length S) 0 b' ls q' → Goes c (co_after c) rest q') → Band (x c m hs r) (last files c.rec.note) none r T (length S) 0 b ls q → Goes c (co_after c) (remove_oldbin (new c).image path rest) q
+  removes : (ls : List ℕ) (path : Option FilePath) (rest : Tree) (files : List File) (b : Bool) (q : Progress) → Written c m ne path files → ((files' : List File) (note' : PidNote) (b' : Bool) (q' : Progress) → FilesAre note' path m files' → Band (x c m hs r) (last files' note') none r T (length S) 0 b' ls q' → Goes c (co_after c) rest q') → Band (x c m hs r) (last files c.rec.note) none r T (length S) 0 b ls q → Goes c (co_after c) (remove_oldbin (new c).image path rest) q
   removes ls None rest files b q written next h = next files c.rec.note b q (no-path c.rec.note c.rec.pid m files files written) h
   removes ls (Some path) rest files b q written next h =
       let order = Make (RemovePid (oldbin path)) in
@@ -119,7 +119,7 @@ module _ (c : Given) (m : ℕ) (ne : m ≢ c.rec.pid) (some : 1 ≤ m) (r0 : Nam
 
   ---- The old master leaves
 
-  leaves : (files : List File) (b : Bool) (q : Progress) → Written c m ne r0 only0 c.rec.pid_path files → Looks second q.table.rows → Beside files none none b q → Goes c (co c) (hand_over c.rec.generation.image (new_crew c) c.rec.retries c.rec.pid_path (n c)) q
+  leaves : (files : List File) (b : Bool) (q : Progress) → Written c m ne c.rec.pid_path files → Looks second q.table.rows → Beside files none none b q → Goes c (co c) (hand_over c.rec.generation.image (new_crew c) c.rec.retries c.rec.pid_path (n c)) q
   leaves files b q written looks h spared mild =
       let order = Make Leave in
       let moment = c.pattern (q.calls + 1) in
@@ -127,7 +127,7 @@ module _ (c : Given) (m : ℕ) (ne : m ≢ c.rec.pid) (some : 1 ≤ m) (r0 : Nam
       let images = c.rec.generation.image ∷ (new c).image ∷ [] in
       let sp = spares-each images c.rec.generation.image moment.exits (in-here c.rec.generation.image c.rec.generation.image ((new c).image ∷ []) refl) spared in
       let sp_new = spares-each images (new c).image moment.exits (in-there c.rec.generation.image (new c).image ((new c).image ∷ []) (in-here (new c).image (new c).image [] refl)) spared in
-      let h' = band-exits v (both files) none none none 0 0 b [] moment.exits q sp mild h in
+      let h' = band-exits v (both files) none none none 0 0 b l0 moment.exits q sp mild h in
       let looks' = (shrinks second moment.exits q.table.rows sp_new looks).looks in
       let me : Caller = record { number = c.rec.pid; holds = H0 c } in
       let is : answered (co c).text c.rec.generation.image order moment.fate middle ≡ gives answer.Fine (each_row (without_master c.rec.pid) middle.table) =
@@ -146,18 +146,18 @@ module _ (c : Given) (m : ℕ) (ne : m ≢ c.rec.pid) (some : 1 ≤ m) (r0 : Nam
         still = h'.still;
         beside = (omega arith, omega arith);
       }) in (
-        band-inv v (both files) (grounded I P (co c) (acts c) (good files)) none none none 0 0 b [] q h,
-        band-inv v (both files) (grounded I P (co c) (acts c) (good files)) none none none 0 0 b [] middle h',
+        band-inv v (both files) (grounded I P (co c) (acts c) (good files)) none none none 0 0 b l0 q h,
+        band-inv v (both files) (grounded I P (co c) (acts c) (good files)) none none none 0 0 b l0 middle h',
         tt,
         subst (λ (st : Stepped). Behind I P Anyhow Unasked (course_after order (co c)) (then_edge rest) (reply_of [] st.answer) (after_call c.rec.generation.image order [] st middle)) (sym is) after,
       )
 
   -- It asks whether the new one lives: then it leaves, and else goes back.
-  retires : (files : List File) (b : Bool) (q : Progress) → Aside c c.rec.pid_path files → Written c m ne r0 only0 c.rec.pid_path files → Beside files none none b q → Goes c (co c) (does c.rec.generation.image (Alive (new c).image) (on (reply.IsAlive ∷ []) (hand_over c.rec.generation.image (new_crew c) c.rec.retries c.rec.pid_path (n c)) (on (reply.Gone ∷ []) (back_late c.rec.generation.image (new c).image (old_crew c) (R c) c.rec.retries c.rec.pid_path) Nothing))) q
+  retires : (files : List File) (b : Bool) (q : Progress) → Aside c c.rec.pid_path files → Written c m ne c.rec.pid_path files → Beside files none none b q → Goes c (co c) (does c.rec.generation.image (Alive (new c).image) (on (reply.IsAlive ∷ []) (hand_over c.rec.generation.image (new_crew c) c.rec.retries c.rec.pid_path (n c)) (on (reply.Gone ∷ []) (back_late c.rec.generation.image (new c).image (old_crew c) (R c) c.rec.retries c.rec.pid_path) Nothing))) q
   retires files b q aside written h =
       let order = Make (Alive (new c).image) in
       let bs = on (reply.IsAlive ∷ []) (hand_over c.rec.generation.image (new_crew c) c.rec.retries c.rec.pid_path (n c)) (on (reply.Gone ∷ []) (back_late c.rec.generation.image (new c).image (old_crew c) (R c) c.rec.retries c.rec.pid_path) Nothing) in
-      rule-step v (both files) (grounded I P (co c) (acts c) (good files)) order [] bs none none none 0 0 b [] q refl h (λ p h' fate.
+      rule-step v (both files) (grounded I P (co c) (acts c) (good files)) order [] bs none none none 0 0 b l0 q refl h (λ p h' fate.
       let me : Caller = record { number = c.rec.pid; holds = H0 c } in
       let answered_by : Option Caller → Type 0 = λ o. Answers v (both files) (grounded I P (co c) (acts c) (good files)) order [] bs p (asked_alive o (new c).image p.table) in
       subst (λ st. Answers v (both files) (grounded I P (co c) (acts c) (good files)) order [] bs p st) (sym (unfailing (co c).text c.rec.generation.image me (Alive (new c).image) fate p.table tt))
@@ -167,7 +167,7 @@ module _ (c : Given) (m : ℕ) (ne : m ≢ c.rec.pid) (some : 1 ≤ m) (r0 : Nam
       (record { looks = h'.looks; enough = h'.enough; secured = λ a e. absurd (omega (arith, e)); budget = omega arith; lacking = h'.lacking; marks = marks-plain b p.faults p.losses (p.calls + 1) p.cause h'.marks; still = h'.still; beside = h'.beside })))
       (λ dead. subst answered_by (sym (dead-none second p.table.rows dead))
       (let framed = asked-looks (view v none none) (new c).image p.table.rows (λ e. absurd (omega (arith, e))) h'.looks in
-      goes-back-late c [] (λ e. refl) m ne hs none r 0 [] files (after_call c.rec.generation.image order [] (gives answer.Gone (each_row (drop_where (is_image (new c).image)) p.table)) p) aside
+      goes-back-late c [] (λ e. refl) m ne hs none r 0 l0 files (after_call c.rec.generation.image order [] (gives answer.Gone (each_row (drop_where (is_image (new c).image)) p.table)) p) aside
       (record {
         looks = framed.looks;
         enough = λ a e. absurd (omega (arith, e));
@@ -195,15 +195,15 @@ module _ (c : Given) (m : ℕ) (ne : m ≢ c.rec.pid) (some : 1 ≤ m) (r0 : Nam
   fits-attended returns on off = absurd (true-false c.attended on off)
 
   -- The second question: on, or back while the new master serves.
-  asks-last : (attended : Bool) → c.attended ≡ attended → (files : List File) (b : Bool) (q : Progress) → Aside c c.rec.pid_path files → Written c m ne r0 only0 c.rec.pid_path files → Beside files none none b q → Goes c (co c) (last_pause attended) q
+  asks-last : (attended : Bool) → c.attended ≡ attended → (files : List File) (b : Bool) (q : Progress) → Aside c c.rec.pid_path files → Written c m ne c.rec.pid_path files → Beside files none none b q → Goes c (co c) (last_pause attended) q
   asks-last false is files b q aside written h = retires files b q aside written h
   asks-last true is files b q aside written h =
       let order = Make (Ask 2) in
       let bs = on (reply.Go ∷ []) retiring (on (reply.Back ∷ []) serving Nothing) in
-      rule-step v (both files) (grounded I P (co c) (acts c) (good files)) order [] bs none none none 0 0 b [] q refl h (λ p h' fate.
+      rule-step v (both files) (grounded I P (co c) (acts c) (good files)) order [] bs none none none 0 0 b l0 q refl h (λ p h' fate.
       let me : Caller = record { number = c.rec.pid; holds = H0 c } in
       ask-cases (co c).text c.rec.generation.image me 2 fate p.table (λ st. Answers v (both files) (grounded I P (co c) (acts c) (good files)) order [] bs p st)
-      (goes-back-serving c p.faults (fits-attended (record { question = 2; faults = p.faults } ∷ []) is) m ne hs r T (n c) new-serves files [] (after_call c.rec.generation.image order [] (gives answer.Back p.table) p) aside
+      (goes-back-serving c p.faults (fits-attended (record { question = 2; faults = p.faults } ∷ []) is) m ne hs r T (n c) new-serves files l0 (after_call c.rec.generation.image order [] (gives answer.Back p.table) p) aside
       (record {
         looks = h'.looks;
         enough = λ a e. absurd (omega (arith, e));
@@ -218,7 +218,7 @@ module _ (c : Given) (m : ℕ) (ne : m ≢ c.rec.pid) (some : 1 ≤ m) (r0 : Nam
       (beside files none none b (after_call c.rec.generation.image order [] (gives answer.Go p.table) p) h'.looks h'.lacking (marks-plain b p.faults p.losses (p.calls + 1) p.cause h'.marks) h'.still h'.beside)))
 
   abbrev counted_by_old : List Return → List File → Bool → Progress → Type 0
-  counted_by_old returns files b q = Band v (pair_scene c second ne (eqb-refl c.rec.pid c.rec.pid refl) T (n c) (f c) returns files c.rec.note) none r0 (named (g c) (is_in (R c))) (length (R c)) 0 b [] q
+  counted_by_old returns files b q = Band v (pair_scene c second ne (eqb-refl c.rec.pid c.rec.pid refl) T (n c) (f c) returns files c.rec.note) none r0 (named (g c) (is_in (R c))) (length (R c)) 0 b l0 q
 
   -- The first question: on, or back before the old workers quit.
   asks-first : (attended : Bool) → c.attended ≡ attended → (rest : Tree) (files : List File) (q : Progress) → Aside c c.rec.pid_path files → ((q' : Progress) → counted_by_old [] files false q' → Goes c (co c) rest q') → counted_by_old [] files false q → Goes c (co c) (asks attended c.rec.generation.image 1 rest (back_from c.rec.generation.image (new c).image (old_crew c) (R c) c.rec.retries c.rec.pid_path)) q
@@ -229,22 +229,22 @@ module _ (c : Given) (m : ℕ) (ne : m ≢ c.rec.pid) (some : 1 ≤ m) (r0 : Nam
       let bs = on (reply.Go ∷ []) rest (on (reply.Back ∷ []) back Nothing) in
       let sc = pair_scene c second ne (eqb-refl c.rec.pid c.rec.pid refl) T (n c) (f c) [] files c.rec.note in
       let gd = good-pair c v second T (n c) (f c) [] (λ e. refl) (inl (λ a. omega arith)) refl (hold-old c) in
-      rule-step v sc (grounded I P (co c) (acts c) gd) order [] bs none r0 (named (g c) (is_in (R c))) (length (R c)) 0 false [] q refl h (λ p h' fate.
+      rule-step v sc (grounded I P (co c) (acts c) gd) order [] bs none r0 (named (g c) (is_in (R c))) (length (R c)) 0 false l0 q refl h (λ p h' fate.
       let me : Caller = record { number = c.rec.pid; holds = H0 c } in
       let back_at : Return = record { question = 1; faults = p.faults } in
       ask-cases (co c).text c.rec.generation.image me 1 fate p.table (λ st. Answers v sc (grounded I P (co c) (acts c) gd) order [] bs p st)
-      (goes-back-from c (back_at ∷ []) (fits-attended (back_at ∷ []) is) m ne hs none r T (n c) r0 0 [] files (after_call c.rec.generation.image order [] (gives answer.Back p.table) p) aside only0
+      (goes-back-from c (back_at ∷ []) (fits-attended (back_at ∷ []) is) m ne hs none r T (n c) r0 0 l0 files (after_call c.rec.generation.image order [] (gives answer.Back p.table) p) aside only0
       (record { looks = h'.looks; enough = h'.enough; secured = h'.secured; budget = h'.budget; lacking = h'.lacking; marks = marks-back false back_at p.faults p.losses (p.calls + 1) p.cause h'.marks; still = h'.still; beside = h'.beside }))
       (next (after_call c.rec.generation.image order [] (gives answer.Go p.table) p)
       (record { looks = h'.looks; enough = h'.enough; secured = h'.secured; budget = h'.budget; lacking = h'.lacking; marks = marks-plain false p.faults p.losses (p.calls + 1) p.cause h'.marks; still = h'.still; beside = h'.beside })))
 
   ---- All of it
 
-  pub relieves : (files : List File) (q : Progress) → Aside c c.rec.pid_path files → Written c m ne r0 only0 c.rec.pid_path files → Band v (pair_scene c second ne (eqb-refl c.rec.pid c.rec.pid refl) T (n c) (f c) [] files c.rec.note) none r0 (named (g c) (is_in (R c))) (length (R c)) 0 false [] q → Goes c (co c) (relieve c.attended c.rec.generation.image (old_crew c) (new_crew c) (R c) c.rec.retries c.rec.pid_path (n c)) q
+  pub relieves : (files : List File) (q : Progress) → Aside c c.rec.pid_path files → Written c m ne c.rec.pid_path files → Band v (pair_scene c second ne (eqb-refl c.rec.pid c.rec.pid refl) T (n c) (f c) [] files c.rec.note) none r0 (named (g c) (is_in (R c))) (length (R c)) 0 false l0 q → Goes c (co c) (relieve c.attended c.rec.generation.image (old_crew c) (new_crew c) (R c) c.rec.retries c.rec.pid_path (n c)) q
   relieves files q aside written h =
       asks-first c.attended refl (quits c.rec.generation.image (g c) (reverse (R c)) (awaits_gone c.rec.generation.image (g c) (reverse (R c)) (last_pause c.attended))) files q aside
-      (λ q1 h1. rule-quits v (both files) (grounded I P (co c) (acts c) (good files)) (awaits_gone c.rec.generation.image (g c) (reverse (R c)) (last_pause c.attended)) (g c) (reverse (R c)) none r0 none 0 0 false [] q1 (λ k e. refl)
-      (λ st rd q' less_st less_rd h'. rule-waits v (both files) (grounded I P (co c) (acts c) (good files)) (last_pause c.attended) (g c) (reverse (R c)) none none none 0 false [] q' (λ k e. refl)
+      (λ q1 h1. rule-quits v (both files) (grounded I P (co c) (acts c) (good files)) (awaits_gone c.rec.generation.image (g c) (reverse (R c)) (last_pause c.attended)) (g c) (reverse (R c)) none r0 none 0 0 false l0 q1 (λ k e. refl)
+      (λ st rd q' less_st less_rd h'. rule-waits v (both files) (grounded I P (co c) (acts c) (good files)) (last_pause c.attended) (g c) (reverse (R c)) none none none 0 false l0 q' (λ k e. refl)
       (λ st' rd' b k q'' sub_st sub_rd up h''. asks-last c.attended refl files b q'' aside written (bared files st' rd' k b q'' sub_st sub_rd h''))
       0 (bared files st rd 0 false q' (λ j i e. (less_st j i e).0) (λ j i e. let l = less_rd j i e in let o = only0 j i l.0 in absurd (true-false (is_in (reverse (R c)) i) (in-reverse (R c) i ∙ o.1) (l.1 o.0))) h'))
       (beside files none r0 false q1 h1.looks h1.lacking h1.marks h1.still h1.beside)) h

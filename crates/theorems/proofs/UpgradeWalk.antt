@@ -18,7 +18,7 @@ use Rattle.definitions.specs.Calls.{step_with}
 use Rattle.definitions.specs.Manner.{is_leave_call}
 use Rattle.vocabulary.specs.declared.calls.Reply.TheVariants as reply
 use Rattle.definitions.specs.Tree.{Tree, Branches, Nothing, Does, plain_reply, replies_to}
-use Rattle.definitions.specs.Plans.{on, others, then_edge, note_edges, settle, back_alone, back_from, move_back, move_aside, tries, tries_all, new_calls, pid_calls, quits, awaits_gone, asks, retire, back_serving, relieve, spawn_edges, upgrade_tree, does}
+use Rattle.definitions.specs.Plans.{on, others, then_edge, note_edges, settle, back_alone, back_from, move_back, move_aside, tries, tries_all, new_calls, new_part, old_part, taken_over, pid_calls, quits, awaits_gone, asks, retire, back_serving, relieve, spawn_edges, upgrade_tree, does}
 use Rattle.definitions.specs.Run.{Progress, Lost}
 use Rattle.definitions.specs.Crew.{fork_of}
 use Rattle.definitions.specs.Record.{oldbin}
@@ -26,6 +26,10 @@ use Rattle.definitions.specs.Target.{only_in}
 use Rattle.definitions.specs.Claims.{names_any}
 use Rattle.theorems.proofs.Logic.{Exiting}
 use Rattle.theorems.proofs.Processes.{AnyCall}
+use Rattle.vocabulary.specs.declared.plans.Turn.{Turn}
+use Rattle.definitions.specs.Parts.{weave, joined}
+use Rattle.theorems.proofs.UpgradeBeside.{Counts}
+use Rattle.theorems.proofs.UpgradeMends.{PartCall, Spares, tried-all}
 use Rattle.theorems.proofs.Traces.{Asking, Finally, Good, AllGood, good-call}
 use Rattle.theorems.proofs.UpgradeStage.{Given, g, new, old_crew, new_crew, R, A0, n, wanted, co}
 
@@ -61,7 +65,7 @@ module _ (c : Given) (due : Asking) (post : Finally) (mild : Exiting) (lost : (p
 
   ---- Up to the relief
 
-  module _ (any : (text : List ℕ) (by : ℕ) (call : Call) (fate : Option Fate) (t : Table) → AnyCall c.rec.generation.image call → F t → F (step_with text by call fate t).table) (owes : (past : List Entry) (call : Call) (t : Table) → AnyCall c.rec.generation.image call → F t → due past call t) (settled : IsGood Free (settle c.rec.generation.image (old_crew c) (R c) Old c.rec.retries)) (relieved : (rest : Tree) → IsGood Free (quits c.rec.generation.image (g c) (reverse (R c)) (awaits_gone c.rec.generation.image (g c) (reverse (R c)) rest))) where
+  module _ (any : (text : List ℕ) (by : ℕ) (call : Call) (fate : Option Fate) (t : Table) → AnyCall c.rec.generation.image call → F t → F (step_with text by call fate t).table) (owes : (past : List Entry) (call : Call) (t : Table) → AnyCall c.rec.generation.image call → F t → due past call t) (settled : IsGood Free (settle c.rec.generation.image (old_crew c) (R c) Old c.rec.retries)) (relieved : (rest : Tree) → IsGood Free (quits c.rec.generation.image (g c) (reverse (R c)) (awaits_gone c.rec.generation.image (g c) (reverse (R c)) rest))) (spares : Spares c due post mild lost F exits any owes) (turns : List Turn) where
     one-call : (by : ℕ) (call : Call) (set : List ℕ) (bs : Branches) → AnyCall c.rec.generation.image call → AllGood due post mild (co c) lost F Free bs → IsGood Free (Does by (Make call) set bs)
     one-call by call set bs is all = good-call due post mild (co c) lost F Free by call set bs (any-stays c.rec.generation.image call is) exits (λ past e k. tt) (λ past t k h. owes past call t is h) (λ text fate t h. any text by call fate t is h) all
 
@@ -94,29 +98,33 @@ module _ (c : Given) (due : Asking) (post : Finally) (mild : Exiting) (lost : (p
     abbrev Calls : List Call → Type 0
     Calls calls = AllByRecursion (AnyCall c.rec.generation.image) calls
 
-    joined : (l k : List Call) → Calls l → Calls k → Calls (l ++ k)
-    joined l k a b = all-joined (AnyCall c.rec.generation.image) l k a b
+    -- no count, and no Leave
+    abbrev Plain : Call → Type 0
+    Plain call = (is_leave_call call ≡ false) × PartCall call × AnyCall c.rec.generation.image call
 
-    calls-any : (path : Option FilePath) (closes opens : List Address) (ks : List ℕ) → Calls (Adopt ∷ map CloseAt closes ++ map OpenAt opens ++ map (fork_of (new_crew c)) ks ++ map (AwaitReady (new c)) ks ++ pid_calls path WritePid)
-    calls-any path closes opens ks =
+    calls-plain : (closes opens : List Address) (ks : List ℕ) → AllByRecursion Plain (Adopt ∷ map CloseAt closes ++ map OpenAt opens ++ map (fork_of (new_crew c)) ks ++ map (AwaitReady (new c)) ks)
+    calls-plain closes opens ks =
         let a = Adopt ∷ map CloseAt closes in
         let b = map OpenAt opens in
         let f = map (fork_of (new_crew c)) ks in
         let w = map (AwaitReady (new c)) ks in
-        joined (a ++ b ++ f ++ w) (pid_calls path WritePid) (joined (a ++ b ++ f) w (joined (a ++ b) f (joined a b (tt, mapped CloseAt closes (λ x. tt)) (mapped OpenAt opens (λ x. tt))) (mapped (fork_of (new_crew c)) ks (λ x. tt))) (mapped (AwaitReady (new c)) ks (λ x. tt))) (written path)
+        both (a ++ b ++ f) w (both (a ++ b) f (both a b ((refl, tt, tt), mapped CloseAt closes (λ x. (refl, tt, tt))) (mapped OpenAt opens (λ x. (refl, tt, tt)))) (mapped (fork_of (new_crew c)) ks (λ x. (refl, tt, tt)))) (mapped (AwaitReady (new c)) ks (λ x. (refl, tt, tt)))
       where
-        mapped : {X : Type 0} (f : X → Call) (l : List X) → ((x : X) → AnyCall c.rec.generation.image (f x)) → Calls (map f l)
-        mapped f l h = all-mapped (AnyCall c.rec.generation.image) f l h
+        both : (l k : List Call) → AllByRecursion Plain l → AllByRecursion Plain k → AllByRecursion Plain (l ++ k)
+        both l k x y = all-joined Plain l k x y
 
-        written : (path : Option FilePath) → Calls (pid_calls path WritePid)
-        written None = tt
-        written (Some path) = (tt, tt)
+        mapped : {X : Type 0} (f : X → Call) (l : List X) → ((x : X) → Plain (f x)) → AllByRecursion Plain (map f l)
+        mapped f l h = all-mapped Plain f l h
+
+    writes-any : (path : Option FilePath) → Calls (pid_calls path WritePid)
+    writes-any None = tt
+    writes-any (Some path) = (tt, tt)
 
     abbrev relief : Tree
     relief = relieve c.attended c.rec.generation.image (old_crew c) (new_crew c) (R c) c.rec.retries c.rec.pid_path (n c)
 
-    abbrev ok : Tree
-    ok = tries_all (new c).image (new_calls (new_crew c) c.rec.pid_path (A0 c) (wanted c) (n c)) (tries (new c).image (Census (new c)) (numbers_below (n c)) relief back) back
+    abbrev over : Tree
+    over = taken_over c.attended c.rec.generation.image (old_crew c) (new_crew c) (R c) c.rec.retries c.rec.pid_path (n c) back
 
     asked-good : (attended : Bool) (question : ℕ) (on_go on_back : Tree) → IsGood Free on_go → IsGood Free on_back → IsGood Free (asks attended c.rec.generation.image question on_go on_back)
     asked-good true question on_go on_back h b = one-call c.rec.generation.image (Ask question) [] (on (reply.Go ∷ []) on_go (on (reply.Back ∷ []) on_back Nothing)) tt (h, (b, tt))
@@ -127,8 +135,16 @@ module _ (c : Given) (due : Asking) (post : Finally) (mild : Exiting) (lost : (p
         let last = asks c.attended c.rec.generation.image 2 (retire c.rec.generation.image (old_crew c) (new_crew c) (R c) c.rec.retries c.rec.pid_path (n c)) (back_serving c.rec.generation.image (new c).image (old_crew c) (R c) c.rec.retries c.rec.pid_path) in
         asked-good c.attended 1 (quits c.rec.generation.image (g c) (reverse (R c)) (awaits_gone c.rec.generation.image (g c) (reverse (R c)) last)) back (relieved last) from-good
 
+    over-good : IsGood Free over
+    over-good = tries-good (pid_calls c.rec.pid_path WritePid) (tries (new c).image (Census (new c)) (numbers_below (n c)) relief back) (writes-any c.rec.pid_path) (one-call (new c).image (Census (new c)) (numbers_below (n c)) (edges (Census (new c)) relief) tt (relief-good, (from-good, tt)))
+
+    abbrev ok : Tree
+    ok = weave (joined over back) (new_part (new_crew c) (A0 c) (wanted c) (n c)) turns (old_part c.rec.generation.image (old_crew c) (R c) c.rec.retries)
+
     ok-good : IsGood Free ok
-    ok-good = tries-good (new_calls (new_crew c) c.rec.pid_path (A0 c) (wanted c) (n c)) (tries (new c).image (Census (new c)) (numbers_below (n c)) relief back) (calls-any c.rec.pid_path (only_in (A0 c) (wanted c)) (only_in (wanted c) (A0 c)) (numbers_below (n c))) (one-call (new c).image (Census (new c)) (numbers_below (n c)) (edges (Census (new c)) relief) tt (relief-good, (from-good, tt)))
+    ok-good past q known h =
+        tried-all c due post mild lost F exits any owes spares over back (λ past q h. over-good past q tt h) (λ past q h. from-good past q tt h) (new_calls (new_crew c) (A0 c) (wanted c) (n c))
+        (calls-plain (only_in (A0 c) (wanted c)) (only_in (wanted c) (A0 c)) (numbers_below (n c))) turns (Counts c.rec.retries) past q h tt tt
 
     spawn-good : IsGood Free (does c.rec.generation.image (SpawnMaster (new c).image) (spawn_edges ok alone))
     spawn-good = one-call c.rec.generation.image (SpawnMaster (new c).image) [] (spawn_edges ok alone) apart (ok-good, (back-good, tt))
@@ -141,5 +157,5 @@ module _ (c : Given) (due : Asking) (post : Finally) (mild : Exiting) (lost : (p
     aside-good (Some path) Left rest bad h b = one-call c.rec.generation.image (MovePid path (oldbin path)) [] (on (reply.Fine ∷ []) rest (on (reply.IoFault ∷ []) bad Nothing)) tt (h, (b, tt))
     aside-good (Some path) NoFile rest bad h b = one-call c.rec.generation.image (MovePid path (oldbin path)) [] (on (reply.Fine ∷ []) rest (on (reply.IoFault ∷ []) bad Nothing)) tt (h, (b, tt))
 
-    pub upgrade-good : IsGood Free (upgrade_tree c.attended c.rec.generation.image (old_crew c) (new_crew c) (R c) c.rec.retries c.rec.pid_path c.rec.note (A0 c) (wanted c) (n c))
+    pub upgrade-good : IsGood Free (upgrade_tree c.attended c.rec.generation.image (old_crew c) (new_crew c) (R c) c.rec.retries c.rec.pid_path c.rec.note (A0 c) (wanted c) (n c) turns)
     upgrade-good = aside-good c.rec.pid_path c.rec.note (does c.rec.generation.image (SpawnMaster (new c).image) (spawn_edges ok alone)) (settle c.rec.generation.image (old_crew c) (R c) Old c.rec.retries) spawn-good settled

@@ -5,7 +5,7 @@ use Rattle.definitions.specs.Calls.{census_of}
 use Rattle.definitions.specs.Target.{text_handed}
 use Rattle.theorems.specs.Examples.{two_ready}
 use Rattle.theorems.proofs.GroupRuns.{hundred, group_runs}
-use Rattle.theorems.specs.WorkedRuns.{handed, same_upgrade, WorkedRuns, Upgrades, NoImage, GoneAtLast, Refused, GoneEarly, RepairedAtLast, OldFileLeft, Attends, BackAtFirst, BackAtLast, BackIsShort}
+use Rattle.theorems.specs.WorkedRuns.{handed, same_upgrade, WorkedRuns, Upgrades, CountsFirst, MendsBeside, NoImage, GoneAtLast, Refused, GoneEarly, RepairedAtLast, OldFileLeft, Attends, BackAtFirst, BackAtLast, BackIsShort, BackAfterMending}
 
 spelled : text_handed (two_ready 3) same_upgrade ≡ handed
 spelled = rw (hundred, decimal_digit 2 (omega arith), decimal_digit 3 (omega arith)) refl
@@ -19,6 +19,8 @@ unfolding census_of
 worked_runs = record {
   handover = (spelled, refl);
   upgrades = from_handed Upgrades ((refl, refl), refl);
+  counts_first = from_handed CountsFirst (refl, refl);
+  mends_beside = from_handed MendsBeside (refl, refl);
   no_image = from_handed NoImage (refl, refl);
   gone_at_last = from_handed GoneAtLast ((refl, refl), refl, refl, refl);
   refused = from_handed Refused (refl, refl, refl);
@@ -29,6 +31,7 @@ worked_runs = record {
   back_at_first = from_handed BackAtFirst ((refl, refl), refl);
   back_at_last = from_handed BackAtLast ((refl, refl), refl);
   back_is_short = from_handed BackIsShort (refl, refl, refl, refl);
+  back_after_mending = from_handed BackAfterMending ((refl, refl), (refl, refl, refl));
   one_more = (refl, refl);
   one_more_refused = (refl, refl);
   one_more_short = (refl, refl);

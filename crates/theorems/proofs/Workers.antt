@@ -201,9 +201,9 @@ module _ (t : Table) (rec : Record) (n : ℕ) (pattern : Pattern) (s : IsStart t
       (start-band t rec (Workers n) pattern s like (λ a. omega arith))
 
 pub workers_headline : WorkersHeadline
-workers_headline t rec n pattern a =
+workers_headline t rec n turns pattern a =
     let like = like_workers rec n a.accepts in
     let first = start_at t rec.note in
-    let all = whole t rec (Workers n) pattern a.start like (plan_tree rec (Workers n)) (goes t rec n pattern a.start a.accepts) a.spared in
+    let all = whole t rec (Workers n) pattern a.start like (plan_tree rec (Workers n) []) (goes t rec n pattern a.start a.accepts) a.spared in
     let target = want rec (Workers n) in
-    (all.0, every-more (Level t rec (Workers n) pattern a.start like) (Floor (service t) target t (wanted_at rec (Workers n))) (λ q h address common. omega (arith, first-few t rec a.start address, h address common)) (run_of rec (Workers n) pattern t).passed all.1)
+    (all.0, every-more (Level t rec (Workers n) pattern a.start like) (Floor (service t) target t (wanted_at rec (Workers n))) (λ q h address common. omega (arith, first-few t rec a.start address, h address common)) (run_of rec (Workers n) [] pattern t).passed all.1)

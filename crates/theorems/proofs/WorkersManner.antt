@@ -141,7 +141,7 @@ module _ (t : Table) (r : Record) (n : ℕ) (pattern : Pattern) (s : IsStart t r
       (start_at t r.note) (first-untouched t r s p k on)
 
 pub workers_manner : (n : ℕ) → InManner (Workers n)
-workers_manner n t r pattern a = (
-  λ p k on need. stays-from t r a.start p k on (own_course r pattern) (plan_tree r (Workers n)) (Need t r n pattern a.start p k on) (stays-along t r n pattern a.start p k on) a.spared need,
-  kills-from t r (own_course r pattern) (plan_tree r (Workers n)) (λ e q. ⊤) a.spared (λ p k on. untaken-along t r n pattern a.start p k on),
+workers_manner n t r turns pattern a = (
+  λ p k on need. stays-from t r a.start p k on (own_course r pattern) (plan_tree r (Workers n) []) (Need t r n pattern a.start p k on) (stays-along t r n pattern a.start p k on) a.spared need,
+  kills-from t r (own_course r pattern) (plan_tree r (Workers n) []) (λ e q. ⊤) a.spared (λ p k on. untaken-along t r n pattern a.start p k on),
 )

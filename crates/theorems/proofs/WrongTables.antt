@@ -1,6 +1,10 @@
 -- Tables and runs that break a claim.
 use Rattle.std.proofs.Common.{◌≡◌, ℕ, ◌+◌, Bool, true, false, length, refl, sym, ap, ◌∙◌, subst, arith, ⊎_elim}
-use Rattle.std.specs.Prelude.{is_some, count_by, List, Some}
+use Rattle.std.specs.Prelude.{is_some, count_by, List, [], None, Some}
+use Rattle.vocabulary.specs.declared.calls.Call.TheVariants.{Adopt}
+use Rattle.vocabulary.specs.declared.plans.End.TheVariants as end
+use Rattle.definitions.specs.Tree.{Ends}
+use Rattle.definitions.specs.Plans.{tries}
 use Rattle.listener_set.specs.declared.generation.Generation.{Generation}
 use Rattle.definitions.specs.Table.{Hold, Table, Caller, same_generation, live_master}
 use Rattle.definitions.specs.Crew.{share}
@@ -8,7 +12,7 @@ use Rattle.definitions.specs.Service.{service, is_serving}
 use Rattle.definitions.specs.Claims.{IsFewerAt}
 use Rattle.theorems.specs.Examples.{first, port, other_port, holds, two_workers, count_if}
 use Rattle.theorems.specs.GroupRuns.{both_holds, grouped_with, three_workers, three_ready}
-use Rattle.theorems.specs.WrongTables.{none_left, other_unserved, WrongTables}
+use Rattle.theorems.specs.WrongTables.{none_left, other_unserved, heir, WrongTables}
 use Rattle.theorems.proofs.Effects.{same-is}
 
 no : true ≡ false → ⊥
@@ -61,6 +65,10 @@ wrong_tables = record {
   ended_first = λ h. absurd (omega (arith, h port (refl, refl)));
   faults_before = λ h. absurd (omega (arith, h port (refl, refl)));
   first_question = λ h. absurd (omega (arith, h port (refl, refl)));
+  aside = λ h. let e = ap length (h.rows heir refl) in absurd (cc e);
+  aside_files = λ h. absurd (cc (h.files));
+  aside_gone = λ h. let e = ap (λ (t : Table). length t.rows) (h.gone refl) in absurd (cc e);
+  turn_ignored = ((refl, refl, (None, tries 2 Adopt [] (Ends end.Done) (Ends end.RolledBack)), refl, (refl, refl, (None, Ends end.Done), refl, refl)), λ h. absurd (cc (h.0)));
   agrees = λ h. h.running.1.1.1.0 refl;
   orphan = (
     record {

@@ -155,7 +155,7 @@ GivesIn sides ran entries said = (ran.entries ≡ entries) × (report_of sides r
 
 -- and so does that of a target's plan
 abbrev pub Gives : Record → Target → Pattern → Table → List Entry → Report → Type 0
-Gives r target pattern t entries said = GivesIn (sides_of r target) (run_of r target pattern t) entries said
+Gives r target pattern t entries said = GivesIn (sides_of r target) (run_of r target [] pattern t) entries said
 
 abbrev pub count_if : Option (Generation → ℕ) → Generation → Option ℕ
 count_if None g = None

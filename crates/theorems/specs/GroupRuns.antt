@@ -75,7 +75,7 @@ three_ready_without_file = record three_ready { pid_path = None; note = NoFile }
 
 -- from one group to two
 abbrev pub splits : Pattern → Ran
-splits pattern = run_of (two_ready 0) (Reload grouped) pattern two_workers
+splits pattern = run_of (two_ready 0) (Reload grouped) [] pattern two_workers
 
 -- The last of them exits before the last count.
 abbrev pub one_lost : Pattern
@@ -83,7 +83,7 @@ one_lost = exits 11 (name.Worker reloaded 2) no_fault
 
 -- the same groups, by a new master
 abbrev pub handed_on : Ran
-handed_on = run_of three_ready_without_file (Upgrade grouped) no_fault three_without_file
+handed_on = run_of three_ready_without_file (Upgrade grouped) [] no_fault three_without_file
 
 pub record GroupRuns : Type 0 where
   -- The premises can be met.
@@ -98,7 +98,7 @@ pub record GroupRuns : Type 0 where
   pub one_less :
       Gives three_ready (Workers 2) no_fault three_workers (m1 (Quit first 2) answer.Fine ∷ m1 (Census first) (answer.Counted (0 ∷ 1 ∷ [])) ∷ []) (report Done None InPlace (0 ∷ 1 ∷ []))
   pub one_more :
-      Gives (grouped_record (0 ∷ 1 ∷ []) 2) (Workers 3) no_fault (run_of three_ready (Workers 2) no_fault three_workers).last.table (m1 (Fork first 2 (Some (4 ∷ []))) answer.Forked ∷ m1 (AwaitReady first 2) answer.IsReady ∷ m1 (Census first) (answer.Counted (0 ∷ 1 ∷ 2 ∷ [])) ∷ []) (report Done None InPlace (0 ∷ 1 ∷ 2 ∷ []))
+      Gives (grouped_record (0 ∷ 1 ∷ []) 2) (Workers 3) no_fault (run_of three_ready (Workers 2) [] no_fault three_workers).last.table (m1 (Fork first 2 (Some (4 ∷ []))) answer.Forked ∷ m1 (AwaitReady first 2) answer.IsReady ∷ m1 (Census first) (answer.Counted (0 ∷ 1 ∷ 2 ∷ [])) ∷ []) (report Done None InPlace (0 ∷ 1 ∷ 2 ∷ []))
   -- An upgrade: the new master has both addresses, and each of its workers gets its group's descriptor.
   pub upgrades :
-      Gives three_ready_without_file (Upgrade grouped) no_fault three_without_file (m1 (SpawnMaster 2) answer.Spawned ∷ m2 Adopt answer.Adopted ∷ m2 (Fork upgraded 0 (Some (3 ∷ []))) answer.Forked ∷ m2 (Fork upgraded 1 (Some (3 ∷ []))) answer.Forked ∷ m2 (Fork upgraded 2 (Some (4 ∷ []))) answer.Forked ∷ m2 (AwaitReady upgraded 0) answer.IsReady ∷ m2 (AwaitReady upgraded 1) answer.IsReady ∷ m2 (AwaitReady upgraded 2) answer.IsReady ∷ m2 (Census upgraded) (answer.Counted (0 ∷ 1 ∷ 2 ∷ [])) ∷ m1 (Quit first 2) answer.Fine ∷ m1 (Quit first 1) answer.Fine ∷ m1 (Quit first 0) answer.Fine ∷ m1 (AwaitGone first 2) answer.Gone ∷ m1 (AwaitGone first 1) answer.Gone ∷ m1 (AwaitGone first 0) answer.Gone ∷ m1 (Alive 2) answer.IsAlive ∷ m1 Leave answer.Fine ∷ m2 (Census upgraded) (answer.Counted (0 ∷ 1 ∷ 2 ∷ [])) ∷ []) (report Done None NoFile (0 ∷ 1 ∷ 2 ∷ [])) × (serving handed_on port upgraded ≡ Some 2) × (serving handed_on other_port upgraded ≡ Some 1)
+      Gives three_ready_without_file (Upgrade grouped) no_fault three_without_file (m1 (SpawnMaster 2) answer.Spawned ∷ m2 Adopt answer.Adopted ∷ m2 (Fork upgraded 0 (Some (3 ∷ []))) answer.Forked ∷ m2 (Fork upgraded 1 (Some (3 ∷ []))) answer.Forked ∷ m2 (Fork upgraded 2 (Some (4 ∷ []))) answer.Forked ∷ m2 (AwaitReady upgraded 0) answer.IsReady ∷ m2 (AwaitReady upgraded 1) answer.IsReady ∷ m2 (AwaitReady upgraded 2) answer.IsReady ∷ m1 (Census first) (answer.Counted (0 ∷ 1 ∷ 2 ∷ [])) ∷ m2 (Census upgraded) (answer.Counted (0 ∷ 1 ∷ 2 ∷ [])) ∷ m1 (Quit first 2) answer.Fine ∷ m1 (Quit first 1) answer.Fine ∷ m1 (Quit first 0) answer.Fine ∷ m1 (AwaitGone first 2) answer.Gone ∷ m1 (AwaitGone first 1) answer.Gone ∷ m1 (AwaitGone first 0) answer.Gone ∷ m1 (Alive 2) answer.IsAlive ∷ m1 Leave answer.Fine ∷ m2 (Census upgraded) (answer.Counted (0 ∷ 1 ∷ 2 ∷ [])) ∷ []) (report Done None NoFile (0 ∷ 1 ∷ 2 ∷ [])) × (serving handed_on port upgraded ≡ Some 2) × (serving handed_on other_port upgraded ≡ Some 1)

@@ -15,6 +15,7 @@ use Rattle.definitions.specs.Handover.{reading}
 use Rattle.definitions.specs.Target.{Sides, sides_of, handover_of, text_handed}
 use Rattle.listener_set.specs.Numbers.{numbers_below}
 use Rattle.definitions.specs.Tree.{height}
+use Rattle.definitions.specs.Parts.{Turn, New, Old}
 use Rattle.definitions.specs.Plans.{plan_tree}
 use Rattle.definitions.specs.Run.{Pattern, Ran, faults_since, run_with, start_at, report_of}
 use Rattle.definitions.specs.After.{record_after}
@@ -47,8 +48,11 @@ handed =
 abbrev pub same_upgrade : Target
 same_upgrade = Upgrade (settings_of (port ∷ []) 2)
 
+abbrev pub upgrade_run_by : List Turn → List ℕ → Pattern → Ran
+upgrade_run_by turns text pattern = run_with text (plan_tree (two_ready 3) same_upgrade turns) pattern (start_at two_workers InPlace)
+
 abbrev pub upgrade_run : List ℕ → Pattern → Ran
-upgrade_run text pattern = run_with text (plan_tree (two_ready 3) same_upgrade) pattern (start_at two_workers InPlace)
+upgrade_run text pattern = upgrade_run_by [] text pattern
 
 abbrev pub upgrade_sides : Sides
 upgrade_sides = sides_of (two_ready 3) same_upgrade
@@ -59,7 +63,15 @@ refused_with text pattern = refused_among (1 ∷ []) (2 ∷ []) pattern 0 (upgra
 -- The whole of an upgrade.
 abbrev pub Upgrades : List ℕ → Type 0
 Upgrades text =
-    GivesIn upgrade_sides (upgrade_run text no_fault) (m1 (MovePid pid_file (oldbin pid_file)) answer.Fine ∷ m1 (SpawnMaster 2) answer.Spawned ∷ m2 Adopt answer.Adopted ∷ m2 (Fork upgraded 0 None) answer.Forked ∷ m2 (Fork upgraded 1 None) answer.Forked ∷ m2 (AwaitReady upgraded 0) answer.IsReady ∷ m2 (AwaitReady upgraded 1) answer.IsReady ∷ m2 (WritePid pid_file) answer.Fine ∷ m2 (Census upgraded) (answer.Counted (0 ∷ 1 ∷ [])) ∷ m1 (Quit first 1) answer.Fine ∷ m1 (Quit first 0) answer.Fine ∷ m1 (AwaitGone first 1) answer.Gone ∷ m1 (AwaitGone first 0) answer.Gone ∷ m1 (Alive 2) answer.IsAlive ∷ m1 Leave answer.Fine ∷ m2 (RemovePid (oldbin pid_file)) answer.Fine ∷ m2 (Census upgraded) (answer.Counted (0 ∷ 1 ∷ [])) ∷ []) (report Done None InPlace (0 ∷ 1 ∷ [])) × (serving (upgrade_run text no_fault) port upgraded ≡ Some 2)
+    GivesIn upgrade_sides (upgrade_run text no_fault) (m1 (MovePid pid_file (oldbin pid_file)) answer.Fine ∷ m1 (SpawnMaster 2) answer.Spawned ∷ m2 Adopt answer.Adopted ∷ m2 (Fork upgraded 0 None) answer.Forked ∷ m2 (Fork upgraded 1 None) answer.Forked ∷ m2 (AwaitReady upgraded 0) answer.IsReady ∷ m2 (AwaitReady upgraded 1) answer.IsReady ∷ m1 (Census first) (answer.Counted (0 ∷ 1 ∷ [])) ∷ m2 (WritePid pid_file) answer.Fine ∷ m2 (Census upgraded) (answer.Counted (0 ∷ 1 ∷ [])) ∷ m1 (Quit first 1) answer.Fine ∷ m1 (Quit first 0) answer.Fine ∷ m1 (AwaitGone first 1) answer.Gone ∷ m1 (AwaitGone first 0) answer.Gone ∷ m1 (Alive 2) answer.IsAlive ∷ m1 Leave answer.Fine ∷ m2 (RemovePid (oldbin pid_file)) answer.Fine ∷ m2 (Census upgraded) (answer.Counted (0 ∷ 1 ∷ [])) ∷ []) (report Done None InPlace (0 ∷ 1 ∷ [])) × (serving (upgrade_run text no_fault) port upgraded ≡ Some 2)
+
+-- The old master counts its workers first.
+abbrev pub CountsFirst : List ℕ → Type 0
+CountsFirst text = GivesIn upgrade_sides (upgrade_run_by (Old ∷ []) text no_fault) (m1 (MovePid pid_file (oldbin pid_file)) answer.Fine ∷ m1 (SpawnMaster 2) answer.Spawned ∷ m1 (Census first) (answer.Counted (0 ∷ 1 ∷ [])) ∷ m2 Adopt answer.Adopted ∷ m2 (Fork upgraded 0 None) answer.Forked ∷ m2 (Fork upgraded 1 None) answer.Forked ∷ m2 (AwaitReady upgraded 0) answer.IsReady ∷ m2 (AwaitReady upgraded 1) answer.IsReady ∷ m2 (WritePid pid_file) answer.Fine ∷ m2 (Census upgraded) (answer.Counted (0 ∷ 1 ∷ [])) ∷ m1 (Quit first 1) answer.Fine ∷ m1 (Quit first 0) answer.Fine ∷ m1 (AwaitGone first 1) answer.Gone ∷ m1 (AwaitGone first 0) answer.Gone ∷ m1 (Alive 2) answer.IsAlive ∷ m1 Leave answer.Fine ∷ m2 (RemovePid (oldbin pid_file)) answer.Fine ∷ m2 (Census upgraded) (answer.Counted (0 ∷ 1 ∷ [])) ∷ []) (report Done None InPlace (0 ∷ 1 ∷ []))
+
+-- The old master starts one that is gone, beside the new master's first step.
+abbrev pub MendsBeside : List ℕ → Type 0
+MendsBeside text = GivesIn upgrade_sides (upgrade_run_by (New ∷ Old ∷ Old ∷ Old ∷ Old ∷ []) text (exits 4 (name.Worker first 1) no_fault)) (m1 (MovePid pid_file (oldbin pid_file)) answer.Fine ∷ m1 (SpawnMaster 2) answer.Spawned ∷ m2 Adopt answer.Adopted ∷ m1 (Census first) (answer.Counted (0 ∷ [])) ∷ m1 (Fork first 1 None) answer.Forked ∷ m1 (AwaitReady first 1) answer.IsReady ∷ m1 (Census first) (answer.Counted (0 ∷ 1 ∷ [])) ∷ m2 (Fork upgraded 0 None) answer.Forked ∷ m2 (Fork upgraded 1 None) answer.Forked ∷ m2 (AwaitReady upgraded 0) answer.IsReady ∷ m2 (AwaitReady upgraded 1) answer.IsReady ∷ m2 (WritePid pid_file) answer.Fine ∷ m2 (Census upgraded) (answer.Counted (0 ∷ 1 ∷ [])) ∷ m1 (Quit first 1) answer.Fine ∷ m1 (Quit first 0) answer.Fine ∷ m1 (AwaitGone first 1) answer.Gone ∷ m1 (AwaitGone first 0) answer.Gone ∷ m1 (Alive 2) answer.IsAlive ∷ m1 Leave answer.Fine ∷ m2 (RemovePid (oldbin pid_file)) answer.Fine ∷ m2 (Census upgraded) (answer.Counted (0 ∷ 1 ∷ [])) ∷ []) (report Done (Some 4) InPlace (0 ∷ 1 ∷ []))
 
 -- There is no program, and the pid file does not come back.
 abbrev pub NoImage : List ℕ → Type 0
@@ -69,43 +81,46 @@ NoImage text =
 -- The new master is gone when it is asked for.
 abbrev pub GoneAtLast : List ℕ → Type 0
 GoneAtLast text =
-    GivesIn upgrade_sides (upgrade_run text (exits 14 (name.Master 2) no_fault)) (m1 (MovePid pid_file (oldbin pid_file)) answer.Fine ∷ m1 (SpawnMaster 2) answer.Spawned ∷ m2 Adopt answer.Adopted ∷ m2 (Fork upgraded 0 None) answer.Forked ∷ m2 (Fork upgraded 1 None) answer.Forked ∷ m2 (AwaitReady upgraded 0) answer.IsReady ∷ m2 (AwaitReady upgraded 1) answer.IsReady ∷ m2 (WritePid pid_file) answer.Fine ∷ m2 (Census upgraded) (answer.Counted (0 ∷ 1 ∷ [])) ∷ m1 (Quit first 1) answer.Fine ∷ m1 (Quit first 0) answer.Fine ∷ m1 (AwaitGone first 1) answer.Gone ∷ m1 (AwaitGone first 0) answer.Gone ∷ m1 (Alive 2) answer.Gone ∷ m1 (TermMaster 2) answer.Fine ∷ m1 (Fork first 0 None) answer.Forked ∷ m1 (Fork first 1 None) answer.Forked ∷ m1 (AwaitReady first 0) answer.IsReady ∷ m1 (AwaitReady first 1) answer.IsReady ∷ m1 (MovePid (oldbin pid_file) pid_file) answer.Fine ∷ m1 (Census first) (answer.Counted (0 ∷ 1 ∷ [])) ∷ []) (report RolledBack (Some 14) InPlace (0 ∷ 1 ∷ [])) × (serving (upgrade_run text (exits 14 (name.Master 2) no_fault)) port first ≡ Some 2) × ((upgrade_run text (exits 14 (name.Master 2) no_fault)).last.faults ≡ 1) × ((upgrade_run text (exits 14 (name.Master 2) no_fault)).last.losses ≡ 2)
+    GivesIn upgrade_sides (upgrade_run text (exits 15 (name.Master 2) no_fault)) (m1 (MovePid pid_file (oldbin pid_file)) answer.Fine ∷ m1 (SpawnMaster 2) answer.Spawned ∷ m2 Adopt answer.Adopted ∷ m2 (Fork upgraded 0 None) answer.Forked ∷ m2 (Fork upgraded 1 None) answer.Forked ∷ m2 (AwaitReady upgraded 0) answer.IsReady ∷ m2 (AwaitReady upgraded 1) answer.IsReady ∷ m1 (Census first) (answer.Counted (0 ∷ 1 ∷ [])) ∷ m2 (WritePid pid_file) answer.Fine ∷ m2 (Census upgraded) (answer.Counted (0 ∷ 1 ∷ [])) ∷ m1 (Quit first 1) answer.Fine ∷ m1 (Quit first 0) answer.Fine ∷ m1 (AwaitGone first 1) answer.Gone ∷ m1 (AwaitGone first 0) answer.Gone ∷ m1 (Alive 2) answer.Gone ∷ m1 (TermMaster 2) answer.Fine ∷ m1 (Fork first 0 None) answer.Forked ∷ m1 (Fork first 1 None) answer.Forked ∷ m1 (AwaitReady first 0) answer.IsReady ∷ m1 (AwaitReady first 1) answer.IsReady ∷ m1 (MovePid (oldbin pid_file) pid_file) answer.Fine ∷ m1 (Census first) (answer.Counted (0 ∷ 1 ∷ [])) ∷ []) (report RolledBack (Some 15) InPlace (0 ∷ 1 ∷ [])) × (serving (upgrade_run text (exits 15 (name.Master 2) no_fault)) port first ≡ Some 2) × ((upgrade_run text (exits 15 (name.Master 2) no_fault)).last.faults ≡ 1) × ((upgrade_run text (exits 15 (name.Master 2) no_fault)).last.losses ≡ 2)
 
 -- The executing masters must not exit.
 abbrev pub Refused : List ℕ → Type 0
 Refused text =
-    (refused_with text (exits 15 (name.Master 2) no_fault) ≡ Some 15) × (refused_with text (exits 1 (name.Master 1) no_fault) ≡ Some 1) × (refused_with text (exits 14 (name.Master 2) no_fault) ≡ None)
+    (refused_with text (exits 16 (name.Master 2) no_fault) ≡ Some 16) × (refused_with text (exits 1 (name.Master 1) no_fault) ≡ Some 1) × (refused_with text (exits 15 (name.Master 2) no_fault) ≡ None)
 
 -- The new master is gone while it starts.
 abbrev pub GoneEarly : List ℕ → Type 0
 GoneEarly text =
-    GivesIn upgrade_sides (upgrade_run text (exits 6 (name.Master 2) no_fault)) (m1 (MovePid pid_file (oldbin pid_file)) answer.Fine ∷ m1 (SpawnMaster 2) answer.Spawned ∷ m2 Adopt answer.Adopted ∷ m2 (Fork upgraded 0 None) answer.Forked ∷ m2 (Fork upgraded 1 None) answer.Forked ∷ m2 (AwaitReady upgraded 0) answer.MasterGone ∷ m1 (TermMaster 2) answer.Fine ∷ m1 (MovePid (oldbin pid_file) pid_file) answer.Fine ∷ m1 (Census first) (answer.Counted (0 ∷ 1 ∷ [])) ∷ []) (report RolledBack (Some 6) InPlace (0 ∷ 1 ∷ [])) × ((upgrade_run text (exits 6 (name.Master 2) no_fault)).last.faults ≡ 1) × ((upgrade_run text (exits 6 (name.Master 2) no_fault)).last.losses ≡ 2)
+    GivesIn upgrade_sides (upgrade_run text (exits 6 (name.Master 2) no_fault)) (m1 (MovePid pid_file (oldbin pid_file)) answer.Fine ∷ m1 (SpawnMaster 2) answer.Spawned ∷ m2 Adopt answer.Adopted ∷ m2 (Fork upgraded 0 None) answer.Forked ∷ m2 (Fork upgraded 1 None) answer.Forked ∷ m2 (AwaitReady upgraded 0) answer.MasterGone ∷ m1 (Census first) (answer.Counted (0 ∷ 1 ∷ [])) ∷ m1 (TermMaster 2) answer.Fine ∷ m1 (MovePid (oldbin pid_file) pid_file) answer.Fine ∷ m1 (Census first) (answer.Counted (0 ∷ 1 ∷ [])) ∷ []) (report RolledBack (Some 6) InPlace (0 ∷ 1 ∷ [])) × ((upgrade_run text (exits 6 (name.Master 2) no_fault)).last.faults ≡ 1) × ((upgrade_run text (exits 6 (name.Master 2) no_fault)).last.losses ≡ 2)
 
 -- A worker is gone at the last count.
 abbrev pub RepairedAtLast : List ℕ → Type 0
 RepairedAtLast text =
-    GivesIn upgrade_sides (upgrade_run text (exits 17 (name.Worker upgraded 1) no_fault)) (m1 (MovePid pid_file (oldbin pid_file)) answer.Fine ∷ m1 (SpawnMaster 2) answer.Spawned ∷ m2 Adopt answer.Adopted ∷ m2 (Fork upgraded 0 None) answer.Forked ∷ m2 (Fork upgraded 1 None) answer.Forked ∷ m2 (AwaitReady upgraded 0) answer.IsReady ∷ m2 (AwaitReady upgraded 1) answer.IsReady ∷ m2 (WritePid pid_file) answer.Fine ∷ m2 (Census upgraded) (answer.Counted (0 ∷ 1 ∷ [])) ∷ m1 (Quit first 1) answer.Fine ∷ m1 (Quit first 0) answer.Fine ∷ m1 (AwaitGone first 1) answer.Gone ∷ m1 (AwaitGone first 0) answer.Gone ∷ m1 (Alive 2) answer.IsAlive ∷ m1 Leave answer.Fine ∷ m2 (RemovePid (oldbin pid_file)) answer.Fine ∷ m2 (Census upgraded) (answer.Counted (0 ∷ [])) ∷ m2 (Fork upgraded 1 None) answer.Forked ∷ m2 (AwaitReady upgraded 1) answer.IsReady ∷ m2 (Census upgraded) (answer.Counted (0 ∷ 1 ∷ [])) ∷ []) (report Done (Some 17) InPlace (0 ∷ 1 ∷ []))
+    GivesIn upgrade_sides (upgrade_run text (exits 18 (name.Worker upgraded 1) no_fault)) (m1 (MovePid pid_file (oldbin pid_file)) answer.Fine ∷ m1 (SpawnMaster 2) answer.Spawned ∷ m2 Adopt answer.Adopted ∷ m2 (Fork upgraded 0 None) answer.Forked ∷ m2 (Fork upgraded 1 None) answer.Forked ∷ m2 (AwaitReady upgraded 0) answer.IsReady ∷ m2 (AwaitReady upgraded 1) answer.IsReady ∷ m1 (Census first) (answer.Counted (0 ∷ 1 ∷ [])) ∷ m2 (WritePid pid_file) answer.Fine ∷ m2 (Census upgraded) (answer.Counted (0 ∷ 1 ∷ [])) ∷ m1 (Quit first 1) answer.Fine ∷ m1 (Quit first 0) answer.Fine ∷ m1 (AwaitGone first 1) answer.Gone ∷ m1 (AwaitGone first 0) answer.Gone ∷ m1 (Alive 2) answer.IsAlive ∷ m1 Leave answer.Fine ∷ m2 (RemovePid (oldbin pid_file)) answer.Fine ∷ m2 (Census upgraded) (answer.Counted (0 ∷ [])) ∷ m2 (Fork upgraded 1 None) answer.Forked ∷ m2 (AwaitReady upgraded 1) answer.IsReady ∷ m2 (Census upgraded) (answer.Counted (0 ∷ 1 ∷ [])) ∷ []) (report Done (Some 18) InPlace (0 ∷ 1 ∷ []))
 
 -- The old pid file cannot be removed.
 abbrev pub OldFileLeft : List ℕ → Type 0
 OldFileLeft text =
-    GivesIn upgrade_sides (upgrade_run text (fails 16 fate.IoFault no_fault)) (m1 (MovePid pid_file (oldbin pid_file)) answer.Fine ∷ m1 (SpawnMaster 2) answer.Spawned ∷ m2 Adopt answer.Adopted ∷ m2 (Fork upgraded 0 None) answer.Forked ∷ m2 (Fork upgraded 1 None) answer.Forked ∷ m2 (AwaitReady upgraded 0) answer.IsReady ∷ m2 (AwaitReady upgraded 1) answer.IsReady ∷ m2 (WritePid pid_file) answer.Fine ∷ m2 (Census upgraded) (answer.Counted (0 ∷ 1 ∷ [])) ∷ m1 (Quit first 1) answer.Fine ∷ m1 (Quit first 0) answer.Fine ∷ m1 (AwaitGone first 1) answer.Gone ∷ m1 (AwaitGone first 0) answer.Gone ∷ m1 (Alive 2) answer.IsAlive ∷ m1 Leave answer.Fine ∷ m2 (RemovePid (oldbin pid_file)) answer.IoFault ∷ m2 (Census upgraded) (answer.Counted (0 ∷ 1 ∷ [])) ∷ []) (report Done (Some 16) OldbinLeft (0 ∷ 1 ∷ []))
+    GivesIn upgrade_sides (upgrade_run text (fails 17 fate.IoFault no_fault)) (m1 (MovePid pid_file (oldbin pid_file)) answer.Fine ∷ m1 (SpawnMaster 2) answer.Spawned ∷ m2 Adopt answer.Adopted ∷ m2 (Fork upgraded 0 None) answer.Forked ∷ m2 (Fork upgraded 1 None) answer.Forked ∷ m2 (AwaitReady upgraded 0) answer.IsReady ∷ m2 (AwaitReady upgraded 1) answer.IsReady ∷ m1 (Census first) (answer.Counted (0 ∷ 1 ∷ [])) ∷ m2 (WritePid pid_file) answer.Fine ∷ m2 (Census upgraded) (answer.Counted (0 ∷ 1 ∷ [])) ∷ m1 (Quit first 1) answer.Fine ∷ m1 (Quit first 0) answer.Fine ∷ m1 (AwaitGone first 1) answer.Gone ∷ m1 (AwaitGone first 0) answer.Gone ∷ m1 (Alive 2) answer.IsAlive ∷ m1 Leave answer.Fine ∷ m2 (RemovePid (oldbin pid_file)) answer.IoFault ∷ m2 (Census upgraded) (answer.Counted (0 ∷ 1 ∷ [])) ∷ []) (report Done (Some 17) OldbinLeft (0 ∷ 1 ∷ []))
 
 ---- An attended upgrade
 
 abbrev pub same_attended : Target
 same_attended = Attended (settings_of (port ∷ []) 2)
 
-abbrev pub attended_run : List ℕ → Pattern → Ran
-attended_run text pattern = run_with text (plan_tree (two_ready 3) same_attended) pattern (start_at two_workers InPlace)
+abbrev pub attended_run_by : List Turn → List ℕ → Pattern → Ran
+attended_run_by turns text pattern = run_with text (plan_tree (two_ready 3) same_attended turns) pattern (start_at two_workers InPlace)
 
--- The nine calls up to the new master's count, and those that end the old workers.
+abbrev pub attended_run : List ℕ → Pattern → Ran
+attended_run text pattern = attended_run_by [] text pattern
+
+-- The ten calls up to the new master's count, and those that end the old workers.
 abbrev pub until_counted : List Entry
 until_counted =
     m1 (MovePid pid_file (oldbin pid_file)) answer.Fine ∷ m1 (SpawnMaster 2) answer.Spawned ∷ m2 Adopt answer.Adopted
     ∷ m2 (Fork upgraded 0 None) answer.Forked ∷ m2 (Fork upgraded 1 None) answer.Forked
     ∷ m2 (AwaitReady upgraded 0) answer.IsReady ∷ m2 (AwaitReady upgraded 1) answer.IsReady
-    ∷ m2 (WritePid pid_file) answer.Fine ∷ m2 (Census upgraded) (answer.Counted (0 ∷ 1 ∷ [])) ∷ []
+    ∷ m1 (Census first) (answer.Counted (0 ∷ 1 ∷ [])) ∷ m2 (WritePid pid_file) answer.Fine ∷ m2 (Census upgraded) (answer.Counted (0 ∷ 1 ∷ [])) ∷ []
 
 abbrev pub until_gone : List Entry
 until_gone =
@@ -127,31 +142,46 @@ Attends text =
 -- The operator goes back before the old workers quit, which is no fault.
 abbrev pub BackAtFirst : List ℕ → Type 0
 BackAtFirst text =
-    let ran = attended_run text (fails 10 fate.Back no_fault) in
-    GivesIn upgrade_sides ran (until_counted ++ m1 (Ask 1) answer.Back ∷ back_alone) (report RolledBack (Some 10) InPlace (0 ∷ 1 ∷ []))
+    let ran = attended_run text (fails 11 fate.Back no_fault) in
+    GivesIn upgrade_sides ran (until_counted ++ m1 (Ask 1) answer.Back ∷ back_alone) (report RolledBack (Some 11) InPlace (0 ∷ 1 ∷ []))
     × (ran.last.faults ≡ 0)
 
 -- The operator goes back once they are gone: they are started again before the new master ends.
 abbrev pub BackAtLast : List ℕ → Type 0
 BackAtLast text =
-    let ran = attended_run text (fails 15 fate.Back no_fault) in
+    let ran = attended_run text (fails 16 fate.Back no_fault) in
     GivesIn upgrade_sides ran
     (until_counted ++ m1 (Ask 1) answer.Go ∷ until_gone ++ m1 (Ask 2) answer.Back
     ∷ m1 (Fork first 0 None) answer.Forked ∷ m1 (Fork first 1 None) answer.Forked
     ∷ m1 (AwaitReady first 0) answer.IsReady ∷ m1 (AwaitReady first 1) answer.IsReady ∷ back_alone)
-    (report RolledBack (Some 15) InPlace (0 ∷ 1 ∷ []))
+    (report RolledBack (Some 16) InPlace (0 ∷ 1 ∷ []))
     × (ran.last.faults ≡ 0)
 
 -- One of them is late then, which is a fault since the operator went back.
 abbrev pub BackIsShort : List ℕ → Type 0
 BackIsShort text =
-    let ran = attended_run text (fails 15 fate.Back (fails 18 fate.Late no_fault)) in
-    (ran.last.faults ≡ 1) × (ran.last.losses ≡ 0) × (faults_since 2 ran.last.returns ran.last.faults ≡ 1) × (ran.last.cause ≡ Some 15)
+    let ran = attended_run text (fails 16 fate.Back (fails 19 fate.Late no_fault)) in
+    (ran.last.faults ≡ 1) × (ran.last.losses ≡ 0) × (faults_since 2 ran.last.returns ran.last.faults ≡ 1) × (ran.last.cause ≡ Some 16)
+
+-- The old master has mended, with one that was late, and the old service is wanted back at last: that fault was before, and counts for
+-- nothing then.
+abbrev pub all_old_first : List Turn
+all_old_first = New ∷ Old ∷ Old ∷ Old ∷ Old ∷ Old ∷ Old ∷ Old ∷ Old ∷ []
+
+abbrev pub late_then_back : Pattern
+late_then_back = exits 4 (name.Worker first 1) (fails 6 fate.Late (fails 23 fate.Back no_fault))
+
+abbrev pub BackAfterMending : List ℕ → Type 0
+BackAfterMending text =
+    GivesIn upgrade_sides (attended_run_by all_old_first text late_then_back) (m1 (MovePid pid_file (oldbin pid_file)) answer.Fine ∷ m1 (SpawnMaster 2) answer.Spawned ∷ m2 Adopt answer.Adopted ∷ m1 (Census first) (answer.Counted (0 ∷ [])) ∷ m1 (Fork first 1 None) answer.Forked ∷ m1 (AwaitReady first 1) answer.Late ∷ m1 (Kill first 1) answer.Fine ∷ m1 (Census first) (answer.Counted (0 ∷ [])) ∷ m1 (Fork first 1 None) answer.Forked ∷ m1 (AwaitReady first 1) answer.IsReady ∷ m1 (Census first) (answer.Counted (0 ∷ 1 ∷ [])) ∷ m2 (Fork upgraded 0 None) answer.Forked ∷ m2 (Fork upgraded 1 None) answer.Forked ∷ m2 (AwaitReady upgraded 0) answer.IsReady ∷ m2 (AwaitReady upgraded 1) answer.IsReady ∷ m2 (WritePid pid_file) answer.Fine ∷ m2 (Census upgraded) (answer.Counted (0 ∷ 1 ∷ [])) ∷ m1 (Ask 1) answer.Go ∷ m1 (Quit first 1) answer.Fine ∷ m1 (Quit first 0) answer.Fine ∷ m1 (AwaitGone first 1) answer.Gone ∷ m1 (AwaitGone first 0) answer.Gone ∷ m1 (Ask 2) answer.Back ∷ m1 (Fork first 0 None) answer.Forked ∷ m1 (Fork first 1 None) answer.Forked ∷ m1 (AwaitReady first 0) answer.IsReady ∷ m1 (AwaitReady first 1) answer.IsReady ∷ m1 (TermMaster 2) answer.Fine ∷ m1 (MovePid (oldbin pid_file) pid_file) answer.Fine ∷ m1 (Census first) (answer.Counted (0 ∷ 1 ∷ [])) ∷ []) (report RolledBack (Some 4) InPlace (0 ∷ 1 ∷ []))
+    × (let ran = attended_run_by all_old_first text late_then_back in (ran.last.faults ≡ 1) × (ran.last.losses ≡ 1) × (faults_since 2 ran.last.returns ran.last.faults ≡ 0))
 
 pub record WorkedRuns : Type 0 where
   -- The text of the upgrade's handover, which is read again.
   pub handover : (text_handed (two_ready 3) same_upgrade ≡ handed) × (reading handed ≡ Ok (handover_of (two_ready 3) (settings_of (port ∷ []) 2)))
   pub upgrades : Upgrades (text_handed (two_ready 3) same_upgrade)
+  pub counts_first : CountsFirst (text_handed (two_ready 3) same_upgrade)
+  pub mends_beside : MendsBeside (text_handed (two_ready 3) same_upgrade)
   pub no_image : NoImage (text_handed (two_ready 3) same_upgrade)
   pub gone_at_last : GoneAtLast (text_handed (two_ready 3) same_upgrade)
   pub refused : Refused (text_handed (two_ready 3) same_upgrade)
@@ -162,6 +192,7 @@ pub record WorkedRuns : Type 0 where
   pub back_at_first : BackAtFirst (text_handed (two_ready 3) same_attended)
   pub back_at_last : BackAtLast (text_handed (two_ready 3) same_attended)
   pub back_is_short : BackIsShort (text_handed (two_ready 3) same_attended)
+  pub back_after_mending : BackAfterMending (text_handed (two_ready 3) same_attended)
   -- One worker more.
   pub one_more :
       Gives two_ready_without_file (Workers 3) no_fault two_without_file (m1 (Fork first 2 None) answer.Forked ∷ m1 (AwaitReady first 2) answer.IsReady ∷ m1 (Census first) (answer.Counted (0 ∷ 1 ∷ 2 ∷ [])) ∷ []) (report Done None NoFile (0 ∷ 1 ∷ 2 ∷ []))
@@ -178,33 +209,33 @@ pub record WorkedRuns : Type 0 where
   pub one_less :
       Gives (two_ready 3) (Workers 1) no_fault two_workers (m1 (Quit first 1) answer.Fine ∷ m1 (Census first) (answer.Counted (0 ∷ [])) ∷ []) (report Done None InPlace (0 ∷ []))
   pub none_left :
-      Gives (record_with (0 ∷ []) 1 3 (Some pid_file) InPlace) (Workers 0) no_fault (run_of (two_ready 3) (Workers 1) no_fault two_workers).last.table (m1 (Quit first 0) answer.Fine ∷ m1 (Census first) (answer.Counted []) ∷ []) (report Done None InPlace [])
+      Gives (record_with (0 ∷ []) 1 3 (Some pid_file) InPlace) (Workers 0) no_fault (run_of (two_ready 3) (Workers 1) [] no_fault two_workers).last.table (m1 (Quit first 0) answer.Fine ∷ m1 (Census first) (answer.Counted []) ∷ []) (report Done None InPlace [])
   -- All workers quit, and then there is one again.
   pub all_quit :
       Gives (two_ready 3) (Workers 0) no_fault two_workers (m1 (Quit first 1) answer.Fine ∷ m1 (Quit first 0) answer.Fine ∷ m1 (Census first) (answer.Counted []) ∷ []) (report Done None InPlace [])
   pub one_again :
-      Gives (record_with [] 0 3 (Some pid_file) InPlace) (Workers 1) no_fault (run_of (two_ready 3) (Workers 0) no_fault two_workers).last.table (m1 (Fork first 0 None) answer.Forked ∷ m1 (AwaitReady first 0) answer.IsReady ∷ m1 (Census first) (answer.Counted (0 ∷ [])) ∷ []) (report Done None InPlace (0 ∷ []))
+      Gives (record_with [] 0 3 (Some pid_file) InPlace) (Workers 1) no_fault (run_of (two_ready 3) (Workers 0) [] no_fault two_workers).last.table (m1 (Fork first 0 None) answer.Forked ∷ m1 (AwaitReady first 0) answer.IsReady ∷ m1 (Census first) (answer.Counted (0 ∷ [])) ∷ []) (report Done None InPlace (0 ∷ []))
   -- The same settings again.
   pub reloads :
       Gives (two_ready 3) (Reload (settings_of (port ∷ []) 2)) no_fault two_workers (m1 (Fork reloaded 0 None) answer.Forked ∷ m1 (Fork reloaded 1 None) answer.Forked ∷ m1 (AwaitReady reloaded 0) answer.IsReady ∷ m1 (AwaitReady reloaded 1) answer.IsReady ∷ m1 (Census reloaded) (answer.Counted (0 ∷ 1 ∷ [])) ∷ m1 (Quit first 1) answer.Fine ∷ m1 (Quit first 0) answer.Fine ∷ m1 (Census reloaded) (answer.Counted (0 ∷ 1 ∷ [])) ∷ []) (report Done None InPlace (0 ∷ 1 ∷ []))
   -- An address more: both are served.
   pub reloads_with_an_address :
-      Gives (two_ready 3) (Reload (settings_of (port ∷ other_port ∷ []) 2)) no_fault two_workers (m1 (OpenAt other_port) (answer.Opened 4) ∷ m1 (Fork reloaded 0 None) answer.Forked ∷ m1 (Fork reloaded 1 None) answer.Forked ∷ m1 (AwaitReady reloaded 0) answer.IsReady ∷ m1 (AwaitReady reloaded 1) answer.IsReady ∷ m1 (Census reloaded) (answer.Counted (0 ∷ 1 ∷ [])) ∷ m1 (Quit first 1) answer.Fine ∷ m1 (Quit first 0) answer.Fine ∷ m1 (Census reloaded) (answer.Counted (0 ∷ 1 ∷ [])) ∷ []) (report Done None InPlace (0 ∷ 1 ∷ [])) × (serving (run_of (two_ready 3) (Reload (settings_of (port ∷ other_port ∷ []) 2)) no_fault two_workers) port reloaded ≡ Some 2) × (serving (run_of (two_ready 3) (Reload (settings_of (port ∷ other_port ∷ []) 2)) no_fault two_workers) other_port reloaded ≡ Some 2)
+      Gives (two_ready 3) (Reload (settings_of (port ∷ other_port ∷ []) 2)) no_fault two_workers (m1 (OpenAt other_port) (answer.Opened 4) ∷ m1 (Fork reloaded 0 None) answer.Forked ∷ m1 (Fork reloaded 1 None) answer.Forked ∷ m1 (AwaitReady reloaded 0) answer.IsReady ∷ m1 (AwaitReady reloaded 1) answer.IsReady ∷ m1 (Census reloaded) (answer.Counted (0 ∷ 1 ∷ [])) ∷ m1 (Quit first 1) answer.Fine ∷ m1 (Quit first 0) answer.Fine ∷ m1 (Census reloaded) (answer.Counted (0 ∷ 1 ∷ [])) ∷ []) (report Done None InPlace (0 ∷ 1 ∷ [])) × (serving (run_of (two_ready 3) (Reload (settings_of (port ∷ other_port ∷ []) 2)) [] no_fault two_workers) port reloaded ≡ Some 2) × (serving (run_of (two_ready 3) (Reload (settings_of (port ∷ other_port ∷ []) 2)) [] no_fault two_workers) other_port reloaded ≡ Some 2)
   -- Somebody else holds it.
   pub address_is_held :
       Gives (two_ready 3) (Reload (settings_of (port ∷ other_port ∷ []) 2)) no_fault other_held (m1 (OpenAt other_port) answer.InUse ∷ m1 (Census first) (answer.Counted (0 ∷ 1 ∷ [])) ∷ []) (report RolledBack (Some 1) InPlace (0 ∷ 1 ∷ []))
   -- A worker is late: what was opened is closed.
   pub comes_back :
-      Gives (two_ready 3) (Reload (settings_of (port ∷ other_port ∷ []) 2)) (fails 5 fate.Late no_fault) two_workers (m1 (OpenAt other_port) (answer.Opened 4) ∷ m1 (Fork reloaded 0 None) answer.Forked ∷ m1 (Fork reloaded 1 None) answer.Forked ∷ m1 (AwaitReady reloaded 0) answer.IsReady ∷ m1 (AwaitReady reloaded 1) answer.Late ∷ m1 (Kill reloaded 1) answer.Fine ∷ m1 (Quit reloaded 1) answer.Fine ∷ m1 (Quit reloaded 0) answer.Fine ∷ m1 (CloseAt other_port) answer.Fine ∷ m1 (Census first) (answer.Counted (0 ∷ 1 ∷ [])) ∷ []) (report RolledBack (Some 5) InPlace (0 ∷ 1 ∷ [])) × (serving (run_of (two_ready 3) (Reload (settings_of (port ∷ other_port ∷ []) 2)) (fails 5 fate.Late no_fault) two_workers) port first ≡ Some 2) × (serving (run_of (two_ready 3) (Reload (settings_of (port ∷ other_port ∷ []) 2)) (fails 5 fate.Late no_fault) two_workers) other_port reloaded ≡ None)
+      Gives (two_ready 3) (Reload (settings_of (port ∷ other_port ∷ []) 2)) (fails 5 fate.Late no_fault) two_workers (m1 (OpenAt other_port) (answer.Opened 4) ∷ m1 (Fork reloaded 0 None) answer.Forked ∷ m1 (Fork reloaded 1 None) answer.Forked ∷ m1 (AwaitReady reloaded 0) answer.IsReady ∷ m1 (AwaitReady reloaded 1) answer.Late ∷ m1 (Kill reloaded 1) answer.Fine ∷ m1 (Quit reloaded 1) answer.Fine ∷ m1 (Quit reloaded 0) answer.Fine ∷ m1 (CloseAt other_port) answer.Fine ∷ m1 (Census first) (answer.Counted (0 ∷ 1 ∷ [])) ∷ []) (report RolledBack (Some 5) InPlace (0 ∷ 1 ∷ [])) × (serving (run_of (two_ready 3) (Reload (settings_of (port ∷ other_port ∷ []) 2)) [] (fails 5 fate.Late no_fault) two_workers) port first ≡ Some 2) × (serving (run_of (two_ready 3) (Reload (settings_of (port ∷ other_port ∷ []) 2)) [] (fails 5 fate.Late no_fault) two_workers) other_port reloaded ≡ None)
   -- Another address in the place of the first.
   pub changes_its_address :
-      Gives (two_ready 3) (Reload (settings_of (other_port ∷ []) 2)) no_fault two_workers (m1 (OpenAt other_port) (answer.Opened 4) ∷ m1 (Fork reloaded 0 None) answer.Forked ∷ m1 (Fork reloaded 1 None) answer.Forked ∷ m1 (AwaitReady reloaded 0) answer.IsReady ∷ m1 (AwaitReady reloaded 1) answer.IsReady ∷ m1 (Census reloaded) (answer.Counted (0 ∷ 1 ∷ [])) ∷ m1 (Quit first 1) answer.Fine ∷ m1 (Quit first 0) answer.Fine ∷ m1 (CloseAt port) answer.Fine ∷ m1 (Census reloaded) (answer.Counted (0 ∷ 1 ∷ [])) ∷ []) (report Done None InPlace (0 ∷ 1 ∷ [])) × (serving (run_of (two_ready 3) (Reload (settings_of (other_port ∷ []) 2)) no_fault two_workers) port reloaded ≡ None) × (serving (run_of (two_ready 3) (Reload (settings_of (other_port ∷ []) 2)) no_fault two_workers) other_port reloaded ≡ Some 2)
+      Gives (two_ready 3) (Reload (settings_of (other_port ∷ []) 2)) no_fault two_workers (m1 (OpenAt other_port) (answer.Opened 4) ∷ m1 (Fork reloaded 0 None) answer.Forked ∷ m1 (Fork reloaded 1 None) answer.Forked ∷ m1 (AwaitReady reloaded 0) answer.IsReady ∷ m1 (AwaitReady reloaded 1) answer.IsReady ∷ m1 (Census reloaded) (answer.Counted (0 ∷ 1 ∷ [])) ∷ m1 (Quit first 1) answer.Fine ∷ m1 (Quit first 0) answer.Fine ∷ m1 (CloseAt port) answer.Fine ∷ m1 (Census reloaded) (answer.Counted (0 ∷ 1 ∷ [])) ∷ []) (report Done None InPlace (0 ∷ 1 ∷ [])) × (serving (run_of (two_ready 3) (Reload (settings_of (other_port ∷ []) 2)) [] no_fault two_workers) port reloaded ≡ None) × (serving (run_of (two_ready 3) (Reload (settings_of (other_port ∷ []) 2)) [] no_fault two_workers) other_port reloaded ≡ Some 2)
   -- No workers: the address stays.
   pub reloads_to_none :
-      Gives (two_ready 3) (Reload (settings_of (port ∷ []) 0)) no_fault two_workers (m1 (Census reloaded) (answer.Counted []) ∷ m1 (Quit first 1) answer.Fine ∷ m1 (Quit first 0) answer.Fine ∷ m1 (Census reloaded) (answer.Counted []) ∷ []) (report Done None InPlace []) × (serving (run_of (two_ready 3) (Reload (settings_of (port ∷ []) 0)) no_fault two_workers) port reloaded ≡ Some 0)
+      Gives (two_ready 3) (Reload (settings_of (port ∷ []) 0)) no_fault two_workers (m1 (Census reloaded) (answer.Counted []) ∷ m1 (Quit first 1) answer.Fine ∷ m1 (Quit first 0) answer.Fine ∷ m1 (Census reloaded) (answer.Counted []) ∷ []) (report Done None InPlace []) × (serving (run_of (two_ready 3) (Reload (settings_of (port ∷ []) 0)) [] no_fault two_workers) port reloaded ≡ Some 0)
   -- And one more, by the record that is left.
   pub one_after_none :
-      (record_after (two_ready 3) (Reload (settings_of (port ∷ []) 0)) (report_of (sides_of (two_ready 3) (Reload (settings_of (port ∷ []) 0))) (run_of (two_ready 3) (Reload (settings_of (port ∷ []) 0)) no_fault two_workers)) 100 ≡ Some empty_record) × Gives empty_record (Workers 1) no_fault (run_of (two_ready 3) (Reload (settings_of (port ∷ []) 0)) no_fault two_workers).last.table (m1 (Fork reloaded 0 None) answer.Forked ∷ m1 (AwaitReady reloaded 0) answer.IsReady ∷ m1 (Census reloaded) (answer.Counted (0 ∷ [])) ∷ []) (report Done None InPlace (0 ∷ []))
+      (record_after (two_ready 3) (Reload (settings_of (port ∷ []) 0)) (report_of (sides_of (two_ready 3) (Reload (settings_of (port ∷ []) 0))) (run_of (two_ready 3) (Reload (settings_of (port ∷ []) 0)) [] no_fault two_workers)) 100 ≡ Some empty_record) × Gives empty_record (Workers 1) no_fault (run_of (two_ready 3) (Reload (settings_of (port ∷ []) 0)) [] no_fault two_workers).last.table (m1 (Fork reloaded 0 None) answer.Forked ∷ m1 (AwaitReady reloaded 0) answer.IsReady ∷ m1 (Census reloaded) (answer.Counted (0 ∷ [])) ∷ []) (report Done None InPlace (0 ∷ []))
   -- No worker is overdue.
   pub mends_nothing :
       Gives (two_ready 3) (Mend []) no_fault two_workers (m1 (Census first) (answer.Counted (0 ∷ 1 ∷ [])) ∷ []) (report Done None InPlace (0 ∷ 1 ∷ []))
@@ -228,7 +259,7 @@ pub record WorkedRuns : Type 0 where
       Gives two_ready_without_file (Workers 3) no_fault full_table (m1 (Fork first 2 None) answer.Again ∷ m1 (Census first) (answer.Counted (0 ∷ 1 ∷ [])) ∷ []) (report RolledBack (Some 1) NoFile (0 ∷ 1 ∷ []))
   -- The longest paths of some plans.
   pub longest :
-      (height (plan_tree (two_ready 0) (Workers 3)) ≡ 5) × (height (plan_tree (two_ready 3) (Workers 3)) ≡ 17)
-      × (height (plan_tree (record_with (numbers_below 13) 13 3 (Some pid_file) InPlace) (Stop false)) ≡ 41)
+      (height (plan_tree (two_ready 0) (Workers 3) []) ≡ 5) × (height (plan_tree (two_ready 3) (Workers 3) []) ≡ 17)
+      × (height (plan_tree (record_with (numbers_below 13) 13 3 (Some pid_file) InPlace) (Stop false) []) ≡ 41)
   -- And several groups.
   pub groups : GroupRuns

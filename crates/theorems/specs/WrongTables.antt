@@ -1,8 +1,8 @@
 -- Tables and runs that break a claim, one for each.
-use Rattle.std.specs.Prelude.{ℕ, true, [], ◌∷◌, ◌++◌, Option, Some, None}
+use Rattle.std.specs.Prelude.{ℕ, true, List, [], ◌∷◌, ◌++◌, Option, Some, None}
 use Rattle.listener_set.specs.Numbers.{is_in}
 use Rattle.vocabulary.specs.declared.table.Stance.TheVariants.{Starting, Ready}
-use Rattle.vocabulary.specs.declared.calls.Call.TheVariants.{Kill, RemovePid, Leave}
+use Rattle.vocabulary.specs.declared.calls.Call.TheVariants.{Kill, RemovePid, Leave, Census, Adopt}
 use Rattle.vocabulary.specs.declared.calls.Answer.TheVariants as answer
 use Rattle.vocabulary.specs.declared.plans.End.TheVariants as end
 use Rattle.vocabulary.specs.declared.plans.PidNote.TheVariants.{InPlace, Left, NoFile}
@@ -10,8 +10,13 @@ use Rattle.vocabulary.specs.declared.plans.Side.TheVariants as side
 use Rattle.vocabulary.specs.declared.reports.Entry.{Entry}
 use Rattle.vocabulary.specs.declared.reports.Outcome.TheVariants.{Done, RolledBack, Degraded, Lost}
 use Rattle.vocabulary.specs.declared.targets.Target.TheVariants.{Workers, Reload, Stop}
-use Rattle.definitions.specs.Table.{Master, Worker, Table}
+use Rattle.definitions.specs.Table.{Master, Worker, Table, Caller}
 use Rattle.definitions.specs.Service.{service}
+use Rattle.definitions.specs.Aside.{LeavesAlone}
+use Rattle.definitions.specs.Tree.{Tree, Ends}
+use Rattle.definitions.specs.Parts.{Turn, Old, weave, joined}
+use Rattle.definitions.specs.Plans.{tries, old_part}
+use Rattle.definitions.specs.Apart.{WalksAll}
 use Rattle.definitions.specs.Formed.{IsFormed}
 use Rattle.definitions.specs.Crew.{layout_in}
 use Rattle.definitions.specs.Record.{Agrees, FilesAre, crew_of, layout_of}
@@ -22,7 +27,7 @@ use Rattle.definitions.specs.Manner.{Stays, Goes, KillsOnlyLate, LeavesLast}
 use Rattle.definitions.specs.Claims.{Says, Kept, Floor, AttendedFloor, IsBlamed, HasCause, IsPaid, StopNote, IsSucceeded}
 use Rattle.theorems.specs.GroupRuns.{both_holds, first_hold, grouped, grouped_with, three_workers, three_ready, two_groups}
 use Rattle.theorems.specs.Layouts.{IsSameLayout}
-use Rattle.theorems.specs.Examples.{first, port, other_port, pid_file, holds, two_workers, two_without_file, two_ready, table_with, pid_files, own_rows, m1}
+use Rattle.theorems.specs.Examples.{first, port, other_port, pid_file, holds, two_workers, two_without_file, two_ready, table_with, pid_files, own_rows, two_masters, m1, m2}
 
 ---- Tables
 
@@ -56,6 +61,25 @@ orphaned = record {
 -- the other group's worker is gone
 abbrev pub other_unserved : Table
 other_unserved = record { rows = Master 100 1 1 true both_holds ∷ Worker 101 100 first 0 Ready (first_hold ∷ []) ∷ Worker 102 100 first 1 Ready (first_hold ∷ []) ∷ []; files = pid_files; next_process = 104; next_socket = 3; limits = record { processes = 65535; descriptors = 64 } }
+
+-- of the old master's workers one is gone, beside the new master
+abbrev pub one_taken : Table
+one_taken = record two_masters { rows = Master 100 1 1 true holds ∷ Worker 101 100 first 0 Ready holds ∷ Master 103 100 2 true holds ∷ [] }
+
+abbrev pub heir : Caller
+heir = record { number = 103; holds = holds }
+
+---- Two parts of a step each
+
+abbrev pub both_steps : List Turn → Tree
+both_steps turns = weave (joined (Ends end.Done) (Ends end.RolledBack)) (tries 2 Adopt [] (Ends end.JoinReady) (Ends end.JoinBack)) turns (old_part 1 (crew_of (two_ready 3)) (0 ∷ 1 ∷ []) 0)
+
+-- the old master comes first
+abbrev pub old_first : List Entry
+old_first = m1 (Census first) (answer.Counted (0 ∷ 1 ∷ [])) ∷ m2 Adopt answer.Adopted ∷ []
+
+abbrev pub WalkUnder : List Turn → Type 0
+WalkUnder turns = WalksAll (both_steps turns) [] old_first (Ends end.Done)
 
 ---- Runs
 
@@ -102,6 +126,12 @@ pub record WrongTables : Type 0 where
   pub ended_first : Refuted (FloorThen (went_back (progress none_left 0 0 (Some 15)) 2 0))
   pub faults_before : Refuted (FloorThen (went_back (progress one_left 1 0 (Some 9)) 2 1))
   pub first_question : Refuted (FloorThen (went_back (progress one_left 1 0 (Some 10)) 1 0))
+  -- A call of the new master took one of the old one's workers away, or a file; or it was gone, and the table is another.
+  pub aside : Refuted (LeavesAlone 2 (Some heir) two_masters one_taken)
+  pub aside_files : Refuted (LeavesAlone 2 (Some heir) two_masters (record two_masters { files = [] }))
+  pub aside_gone : Refuted (LeavesAlone 2 None two_masters one_taken)
+  -- The old master made the first call, which is a walk where it was its turn, and none where it was not.
+  pub turn_ignored : WalkUnder (Old ∷ []) × Refuted (WalkUnder [])
   -- A worker is left Starting.
   pub agrees : Refuted (Agrees one_starts (two_ready 3))
   -- A worker is Ready that no master has, which the record does not see.

@@ -6,7 +6,9 @@ ghost use Rattle.std.specs.Prelude.{ℕ, List, Bool};
 ghost use Rattle.vocabulary.specs.Settings.{Settings};
 ghost use Rattle.vocabulary.specs.declared.targets.Target.TheVariants.{Workers, Mend, Reopen, Reload, Upgrade, Attended, Stop};
 ghost use Rattle.definitions.specs.Start.{StartsAgree};
-ghost use Rattle.definitions.specs.Claims.{AttendedHeadline, InManner, MendHeadline, ReloadHeadline, ReopenFloor, ReopenHeadline, RunsWithin, StopHeadline, UpgradeHeadline, WorkersHeadline};
+ghost use Rattle.definitions.specs.Aside.{CallsLeaveAlone};
+ghost use Rattle.definitions.specs.Apart.{LastNewIsNone, MergesAreWoven, WalksApart};
+ghost use Rattle.definitions.specs.Claims.{AttendedHeadline, InManner, MendHeadline, PlansFit, ReloadHeadline, ReopenFloor, ReopenHeadline, RunsWithin, StopHeadline, UpgradeHeadline, UpgradesAreShort, WorkersHeadline};
 ghost use Rattle.definitions.specs.Settling.{PlansGoBack, ReturnsAlways, SettlesAlways};
 ghost use Rattle.theorems.specs.Examples.{HasStart};
 ghost use Rattle.theorems.specs.Layouts.{RecordsLaidOut, StartsLaidOut};
@@ -65,9 +67,26 @@ pub fn settles_end_as_counted()
     ensures plans { PlansGoBack }
 {}
 
-/// A run makes no more calls than the longest path of its plan has steps.
+/// Apart from the exits before it, a call by which a master builds or mends changes no process,
+/// hold or file of another master or of its workers.
+pub fn calls_leave_others_alone()
+    ensures { CallsLeaveAlone }
+{}
+
+/// A run makes no more calls than the longest path of its plan has steps; nor has the plan of a
+/// target more under any turns than its stretches have together, which for an upgrade is bounded.
 pub fn runs_stay_within()
-    ensures { RunsWithin }
+    ensures runs { RunsWithin }
+    ensures plans { PlansFit }
+    ensures upgrades { UpgradesAreShort }
+{}
+
+/// A walk of two parts side by side is a walk of each, merged as the turns say, and any merge of
+/// two such walks is one of both under the turns that it uses.
+pub fn parts_are_walked()
+    ensures apart { WalksApart }
+    ensures merges { MergesAreWoven }
+    ensures last { LastNewIsNone }
 {}
 
 /// Plans that are run on a small table, call by call.

@@ -1,18 +1,19 @@
 -- The plan of an upgrade can be run: each step has an edge for each reply, and a worker is named only after a short census.
-use Rattle.std.proofs.Common.{ℕ, Bool, true, false, List, Option, Some, None, reverse, refl}
+use Rattle.std.proofs.Common.{ℕ, zero, suc, Bool, true, false, List, Option, Some, None, reverse, refl}
 use Rattle.listener_set.specs.Numbers.{numbers_below}
 use Rattle.definitions.specs.Table.{FilePath}
-use Rattle.definitions.specs.Calls.{Call, Census, SpawnMaster}
+use Rattle.definitions.specs.Calls.{Census, SpawnMaster, WritePid}
 use Rattle.definitions.specs.Crew.{Crew}
 use Rattle.vocabulary.specs.declared.plans.Side.TheVariants.{Old, Target}
 use Rattle.vocabulary.specs.declared.plans.PidNote.{PidNote}
 use Rattle.vocabulary.specs.declared.plans.PidNote.TheVariants.{InPlace, AtOldbin, OldbinLeft, Left, NoFile}
 use Rattle.definitions.specs.Record.{oldbin}
-use Rattle.definitions.specs.Tree.{Tree}
-use Rattle.definitions.specs.Plans.{asks, back_serving, retire, does, settle, tries, tries_all, move_back, move_aside, remove_oldbin, back_alone, back_from, back_late, hand_over, relieve, spawn_edges}
+use Rattle.definitions.specs.Tree.{Tree, Ends, Split, JoinReady, JoinBack}
+use Rattle.definitions.specs.Plans.{asks, back_serving, retire, does, settle, move_back, move_aside, remove_oldbin, back_alone, back_from, back_late, hand_over, old_part, pid_calls, relieve, spawn_edges}
 use Rattle.plan_pieces.proofs.Fitness.{settle_fit, quits_fit, awaits_gone_fit, remove_fit, starts_any_fit}
 use Rattle.plan_pieces.proofs.TriedFitness.{IsFit, move_fit, tries_fit, tries_all_fit}
-use Rattle.upgrade_planner.specs.Trees.{succession}
+use Rattle.upgrade_planner.specs.Trees.{master_of, heir_of, way_back, coming_calls, coming_part, taking_over}
+use Rattle.upgrade_planner.specs.declared.upgrade.Upgrade.{Upgrade}
 
 ---- Ways back
 
@@ -23,7 +24,7 @@ move_back_fit by (Some path) rest h = move_fit by (oldbin path) path (Some InPla
 alone_fit : (by : ℕ) (crew : Crew) (ready : List ℕ) (rounds : ℕ) (path : Option FilePath) → IsFit (back_alone by crew ready rounds path)
 alone_fit by crew ready rounds path = move_back_fit by path (settle by crew ready Old rounds) (λ short. settle_fit by crew ready Old rounds short)
 
-from_fit : (by heir : ℕ) (crew : Crew) (ready : List ℕ) (rounds : ℕ) (path : Option FilePath) → IsFit (back_from by heir crew ready rounds path)
+pub from_fit : (by heir : ℕ) (crew : Crew) (ready : List ℕ) (rounds : ℕ) (path : Option FilePath) → IsFit (back_from by heir crew ready rounds path)
 from_fit by heir crew ready rounds path short = rw (alone_fit by crew ready rounds path short) refl
 
 late_fit : (by heir : ℕ) (crew : Crew) (ready : List ℕ) (rounds : ℕ) (path : Option FilePath) → IsFit (back_late by heir crew ready rounds path)
@@ -71,18 +72,26 @@ move_aside_fit by (Some path) OldbinLeft ok bad h e = λ short. rw (h short, e s
 move_aside_fit by (Some path) Left ok bad h e = λ short. rw (h short, e short) refl
 move_aside_fit by (Some path) NoFile ok bad h e = λ short. rw (h short, e short) refl
 
-pub succession_fit : (attended : Bool) (old new : Crew) (ready : List ℕ) (rounds : ℕ) (path : Option FilePath) (note : PidNote) (calls : List Call) (numbers : List ℕ) (n : ℕ) → IsFit (succession attended old new ready rounds path note calls numbers n)
-succession_fit attended old new ready rounds path note calls numbers n =
-    let by = old.generation.image in
-    let heir = new.generation.image in
-    let back = back_from by heir old ready rounds path in
-    let relief = relieve attended by old new ready rounds path n in
-    let counted = tries heir (Census new.generation) numbers relief back in
-    let takeover = tries_all heir calls counted back in
-    let alone = back_alone by old ready rounds path in
-    let is_back = from_fit by heir old ready rounds path in
-    let is_counted = tries_fit heir (Census new.generation) numbers relief back (relieve_fit attended by old new ready rounds path n) is_back in
-    let is_takeover = tries_all_fit heir calls counted back is_counted is_back in
-    move_aside_fit by path note (does by (SpawnMaster heir) (spawn_edges takeover alone)) (settle by old ready Old rounds)
-    (spawn_fit by heir takeover alone is_takeover (alone_fit by old ready rounds path))
-    (λ short. settle_fit by old ready Old rounds short)
+pub beginning_fit : (by image : ℕ) (crew : Crew) (ready : List ℕ) (rounds : ℕ) (path : Option FilePath) (note : PidNote)
+    → IsFit (move_aside by path note (does by (SpawnMaster image) (spawn_edges (Ends Split) (back_alone by crew ready rounds path))) (settle by crew ready Old rounds))
+beginning_fit by image crew ready rounds path note =
+    move_aside_fit by path note _ (settle by crew ready Old rounds)
+    (spawn_fit by image (Ends Split) (back_alone by crew ready rounds path) (λ short. refl) (alone_fit by crew ready rounds path))
+    (λ short. settle_fit by crew ready Old rounds short)
+
+pub coming_fit : (u : Upgrade) → IsFit (coming_part u)
+coming_fit u = tries_all_fit (heir_of u) (coming_calls u.new.crew u.dropped.now u.added.now u.coming.now) (Ends JoinReady) (Ends JoinBack) (λ short. refl) (λ short. refl)
+
+pub old_part_fit : (by : ℕ) (crew : Crew) (ready : List ℕ) (rounds : ℕ) → IsFit (old_part by crew ready rounds)
+old_part_fit by crew ready zero true = refl
+old_part_fit by crew ready zero false = refl
+old_part_fit by crew ready (suc rounds) true = let h = old_part_fit by crew ready rounds true in rw h refl
+old_part_fit by crew ready (suc rounds) false = let h = old_part_fit by crew ready rounds true in rw h refl
+
+pub taking_over_fit : (u : Upgrade) → IsFit (taking_over u)
+taking_over_fit u =
+    let heir = heir_of u in
+    let on = relieve u.attended (master_of u) u.old.crew u.new.crew u.old.numbers u.rounds u.path u.workers in
+    let is_back = from_fit (master_of u) heir u.old.crew u.old.numbers u.rounds u.path in
+    tries_all_fit heir (pid_calls u.path WritePid) _ (way_back u)
+    (tries_fit heir (Census u.new.crew.generation) u.new.numbers on (way_back u) (relieve_fit u.attended (master_of u) u.old.crew u.new.crew u.old.numbers u.rounds u.path u.workers) is_back) is_back

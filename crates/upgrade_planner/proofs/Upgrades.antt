@@ -1,58 +1,126 @@
 -- An upgrade is the one of its definition.
-use Rattle.std.proofs.Common.{◌≡◌, ℕ, ◌+◌, ◌∷◌, ◌++◌, map, append_assoc, Bool, true, false, List, Option, Some, None, nat_lt, refl, sym, ◌∙◌, ap}
+use Rattle.std.proofs.Common.{◌≡◌, ℕ, ◌+◌, ◌≤◌, max, ◌∷◌, ◌++◌, map, append_assoc, Bool, true, false, List, Some, None, nat_lt, refl, sym, ◌∙◌, ap, arith}
 use Rattle.std.specs.Prelude.{if◌then◌else◌}
 use Rattle.listener_set.specs.Numbers.{numbers_below}
 use Rattle.listener_set.specs.declared.generation.Generation.{Generation}
-use Rattle.definitions.specs.Table.{Address, FilePath}
+use Rattle.definitions.specs.Table.{Address}
 use Rattle.vocabulary.specs.Settings.{Settings}
-use Rattle.vocabulary.specs.declared.targets.Target.TheVariants.{Upgrade}
+use Rattle.vocabulary.specs.declared.targets.Target.TheVariants as target
+use Rattle.vocabulary.specs.declared.plans.End.{End}
 use Rattle.definitions.specs.Crew.{Posts, Crew, fork_of}
-use Rattle.definitions.specs.Record.{PidNote, Record, addresses_of, crew_of}
-use Rattle.definitions.specs.Target.{only_in, upgrade_generation, numbers_wanted, addresses_wanted}
+use Rattle.definitions.specs.Record.{Record, addresses_of, crew_of}
+use Rattle.definitions.specs.Target.{only_in, upgrade_generation, numbers_wanted, addresses_wanted, text_handed}
 use Rattle.definitions.specs.After.{next_image, numbered, posts_wanted, crew_wanted}
-use Rattle.definitions.specs.Calls.{Call, OpenAt, CloseAt, AwaitReady, Adopt, WritePid}
-use Rattle.definitions.specs.Plans.{upgrade_tree, new_calls, pid_calls, plan_tree}
-use Rattle.upgrade_planner.specs.Trees.{asked_for, taking_over, succession}
+use Rattle.definitions.specs.Calls.{Call, OpenAt, CloseAt, AwaitReady, Adopt, Census, WritePid}
+use Rattle.definitions.specs.Tree.{Tree, Ends, Done, RolledBack, ShortOld, ShortTarget, Split, JoinReady, JoinBack, Join, height}
+use Rattle.definitions.specs.Parts.{Turn, graft}
+use Rattle.definitions.specs.Plans.{move_aside, new_calls, new_part, pid_calls, plan_tree, plan_length, relieve, taken_over, tries, tries_all, upgrade_tree, upgrade_length}
+use Rattle.plan_steps.specs.Stretches.{is_last, aside, longest_of}
+use Rattle.plan_steps.specs.Woven.{part_end}
+use Rattle.upgrade_planner.specs.Trees.{asked_for, coming_calls, master_of, heir_of, way_back, coming_part, staying_part, taking_over, beginning}
+use Rattle.upgrade_planner.specs.declared.upgrade.Upgrade.{Upgrade}
+use Rattle.upgrade_planner.proofs.Lengths.{spawning, begun_split, begun_aside, begun_grafted}
 
-calls_are : (a b c d e : List Call) → a ++ b ++ c ++ d ++ e ≡ a ++ (b ++ (c ++ (d ++ e)))
-calls_are a b c d e = append_assoc (a ++ b ++ c) d e ∙ (append_assoc (a ++ b) c (d ++ e) ∙ append_assoc a b (c ++ (d ++ e)))
+---- The parts
+
+calls_are : (a b c d : List Call) → a ++ b ++ c ++ d ≡ a ++ (b ++ (c ++ d))
+calls_are a b c d = append_assoc (a ++ b) c d ∙ append_assoc a b (c ++ d)
 
 -- what the new master does is what the definition says
-taking_over_is : (crew : Crew) (path : Option FilePath) (held wanted : List Address) (n : ℕ) → taking_over crew path (only_in held wanted) (only_in wanted held) (numbers_below n) ≡ new_calls crew path held wanted n
-taking_over_is crew path held wanted n =
-    ap (λ calls. Adopt ∷ calls) (sym (calls_are (map CloseAt (only_in held wanted)) (map OpenAt (only_in wanted held)) (map (fork_of crew) (numbers_below n)) (map (AwaitReady crew.generation) (numbers_below n)) (pid_calls path WritePid)))
+coming_is : (crew : Crew) (held wanted : List Address) (n : ℕ) → coming_calls crew (only_in held wanted) (only_in wanted held) (numbers_below n) ≡ new_calls crew held wanted n
+coming_is crew held wanted n =
+    ap (λ calls. Adopt ∷ calls) (sym (calls_are (map CloseAt (only_in held wanted)) (map OpenAt (only_in wanted held)) (map (fork_of crew) (numbers_below n)) (map (AwaitReady crew.generation) (numbers_below n))))
 
-pub succession_is : (attended : Bool) (old new : Crew) (ready : List ℕ) (rounds : ℕ) (path : Option FilePath) (note : PidNote) (held wanted dropped added : List Address) (numbers : List ℕ) (n : ℕ)
-    → dropped ≡ only_in held wanted → added ≡ only_in wanted held → numbers ≡ numbers_below n
-    → succession attended old new ready rounds path note (taking_over new path dropped added numbers) numbers n ≡ upgrade_tree attended old.generation.image old new ready rounds path note held wanted n
-succession_is attended old new ready rounds path note held wanted dropped added numbers n d a k =
-    let closed = only_in held wanted in
-    let opened = only_in wanted held in
-    ap (λ xs. succession attended old new ready rounds path note (taking_over new path xs added numbers) numbers n) d
-    ∙ (ap (λ xs. succession attended old new ready rounds path note (taking_over new path closed xs numbers) numbers n) a
-    ∙ (ap (λ ks. succession attended old new ready rounds path note (taking_over new path closed opened ks) ks n) k
-    ∙ ap (λ calls. succession attended old new ready rounds path note calls (numbers_below n) n) (taking_over_is new path held wanted n)))
+new_part_is : (u : Upgrade) (held wanted : List Address) → u.dropped.now ≡ only_in held wanted → u.added.now ≡ only_in wanted held → coming_part u ≡ new_part u.new.crew held wanted u.workers
+new_part_is u held wanted d a =
+    let crew = u.new.crew in
+    let part = λ (calls : List Call). tries_all crew.generation.image calls (Ends JoinReady) (Ends JoinBack) in
+    ap (λ xs. part (coming_calls crew xs u.added.now u.coming.now)) d
+    ∙ (ap (λ xs. part (coming_calls crew (only_in held wanted) xs u.coming.now)) a
+    ∙ (ap (λ ks. part (coming_calls crew (only_in held wanted) (only_in wanted held) ks)) (u.come ∙ u.wanted)
+    ∙ ap part (coming_is crew held wanted u.workers)))
 
-upgrade-is : (attended : Bool) (r : Record) (s : Settings) (crew : Crew) (g : Generation) (posts : Posts) (held : List Address) → crew ≡ crew_of r → g ≡ upgrade_generation r.generation → posts ≡ posts_wanted r (Upgrade s) → held ≡ addresses_of r
-    → upgrade_tree attended crew.generation.image crew (record { generation = g; posts = posts }) r.ready r.retries r.pid_path r.note held s.listeners s.workers ≡ upgrade_tree attended r.generation.image (crew_of r) (crew_wanted r (Upgrade s)) r.ready r.retries r.pid_path r.note (addresses_of r) s.listeners s.workers
-upgrade-is attended r s crew g posts held c e p h =
-    let tree = λ (old : Crew) (next : Generation) (stands : Posts) (addresses : List Address). upgrade_tree attended old.generation.image old (record { generation = next; posts = stands }) r.ready r.retries r.pid_path r.note addresses s.listeners s.workers in
+taken_over_is : (u : Upgrade) → taking_over u ≡ taken_over u.attended (master_of u) u.old.crew u.new.crew u.old.numbers u.rounds u.path u.workers (way_back u)
+taken_over_is u =
+    let heir = heir_of u in
+    let on = relieve u.attended (master_of u) u.old.crew u.new.crew u.old.numbers u.rounds u.path u.workers in
+    ap (λ ks. tries_all heir (pid_calls u.path WritePid) (tries heir (Census u.new.crew.generation) ks on (way_back u)) (way_back u)) u.wanted
+
+---- The whole
+
+unmarked : (ready back new old : Tree) (turns : List Turn) (e : End) → is_last e ≡ true → part_end ready back new old turns e ≡ Ends e
+unmarked ready back new old turns Done h = refl
+unmarked ready back new old turns RolledBack h = refl
+unmarked ready back new old turns ShortOld h = refl
+unmarked ready back new old turns ShortTarget h = refl
+unmarked ready back new old turns Split h = cc
+unmarked ready back new old turns JoinReady h = refl
+unmarked ready back new old turns JoinBack h = refl
+unmarked ready back new old turns Join h = refl
+
+-- where the parts stand at the mark, it is the tree of the definition
+pub woven_is : (u : Upgrade) (held wanted : List Address) → u.dropped.now ≡ only_in held wanted → u.added.now ≡ only_in wanted held → (turns : List Turn)
+    → graft (part_end (taking_over u) (way_back u) (coming_part u) (staying_part u) turns) (beginning u) ≡ upgrade_tree u.attended (master_of u) u.old.crew u.new.crew u.old.numbers u.rounds u.path u.note held wanted u.workers turns
+woven_is u held wanted d a turns =
+    let by = master_of u in
+    let all = λ (ready new : Tree). graft (part_end ready (way_back u) new (staying_part u) turns) (beginning u) in
+    ap (λ t. all t (coming_part u)) (taken_over_is u)
+    ∙ (ap (λ t. all (taken_over u.attended by u.old.crew u.new.crew u.old.numbers u.rounds u.path u.workers (way_back u)) t) (new_part_is u held wanted d a)
+    ∙ begun_grafted (part_end (taken_over u.attended by u.old.crew u.new.crew u.old.numbers u.rounds u.path u.workers (way_back u)) (way_back u) (new_part u.new.crew held wanted u.workers) (staying_part u) turns)
+    (unmarked (taken_over u.attended by u.old.crew u.new.crew u.old.numbers u.rounds u.path u.workers (way_back u)) (way_back u) (new_part u.new.crew held wanted u.workers) (staying_part u) turns) by (heir_of u) u.old.crew u.old.numbers u.rounds u.path u.note)
+
+greatest : (a b c : ℕ) → c ≤ b → max (max a b) c ≡ max a b
+greatest a b c h = omega (arith, h)
+
+-- and it is as long
+pub length_is : (u : Upgrade) (held wanted : List Address) → u.dropped.now ≡ only_in held wanted → u.added.now ≡ only_in wanted held
+    → longest_of (beginning u) (coming_part u) (staying_part u) (taking_over u) (way_back u) ≡ upgrade_length u.attended (master_of u) u.old.crew u.new.crew u.old.numbers u.rounds u.path u.note held wanted u.workers
+length_is u held wanted d a =
+    let by = master_of u in
+    let heir = heir_of u in
+    let start = begun_split by heir u.old.crew u.old.numbers u.rounds u.path u.note in
+    let aside_too = begun_aside by heir u.old.crew u.old.numbers u.rounds u.path u.note in
+    let before = height (move_aside by u.path u.note (spawning by heir (Ends Split) (Ends Done)) (Ends Done)) in
+    let old = height (staying_part u) in
+    let back = height (way_back u) in
+    let ready = height (taking_over u) in
+    ap (λ n. n + height (coming_part u) + old + max (max ready back) (aside (beginning u))) start
+    ∙ (ap (λ n. before + height (coming_part u) + old + n) (greatest ready back (aside (beginning u)) aside_too)
+    ∙ (ap (λ t. before + height t + old + max ready back) (new_part_is u held wanted d a)
+    ∙ ap (λ t. before + height (new_part u.new.crew held wanted u.workers) + old + max (height t) back) (taken_over_is u)))
+
+---- The upgrade of a record
+
+-- what is made of a crew, the next one and the addresses of a record
+of_record : {X : Type 0} (f : ℕ → Crew → Crew → List Address → X) (r : Record) (s : Settings) (crew : Crew) (g : Generation) (posts : Posts) (held : List Address)
+    → crew ≡ crew_of r → g ≡ upgrade_generation r.generation → posts ≡ posts_wanted r (target.Upgrade s) → held ≡ addresses_of r
+    → f crew.generation.image crew (record { generation = g; posts = posts }) held ≡ f r.generation.image (crew_of r) (crew_wanted r (target.Upgrade s)) (addresses_of r)
+of_record f r s crew g posts held c e p h =
+    let made = λ (old : Crew) (next : Generation) (stands : Posts) (addresses : List Address). f old.generation.image old (record { generation = next; posts = stands }) addresses in
     let next = upgrade_generation r.generation in
-    ap (λ old. tree old g posts held) c
-    ∙ (ap (λ x. tree (crew_of r) x posts held) e
-    ∙ (ap (λ x. tree (crew_of r) next x held) p
-    ∙ ap (tree (crew_of r) next (posts_wanted r (Upgrade s))) h))
+    ap (λ old. made old g posts held) c
+    ∙ (ap (λ x. made (crew_of r) x posts held) e
+    ∙ (ap (λ x. made (crew_of r) next x held) p
+    ∙ ap (made (crew_of r) next (posts_wanted r (target.Upgrade s))) h))
 
--- the upgrade of a record
 pub upgrade_is : (attended : Bool) (r : Record) (s : Settings) (crew : Crew) (g : Generation) (posts : Posts) (held : List Address) → crew ≡ crew_of r → g ≡ upgrade_generation r.generation → posts ≡ posts_wanted r (asked_for attended s) → held ≡ addresses_of r
-    → upgrade_tree attended crew.generation.image crew (record { generation = g; posts = posts }) r.ready r.retries r.pid_path r.note held s.listeners s.workers ≡ plan_tree r (asked_for attended s)
-upgrade_is true r s crew g posts held c e p h = upgrade-is true r s crew g posts held c e p h
-upgrade_is false r s crew g posts held c e p h = upgrade-is false r s crew g posts held c e p h
+    → (turns : List Turn) → upgrade_tree attended crew.generation.image crew (record { generation = g; posts = posts }) r.ready r.retries r.pid_path r.note held s.listeners s.workers turns ≡ plan_tree r (asked_for attended s) turns
+upgrade_is true r s crew g posts held c e p h turns = of_record (λ by old new addresses. upgrade_tree true by old new r.ready r.retries r.pid_path r.note addresses s.listeners s.workers turns) r s crew g posts held c e p h
+upgrade_is false r s crew g posts held c e p h turns = of_record (λ by old new addresses. upgrade_tree false by old new r.ready r.retries r.pid_path r.note addresses s.listeners s.workers turns) r s crew g posts held c e p h
+
+pub as_long : (attended : Bool) (r : Record) (s : Settings) (crew : Crew) (g : Generation) (posts : Posts) (held : List Address) → crew ≡ crew_of r → g ≡ upgrade_generation r.generation → posts ≡ posts_wanted r (asked_for attended s) → held ≡ addresses_of r
+    → upgrade_length attended crew.generation.image crew (record { generation = g; posts = posts }) r.ready r.retries r.pid_path r.note held s.listeners s.workers ≡ plan_length r (asked_for attended s)
+as_long true r s crew g posts held c e p h = of_record (λ by old new addresses. upgrade_length true by old new r.ready r.retries r.pid_path r.note addresses s.listeners s.workers) r s crew g posts held c e p h
+as_long false r s crew g posts held c e p h = of_record (λ by old new addresses. upgrade_length false by old new r.ready r.retries r.pid_path r.note addresses s.listeners s.workers) r s crew g posts held c e p h
 
 -- attended or not
 pub same_numbers : (attended : Bool) (r : Record) (s : Settings) → numbers_wanted r (asked_for attended s) ≡ numbers_below s.workers
 same_numbers true r s = refl
 same_numbers false r s = refl
+
+pub same_text : (attended : Bool) (r : Record) (s : Settings) → text_handed r (asked_for attended s) ≡ text_handed r (target.Upgrade s)
+same_text true r s = refl
+same_text false r s = refl
 
 pub same_addresses : (attended : Bool) (r : Record) (s : Settings) → addresses_wanted r (asked_for attended s) ≡ s.listeners
 same_addresses true r s = refl

@@ -1,11 +1,9 @@
 //! The ways back to the old master.
-ghost use Rattle.std.specs.Prelude.{◌≡◌, ◌≤◌, ◌<◌, ◌+◌, ◌*◌, length, IfOk, IsErrOf, OnOk};
+ghost use Rattle.std.specs.Prelude.{◌+◌, ◌*◌, length, IfOk};
 ghost use Rattle.vocabulary.specs.Settings.{HasSuffixRoom};
 ghost use Rattle.vocabulary.specs.declared.plans.Side.TheVariants as side;
 ghost use Rattle.definitions.specs.Plans.{settle, back_alone, back_from, back_late};
-ghost use Rattle.rollback_plan.specs.declared.draft.DraftRefusal.TheVariants.{TooLarge};
-ghost use Rattle.rollback_plan.specs.declared.draft.TheConstants.{MOST_STEPS};
-ghost use Rattle.rollback_plan.specs.Drafts.{trees_of, IsMade, GrowsWithin};
+ghost use Rattle.rollback_plan.specs.Drafts.{IsMade, GrowsWithin};
 
 use crate::pid_file::{Aside, add_cleared};
 use crate::upgrade::Upgrade;
@@ -58,8 +56,7 @@ pub fn add_ways_back(
     ensures alone { IfOk result (λ ways. IsMade draft.new ways.alone (back_alone upgrade.now.old.crew.generation.image upgrade.now.old.crew upgrade.now.old.numbers upgrade.now.rounds upgrade.now.path)) }
     ensures stopped { IfOk result (λ ways. IsMade draft.new ways.stopped (back_from upgrade.now.old.crew.generation.image upgrade.now.new.crew.generation.image upgrade.now.old.crew upgrade.now.old.numbers upgrade.now.rounds upgrade.now.path)) }
     ensures restarted { IfOk result (λ ways. IsMade draft.new ways.restarted (back_late upgrade.now.old.crew.generation.image upgrade.now.new.crew.generation.image upgrade.now.old.crew upgrade.now.old.numbers upgrade.now.rounds upgrade.now.path)) }
-    ensures count { OnOk result (length (trees_of draft.new) ≤ length (trees_of draft.old) + (4 * upgrade.now.rounds + 3 * length upgrade.now.old.numbers + 4)) }
-    ensures too_large { IsErrOf result TooLarge → MOST_STEPS < length (trees_of draft.old) + (4 * upgrade.now.rounds + 3 * length upgrade.now.old.numbers + 4) }
+    ensures grows { GrowsWithin draft.old draft.new result (4 * upgrade.now.rounds + 3 * length upgrade.now.old.numbers + 4) }
 {
     let old = &upgrade.old;
     let by = old.master();

@@ -1,9 +1,7 @@
 //! Where an upgrade puts the pid file.
-ghost use Rattle.std.specs.Prelude.{◌≡◌, ◌≤◌, ◌<◌, ◌+◌, length, IfOk, IsErrOf, OnOk};
+ghost use Rattle.std.specs.Prelude.{◌<◌, length, IfOk};
 ghost use Rattle.vocabulary.specs.Settings.{HasSuffixRoom};
 ghost use Rattle.definitions.specs.Plans.{move_aside};
-ghost use Rattle.rollback_plan.specs.declared.draft.DraftRefusal.TheVariants.{TooLarge};
-ghost use Rattle.rollback_plan.specs.declared.draft.TheConstants.{MOST_STEPS};
 ghost use Rattle.rollback_plan.specs.Drafts.{trees_of, tree_at, IsMade, GrowsWithin};
 ghost use Rattle.upgrade_planner.specs.Trees.{clearing};
 
@@ -34,8 +32,7 @@ pub fn add_move_aside(
     requires failed { failed.0 < length (trees_of draft.old) }
     requires room { HasSuffixRoom path }
     ensures made { IfOk result (λ place. IsMade draft.new place (move_aside by path note (tree_at draft.old moved) (tree_at draft.old failed))) }
-    ensures count { OnOk result (length (trees_of draft.new) ≤ length (trees_of draft.old) + 1) }
-    ensures too_large { IsErrOf result TooLarge → MOST_STEPS < length (trees_of draft.old) + 1 }
+    ensures grows { GrowsWithin draft.old draft.new result 1 }
 {
     let Some(path) = path else {
         return Ok(moved);

@@ -1,11 +1,11 @@
 //! The plan of an upgrade.
-ghost use Rattle.std.specs.Prelude.{◌≡◌, ◌≤◌, ◌↔◌, None, Some, length, IfOk, IsErrOf, IsOkUnless, IsTrue};
+ghost use Rattle.std.specs.Prelude.{◌≡◌, ◌≤◌, ◌↔◌, List, length, IfOk, IsErrOf, IsOkUnless, IsTrue};
 ghost use Rattle.vocabulary.specs.declared.targets.Target.TheVariants as target;
 ghost use Rattle.definitions.specs.After as after;
 ghost use Rattle.definitions.specs.Target.{sides_of, text_handed, upgrade_generation};
-ghost use Rattle.definitions.specs.Plans.{plan_tree, planned};
-ghost use Rattle.definitions.specs.Tree.{height};
-ghost use Rattle.rollback_plan.specs.Plans.{tree_of, length_of, parts_of, note_of, sides_told, text_of, trees_in};
+ghost use Rattle.definitions.specs.Parts.{Turn};
+ghost use Rattle.definitions.specs.Plans.{plan_tree, plan_length};
+ghost use Rattle.rollback_plan.specs.Plans.{tree_under, length_of, note_of, sides_told, text_of, trees_in};
 ghost use Rattle.reload_planner.specs.Planning.{most_steps};
 ghost use Rattle.upgrade_planner.specs.Trees.{asked_for};
 
@@ -21,9 +21,9 @@ use std::alloc::{AllocError, Global};
 use vocabulary::{Settings, Target};
 use worker_groups::Crew;
 
-/// The most steps of an upgrade that are of no one worker: four settles of 8 rounds, an open or a close of each of two
-/// times 64 addresses, and those of the masters and of the pid file.
-const MOST_OTHERS: usize = 4 * (1 + 4 * 8) + 2 * 64 + 16;
+/// The most steps of an upgrade that are of no one worker: two settles and the old master's part, each of 8 rounds, an
+/// open or a close of each of two times 64 addresses, and those of the masters and of the pid file.
+const MOST_OTHERS: usize = 3 * (1 + 4 * 8) + 2 * 64 + 16;
 
 /// The text that the new master is handed.
 fn handed(
@@ -66,9 +66,8 @@ fn plan_to(
     generation: Generation,
 ) -> Result<Plan, PlanRefusal>
     requires { generation ≡ upgrade_generation state.now.generation }
-    ensures tree { IfOk result (λ plan. tree_of plan ≡ plan_tree state.now (asked_for attended settings.now)) }
-    ensures longest { IfOk result (λ plan. length_of plan ≡ height (tree_of plan)) }
-    ensures alone { IfOk result (λ plan. parts_of plan ≡ None) }
+    ensures tree { IfOk result (λ plan. (turns : List Turn) → tree_under plan turns ≡ plan_tree state.now (asked_for attended settings.now) turns) }
+    ensures longest { IfOk result (λ plan. length_of plan ≡ plan_length state.now (asked_for attended settings.now)) }
     ensures note { IfOk result (λ plan. note_of plan ≡ state.now.note) }
     ensures sides { IfOk result (λ plan. sides_told plan ≡ sides_of state.now (asked_for attended settings.now)) }
     ensures text { IfOk result (λ plan. text_of plan ≡ text_handed state.now (asked_for attended settings.now)) }
@@ -103,9 +102,10 @@ fn plan_to(
         added: added.as_slice(),
     };
     let mut draft = Draft::with_room(alloc, 9 * leaving.len() + 2 * coming.len() + MOST_OTHERS)?;
-    let first = add_upgrade(&mut draft, &upgrade)?;
+    let drawn = add_upgrade(&mut draft, &upgrade)?;
     let text = handed(alloc, state, settings, generation)?;
-    Ok(draft.finish(first, state.note, &state.sides(&target), text)?)
+    let sides = state.sides(&target);
+    Ok(draft.finish_in_parts(drawn.first, &drawn.parts, state.note, &sides, text)?)
 }
 
 /// The plan of an upgrade, attended or not, where there is a next generation.
@@ -115,9 +115,8 @@ fn plan_next(
     settings: &Settings,
     attended: bool,
 ) -> Result<Plan, PlanRefusal>
-    ensures tree { IfOk result (λ plan. planned state.now (asked_for attended settings.now) ≡ Some (tree_of plan)) }
-    ensures longest { IfOk result (λ plan. length_of plan ≡ height (tree_of plan)) }
-    ensures alone { IfOk result (λ plan. parts_of plan ≡ None) }
+    ensures tree { IfOk result (λ plan. (turns : List Turn) → tree_under plan turns ≡ plan_tree state.now (asked_for attended settings.now) turns) }
+    ensures longest { IfOk result (λ plan. length_of plan ≡ plan_length state.now (asked_for attended settings.now)) }
     ensures note { IfOk result (λ plan. note_of plan ≡ state.now.note) }
     ensures sides { IfOk result (λ plan. sides_told plan ≡ sides_of state.now (asked_for attended settings.now)) }
     ensures text { IfOk result (λ plan. text_of plan ≡ text_handed state.now (asked_for attended settings.now)) }
@@ -138,9 +137,8 @@ fn plan_next(
 /// `NoGeneration` (P3) exactly where the number of the image or of the configuration is 4,294,967,295; it is found
 /// before any memory is asked for. No plan is too large: its steps are bounded as those of the other targets are.
 pub fn plan(alloc: Global, state: &Record, settings: &Settings) -> Result<Plan, PlanRefusal>
-    ensures tree { IfOk result (λ plan. planned state.now (target.Upgrade settings.now) ≡ Some (tree_of plan)) }
-    ensures longest { IfOk result (λ plan. length_of plan ≡ height (tree_of plan)) }
-    ensures alone { IfOk result (λ plan. parts_of plan ≡ None) }
+    ensures tree { IfOk result (λ plan. (turns : List Turn) → tree_under plan turns ≡ plan_tree state.now (target.Upgrade settings.now) turns) }
+    ensures longest { IfOk result (λ plan. length_of plan ≡ plan_length state.now (target.Upgrade settings.now)) }
     ensures note { IfOk result (λ plan. note_of plan ≡ state.now.note) }
     ensures sides { IfOk result (λ plan. sides_told plan ≡ sides_of state.now (target.Upgrade settings.now)) }
     ensures text { IfOk result (λ plan. text_of plan ≡ text_handed state.now (target.Upgrade settings.now)) }
@@ -160,9 +158,8 @@ pub fn plan_attended(
     state: &Record,
     settings: &Settings,
 ) -> Result<Plan, PlanRefusal>
-    ensures tree { IfOk result (λ plan. planned state.now (target.Attended settings.now) ≡ Some (tree_of plan)) }
-    ensures longest { IfOk result (λ plan. length_of plan ≡ height (tree_of plan)) }
-    ensures alone { IfOk result (λ plan. parts_of plan ≡ None) }
+    ensures tree { IfOk result (λ plan. (turns : List Turn) → tree_under plan turns ≡ plan_tree state.now (target.Attended settings.now) turns) }
+    ensures longest { IfOk result (λ plan. length_of plan ≡ plan_length state.now (target.Attended settings.now)) }
     ensures note { IfOk result (λ plan. note_of plan ≡ state.now.note) }
     ensures sides { IfOk result (λ plan. sides_told plan ≡ sides_of state.now (target.Attended settings.now)) }
     ensures text { IfOk result (λ plan. text_of plan ≡ text_handed state.now (target.Attended settings.now)) }

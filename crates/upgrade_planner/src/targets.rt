@@ -1,10 +1,10 @@
 //! The plan of a target, by the planner that plans such a target.
-ghost use Rattle.std.specs.Prelude.{◌≡◌, ◌≤◌, ◌↔◌, None, length, IfOk, IsErrOf, IsTrue};
+ghost use Rattle.std.specs.Prelude.{◌≡◌, ◌≤◌, ◌↔◌, List, length, IfOk, IsErrOf, IsTrue};
 ghost use Rattle.definitions.specs.Target.{IsTarget, sides_of, text_handed};
 ghost use Rattle.definitions.specs.After.{lacks_generation};
-ghost use Rattle.definitions.specs.Plans.{plan_tree};
-ghost use Rattle.definitions.specs.Tree.{height};
-ghost use Rattle.rollback_plan.specs.Plans.{tree_of, length_of, parts_of, note_of, sides_told, text_of, trees_in};
+ghost use Rattle.definitions.specs.Parts.{Turn};
+ghost use Rattle.definitions.specs.Plans.{plan_tree, plan_length};
+ghost use Rattle.rollback_plan.specs.Plans.{tree_under, length_of, note_of, sides_told, text_of, trees_in};
 ghost use Rattle.reload_planner.specs.Planning.{most_steps};
 ghost use Rattle.upgrade_planner.specs.Planned.{HasPlan};
 
@@ -23,9 +23,8 @@ use vocabulary::Target;
 pub fn plan_target(alloc: Global, state: &Record, target: &Target) -> Result<Plan, PlanRefusal>
     requires { IsTarget target.now }
     ensures has_plan { IfOk result (λ _. HasPlan state.now target.now) }
-    ensures tree { IfOk result (λ plan. tree_of plan ≡ plan_tree state.now target.now) }
-    ensures longest { IfOk result (λ plan. length_of plan ≡ height (tree_of plan)) }
-    ensures alone { IfOk result (λ plan. parts_of plan ≡ None) }
+    ensures tree { IfOk result (λ plan. (turns : List Turn) → tree_under plan turns ≡ plan_tree state.now target.now turns) }
+    ensures longest { IfOk result (λ plan. length_of plan ≡ plan_length state.now target.now) }
     ensures note { IfOk result (λ plan. note_of plan ≡ state.now.note) }
     ensures sides { IfOk result (λ plan. sides_told plan ≡ sides_of state.now target.now) }
     ensures text { IfOk result (λ plan. text_of plan ≡ text_handed state.now target.now) }

@@ -2,17 +2,16 @@ use Rattle.std.proofs.Common.{rules, ◌≡◌, ◌⊎◌, inl, [], ◌∷◌, E
 use Rattle.std.proofs.lemmas.Result.{err_from_is_err_and}
 use mathlib.Core.Bool.{true≢false}
 use Rattle.definitions.specs.Record.{Record, Agrees}
-use Rattle.definitions.specs.Tree.{height}
-use Rattle.definitions.specs.Plans.{plan_tree}
+use Rattle.definitions.specs.Plans.{plan_length}
 use Rattle.definitions.specs.Path.{begin}
 use Rattle.definitions.specs.Claims.{heirs_of}
 use Rattle.kernel_model.specs.Room.{LacksNumbers}
 use Rattle.plan_executor.specs.Naming.{listed}
 use Rattle.plan_executor.specs.declared.enactment.EnactRefusal.TheVariants.{Memory, NoNumbers}
 use Rattle.plan_executor.proofs.Exact.{no_plan}
-use Rattle.certifier.specs.Places.{Shows, StopsBy}
+use Rattle.certifier.specs.Places.{planned_start, Shows, StopsBy}
 use Rattle.certifier.specs.Explained.{IsReady, IsNoBeginning, mismatch_of}
-use Rattle.certifier.proofs.Explaining.{begins}
+use Rattle.certifier.proofs.Explaining.{starts}
 use Rattle.certifier.proofs.Matching.{plain-beginnings, exact-unready, exact-planless, exact-short, answered-beginning, complete-beginning}
 use Rattle.certifier.proofs.beginning.certify_beginning.Goals as goal
 
@@ -51,16 +50,16 @@ returns-in_err-copy-clause-exact c =
 ---- What begins a run
 
 pub returns-then-not-agrees-clause-complete : goal.returns-then-not-agrees-clause-complete
-returns-then-not-agrees-clause-complete c pattern is =
-    complete-beginning c.args.kernel.now.table c.args.state.now c.args.target.now c.args.log.now.entries pattern _ (returns-then-not-agrees-clause-exact c) is
+returns-then-not-agrees-clause-complete c section is =
+    complete-beginning c.args.kernel.now.table c.args.state.now c.args.target.now c.args.log.now.entries section _ (returns-then-not-agrees-clause-exact c) is
 
 pub returns-in_err-plan-clause-complete : goal.returns-in_err-plan-clause-complete
-returns-in_err-plan-clause-complete c pattern is =
-    complete-beginning c.args.kernel.now.table c.args.state.now c.args.target.now c.args.log.now.entries pattern c.from_residual.result (returns-in_err-plan-clause-exact c) is
+returns-in_err-plan-clause-complete c section is =
+    complete-beginning c.args.kernel.now.table c.args.state.now c.args.target.now c.args.log.now.entries section c.from_residual.result (returns-in_err-plan-clause-exact c) is
 
 pub returns-in_err-copy-clause-complete : goal.returns-in_err-copy-clause-complete
-returns-in_err-copy-clause-complete c pattern is =
-    complete-beginning c.args.kernel.now.table c.args.state.now c.args.target.now c.args.log.now.entries pattern c.from_residual-in_err-copy.result (returns-in_err-copy-clause-exact c) is
+returns-in_err-copy-clause-complete c section is =
+    complete-beginning c.args.kernel.now.table c.args.state.now c.args.target.now c.args.log.now.entries section c.from_residual-in_err-copy.result (returns-in_err-copy-clause-exact c) is
 
 ---- A target that could be carried out
 
@@ -72,13 +71,13 @@ returns c =
     let es = c.args.log.now.entries in
     let agrees : Agrees t r = c.agrees.ensures.agrees.0 (search rules) in
     let plan = c.in_ok-plan.ensures.planned in
-    let longest : c.longest.result ≡ height (plan_tree r target) = c.longest.ensures ∙ (c.in_ok-plan.ensures.longest) in
+    let longest : c.longest.result ≡ plan_length r target = c.longest.ensures ∙ (c.in_ok-plan.ensures.longest) in
     let ready : IsReady t r target = record { agrees = agrees; has_plan = plan; numbers = subst (λ n. LacksNumbers t n → ⊥) longest c.in_ok-copy.ensures.numbers } in
     let image : c.state.inside.generation.image ≡ r.generation.image = ap (λ (x : Record). x.generation.image) c.state.view_is in
     let same : listed c.heir_of-heir.result ≡ heirs_of r target = c.heir_of-heir.ensures in
-    let place : record { trail = begin _ _; table = c.in_ok-copy.copy.table; executing = c.state.inside.generation.image ∷ [] } ≡ begins t r target =
-    λ i. record { trail = begin (c.in_ok-plan.ensures.tree [] i) (c.in_ok-plan.ensures.note i); table = (c.in_ok-copy.ensures.same i).table; executing = image i ∷ [] } in
+    let start : planned_start c.in_ok-plan.plan c.in_ok-copy.copy.table c.state.inside.generation.image ≡ starts t r target =
+    λ i. record { trail = λ turns. begin (c.in_ok-plan.ensures.tree turns i) (c.in_ok-plan.ensures.note i); table = (c.in_ok-copy.ensures.same i).table; executing = image i ∷ [] } in
     let all = answered-beginning t r target es ready c.show_all.result
-    (subst (λ (X : Type 0). X) (λ i. IfOk c.show_all.result (Shows (c.in_ok-plan.ensures.text i) (same i) (place i) es)) c.show_all.ensures.ok)
-    (subst (λ (X : Type 0). X) (λ i. IfErr c.show_all.result (StopsBy (c.in_ok-plan.ensures.text i) (same i) (place i) es)) c.show_all.ensures.err) in
-    record { ok = all.0; exact = all.1; complete = λ pattern is. complete-beginning t r target es pattern c.show_all.result all.1 is; memory = λ _. record { agrees = agrees; spared = λ p none. no_plan r target p none plan } }
+    (subst (λ (X : Type 0). X) (λ i. IfOk c.show_all.result (Shows (c.in_ok-plan.ensures.text i) (same i) (start i) es)) c.show_all.ensures.ok)
+    (subst (λ (X : Type 0). X) (λ i. IfErr c.show_all.result (StopsBy (c.in_ok-plan.ensures.text i) (same i) (start i) es)) c.show_all.ensures.err) in
+    record { ok = all.0; exact = all.1; complete = λ section is. complete-beginning t r target es section c.show_all.result all.1 is; memory = λ _. record { agrees = agrees; spared = λ p none. no_plan r target p none plan } }

@@ -1,6 +1,5 @@
-use Rattle.std.proofs.Common.{◌≡◌, Option, Err, sym, ◌∙◌, ap, subst, option_copied}
+use Rattle.std.proofs.Common.{◌≡◌, Err, sym, ◌∙◌, ap, subst, option_copied}
 use Rattle.std.proofs.lemmas.Result.{err_from_is_err_and}
-use Rattle.definitions.specs.Record.{Record}
 use Rattle.certifier.proofs.Following.{leads-on, run-exact}
 use Rattle.certifier.proofs.Matching.{IsExact, exact-of, exact-failed}
 use Rattle.certifier.proofs.blocks.certify_run.Goals as goal
@@ -22,7 +21,7 @@ returns-clause-ok c =
     let settings = option_copied c.args.settings in
     let s = c.args.standing.now in
     let it = c.in_ok-certificate.certificate in
-    leads-on settings c.args.word c.args.log.now.entries c.args.report.now s c.in-Some.running c.in-Act.target it c.of.result c.record_left-after.result c.follow.new.self c.of.ensures.pattern c.in-Some.is
+    leads-on settings c.args.word c.args.log.now.entries c.args.report.now s c.in-Some.running c.in-Act.target it c.record_left-after.result c.follow.new.self c.in-Some.is
     (sym c.asked_by.ensures.exact ∙ c.in-Act.is) c.in_ok-certificate.ensures.ok c.record_left-after.ensures c.follow.ensures.world c.follow.ensures.record c.follow.ensures.workers
 
 pub returns-clause-exact : goal.returns-clause-exact
@@ -33,4 +32,4 @@ returns-clause-exact c =
     let it = c.in_ok-certificate.certificate in
     run-exact (option_copied c.args.settings) c.args.word s entries c.args.report.now c.args.standing.now.record c.in-Some.running c.in-Act.target _ c.in-Some.is
     (sym c.asked_by.ensures.exact ∙ c.in-Act.is)
-    (exact-of t c.in-Some.running c.in-Act.target entries c.args.report.now it c.of.result c.in_ok-certificate.ensures.exact)
+    (exact-of t c.in-Some.running c.in-Act.target entries c.args.report.now it it.section c.in_ok-certificate.ensures.exact)

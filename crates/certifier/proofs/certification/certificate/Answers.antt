@@ -2,8 +2,7 @@ use Rattle.std.proofs.Common.{rules, ◌≡◌, ◌⊎◌, inl, [], ◌∷◌, E
 use Rattle.std.proofs.lemmas.Result.{err_from_is_err_and}
 use mathlib.Core.Bool.{true≢false}
 use Rattle.definitions.specs.Record.{Record, Agrees}
-use Rattle.definitions.specs.Tree.{height}
-use Rattle.definitions.specs.Plans.{plan_tree}
+use Rattle.definitions.specs.Plans.{plan_length}
 use Rattle.definitions.specs.Path.{begin}
 use Rattle.definitions.specs.Claims.{heirs_of}
 use Rattle.kernel_model.specs.Room.{LacksNumbers}
@@ -11,9 +10,9 @@ use Rattle.plan_executor.specs.Naming.{listed}
 use Rattle.plan_executor.specs.declared.enactment.EnactRefusal.TheVariants.{Memory, NoNumbers}
 use Rattle.plan_executor.proofs.Exact.{no_plan}
 use Rattle.certifier.specs.declared.replay.Certificate.{Certificate}
-use Rattle.certifier.specs.Places.{Holds, IsLed, FailsBy}
+use Rattle.certifier.specs.Places.{place_at, planned_start, Holds, IsLed, FailsBy}
 use Rattle.certifier.specs.Explained.{IsReady, IsMismatch, mismatch_of}
-use Rattle.certifier.proofs.Explaining.{begins}
+use Rattle.certifier.proofs.Explaining.{starts}
 use Rattle.certifier.proofs.Matching.{plain-mismatches, exact-unready, exact-planless, exact-short, answered}
 use Rattle.certifier.proofs.Complete.{IsDue, complete-by, unready-refused}
 use Rattle.certifier.proofs.Certificates.{has-enacted}
@@ -84,7 +83,7 @@ returns c =
     let report = c.args.report.now in
     let agrees : Agrees t r = c.agrees.ensures.agrees.0 (search rules) in
     let plan = c.in_ok-plan.ensures.planned in
-    let longest : c.longest.result ≡ height (plan_tree r target) = c.longest.ensures ∙ (c.in_ok-plan.ensures.longest) in
+    let longest : c.longest.result ≡ plan_length r target = c.longest.ensures ∙ (c.in_ok-plan.ensures.longest) in
     let ready : IsReady t r target = record { agrees = agrees; has_plan = plan; numbers = subst (λ n. LacksNumbers t n → ⊥) longest c.in_ok-copy.ensures.numbers } in
     let due : IsDue t r target = record {
       start = record { formed = c.in_ok-copy.ensures.formed; agrees = agrees; record_in_range = c.agrees.ensures.in_range; rising = c.agrees.ensures.rising };
@@ -94,12 +93,12 @@ returns c =
     } in
     let image : c.state.inside.generation.image ≡ r.generation.image = ap (λ (x : Record). x.generation.image) c.state.view_is in
     let same : listed c.heir_of-heir.result ≡ heirs_of r target = c.heir_of-heir.ensures in
-    let place : record { trail = begin _ _; table = c.in_ok-copy.copy.table; executing = c.state.inside.generation.image ∷ [] } ≡ begins t r target =
-    λ i. record { trail = begin (c.in_ok-plan.ensures.tree [] i) (c.in_ok-plan.ensures.note i); table = (c.in_ok-copy.ensures.same i).table; executing = image i ∷ [] } in
-    let holds = subst (λ (X : Type 0). X) (λ i. IfOk c.hold.result (λ it. Holds (c.in_ok-plan.ensures.text i) (same i) (c.in_ok-plan.ensures.sides i) (place i) es report it.pattern)) c.hold.ensures.ok in
-    let led = subst (λ (X : Type 0). X) (λ i. IfOk c.hold.result (λ it. IsLed (c.in_ok-plan.ensures.text i) (same i) ((c.in_ok-plan.ensures.longest) i) (place i) es it.kernel)) c.hold.ensures.led in
-    let exact = answered (λ (it : Certificate). it.pattern) t r target es report ready c.hold.result holds
-    (subst (λ (X : Type 0). X) (λ i. IfErr c.hold.result (FailsBy (c.in_ok-plan.ensures.text i) (same i) (c.in_ok-plan.ensures.sides i) (place i) es report)) c.hold.ensures.err) in
+    let start : planned_start c.in_ok-plan.plan c.in_ok-copy.copy.table c.state.inside.generation.image ≡ starts t r target =
+    λ i. record { trail = λ turns. begin (c.in_ok-plan.ensures.tree turns i) (c.in_ok-plan.ensures.note i); table = (c.in_ok-copy.ensures.same i).table; executing = image i ∷ [] } in
+    let holds = subst (λ (X : Type 0). X) (λ i. IfOk c.hold.result (λ it. Holds (c.in_ok-plan.ensures.text i) (same i) (c.in_ok-plan.ensures.sides i) (start i) es report it.section)) c.hold.ensures.ok in
+    let led = subst (λ (X : Type 0). X) (λ i. IfOk c.hold.result (λ it. IsLed (c.in_ok-plan.ensures.text i) (same i) ((c.in_ok-plan.ensures.longest) i) (place_at (start i) it.section.turns) es it.kernel)) c.hold.ensures.led in
+    let exact = answered (λ (it : Certificate). it.section) t r target es report ready c.hold.result holds
+    (subst (λ (X : Type 0). X) (λ i. IfErr c.hold.result (FailsBy (c.in_ok-plan.ensures.text i) (same i) (c.in_ok-plan.ensures.sides i) (start i) es report)) c.hold.ensures.err) in
     record {
       ok = has-enacted c.args.kernel.now r target es report ready due c.hold.result holds led;
       exact = exact;

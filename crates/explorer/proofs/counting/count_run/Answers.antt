@@ -1,5 +1,6 @@
 use Rattle.std.proofs.Common.{◌≡◌, OnOk, ap, subst, ◌∙◌}
 use Rattle.vocabulary.specs.declared.reports.Report.{Report}
+use Rattle.plan_walk.specs.Course.{turns_of}
 use Rattle.explorer.specs.declared.tally.Tally.{Tally}
 use Rattle.explorer.specs.Tallies.{counted}
 use Rattle.explorer.specs.Explored.{report_under}
@@ -10,5 +11,5 @@ returns g c = λ p at.
     let run = c.args.run in
     subst (λ (x : Tally). OnOk c.count_report.result (c.count_report.new.found.tally ≡ x))
     (ap (λ (r : Report). counted run.tried r.outcome c.finish.new.found.tally) (c.in_ok-report.ensures.report p at)
-    ∙ ap (λ (x : Tally). counted run.tried (report_under run.state.now run.target.now run.first.now.table run.tried).outcome x) c.finish.ensures.found)
+    ∙ ap (λ (x : Tally). counted run.tried (report_under run.state.now run.target.now (turns_of run.course) run.first.now.table run.tried).outcome x) c.finish.ensures.found)
     c.count_report.ensures

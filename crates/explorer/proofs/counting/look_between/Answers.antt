@@ -1,4 +1,4 @@
-use Rattle.std.proofs.Common.{◌≡◌, ℕ, sym, subst, ◌∙◌}
+use Rattle.std.proofs.Common.{sym, subst, ◌∙◌}
 use Rattle.definitions.specs.Table.{Table}
 use Rattle.explorer.specs.declared.events.Mishap.{Mishap}
 use Rattle.explorer.specs.Least.{bound_of, table_between, IsSeen, IsSeenBetween}

@@ -1,5 +1,6 @@
 use Rattle.std.proofs.Common.{◌+◌, map, sym, ap, subst, ◌∙◌, arith}
 use Rattle.std.proofs.lemmas.List.{drop_all}
+use Rattle.plan_walk.specs.Course.{turns_of}
 use Rattle.explorer.specs.Events.{event_at}
 use Rattle.std.specs.List.{AllByRecursion}
 use Rattle.theorems.proofs.Rows.{every-append}
@@ -20,13 +21,13 @@ loop-mishap-preserved g c = λ p at all.
       known = elim c.match-known_at_next.branch [
         | in-Some+in_ok-push w ↦
             let is = w.in-Some.ensures in
-            let report = ap (λ (x : RestOfRun). x.report) (sym is.2) ∙ c.in_ok-rest.ensures.report p at all ∙ ap (λ (m : Mishap). report_under run.state.now run.target.now run.first.now.table (One (event_at (run.made + 1) m))) is.1 in
+            let report = ap (λ (x : RestOfRun). x.report) (sym is.2) ∙ c.in_ok-rest.ensures.report p at all ∙ ap (λ (m : Mishap). report_under run.state.now run.target.now (turns_of run.course) run.first.now.table (One (event_at (run.made + 1) m))) is.1 in
             subst (AllByRecursion (IsPassed run c.args.point.now.due.now.call)) (sym (ap (λ v. v.items) w.next-is ∙ w.in_ok-push.ensures))
             (every-append (IsPassed run c.args.point.now.due.now.call) c.loop-mishap.next.items _ kept.known (is.0, report))
         | in_default w ↦ subst (AllByRecursion (IsPassed run c.args.point.now.due.now.call)) (sym (ap (λ v. v.items) w.next-is)) kept.known
       ];
       counts =
-          firsts-turn run.state.now run.target.now run.first.now.table c.args.pairs (run.made + 1) c.args.mishaps.now c.loop-mishap.mishap-index _ c.loop-mishap.found.tally c.count_with_pairs.new.found.tally c.loop-mishap-test.true (c.in_ok-rest.ensures.counted p at all)
+          firsts-turn run.state.now run.target.now (turns_of run.course) run.first.now.table c.args.pairs (run.made + 1) c.args.mishaps.now c.loop-mishap.mishap-index _ c.loop-mishap.found.tally c.count_with_pairs.new.found.tally c.loop-mishap-test.true (c.in_ok-rest.ensures.counted p at all)
           ∙ kept.counts;
     }
 
@@ -38,6 +39,7 @@ returns-clause-counted g c = λ p at all.
     let run = c.args.point.now.run.now in
     let r = run.state.now in
     let to = run.target.now in
+    let turns = turns_of run.course in
     let t = run.first.now.table in
-    sym (ap (λ ms. with_runs r to t (each_with_pairs r to t c.args.pairs (map (event_at (run.made + 1)) ms)) c.loop-mishap.found.tally) (drop_all c.loop-mishap.mishap-index c.args.mishaps.now (omega (arith, c.loop-mishap-test.false))))
+    sym (ap (λ ms. with_runs r to turns t (each_with_pairs r to turns t c.args.pairs (map (event_at (run.made + 1)) ms)) c.loop-mishap.found.tally) (drop_all c.loop-mishap.mishap-index c.args.mishaps.now (omega (arith, c.loop-mishap-test.false))))
     ∙ (c.loop-mishap.invariant p at all).counts

@@ -1,6 +1,7 @@
 use Rattle.std.proofs.Common.{◌≡◌, map, drop}
 use Rattle.std.specs.List.{AllByRecursion}
 use Rattle.definitions.specs.Run.{Progress}
+use Rattle.plan_walk.specs.Course.{turns_of}
 use Rattle.explorer.specs.Branching.{AreKnown, event_here, runs_with_each}
 use Rattle.explorer.specs.Explored.{with_runs}
 use Rattle.explorer.specs.Known.{IsPassed}
@@ -12,6 +13,6 @@ invariant-loop-mishap g l =
     let run = l.point.run.now in
     (p : Progress) → IsAt run p → AreKnown l.point → record {
       known : AllByRecursion (IsPassed run l.point.due.now.call) l.next.items;
-      counts : with_runs run.state.now run.target.now run.first.now.table (runs_with_each run l.pairs (map (event_here l.point) (drop l.mishap-index l.mishaps))) l.found.tally
-          ≡ with_runs run.state.now run.target.now run.first.now.table (runs_with_each run l.pairs (map (event_here l.point) l.mishaps)) l.fn.found.tally;
+      counts : with_runs run.state.now run.target.now (turns_of run.course) run.first.now.table (runs_with_each run l.pairs (map (event_here l.point) (drop l.mishap-index l.mishaps))) l.found.tally
+          ≡ with_runs run.state.now run.target.now (turns_of run.course) run.first.now.table (runs_with_each run l.pairs (map (event_here l.point) l.mishaps)) l.fn.found.tally;
     }

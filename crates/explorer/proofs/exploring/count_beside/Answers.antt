@@ -3,6 +3,7 @@ use Rattle.definitions.specs.Exits.{after_exits}
 use Rattle.definitions.specs.Run.{quiet}
 use Rattle.definitions.specs.Target.{text_handed}
 use Rattle.plan_executor.specs.Naming.{listed}
+use Rattle.plan_walk.specs.Course.{turns_of}
 use Rattle.explorer.specs.declared.events.Mishap.{Mishap}
 use Rattle.explorer.specs.declared.events.Tried.TheVariants.{Two}
 use Rattle.explorer.specs.Events.{event_at, mishaps_at, beside, waiting, with_mishap}
@@ -20,4 +21,4 @@ returns-in_ok-mishaps-in-Exit g c = λ p at.
     ∙ c.in_ok-mishaps-in-Exit.ensures
     ∙ (λ i. mishaps_at (at.text i) due.by due.call (c.waiting-heir.ensures i) c.in-Exit.process (c.in_ok-kernel-in-Exit.ensures i))
     ∙ ap (λ (m : Mishap). beside text due.by due.call waits m (after_exits (with_mishap m quiet).exits run.kernel.table)) (sym c.in-Exit.is) in
-    subst (λ (ms : List Mishap). OnOk c.count_pairs.result (c.count_pairs.new.found.tally ≡ with_runs run.state.now run.target.now run.first.now.table (map (Two c.args.first) (map (event_at (run.made + 1)) ms)) c.args.found.now.tally)) there (c.count_pairs.ensures p at)
+    subst (λ (ms : List Mishap). OnOk c.count_pairs.result (c.count_pairs.new.found.tally ≡ with_runs run.state.now run.target.now (turns_of run.course) run.first.now.table (map (Two c.args.first) (map (event_at (run.made + 1)) ms)) c.args.found.now.tally)) there (c.count_pairs.ensures p at)

@@ -3,7 +3,8 @@ use Rattle.std.specs.List.{AllByRecursion}
 use Rattle.vocabulary.specs.declared.calls.Call.{Call}
 use Rattle.definitions.specs.Run.{Progress}
 use Rattle.plan_walk.specs.Fit.{height_next}
-use Rattle.plan_walk.specs.Walk.{trail_of, AsksFor}
+use Rattle.plan_walk.specs.Course.{turns_of, trail_on}
+use Rattle.plan_walk.specs.Walk.{AsksFor}
 use Rattle.explorer.specs.declared.events.Tried.TheVariants.{Nothing}
 use Rattle.explorer.specs.Known.{IsKnownAt}
 use Rattle.explorer.specs.Positions.{IsFit, IsAt}
@@ -15,16 +16,18 @@ abbrev pub invariant-loop-due : goal.invariant-loop-due
 invariant-loop-due g l =
     let r = l.fn.run.state.now in
     let to = l.fn.run.target.now in
+    let given = turns_of l.fn.run.course in
     let t = l.fn.run.first.now.table in
     record {
       fit : IsFit l.run;
       first : l.run.first.now ≡ l.fn.run.first.now;
       state : l.run.state.now ≡ r;
       target : l.run.target.now ≡ to;
+      turns : turns_of l.run.course ≡ given;
       tried : l.run.tried ≡ Nothing;
-      known : (p : Progress) → IsAt l.fn.run p → (by : ℕ) (call : Call) → AsksFor (trail_of l.run.walk) by call → AllByRecursion (IsKnownAt l.run (l.run.made + 1)) l.known.items;
-      counts : Reaches l.fn.run None (with-first r to t l.pairs) (firsts-counting r to t l.pairs) l.run l.fn.found.tally l.found.tally;
+      known : (p : Progress) → IsAt l.fn.run p → (by : ℕ) (call : Call) → AsksFor (trail_on l.run.course) by call → AllByRecursion (IsKnownAt l.run (l.run.made + 1)) l.known.items;
+      counts : Reaches l.fn.run None (with-first r to given t l.pairs) (firsts-counting r to given t l.pairs) l.run l.fn.found.tally l.found.tally;
     }
 
 abbrev pub decreases-loop-due : goal.decreases-loop-due
-decreases-loop-due g l = height_next (trail_of l.run.walk).rest
+decreases-loop-due g l = height_next (trail_on l.run.course).rest

@@ -2,6 +2,7 @@ use Rattle.std.proofs.Common.{◌≡◌, ◌+◌, Some, map, sym, ap, ◌∙◌,
 use Rattle.definitions.specs.Run.{quiet}
 use Rattle.definitions.specs.Target.{text_handed}
 use Rattle.plan_executor.specs.Naming.{listed}
+use Rattle.plan_walk.specs.Course.{turns_of}
 use Rattle.explorer.specs.declared.events.Tried.TheVariants.{Two}
 use Rattle.explorer.specs.Events.{event_at, mishaps_at, waiting}
 use Rattle.explorer.specs.Explored.{with_runs}
@@ -20,6 +21,7 @@ loop-due-preserved g c =
     let start = c.args.run in
     let r = start.state.now in
     let to = start.target.now in
+    let turns = turns_of start.course in
     let t = start.first.now.table in
     let first = c.args.first in
     record {
@@ -27,13 +29,14 @@ loop-due-preserved g c =
       first = is.first ∙ kept.first;
       state = is.state ∙ kept.state;
       target = is.target ∙ kept.target;
+      turns = is.turns ∙ kept.turns;
       tried = is.tried ∙ kept.tried;
       made = omega (arith, kept.made, is.made);
-      counts = turned start (Some first) (with-second r to t first) (seconds-counting r to t first) run c.make.new.self due c.args.found.now.tally c.loop-due.found.tally c.count_pairs.new.found.tally is (λ p q at come.
+      counts = turned start (Some first) (with-second r to turns t first) (seconds-counting r to turns t first) run c.make.new.self due c.args.found.now.tally c.loop-due.found.tally c.count_pairs.new.found.tally is (λ p q at come.
           let waits = waiting due.call (listed run.heir) in
           let opened : map (event_at (run.made + 1)) c.deref.result.now ≡ open_now run due quiet (Some first) =
           ap (map (event_at (run.made + 1))) (c.deref.ensures.value ∙ c.in_ok-mishaps.ensures ∙ (λ i. mishaps_at (come.text i) due.by due.call waits 0 run.kernel.table) ∙ sym (open-behind (text_handed run.state.now run.target.now) due.by due.call waits first (run.made + 1) run.kernel.table (omega (arith, kept.made)))) in
-          c.in_ok-count_pairs.ensures q come ∙ (λ i. with_runs (kept.state i) (kept.target i) ((kept.first i).table) (map (Two first) (opened i)) (c.look.ensures.tally i))) kept.counts;
+          c.in_ok-count_pairs.ensures q come ∙ (λ i. with_runs (kept.state i) (kept.target i) (kept.turns i) ((kept.first i).table) (map (Two first) (opened i)) (c.look.ensures.tally i))) kept.counts;
     }
 
 pub returns : goal.returns
@@ -41,5 +44,6 @@ returns g c = λ p at.
     let start = c.args.run in
     let r = start.state.now in
     let to = start.target.now in
+    let turns = turns_of start.course in
     let t = start.first.now.table in
-    over start (Some c.args.first) (with-second r to t c.args.first) (seconds-counting r to t c.args.first) c.loop-due.run c.args.found.now.tally c.loop-due.found.tally c.in_default.ensures.none c.loop-due.invariant.counts p at
+    over start (Some c.args.first) (with-second r to turns t c.args.first) (seconds-counting r to turns t c.args.first) c.loop-due.run c.args.found.now.tally c.loop-due.found.tally c.in_default.ensures.none c.loop-due.invariant.counts p at

@@ -1,7 +1,7 @@
 use Rattle.std.proofs.Common.{◌≡◌, ◌+◌, ◌∷◌, [], OnOk, refl, subst, ap, ◌∙◌, arith}
 use Rattle.vocabulary.specs.declared.calls.Answer.TheVariants.{MasterGone}
 use Rattle.definitions.specs.Run.{quiet}
-use Rattle.plan_walk.specs.Walk.{trail_of}
+use Rattle.plan_walk.specs.Course.{turns_of, trail_on}
 use Rattle.plan_walk.proofs.Paths.{asks_height}
 use Rattle.explorer.specs.declared.events.Tried.{Tried}
 use Rattle.explorer.specs.declared.events.Tried.TheVariants.{One, Two}
@@ -15,7 +15,7 @@ use Rattle.explorer.proofs.exploring.count_pair.Goals as goal
 
 pub overflow_add-number : goal.overflow_add-number
 overflow_add-number g c =
-    let t = trail_of c.args.point.now.run.now.walk in
+    let t = trail_on c.args.point.now.run.now.course in
     let left = asks_height t.rest t.lacked _ (c.requires.due MasterGone) in
     omega (arith, left, c.requires.fit.room, c.requires.fit.countable)
 
@@ -41,7 +41,7 @@ returns g c = λ p at.
     let second = event_at n c.args.mishap in
     let both : IsSameUpTo run.made (pattern_of run.tried) (pattern_of (Two c.args.first second)) =
     λ m le. same-before second (pattern_of (One c.args.first)) run.made (omega arith) m le ∙ c.requires.tried m le in
-    let whole : with_runs c.in_ok-branch.branch.state.now c.in_ok-branch.branch.target.now c.in_ok-branch.branch.first.now.table (c.in_ok-branch.branch.tried ∷ []) c.look_between.new.found.tally
-    ≡ with_runs run.state.now run.target.now run.first.now.table (Two c.args.first second ∷ []) c.args.found.now.tally =
-    λ i. with_runs (is.state i) (is.target i) ((is.first i).table) (is.tried i ∷ []) (c.look_between.ensures.tally i) in
+    let whole : with_runs c.in_ok-branch.branch.state.now c.in_ok-branch.branch.target.now (turns_of c.in_ok-branch.branch.course) c.in_ok-branch.branch.first.now.table (c.in_ok-branch.branch.tried ∷ []) c.look_between.new.found.tally
+    ≡ with_runs run.state.now run.target.now (turns_of run.course) run.first.now.table (Two c.args.first second ∷ []) c.args.found.now.tally =
+    λ i. with_runs (is.state i) (is.target i) (is.turns i) ((is.first i).table) (is.tried i ∷ []) (c.look_between.ensures.tally i) in
     subst (λ (x : Tally). OnOk c.count_run.result (c.count_run.new.found.tally ≡ x)) whole (c.count_run.ensures _ (is.at p (elsewhere run p (Two c.args.first second) both at)))

@@ -1,4 +1,4 @@
-use Rattle.std.proofs.Common.{◌≡◌, ◌+◌, ◌++◌, ◌∷◌, [], Bool, true, false, List, Some, OnOk, map, refl, subst, sym, ap, ◌∙◌, arith}
+use Rattle.std.proofs.Common.{◌≡◌, ◌+◌, ◌++◌, ◌∷◌, [], Bool, true, false, List, Some, map, refl, sym, ap, ◌∙◌, arith}
 use Rattle.std.specs.Prelude.{if◌then◌else◌}
 use Rattle.vocabulary.specs.declared.calls.Answer.TheVariants.{MasterGone}
 use Rattle.vocabulary.specs.declared.reports.Report.{Report}
@@ -6,14 +6,13 @@ use Rattle.definitions.specs.Table.{Table}
 use Rattle.definitions.specs.Exits.{after_exits}
 use Rattle.definitions.specs.Run.{Moment, quiet}
 use Rattle.definitions.specs.Target.{text_handed}
-use Rattle.plan_walk.specs.Walk.{trail_of}
+use Rattle.plan_walk.specs.Course.{turns_of, trail_on}
 use Rattle.plan_walk.proofs.Paths.{asks_height}
 use Rattle.plan_executor.specs.Naming.{listed}
 use Rattle.explorer.specs.declared.events.Event.{Event}
 use Rattle.explorer.specs.declared.events.Mishap.{Mishap}
 use Rattle.explorer.specs.declared.events.Tried.{Tried}
 use Rattle.explorer.specs.declared.events.Tried.TheVariants.{One, Two}
-use Rattle.explorer.specs.declared.tally.Tally.{Tally}
 use Rattle.explorer.specs.Events.{pattern_of, event_at, with_mishap, beside, waiting, met}
 use Rattle.explorer.specs.Tallies.{counted}
 use Rattle.explorer.specs.Explored.{report_under, with_runs, with_pairs, events_after}
@@ -25,7 +24,7 @@ use Rattle.explorer.proofs.exploring.count_with_pairs.Goals as goal
 
 pub overflow_add-number : goal.overflow_add-number
 overflow_add-number g c =
-    let t = trail_of c.args.point.now.run.now.walk in
+    let t = trail_on c.args.point.now.run.now.course in
     let left = asks_height t.rest t.lacked _ (c.requires.due MasterGone) in
     omega (arith, left, c.requires.fit.room, c.requires.fit.countable)
 
@@ -34,12 +33,13 @@ returns-then-not-pairs-clause-counted g c = λ p at all.
     let run = c.args.point.now.run.now in
     let r = run.state.now in
     let to = run.target.now in
+    let turns = turns_of run.course in
     let t = run.first.now.table in
     let first = event_at (run.made + 1) c.args.mishap in
     c.in_ok-count_report.ensures
     ∙ ap (λ (x : Report). counted (One first) x.outcome c.rest_of_run.new.found.tally) (c.in_ok-rest.ensures.report p at all)
-    ∙ ap (counted (One first) (report_under r to t (One first)).outcome) c.rest_of_run.ensures.found
-    ∙ ap (λ (b : Bool). with_runs r to t (One first ∷ (if b then map (Two first) (events_after r to t (One first)) else [])) c.args.found.now.tally) (sym off) where
+    ∙ ap (counted (One first) (report_under r to turns t (One first)).outcome) c.rest_of_run.ensures.found
+    ∙ ap (λ (b : Bool). with_runs r to turns t (One first ∷ (if b then map (Two first) (events_after r to turns t (One first)) else [])) c.args.found.now.tally) (sym off) where
       off : c.args.pairs ≡ false
       off = cc
 
@@ -49,6 +49,7 @@ returns-clause-counted g c = λ p at all.
     let due = c.args.point.now.due.now in
     let r = run.state.now in
     let to = run.target.now in
+    let turns = turns_of run.course in
     let t = run.first.now.table in
     let text = text_handed r to in
     let waits = waiting due.call (listed run.heir) in
@@ -62,23 +63,23 @@ returns-clause-counted g c = λ p at all.
     let behind = c.in_ok-behind.behind in
     let onto = after_due (record run { tried = One first }) m p in
     let here : List Mishap = beside text due.by due.call waits c.args.mishap (after_exits m.exits run.kernel.table) in
-    let events : events_after r to t (One first) ≡ map (event_at n) here ++ left behind onto (Some first) =
+    let events : events_after r to turns t (One first) ≡ map (event_at n) here ++ left behind onto (Some first) =
     there.come.meets (pattern_of (One first)) first (λ k le. refl) (omega arith)
-    ∙ ap (λ (x : Table). met text (Some first) (pattern_of (One first)) (listed run.heir) run.made x (rest_run text (trail_of run.walk).rest (pattern_of (One first)) p).entries) at.table
+    ∙ ap (λ (x : Table). met text (Some first) (pattern_of (One first)) (listed run.heir) run.made x (rest_run text (trail_on run.course).rest (pattern_of (One first)) p).entries) at.table
     ∙ on.left p (Some first) there
     ∙ ap (λ (ms : List Mishap). map (event_at n) ms ++ left behind onto (Some first)) (open-beside text due.by due.call waits first n (after_exits m.exits run.kernel.table) refl) in
-    let one : c.count_report.new.found.tally ≡ with_runs r to t (One first ∷ []) c.args.found.now.tally =
+    let one : c.count_report.new.found.tally ≡ with_runs r to turns t (One first ∷ []) c.args.found.now.tally =
     c.in_ok-count_report.ensures
     ∙ ap (λ (x : Report). counted (One first) x.outcome c.rest_of_run.new.found.tally) (c.in_ok-rest.ensures.report p at all)
-    ∙ ap (counted (One first) (report_under r to t (One first)).outcome) c.rest_of_run.ensures.found in
-    let two : c.count_beside.new.found.tally ≡ with_runs r to t (map (Two first) (map (event_at n) here)) (with_runs r to t (One first ∷ []) c.args.found.now.tally) =
-    c.in_ok-count_beside.ensures p at ∙ ap (with_runs r to t (map (Two first) (map (event_at n) here))) one in
-    let whole : with_runs behind.state.now behind.target.now behind.first.now.table (map (Two first) (left behind onto (Some first))) c.count_beside.new.found.tally
-    ≡ with_runs r to t (with_pairs r to t c.args.pairs first) c.args.found.now.tally =
-    (λ i. with_runs (on.state i) (on.target i) ((on.first i).table) (map (Two first) (left behind onto (Some first))) (two i))
-    ∙ sym (with_runs-map r to t (Two first) (map (event_at n) here) (left behind onto (Some first)) (with_runs r to t (One first ∷ []) c.args.found.now.tally))
-    ∙ ap (λ (es : List Event). with_runs r to t (One first ∷ map (Two first) es) c.args.found.now.tally) (sym events)
-    ∙ ap (λ (b : Bool). with_runs r to t (One first ∷ (if b then map (Two first) (events_after r to t (One first)) else [])) c.args.found.now.tally) (sym asked) in
+    ∙ ap (counted (One first) (report_under r to turns t (One first)).outcome) c.rest_of_run.ensures.found in
+    let two : c.count_beside.new.found.tally ≡ with_runs r to turns t (map (Two first) (map (event_at n) here)) (with_runs r to turns t (One first ∷ []) c.args.found.now.tally) =
+    c.in_ok-count_beside.ensures p at ∙ ap (with_runs r to turns t (map (Two first) (map (event_at n) here))) one in
+    let whole : with_runs behind.state.now behind.target.now (turns_of behind.course) behind.first.now.table (map (Two first) (left behind onto (Some first))) c.count_beside.new.found.tally
+    ≡ with_runs r to turns t (with_pairs r to turns t c.args.pairs first) c.args.found.now.tally =
+    (λ i. with_runs (on.state i) (on.target i) (on.turns i) ((on.first i).table) (map (Two first) (left behind onto (Some first))) (two i))
+    ∙ sym (with_runs-map r to turns t (Two first) (map (event_at n) here) (left behind onto (Some first)) (with_runs r to turns t (One first ∷ []) c.args.found.now.tally))
+    ∙ ap (λ (es : List Event). with_runs r to turns t (One first ∷ map (Two first) es) c.args.found.now.tally) (sym events)
+    ∙ ap (λ (b : Bool). with_runs r to turns t (One first ∷ (if b then map (Two first) (events_after r to turns t (One first)) else [])) c.args.found.now.tally) (sym asked) in
     c.in_ok-count_later.ensures onto (on.at p there) ∙ whole where
       asked : c.args.pairs ≡ true
       asked = cc

@@ -5,6 +5,7 @@ use Rattle.definitions.specs.Record.{Agrees}
 use Rattle.definitions.specs.Run.{start_at}
 use Rattle.plan_executor.specs.declared.enactment.EnactRefusal.TheVariants.{RecordDisagrees}
 use Rattle.plan_executor.proofs.Exact.{planless, short}
+use Rattle.plan_walk.specs.Course.{turns_of}
 use Rattle.explorer.specs.declared.events.Tried.TheVariants.{Nothing}
 use Rattle.explorer.specs.declared.exploring.Unexplored.TheVariants.{Enact}
 use Rattle.explorer.specs.Explored.{with_runs, each_with_pairs, explored_from}
@@ -18,27 +19,28 @@ pub returns-clause-counted : goal.returns-clause-counted
 returns-clause-counted g c =
     let r = c.args.search.now.state.now in
     let to = c.args.search.now.target.now in
+    let turns = c.args.search.now.turns.now in
     let t = c.args.search.now.kernel.now.table in
     let start = start_at t r.note in
     let w = c.in_ok-whole.ensures.start in
     let is = c.in_ok-run.ensures.start in
     let run = c.in_ok-run.run' in
-    let quiet : c.count_run.new.found.tally ≡ with_runs r to t (Nothing ∷ []) c.args.found.now.tally =
-    c.in_ok-count_run.ensures start w.at ∙ (λ i. with_runs (w.of.state i) (w.of.target i) (w.of.first i) (w.tried i ∷ []) (c.begin.ensures i)) in
-    let whole : with_runs run.state.now run.target.now run.first.now.table (each_with_pairs run.state.now run.target.now run.first.now.table c.args.search.now.pairs (left run start None)) c.count_run.new.found.tally ≡ explored_from r to t c.args.search.now.pairs c.args.found.now.tally =
-    (λ i. with_runs (is.of.state i) (is.of.target i) (is.of.first i) (each_with_pairs (is.of.state i) (is.of.target i) (is.of.first i) c.args.search.now.pairs (is.meets i)) (quiet i)) in
+    let quiet : c.count_run.new.found.tally ≡ with_runs r to turns t (Nothing ∷ []) c.args.found.now.tally =
+    c.in_ok-count_run.ensures start w.at ∙ (λ i. with_runs (w.of.state i) (w.of.target i) (w.of.turns i) (w.of.first i) (w.tried i ∷ []) (c.begin.ensures i)) in
+    let whole : with_runs run.state.now run.target.now (turns_of run.course) run.first.now.table (each_with_pairs run.state.now run.target.now (turns_of run.course) run.first.now.table c.args.search.now.pairs (left run start None)) c.count_run.new.found.tally ≡ explored_from r to turns t c.args.search.now.pairs c.args.found.now.tally =
+    (λ i. with_runs (is.of.state i) (is.of.target i) (is.of.turns i) (is.of.first i) (each_with_pairs (is.of.state i) (is.of.target i) (is.of.turns i) (is.of.first i) c.args.search.now.pairs (is.meets i)) (quiet i)) in
     c.in_ok-count_events.ensures start is.at ∙ whole
 
 pub returns-clause-once : goal.returns-clause-once
 returns-clause-once g c =
-    all-once c.args.search.now.state.now c.args.search.now.target.now c.args.search.now.kernel.now.table c.args.search.now.pairs c.in_ok-whole.ensures.formed
+    all-once c.args.search.now.state.now c.args.search.now.target.now c.args.search.now.turns.now c.args.search.now.kernel.now.table c.args.search.now.pairs c.in_ok-whole.ensures.formed
 
 ---- Which refusal is told
 
 pub returns-then-not-agrees-clause-exact : goal.returns-then-not-agrees-clause-exact
 returns-then-not-agrees-clause-exact g c =
     told-refused c.args.search.now.kernel.now.table c.args.search.now.state.now c.args.search.now.target.now RecordDisagrees (Err (Enact RecordDisagrees))
-    (inr (λ pattern h. let yes = c.agrees.ensures.agrees.1 h in absurd (true≢false (sym yes ∙ c.if-not-agrees.true)))) refl
+    (inr (λ turns pattern h. let yes = c.agrees.ensures.agrees.1 h in absurd (true≢false (sym yes ∙ c.if-not-agrees.true)))) refl
 
 pub returns-in_err-plan-clause-exact : goal.returns-in_err-plan-clause-exact
 returns-in_err-plan-clause-exact g c =

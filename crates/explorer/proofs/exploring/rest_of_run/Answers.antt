@@ -1,6 +1,7 @@
-use Rattle.std.proofs.Common.{◌≡◌, ◌+◌, sym, ap, ◌∙◌, arith}
+use Rattle.std.proofs.Common.{◌+◌, sym, ap, ◌∙◌, arith}
 use Rattle.std.proofs.lemmas.List.Elements.{All-contains, All-from_recursion}
 use Rattle.definitions.specs.Run.{quiet}
+use Rattle.plan_walk.specs.Course.{turns_of}
 use Rattle.explorer.specs.declared.events.Tried.{Tried}
 use Rattle.explorer.specs.declared.events.Tried.TheVariants.{One}
 use Rattle.explorer.specs.Events.{pattern_of, event_at}
@@ -21,7 +22,7 @@ returns-clause-report c = λ p at all.
     let same : IsSameUpTo run.made (pattern_of run.tried) (pattern_of (One event)) =
     λ m le. same-before event (λ _. quiet) run.made (omega (arith, c.requires.number)) m le ∙ sym (ap (λ (x : Tried). pattern_of x m) c.requires.tried) in
     c.in_ok-report.ensures.report _ (is.at p (elsewhere run p (One event) same at))
-    ∙ (λ i. report_under (is.state i) (is.target i) (is.first i).table (is.tried i))
+    ∙ (λ i. report_under (is.state i) (is.target i) (is.turns i) (is.first i).table (is.tried i))
 
 -- what is known of the run in which the process exits here
 pub returns-in-Some-clause-report : goal.returns-in-Some-clause-report
@@ -32,4 +33,4 @@ returns-in-Some-clause-report c = λ p at all.
     let found = c.in-Some.ensures in
     ap (λ (rest : RestOfRun). rest.report) found.3
     ∙ (All-contains is_known known found.0 (All-from_recursion is_known known all) found.1
-    ∙ (λ i. report_under run.state.now run.target.now run.first.now.table (One (event_at (sym c.requires.number i) (sym found.2 i)))))
+    ∙ (λ i. report_under run.state.now run.target.now (turns_of run.course) run.first.now.table (One (event_at (sym c.requires.number i) (sym found.2 i)))))

@@ -11,17 +11,18 @@ returns-in_err-prepared-clause-exact c =
     let t = c.args.kernel.now.table in
     let r = c.args.state.now in
     let target = c.args.target.now in
+    let turns = c.args.section.now.turns in
     let pattern = moment_at c.args.section.now.pattern in
     let p = err_from_is_err_and c.from_residual.result c.from_residual.ensures.1 in
     let why = c.in_err-prepared.field-0.0 in
     let same : why ≡ p.0 = cc in
-    subst (IsExact t r target pattern) (sym p.1)
-    (subst (λ (e : EnactRefusal). IsExact t r target pattern (Err e)) same (refused-exact t r target pattern why c.in_err-prepared.ensures.refused))
+    subst (IsExact t r target turns pattern) (sym p.1)
+    (subst (λ (e : EnactRefusal). IsExact t r target turns pattern (Err e)) same (refused-exact t r target turns pattern why c.in_err-prepared.ensures.refused))
 
 pub returns-clause-ok : goal.returns-clause-ok
 returns-clause-ok c =
-    enacted-from c.args.kernel.now c.prepare.new.kernel c.carry_out.new.kernel c.args.state.now c.args.target.now (moment_at c.args.section.now.pattern) c.carry_out.result c.in_ok-prepared.ensures.table c.carry_out.ensures
+    enacted-from c.args.kernel.now c.prepare.new.kernel c.carry_out.new.kernel c.args.state.now c.args.target.now c.args.section.now.turns (moment_at c.args.section.now.pattern) c.carry_out.result c.in_ok-prepared.ensures.table c.carry_out.ensures
 
 pub returns-clause-exact : goal.returns-clause-exact
 returns-clause-exact c why =
-    inr (only-enacted c.args.kernel.now c.carry_out.new.kernel c.args.state.now c.args.target.now (moment_at c.args.section.now.pattern) c.carry_out.result (returns-clause-ok c) why)
+    inr (only-enacted c.args.kernel.now c.carry_out.new.kernel c.args.state.now c.args.target.now c.args.section.now.turns (moment_at c.args.section.now.pattern) c.carry_out.result (returns-clause-ok c) why)

@@ -19,4 +19,5 @@ returns c =
       attended_manner = c.attended_upgrades_end_as_reported.ensures.manner;
       stops = c.stops_end_as_reported.ensures.headline;
       stops_manner = c.stops_end_as_reported.ensures.manner;
+      parts = c.parts_are_walked.ensures.apart;
     }) c.args.target.now c.requires c.read_settings.ensures

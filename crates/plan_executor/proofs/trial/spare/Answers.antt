@@ -14,4 +14,4 @@ returns-then-not-names_master-clause-spared c =
 pub returns-clause-refused : goal.returns-clause-refused
 returns-clause-refused c =
     let same : c.in_ok-copy.copy.table ≡ c.args.kernel.now.table = ap (λ (s : State). s.table) c.in_ok-copy.ensures.same in
-    IfErr-weaker c.spare_on.result _ _ (λ why is. inr (subst (λ t. IsRefused t c.args.state.now c.args.target.now (moment_at c.args.section.now.pattern) why) same is)) c.spare_on.ensures.refused
+    IfErr-weaker c.spare_on.result _ _ (λ why is. inr (subst (λ t. IsRefused t c.args.state.now c.args.target.now c.args.section.now.turns (moment_at c.args.section.now.pattern) why) same is)) c.spare_on.ensures.refused

@@ -16,7 +16,7 @@ returns-clause-tree c =
     let is = repair_is s.by s.crew s.ready s.rounds c.args.overdue.now c.args.wanted c.below-all.result c.deref.result.now c.deref-2.result.now c.below-all.ensures
     (c.deref.ensures.value ∙ (c.in_ok-kills.ensures.items ∙ (c.minus-2.ensures ∙ ap (lacks c.args.overdue.now) c.minus.ensures)))
     (c.deref-2.ensures.value ∙ (c.in_ok-starts.ensures.items ∙ (c.minus-4.ensures ∙ (ap (lacks c.below-all.result) c.minus-3.ensures ∙ ap (λ ks. lacks ks (lacks s.ready c.args.overdue.now)) c.below-all.ensures)))) in
-    c.in_ok-finish.ensures.tree ∙ (c.in_ok-first.ensures.made.is ∙ is)
+    λ turns. c.in_ok-finish.ensures.tree turns ∙ (c.in_ok-first.ensures.made.is ∙ is)
 
 pub returns-clause-few : goal.returns-clause-few
 returns-clause-few c =
@@ -28,7 +28,7 @@ returns-clause-few c =
       arith,
       c.in_ok-finish.ensures.few,
       c.in_ok-first.ensures.count,
-      ap length c.new-draft.ensures,
+      ap length c.new-draft.ensures.none,
       fresh,
       ap length c.deref.ensures.value,
       ap length c.in_ok-kills.ensures.items,

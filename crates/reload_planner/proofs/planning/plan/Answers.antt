@@ -1,4 +1,4 @@
-use Rattle.std.proofs.Common.{◌≡◌, ◌≤◌, Some, length, sym, ◌∙◌, ap, subst, arith}
+use Rattle.std.proofs.Common.{◌≡◌, ◌≤◌, List, [], length, sym, ◌∙◌, ap, subst, arith}
 use Rattle.std.specs.Prelude.{IfOk}
 use Rattle.std.proofs.lemmas.List.{length-map}
 use Rattle.std.proofs.lemmas.Result.{IfOk-weaker}
@@ -6,11 +6,13 @@ use Rattle.definitions.specs.Record.{Record, crew_of}
 use Rattle.definitions.specs.After.{posts_wanted}
 use Rattle.vocabulary.specs.declared.table.Listener.{Listener}
 use Rattle.vocabulary.specs.declared.targets.Target.{Target}
-use Rattle.definitions.specs.Plans.{planned}
-use Rattle.rollback_plan.specs.Plans.{tree_of, trees_in}
+use Rattle.vocabulary.specs.declared.targets.Target.TheVariants.{Reload}
+use Rattle.definitions.specs.Parts.{Turn}
+use Rattle.definitions.specs.Plans.{plan_tree, plan_length}
+use Rattle.rollback_plan.specs.Plans.{tree_under, length_of, trees_in}
 use Rattle.reload_planner.specs.Planning.{most_steps}
 use Rattle.reload_planner.proofs.Sets.{length-below}
-use Rattle.reload_planner.proofs.Reloads.{planned_is, reload_is}
+use Rattle.reload_planner.proofs.Reloads.{reload_is, as_long}
 use Rattle.reload_planner.proofs.planning.plan.Goals as goal
 
 pub returns-in-Reload-clause-tree : goal.returns-in-Reload-clause-tree
@@ -21,10 +23,21 @@ returns-in-Reload-clause-tree c =
     let posts = c.posts_wanted-posts.ensures ∙ (ap (λ (known : Record). posts_wanted known c.args.target.now) (sym c.state.view_is) ∙ ap (posts_wanted r) c.in-Reload.is) in
     let crew = c.crew.ensures ∙ ap crew_of (sym c.state.view_is) in
     let is = reload_is r s c.crew.result c.posts_wanted-posts.result c.addresses-old.result crew posts c.addresses-old.ensures in
-    subst (λ (known : Record). IfOk c.plan_reload.result (λ plan. planned known c.args.target.now ≡ Some (tree_of plan))) c.state.view_is
-    (subst (λ (target : Target). IfOk c.plan_reload.result (λ plan. planned r target ≡ Some (tree_of plan))) (sym c.in-Reload.is)
-    (planned_is r s c.crew.result c.plan_reload.result crew c.plan_reload.ensures.numbered
-    (IfOk-weaker c.plan_reload.result _ _ (λ plan tree. tree ∙ is) c.plan_reload.ensures.tree)))
+    subst (λ (known : Record). IfOk c.plan_reload.result (λ plan. (turns : List Turn) → tree_under plan turns ≡ plan_tree known c.args.target.now turns)) c.state.view_is
+    (subst (λ (target : Target). IfOk c.plan_reload.result (λ plan. (turns : List Turn) → tree_under plan turns ≡ plan_tree r target turns)) (sym c.in-Reload.is)
+    (IfOk-weaker c.plan_reload.result _ _ (λ plan tree turns. tree turns ∙ is turns) c.plan_reload.ensures.tree))
+
+pub returns-in-Reload-clause-longest : goal.returns-in-Reload-clause-longest
+returns-in-Reload-clause-longest c =
+    let v = c.state.inside in
+    let s = c.in-Reload.settings in
+    let r : Record = record { listeners = v.listeners; posts = v.posts; generation = v.generation; ready = v.ready; wanted = v.wanted; retries = v.retries; timeout = v.timeout; pid_path = v.pid_path; note = v.note; pid = v.pid } in
+    let posts = c.posts_wanted-posts.ensures ∙ (ap (λ (known : Record). posts_wanted known c.args.target.now) (sym c.state.view_is) ∙ ap (posts_wanted r) c.in-Reload.is) in
+    let crew = c.crew.ensures ∙ ap crew_of (sym c.state.view_is) in
+    let is = reload_is r s c.crew.result c.posts_wanted-posts.result c.addresses-old.result crew posts c.addresses-old.ensures [] in
+    subst (λ (known : Record). IfOk c.plan_reload.result (λ plan. length_of plan ≡ plan_length known c.args.target.now)) c.state.view_is
+    (subst (λ (target : Target). IfOk c.plan_reload.result (λ plan. length_of plan ≡ plan_length r target)) (sym c.in-Reload.is)
+    (as_long c.plan_reload.result (plan_tree r (Reload s) []) (IfOk-weaker c.plan_reload.result _ _ (λ plan tree turns. tree turns ∙ is) c.plan_reload.ensures.tree) c.plan_reload.ensures.longest))
 
 pub returns-in-Workers-clause-few : goal.returns-in-Workers-clause-few
 returns-in-Workers-clause-few c = grind (arith, length-below)

@@ -25,7 +25,7 @@ returns-clause-tree c =
     (c.as_slice-2.ensures.items ∙ c.only_in-dropped.ensures)
     c.below-wanted.ensures
     (c.deref.ensures.value ∙ (c.in_ok-starts.ensures.items ∙ c.below-wanted.ensures)) in
-    rw (← c.settings.view_is) (c.in_ok-finish.ensures.tree ∙ (c.in_ok-first.ensures.made.is ∙ is))
+    λ turns. rw (← c.settings.view_is) (c.in_ok-finish.ensures.tree turns ∙ (c.in_ok-first.ensures.made.is ∙ is))
 
 pub returns-clause-few : goal.returns-clause-few
 returns-clause-few c =

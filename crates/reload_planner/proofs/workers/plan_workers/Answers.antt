@@ -16,7 +16,7 @@ returns-clause-tree c =
     let is = change_is s.by s.crew s.ready s.rounds c.args.wanted c.below-all.result c.deref.result.now c.deref-2.result.now c.below-all.ensures
     (c.deref.ensures.value ∙ (c.in_ok-starts.ensures.items ∙ (c.minus.ensures ∙ ap (λ ks. lacks ks s.ready) c.below-all.ensures)))
     (c.deref-2.ensures.value ∙ (c.in_ok-quits.ensures.items ∙ (c.minus-2.ensures ∙ ap (lacks s.ready) c.below-all.ensures))) in
-    c.in_ok-finish.ensures.tree ∙ (c.in_ok-first.ensures.made.is ∙ is)
+    λ turns. c.in_ok-finish.ensures.tree turns ∙ (c.in_ok-first.ensures.made.is ∙ is)
 
 pub returns-clause-few : goal.returns-clause-few
 returns-clause-few c =
@@ -24,4 +24,4 @@ returns-clause-few c =
     let all = c.below-all.result in
     let fresh = ap length (c.deref.ensures.value ∙ (c.in_ok-starts.ensures.items ∙ c.minus.ensures)) in
     let surplus = ap length (c.deref-2.ensures.value ∙ (c.in_ok-quits.ensures.items ∙ c.minus-2.ensures)) in
-    omega (arith, c.in_ok-finish.ensures.few, c.in_ok-first.ensures.count, ap length c.new-draft.ensures, fresh, surplus, filter_few (λ k. not (is_in s.ready k)) all, filter_few (λ k. not (is_in all k)) s.ready, ap length c.below-all.ensures, length-below c.args.wanted)
+    omega (arith, c.in_ok-finish.ensures.few, c.in_ok-first.ensures.count, ap length c.new-draft.ensures.none, fresh, surplus, filter_few (λ k. not (is_in s.ready k)) all, filter_few (λ k. not (is_in all k)) s.ready, ap length c.below-all.ensures, length-below c.args.wanted)

@@ -1,9 +1,8 @@
 use Rattle.std.proofs.Common.{◌≡◌, map, refl, List, Some, None, inl, inr, sym, ap, subst, ◌∙◌}
 use Rattle.definitions.specs.Table.{Address}
-use Rattle.kernel_service.specs.Services.{Services}
 use Rattle.kernel_service.specs.Served.{seen_served}
 use Rattle.explorer.specs.declared.findings.Findings.{Findings}
-use Rattle.explorer.specs.Least.{bound_of, IsLeastSince}
+use Rattle.explorer.specs.Least.{bound_of}
 use Rattle.explorer.specs.Readiness.{fewest_from, HaveAtLeast}
 use Rattle.explorer.proofs.Fewest.{fewest-none, fewest-at, fewer-needed, not-fewer, is-fewer}
 use Rattle.explorer.proofs.findings.Findings.look.Goals as goal

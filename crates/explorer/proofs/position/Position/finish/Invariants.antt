@@ -1,7 +1,7 @@
 use Rattle.std.proofs.Common.{◌≡◌, ◌≤◌}
 use Rattle.definitions.specs.Run.{Progress}
 use Rattle.plan_walk.specs.Fit.{height_next}
-use Rattle.plan_walk.specs.Walk.{trail_of}
+use Rattle.plan_walk.specs.Course.{turns_of, trail_on}
 use Rattle.explorer.specs.Positions.{IsFit, IsAt}
 use Rattle.explorer.proofs.position.Position.finish.Given as goal
 
@@ -11,6 +11,7 @@ invariant-loop-due l = record {
   first : l.self.first.now ≡ l.fn.self.first.now;
   state : l.self.state.now ≡ l.fn.self.state.now;
   target : l.self.target.now ≡ l.fn.self.target.now;
+  turns : turns_of l.self.course ≡ turns_of l.fn.self.course;
   tried : l.self.tried ≡ l.fn.self.tried;
   made : l.fn.self.made ≤ l.self.made;
   found : l.found.tally ≡ l.fn.found.tally;
@@ -18,4 +19,4 @@ invariant-loop-due l = record {
 }
 
 abbrev pub decreases-loop-due : goal.decreases-loop-due
-decreases-loop-due l = height_next (trail_of l.self.walk).rest
+decreases-loop-due l = height_next (trail_on l.self.course).rest

@@ -15,5 +15,5 @@ returns-in-Err-clause-declined c =
     let place = c.args.place in
     let r = c.args.state.now in
     let target = c.args.target.now in
-    let exact = subst (λ (s : Section). IsExact first.table r target (moment_at s.pattern) (Err c.in-Err.refusal)) c.section_at-section.ensures c.in-Err.ensures.exact in
+    let exact = subst (λ (s : Section). IsExact first.table r target s.turns (moment_at s.pattern) (Err c.in-Err.refusal)) c.section_at-section.ensures c.in-Err.ensures.exact in
     subst (λ (t : TargetRefusal). HasCode (DeclinesAt sections first place r target) t) (sym c.from.ensures) (declined-is sections first place r target c.in-Err.refusal exact)

@@ -6,6 +6,7 @@ use Rattle.plan_steps.specs.declared.step.Step.{Step}
 use Rattle.rollback_plan.specs.Places.{chosen_at}
 use Rattle.rollback_plan.proofs.PlanTrees.{within_at, leads_within_at}
 use Rattle.rollback_plan.proofs.CursorTrees.{StandsAt, chosen_within, goes_at}
+use Rattle.rollback_plan.proofs.Apart.{led_apart}
 use Rattle.rollback_plan.proofs.cursor.Cursor.step.Goals as goal
 
 pub returns-in-To-clause-some : goal.returns-in-To-clause-some
@@ -24,4 +25,5 @@ returns-in-To-clause-some c =
       first = λ turns turn. (goes_at steps parts me.at c.args.turn turns s plan.leads_on me.within turn stands).first;
       leads = λ turns answer turn. (goes_at steps parts me.at c.args.turn turns s plan.leads_on me.within turn stands).leads answer;
       within = leads_within_at 0 steps k s plan.leads_on at;
+      apart = led_apart steps me.at c.args.turn s plan.leads_on stands me.apart;
     }

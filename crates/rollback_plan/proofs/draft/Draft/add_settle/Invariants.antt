@@ -6,7 +6,7 @@ use Rattle.rollback_plan.proofs.draft.Draft.add_settle.Given as goal
 abbrev pub invariant-loop-round : goal.invariant-loop-round
 invariant-loop-round l =
     record {
-      made : IsMade l.self l.place (settle l.by l.crew l.set l.side l._round);
+      made : IsMade l.self l.place (settle l.by l.crew l.set l.fn.side l._round);
       count : length (trees_of l.self) ≡ length (trees_of l.fn.self) + (1 + 4 * l._round);
       keeps : Keeps l.fn.self l.self;
     }

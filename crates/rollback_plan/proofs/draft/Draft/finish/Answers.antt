@@ -16,13 +16,14 @@ invariant_of-result c =
       begins = omega (arith, plan.begins);
       leads_on = plan.on;
       placed = refl;
+      apart = refl;
       answers = fit_answers false (first_tree c.in_ok-numbered.numbered.steps.items) (ap (is_fit false) (plan.tree ∙ at_place_is c.args.self.steps.items c.args.first) ∙ c.requires.fit);
       tall = c.in_ok-numbered.ensures.longest ∙ ap height (sym plan.tree);
       numbered = ∣ record { steps = c.args.self.steps.items; first = c.args.first.0; is = plan.numbering } ∣₁;
     }
 
 pub returns-clause-tree : goal.returns-clause-tree
-returns-clause-tree c = c.in_ok-numbered.ensures.numbered.tree ∙ at_place_is c.args.self.steps.items c.args.first
+returns-clause-tree c = λ turns. c.in_ok-numbered.ensures.numbered.tree ∙ at_place_is c.args.self.steps.items c.args.first
 
 pub returns-clause-few : goal.returns-clause-few
 returns-clause-few c = omega (arith, c.in_ok-numbered.ensures.numbered.few, length-trees_from 1 c.in_ok-numbered.numbered.steps.items, length-trees c.args.self.steps.items)

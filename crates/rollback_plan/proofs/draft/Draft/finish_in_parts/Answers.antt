@@ -6,6 +6,7 @@ use Rattle.plan_steps.specs.Stretches.{longest_of}
 use Rattle.plan_steps.specs.Woven.{part_end, answers}
 use Rattle.plan_steps.proofs.StepTrees.{length-trees, length-trees_from}
 use Rattle.plan_steps.proofs.Woven.{fit_answers}
+use Rattle.rollback_plan.specs.Masters.{are_apart}
 use Rattle.rollback_plan.proofs.DraftTrees.{at_place_is}
 use Rattle.rollback_plan.proofs.draft.Draft.finish_in_parts.Goals as goal
 
@@ -26,6 +27,7 @@ invariant_of-result c =
       begins = omega (arith, plan.begins);
       leads_on = plan.on;
       placed = plan.placed;
+      apart = (λ i. are_apart ((plan.new ∙ at_place_is steps parts.new) i) ((plan.old ∙ at_place_is steps parts.old) i)) ∙ c.requires.apart;
       answers = and_from _ _ (same_answers _ _ _ plan.tree (at_place_is steps c.args.first) fit.before)
           (and_from _ _ (same_answers _ _ _ plan.new (at_place_is steps parts.new) fit.new)
           (and_from _ _ (same_answers _ _ _ plan.old (at_place_is steps parts.old) fit.old)

@@ -6,6 +6,7 @@ use Rattle.rollback_plan.specs.declared.draft.DraftRefusal.{DraftRefusal}
 use Rattle.rollback_plan.specs.declared.draft.DraftRefusal.TheVariants.{TooLarge, Memory}
 use Rattle.plan_steps.specs.declared.step.Place.{Place}
 use Rattle.plan_steps.specs.declared.step.Step.{Step}
+use Rattle.rollback_plan.proofs.Splits.{splits_push}
 use Rattle.rollback_plan.proofs.draft.Draft.step.Goals as goal
 
 few_more : (ok : Bool) (old new : ℕ) → new ≡ cond ok (old + 1) old → old + 1 ≤ 65536 → new ≤ 65536
@@ -45,6 +46,9 @@ returns-clause-place c = omega (arith, length-trees c.args.self.now.steps.items)
 
 pub returns-clause-ok : goal.returns-clause-ok
 returns-clause-ok c = ap (trees_after []) c.in_ok-push.ensures.items ∙ trees_after-push [] c.args.self.now.steps.items c.args.step
+
+pub returns-clause-splits : goal.returns-clause-splits
+returns-clause-splits c = λ a b h k. splits_push true a b c.args.self.now.steps.items c.push.new.self.items c.args.step c.in_ok-push.ensures.items h k
 
 pub returns-clause-too_large : goal.returns-clause-too_large
 returns-clause-too_large c = no_error _ _ (omega (arith, length-trees c.args.self.now.steps.items))

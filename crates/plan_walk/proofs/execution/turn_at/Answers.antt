@@ -1,8 +1,0 @@
-use Rattle.std.proofs.Common.{Option, ◌∙◌, ap}
-use Rattle.std.specs.Prelude.{unwrap_or}
-use Rattle.definitions.specs.Parts.{Turn, New}
-use Rattle.plan_walk.proofs.TurnsUsed.{turn_there}
-use Rattle.plan_walk.proofs.execution.turn_at.Goals as goal
-
-pub returns : goal.returns
-returns c = c.unwrap_or.ensures ∙ (ap (λ (o : Option Turn). unwrap_or o New) c.get.ensures ∙ turn_there c.args.turns.now c.args.used)

@@ -1,0 +1,117 @@
+//! Upgrades that lose an old worker while the new master starts, carried out on children in memory.
+use crate::supervising::{FIRST_TICK, are_certified, is_lost};
+use child_family::{Family, Heard, Role, StartFault};
+use listener_set::FilePath;
+use log::sink::Discard;
+use master_on_children::{NextRefusal, NextSettings, Operator, SupervisorStart, supervise_on};
+use plain_text::Line;
+use std::alloc::Global;
+use std::test::Fail;
+use tests_of_children::Recorded;
+use transcript::read_transcripts;
+use vocabulary::Settings;
+
+/// Children that obey, but for the first worker that is asked whether it lives once a master was started: it is gone.
+#[derive(Drop)]
+struct LosesAWorker {
+    children: Recorded,
+    loses_next: bool,
+}
+
+impl Family for LosesAWorker {
+    fn start(&mut self, role: &Role) -> Result<u32, StartFault> {
+        self.loses_next = self.loses_next || matches!(role, Role::Master { .. });
+        self.children.start(role)
+    }
+
+    fn say(&mut self, id: u32, line: &[u8]) -> bool {
+        if self.loses_next && line == b"ping".as_slice() {
+            self.loses_next = false;
+            self.children.stop(id);
+            return false;
+        }
+        self.children.say(id, line)
+    }
+
+    fn hear(&mut self, id: u32, line: &mut Line) -> Heard {
+        self.children.hear(id, line)
+    }
+
+    fn stop(&mut self, id: u32) {
+        self.children.stop(id);
+    }
+
+    fn gone(&mut self, id: u32) -> bool {
+        self.children.gone(id)
+    }
+
+    fn write_file(&mut self, path: &FilePath, contents: &[u8]) -> bool {
+        self.children.write_file(path, contents)
+    }
+
+    fn rename_file(&mut self, from: &FilePath, to: &FilePath) -> bool {
+        self.children.rename_file(from, to)
+    }
+
+    fn remove_file(&mut self, path: &FilePath) -> bool {
+        self.children.remove_file(path)
+    }
+}
+
+/// Next settings that stay the same.
+#[derive(Drop)]
+struct Same;
+
+impl NextSettings for Same {
+    fn read(&mut self) -> Result<Settings, NextRefusal> {
+        Ok(Settings::plain())
+    }
+}
+
+/// The masters take turns, call by call: the old one starts its worker again while the new one starts its first.
+const REPLACES_MEANWHILE: &[u8] = b"word USR2\n\
+    1 m1 spawn-master 2 : spawned\n\
+    2 m2 adopt : adopted\n\
+    3 m1 census 1.1 : counted none\n\
+    4 m2 fork 2.2 0 : forked\n\
+    5 m1 fork 1.1 0 : forked\n\
+    6 m2 await-ready 2.2 0 : ready\n\
+    7 m1 await-ready 1.1 0 : ready\n\
+    8 m1 census 1.1 : counted 0\n\
+    9 m2 census 2.2 : counted 0\n\
+    10 m1 quit 1.1 0 : ok\n\
+    11 m1 await-gone 1.1 0 : gone\n\
+    12 m1 alive 2 : alive\n\
+    13 m1 leave : ok\n\
+    14 m2 census 2.2 : counted 0\n\
+    done cause 3 pid no-file\n";
+
+#[test]
+fn an_old_worker_is_replaced_while_the_new_master_starts(rt: HostRuntime) -> Result<(), Fail> {
+    let alloc = rt.alloc();
+    let family = LosesAWorker {
+        children: Recorded::new(alloc, None),
+        loses_next: false,
+    };
+    let start = SupervisorStart {
+        settings: Settings::plain(),
+        pid: 7,
+    };
+    let operator = Operator {
+        input: b"USR2\n".as_slice(),
+        log: Discard,
+    };
+    let mut output = Vec::new(alloc);
+    let ended = supervise_on(alloc, family, &start, &mut Same, operator, &mut output);
+    assert!(rt; ended.status.is_ok());
+    let mut text = FIRST_TICK.to_vec(alloc)?;
+    text.extend_from_slice(REPLACES_MEANWHILE)?;
+    assert!(rt; output.starts_with(text.as_slice()));
+    let mut blocks = read_transcripts(alloc, &output)?;
+    // (the new master of this family answers no wait for the end of a worker, so its stop is lost)
+    if let Some(lost) = blocks.iter().position(is_lost) {
+        blocks.truncate(lost);
+    }
+    assert!(rt; are_certified(alloc, &blocks)?);
+    Ok(())
+}
