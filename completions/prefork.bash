@@ -50,7 +50,7 @@ _prefork() {
     esac
     local before=("${COMP_WORDS[@]:2:COMP_CWORD-2}")
 
-    # Each option is given once at most, and none behind --.
+    # Each option may be given once, and none after --.
     if [[ $cur == -* ]]; then
         [[ " ${before[*]} " == *' -- '* ]] && return
         for word in $options; do

@@ -1,4 +1,4 @@
-"""The trial of the must-fail edits beside `rt ci`, each crate's once its own proof stands."""
+"""The trial of the must-fail edits beside `rt ci`, each crate's once it is proved."""
 import hashlib
 import os
 import shutil
@@ -57,7 +57,7 @@ class Options:
 
 
 class Sample:
-    """One in so many edits, other ones at each commit."""
+    """One edit in N, other ones at each commit."""
 
     def __init__(self, one_in, seed):
         self.one_in, self.seed = one_in, seed
@@ -224,7 +224,7 @@ class Trials:
 
 
 class Counts:
-    """How many edits were refused, survived, were left, or stand in the ledger."""
+    """How many edits were refused, survived, were left, or are in the ledger."""
 
     def __init__(self, trials):
         edited = [it for it in trials.crates.values() if it.edits]
@@ -234,7 +234,7 @@ class Counts:
         self.survived = [f"{it.name}/{base(path)}" for it in trials.finished for path in it.trial.survived]
         self.left = [f"{it.name}/{base(path)}" for it in trials.finished for path in it.left()]
         seen = {it.name for it in trials.finished}
-        # (of a crate that is not proved, or where a trial itself came to grief)
+        # (of a crate that is not proved, or where a trial itself failed)
         self.unreached = [f"{it.name}/{base(path)}" for it in edited if it.name not in seen for path in it.edits]
         self.by_ledger = self.all - self.refused - len(self.survived) - len(self.left) - len(self.unreached)
 

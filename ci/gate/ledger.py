@@ -1,7 +1,7 @@
 """The ledger of edits that were refused: ci/refused.
 
 A line for each crate: its name and a key, a sum of all that the verdicts on its edits rest on. At that very text every
-edit of the crate was refused, but for those that the line names behind the word `but`: these a run left untried.
+edit of the crate was refused, but for those that the line names after the word `but`: these a run left untried.
 """
 import hashlib
 import os
@@ -11,7 +11,7 @@ from gate import kit
 
 HEAD = """\
 # CRATE KEY [but EDIT..]: at the text of this key the prover refused every edit of the crate, but those that are named.
-# ci/test writes this file; docs/TESTING.md says what a key is made of.
+# ci/test writes this file; docs/testing/edits.md says what a key is made of.
 """
 
 

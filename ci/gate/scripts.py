@@ -25,6 +25,7 @@ SCRIPTS = {
     "pictures": "pictures of plans",
     "explorations": "explorations",
     "roundtrips": "round trips and altered transcripts",
+    "reader": "runs of a port of the definitions",
     "hostile": "hostile runs",
     "children": "runs of real children",
     "soak": "words of a soak",
@@ -42,8 +43,8 @@ BY_ITSELF = ("json",)
 WAITING = ("adapters", "service", "children", "package", "soak")
 # What computes: first what tells most in a second, and then the longest, so that short ones fill the end. It gives way
 # to the others, whose loads and time limits are those of an operator.
-COMPUTING = ("cases", "hostile", "rehearsals", "roundtrips", "limits", "explorations", "documents", "terminals",
-             "deployments", "pictures")
+COMPUTING = ("cases", "hostile", "rehearsals", "roundtrips", "reader", "limits", "explorations", "documents",
+             "terminals", "deployments", "pictures")
 NICE = 10
 # From this number of processors on, two of those that wait run side by side.
 MANY = 4

@@ -47,7 +47,7 @@ class Service:
     def begin(
         self, before: Iterable[str], program: Iterable[str] = (), owner: int = NOBODY, options: Iterable[str] = ()
     ) -> None:
-        """Starts it: `before` stands before its own command, and `program` before the application."""
+        """Starts it: `before` is put before its own command, and `program` before the application."""
         os.chown(self.home, owner, owner)
         command: list[Any] = [
             *before, self.root.bin / "prefork-serve", "--folder", self.run, "--prefork", self.root.bin / "prefork",

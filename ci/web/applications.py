@@ -1,4 +1,4 @@
-"""Applications as they may be: one that prints, one that deadlocks, one that leaves daemons behind."""
+"""Applications as they may be: one that prints, one that deadlocks, one that leaves daemons."""
 import socket
 import sys
 
@@ -30,12 +30,12 @@ def install(site: Site, more: str, version: int = 1) -> None:
 
 
 def daemons(site: Site) -> int:
-    """How many processes the workers have left behind."""
+    """How many processes the workers have left."""
     return sum(words == ["sleep", "1000"] for words in site.mark.processes().values())
 
 
 def an_application_prints_and_leaves_daemons(site: Site) -> None:
-    """What it prints is no answer to the master, and what it leaves behind ends with its worker."""
+    """What it prints is no answer to the master, and what it leaves ends with its worker."""
     begin(site, PRINTS)
     until("four daemons", lambda: daemons(site) == 4)
     install(site, PRINTS, 2)

@@ -31,19 +31,8 @@ def a_worker_is_killed(site: Site) -> None:
     site.certify()
 
 
-def a_worker_hangs(site: Site) -> None:
-    """A worker that is stopped: its guard kills it, a tick mends, and only requests in that worker fail."""
-    site.begin()
-    victim = min(site.workers())
-    os.kill(victim, signal.SIGSTOP)
-    until("another worker", lambda: site.has_others({victim}))
-    site.wants("HUP", 0, "done", 2)
-    site.end("1", may_fail=CLIENTS)
-    site.certify()
-
-
 def a_worker_owes_an_answer(site: Site) -> None:
-    """A worker that is stopped and has no guard: its master kills it in time, logs that, and starts another one."""
+    """A worker that is stopped: its master kills it in time, logs that, and starts another one."""
     site.options = ["--answer-within", "3"]
     site.begin()
     names = {worker["process"]: f"{worker['generation']}.{worker['number']}" for worker in status(site)["workers"]}
@@ -65,6 +54,23 @@ def a_master_is_killed(site: Site) -> None:
     until("two other workers", lambda: site.has_others(old))
     site.wants("HUP", 0, "done", 2)
     site.end("1")
+    site.certify()
+
+
+def a_master_is_killed_beside_a_stopped_worker(site: Site) -> None:
+    """A master that is killed, and one of its workers is stopped: nobody waits for that one, and `serve` kills it. Only
+    requests in it fail."""
+    site.options = ["--ready-within", "20"]
+    site.begin()
+    old = site.workers()
+    victim = min(old)
+    os.kill(victim, signal.SIGSTOP)
+    site.kill(site.master())
+    until("two other workers", lambda: site.has_others(old))
+    said = text_of(site.room / "said")
+    site.check(f"it isn't said: {said}", re.search(r"worker 1\.1\.\d has not ended within 20 s, and is killed\n", said))
+    site.wants("HUP", 0, "done", 2)
+    site.end("1", may_fail=CLIENTS)
     site.certify()
 
 
@@ -236,7 +242,7 @@ def too_few_descriptors(site: Site) -> None:
 
 
 SCENARIOS: tuple[Scenario, ...] = (
-    a_worker_is_killed, a_worker_hangs, a_worker_owes_an_answer, a_master_is_killed, a_reigning_master_is_killed,
-    a_serve_is_killed, both_are_killed, a_keeper_is_killed, a_keeper_hangs, a_serve_is_killed_whose_sockets_are_stored,
+    a_worker_is_killed, a_worker_owes_an_answer, a_master_is_killed, a_master_is_killed_beside_a_stopped_worker,
+    a_reigning_master_is_killed, a_serve_is_killed, both_are_killed, a_keeper_is_killed, a_keeper_hangs, a_serve_is_killed_whose_sockets_are_stored,
     silent_clients, too_few_descriptors,
 )

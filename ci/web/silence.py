@@ -1,9 +1,6 @@
 """Workers that no longer answer their master: at each line that owes an answer, and before they are ready."""
-import os
-import signal
-
 from gate.waiting import SECONDS, until
-from web.site import CLIENTS, Scenario, Site
+from web.site import CLIENTS, Scenario, Site, text_of
 from web.starts import status
 
 # Goes into the application: its workers stop at a line, before they obey it.
@@ -33,23 +30,24 @@ def is_stopped(process: int) -> bool:
 
 
 def leaves(site: Site, text: str) -> int:
-    """HUP from workers that stop to another version: it is done. How many of them are stopped then; they are killed."""
+    """HUP from workers that stop to another version: it is done. How many of them are stopped then; the service kills
+    them in time."""
     site.install(text)
     block, faults = site.sent("HUP").communicate(timeout=SECONDS)
     site.check(f"HUP from workers that stop: {block}{faults}", "\ndone " in block)
     new = {worker["process"] for worker in status(site)["workers"]}
     until("the old workers stop or end", lambda: all(map(is_stopped, site.workers() - new)))
     stopped = site.workers() - new
-    for process in stopped:
-        os.kill(process, signal.SIGKILL)
+    until("the stopped ones are killed", lambda: not stopped & site.workers())
     site.check_workers("HUP", 2)
     return len(stopped)
 
 
 def workers_stop_at_each_line(site: Site) -> None:
     """Versions whose workers stop at `ping`, at `tick` and at `quit`. At the first HUP is rolled back, at the second the
-    next tick starts others, and at the third nobody waits for them. Each word ends with its status."""
-    site.options = ["--answer-within", "2"]
+    next tick starts others, and at the third nobody waits for them: they are killed in time. Each word ends with its
+    status."""
+    site.options = ["--answer-within", "2", "--ready-within", "20"]
     site.begin()
     old = site.workers()
     site.install(stopping(site, 2, "ping"))
@@ -62,6 +60,8 @@ def workers_stop_at_each_line(site: Site) -> None:
     leaves(site, stopping(site, 4, "quit"))
     stopped = leaves(site, site.version(5))
     site.check(f"{stopped} workers were stopped at quit", stopped == 2)
+    said = text_of(site.room / "said").count(" has not ended within 20 s, and is killed\n")
+    site.check(f"{said} workers are said to be killed", said >= 2)
     site.answered_by(5)
     # Two workers at a time are lost, each with at most one request of a client. Those that stop at `ping` are told it once
     # they are ready, so they may answer no request.
@@ -71,8 +71,8 @@ def workers_stop_at_each_line(site: Site) -> None:
 
 def a_version_is_never_ready(site: Site) -> None:
     """A version whose workers wait for ever, and one whose workers stop at `go`: HUP and USR2 are rolled back once their
-    guards end them, and no request notices."""
-    site.options = ["--guard", "3"]
+    masters end them, and no request notices."""
+    site.options = ["--ready-within", "10"]
     site.begin()
     old = site.workers()
     site.hold.touch()

@@ -51,10 +51,6 @@ def catches(process: int, number: int) -> bool:
     return caught is not None and bool(int(caught[1], 16) >> (number - 1) & 1)
 
 
-def is_guard(words: list[str]) -> bool:
-    return str(BIN / "prefork-guard") in words[:2]
-
-
 def is_worker(words: list[str], own: list[str]) -> bool:
     """Whether a process is a worker, and not what watches one."""
     return words[-len(own) :] == own and not any(word.startswith(f"{SERVICE}/") for word in words)
@@ -63,8 +59,10 @@ def is_worker(words: list[str], own: list[str]) -> bool:
 class Site:
     """A service in a folder of its own, with the load on it, and what was wrong."""
 
-    def __init__(self, prefork: str, room: str, name: str, options: Iterable[str] = ()):
-        self.room, self.name, self.options = pathlib.Path(room), name, options
+    def __init__(self, prefork: str, room: str, name: str):
+        self.room, self.name = pathlib.Path(room), name
+        # Options of `serve`.
+        self.options: Iterable[str] = ()
         # The program of masters, which a scenario can replace, and the one that certifies.
         self.prefork, self.certifier = str(self.room / "prefork"), prefork
         (self.room / "prefork").symlink_to(prefork)
@@ -186,10 +184,6 @@ class Site:
         now = self.workers()
         return len(now) == count and not now & set(old)
 
-    def guards(self) -> int:
-        """How many guards run."""
-        return sum(is_guard(words) for words in self.mark.processes().values())
-
     def found(self, is_it: Callable[[list[str]], bool]) -> int | None:
         """The process whose arguments are the wanted ones."""
         return next((number for number, words in self.mark.processes().items() if is_it(words)), None)
@@ -210,13 +204,6 @@ class Site:
         if number is None:
             raise Wrong("no process to kill")
         os.kill(number, signal.SIGKILL)
-
-    def guarded(self, script: str) -> Any:
-        """A shell under `guard`, which gives it one second to answer."""
-        return subprocess.Popen(
-            [BIN / "prefork-guard", "1", "sh", "-c", script], stdin=subprocess.PIPE, stdout=subprocess.PIPE,
-            stderr=self.said, text=True, env=self.environment,
-        )
 
     # What is told and wanted.
 

@@ -1,4 +1,4 @@
-"""The service from outside: its start, its folder, signals and words to it, and guards alone."""
+"""The service from outside: its start, its folder, signals and words to it."""
 import json
 import os
 import signal
@@ -34,7 +34,7 @@ def signals_are_words(site: Site) -> None:
     sent = site.sent("HUPP")
     said, notes = sent.communicate(timeout=SECONDS)
     site.check("a line that is no control word", "unread W1" in said and sent.returncode == 2)
-    site.check(f"the words are not named: {notes}", notes.startswith("prefork-ctl: HUPP is no word. Words are HUP, "))
+    site.check(f"the words are not named: {notes}", notes.startswith("prefork-ctl: HUPP is not a word. Words are HUP, "))
     site.end("1")
     site.certify()
 
@@ -238,33 +238,6 @@ def words_that_wait(site: Site) -> None:
     site.certify()
 
 
-def guards(site: Site) -> None:
-    """`guard` alone: lines go through; a worker that doesn't answer, one whose child keeps its output open, and one
-    whose guard is killed end, with all that they have started."""
-    obeys = "while read -r word rest; do case $word in go) echo ready ;; quit) echo gone; exit 0 ;; esac; done"
-    guard = site.guarded(obeys)
-    site.check("lines don't go through", guard.communicate("worker 1.1 0 1\ngo\nquit\n", SECONDS)[0] == "ready\ngone\n")
-    site.check("a worker's status isn't the guard's", guard.returncode == 0)
-    for script, told, status in (
-        ("sleep 1000 & read -r line; exit 3", "go\n", 3),
-        ("sleep 1000", "go\n", 1),
-        ("sleep 1000 & exec sleep 1000", "ping\n", 1),
-        ("exec >&-; sleep 1000", "", 1),
-    ):
-        guard = site.guarded(script)
-        guard.stdin.write(told)
-        guard.stdin.flush()
-        site.check(f"{script}: another status", guard.wait(SECONDS) == status)
-        site.check(f"{script}: output is open", guard.stdout.read() == "")
-        guard.stdin.close()
-    killed = site.guarded("exec sleep 1000")
-    until("a worker under a guard", lambda: any("sleep" in words for words in site.mark.processes().values()))
-    killed.kill()
-    killed.wait()
-    left = site.mark.left()
-    site.check(f"processes are left: {left}", not left)
-
-
 SCENARIOS: tuple[Scenario, ...] = (
-    signals_are_words, nobody_else, a_bad_start, an_address_in_use, a_pid_of_the_master, a_status, words_that_wait, guards,
+    signals_are_words, nobody_else, a_bad_start, an_address_in_use, a_pid_of_the_master, a_status, words_that_wait,
 )

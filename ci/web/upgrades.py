@@ -9,6 +9,7 @@ import time
 from gate.addresses import answer_of
 from gate.waiting import SECONDS, until
 from web.site import BROKEN, CLIENTS, Scenario, Site
+from web.starts import status
 
 # Masters that are not ready to take over as long as a file is there, and make another one then.
 WAITING = """#!/bin/sh
@@ -22,13 +23,42 @@ ANSWER = re.compile(r"version (\d) worker (\S+) process (\d+)")
 
 
 def an_upgrade(site: Site) -> None:
-    """USR2 to the other version; its workers are behind guards as the old ones were."""
+    """USR2 to the other version."""
     site.begin()
     site.install(site.version(2))
     site.wants("USR2", 0, "done", 2)
     site.answered_by(2)
-    until("two guards", lambda: site.guards() == 2)
     site.end("12")
+    site.certify()
+
+
+# Goes into the application: its workers answer each tick, and miss their beats while a file is there.
+LATE = """
+def late(self, line, obeys=worker.Worker.obey):
+    if line.startswith("tick ") and os.path.exists({there!r}):
+        worker.say("late")
+        return True
+    return obeys(self, line)
+worker.Worker.obey = late
+"""
+
+
+def workers_of_a_new_master_beat(site: Site) -> None:
+    """After USR2, and after another one, the workers are told ticks: the status has their beats. One that misses them for
+    longer than `timeout` is replaced, and no request fails."""
+    late = site.room / "late"
+    site.begin(timeout=2)
+    for number in (2, 3):
+        text = site.version(number)
+        site.install(text.replace('VERSION = "', f'{LATE.format(there=str(late))}VERSION = "', 1))
+        site.wants("USR2", 0, "done", 2)
+        until("beats of both workers", lambda: all(it["last_beat_seconds"] is not None for it in status(site)["workers"]))
+    old = site.workers()
+    late.touch()
+    until("two other workers", lambda: site.has_others(old))
+    late.unlink()
+    until("the block of the tick that killed one", lambda: " m3 kill 3.3 " in site.blocks())
+    site.end("123", may_fail=2 * CLIENTS)
     site.certify()
 
 
@@ -148,6 +178,6 @@ def an_upgrade_while_an_old_worker_is_killed(site: Site) -> None:
 
 
 SCENARIOS: tuple[Scenario, ...] = (
-    an_upgrade, an_upgrade_of_two_groups, an_upgrade_that_exits, an_upgrade_while_an_old_worker_is_killed,
+    an_upgrade, workers_of_a_new_master_beat, an_upgrade_of_two_groups, an_upgrade_that_exits, an_upgrade_while_an_old_worker_is_killed,
     a_new_master_killed_early, a_new_master_killed_late,
 )

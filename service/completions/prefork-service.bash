@@ -29,7 +29,11 @@ _prefork_service() {
             mapfile -t COMPREPLY < <(compgen -W 'degraded' -- "$cur")
             return
             ;;
-        --wsgi | --records-size | --page | --socket-mode | --threads | --timeout | --keep | --answer-within | --guard | --ready-within | --probe | --probe-within | --probe-limit | --env | --finish | --clients | --rate | --seconds | --patience | --path | --slow) return ;;
+        --require)
+            mapfile -t COMPREPLY < <(compgen -W 'done' -- "$cur")
+            return
+            ;;
+        --wsgi | --records-size | --page | --socket-mode | --threads | --timeout | --keep | --answer-within | --ready-within | --probe | --probe-within | --probe-limit | --least | --env | --finish | --clients | --rate | --seconds | --patience | --path | --slow) return ;;
     esac
     case ${COMP_WORDS[0]##*/} in
         prefork-serve) 
@@ -37,10 +41,9 @@ _prefork_service() {
                 compopt -o default
                 return
             fi
-            options='--folder --prefork --records --records-size --metrics --page --answer-within --guard --defer-accept --socket-mode --socket-group --wsgi --python --threads --timeout --keep --chdir --ready --ready-within --probe --probe-within --probe-limit --stop --finish --usr1 --env --no-listen-fds --blocking --help'
+            options='--folder --prefork --records --records-size --metrics --page --answer-within --defer-accept --socket-mode --socket-group --wsgi --python --threads --timeout --keep --chdir --ready --ready-within --probe --probe-within --probe-limit --stop --finish --usr1 --env --no-listen-fds --blocking --help'
             ;;
-        prefork-ctl) options='--folder --json --events --forbid --records --prefork --help' ;;
-        prefork-guard) options='--finish --help' ;;
+        prefork-ctl) options='--folder --json --events --forbid --require --least --records --prefork --help' ;;
         prefork-checkworker) options='--path --slow --one --patience --help' ;;
         prefork-load) options='--clients --rate --seconds --patience --path --again --json --help' ;;
         *) return ;;
@@ -54,4 +57,4 @@ _prefork_service() {
     fi
 }
 
-complete -F _prefork_service prefork-serve prefork-ctl prefork-guard prefork-load prefork-checkworker
+complete -F _prefork_service prefork-serve prefork-ctl prefork-load prefork-checkworker

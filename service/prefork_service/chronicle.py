@@ -103,7 +103,7 @@ class Chronicle:
         self.journal.note(f"{word}: {report}: {reason}")
 
     def last_word(self) -> Done | None:
-        """The last word that somebody has said; the start of a master is none."""
+        """The last word that somebody has said; the start of a master is not a word."""
         return next((done for done in reversed(self.done) if done.word != START), None)
 
     def counted(self) -> list[dict]:

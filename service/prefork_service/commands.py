@@ -89,7 +89,7 @@ def mistake_of(refusal: str) -> str:
     return ": ".join([*places[:1], *(places[1:] or titles[-1:])])
 
 
-# The master handles no signals: whoever sends HUP to the number in its file ends it.
+# The master handles no signals: a HUP to the number in its file ends it.
 PID_OF_MASTER = "the configuration has a pid, which would name the master, and that handles no signals. Remove it: " \
     "serve.pid in the folder of the service is the file for kill"
 
@@ -97,8 +97,8 @@ PID_OF_MASTER = "the configuration has a pid, which would name the master, and t
 class Commands:
     """What workers are started by, and the configurations that the master reads."""
 
-    def __init__(self, folder: Folder, config: str, default: list[str] | None, before: list[str]):
-        self.config, self.default, self.before = pathlib.Path(config), default, before
+    def __init__(self, folder: Folder, config: str, default: list[str] | None):
+        self.config, self.default = pathlib.Path(config), default
         self.place = folder.path / "commands"
         self.place.mkdir(mode=0o700, exist_ok=True)
         self.now, self.next = folder.path / "config.toml", folder.path / "next.toml"
@@ -189,7 +189,7 @@ class Commands:
                 file.unlink(missing_ok=True)
 
     def write_next(self, command: list[str] | None) -> None:
-        words = [*self.before, *(command or ["false"])]
+        words = command or ["false"]
         text, there = b"".join(word.encode("utf-8", "surrogateescape") + b"\0" for word in words), self.place / "next"
         if there.exists() and there.read_bytes() == text:
             # On a full disk it could not be written again.

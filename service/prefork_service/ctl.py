@@ -1,7 +1,7 @@
 """prefork-ctl [--folder F] [--json] [WORD]
 prefork-ctl [--folder F] [--json] status
 prefork-ctl [--folder F] [--json] plan WORD
-prefork-ctl [--folder F] [--json] [--events K] [--forbid degraded] explore WORD
+prefork-ctl [--folder F] [--json] [--events K] [--forbid degraded] [--require done] [--least N] explore WORD
 prefork-ctl [--folder F] [--records FOLDER] [--prefork PROGRAM] [--json] certify
 
 Sends a word to the service in the folder F (`run`): HUP, USR1, USR2, "USR2 attended", WINCH, TTIN, TTOU, QUIT, INT or
@@ -10,7 +10,7 @@ It ends with the status of the report:
 
     0   done, or nothing was asked for
     1   refused or lost, or there is no service
-    2   that is no word
+    2   not a control word
     3   rolled back: the old service runs
     4   degraded: a service runs with fewer workers than it should
 
@@ -72,19 +72,32 @@ def arguments() -> argparse.Namespace:
         "plan WORD, explore WORD, certify; without a word it prints whether it asks"
     parser.add_argument("word", nargs="*", metavar="WORD", help=words)
     parser.add_argument("--json", action="store_true", help="print as JSON")
-    parser.add_argument("--events", metavar="K", help="of explore: at most K events in a run, 1 or 2 (1)")
-    forbid = "of explore: end with status 4 if a run ends degraded"
-    parser.add_argument("--forbid", choices=["degraded"], help=forbid)
+    add_options_of_explore(parser)
     records = "of certify: where the records are (those of the service)"
     parser.add_argument("--records", metavar="FOLDER", help=records)
     program = "of certify: the program of the master (that of the service, or prefork on the path)"
     parser.add_argument("--prefork", metavar="PROGRAM", help=program)
     given = parser.parse_args()
-    if given.word[:1] != ["explore"] and (given.events or given.forbid):
-        parser.error("--events and --forbid are options of explore")
+    if given.word[:1] != ["explore"] and options_of_explore(given):
+        parser.error(f"{options_of_explore(given)[0]} is an option of explore")
     if given.word[:1] in (["plan"], ["explore"]) and " ".join(given.word[1:]) not in WORDS:
         parser.error(f"{given.word[0]} takes a word: {', '.join(WORDS)}")
     return given
+
+
+def add_options_of_explore(parser: argparse.ArgumentParser) -> None:
+    parser.add_argument("--events", metavar="K", help="of explore: at most K events in a run, 1 or 2 (1)")
+    forbid = "of explore: end with status 4 if a run ends degraded"
+    parser.add_argument("--forbid", choices=["degraded"], help=forbid)
+    parser.add_argument("--require", choices=["done"], help="of explore: end with status 6 if no run is done")
+    least = "of explore: end with status 4 if an address that stays has fewer ready workers than N at any moment"
+    parser.add_argument("--least", metavar="N", help=least)
+
+
+def options_of_explore(given: argparse.Namespace) -> list[str]:
+    """The options of explore that were given, with their values."""
+    values = {"--events": given.events, "--forbid": given.forbid, "--require": given.require, "--least": given.least}
+    return [word for name, value in values.items() if value for word in (name, value)]
 
 
 def main() -> int:
@@ -126,8 +139,7 @@ def rehearse(given: argparse.Namespace) -> int:
     """Prints what a word would do to the service as it runs now."""
     status = json.loads(asked(given.folder, STATUS)[0])
     kind, word = given.word[0], " ".join(given.word[1:])
-    options = [*(["--events", given.events] if given.events else []), *(["--forbid", given.forbid] if given.forbid else [])]
-    found = subprocess.run(rehearsal(kind, word, status, options), capture_output=True, text=True)
+    found = subprocess.run(rehearsal(kind, word, status, options_of_explore(given)), capture_output=True, text=True)
     if given.json:
         said = {"status": found.returncode, "lines": found.stdout.splitlines(), "notes": found.stderr.splitlines()}
         print(json.dumps(said))

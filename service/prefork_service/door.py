@@ -1,6 +1,6 @@
 """The door of a process: a Unix socket at which others connect and say one thing.
 
-Whoever connects and says nothing must not keep others out. So such clients are limited in number and in time, and the
+A client that connects and says nothing must not keep others out. So such clients are limited in number and in time, and the
 oldest of them makes way where the process has no descriptor left.
 """
 import errno

@@ -304,7 +304,7 @@ class Keeper:
         elif kind == ENDS:
             self.leave()
         else:
-            # Killed: whoever has copies of the sockets goes on with them, the files too.
+            # Killed: the processes that have copies of the sockets go on with them, the files too.
             sys.exit(0)
 
     def hear_input(self, given: io.TextIOBase) -> None:
@@ -318,7 +318,7 @@ class Keeper:
 
 
 def own_door(path: str) -> socket.socket:
-    """A door at a path. It has its name once it listens: whoever finds it can connect."""
+    """A door at a path. It has its name once it listens: a client that finds it can connect."""
     door = socket.socket(socket.AF_UNIX, socket.SOCK_SEQPACKET)
     new = os.path.join(os.path.dirname(path), f".{os.getpid()}")
     door.bind(new)

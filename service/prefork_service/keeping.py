@@ -44,7 +44,7 @@ class Keeping:
         self.begin()
 
     def open_door(self) -> None:
-        """Under its own name once it listens: whoever finds it can connect."""
+        """Under its own name once it listens: a client that finds it can connect."""
         new = self.folder.path / f".{os.getpid()}"
         self.door = socket.socket(socket.AF_UNIX, socket.SOCK_SEQPACKET)
         self.door.bind(str(new))
@@ -135,7 +135,7 @@ class Keeping:
         self.of_start.close()
 
     def settle(self) -> None:
-        """All workers have been started since: whoever is to hold a socket has asked for it."""
+        """All workers have been started since: each that is to hold a socket has asked for it."""
         if self.process:
             self.tell(SETTLED)
 

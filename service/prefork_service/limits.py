@@ -27,7 +27,7 @@ def seconds_of(text: str) -> int:
     return int(text)
 
 
-def adapter_seconds(text: str) -> float:
+def seconds_said(text: str) -> float:
     """What an option of an adapter says. Without an adapter nobody has looked at it."""
     try:
         return min(float(text), MOST)
@@ -36,12 +36,22 @@ def adapter_seconds(text: str) -> float:
 
 
 def limits_of(given: argparse.Namespace) -> list[str]:
-    """The options of a master; none without a limit."""
+    """The options of a master; none without a limit. A worker without an adapter has the limits that were said; an
+    adapter ends its program before its master ends it."""
     if not given.answer_within:
         return []
-    own = max([ADAPTER_SECONDS, *map(adapter_seconds, [*given.ready_within[-1:], *given.finish[-1:]])]) + EARLIER
-    limits = [ANSWER, str(given.answer_within)]
-    return limits if own <= TIMES * given.answer_within else [*limits, READY, str(min(math.ceil(own), MOST))]
+    limits, has_adapter = [ANSWER, str(given.answer_within)], bool(given.program or given.wsgi)
+    said = [seconds_said(text) for text in [*given.ready_within[-1:], *given.finish[-1:]]]
+    own = max([ADAPTER_SECONDS, *said]) + EARLIER if has_adapter else max([0.0, *said])
+    is_less = own <= TIMES * given.answer_within if has_adapter else not own
+    return limits if is_less else [*limits, READY, str(min(math.ceil(own), MOST))]
+
+
+def end_seconds(limits: list[str]) -> int:
+    """How long a worker may take to end that was told to quit; 0 is without a limit."""
+    if READY in limits:
+        return int(limits[limits.index(READY) + 1])
+    return TIMES * int(limits[1]) if limits else 0
 
 
 def known(prefork: str, limits: list[str]) -> list[str]:

@@ -2,7 +2,7 @@
 
 Sends requests to a service, half of the clients on a new connection each time and half on kept ones, and says at its
 end how many were answered by which version and how many failed, the slowest one, and the longest time between two
-answers. It ends after so many seconds, or with SIGINT or SIGTERM, once the requests that are on their way are
+answers. It ends after a number of seconds, or with SIGINT or SIGTERM, once the requests that are on their way are
 answered.
 
 A request has failed if no whole answer with status 200 has come within --patience seconds (10). If the service closes a

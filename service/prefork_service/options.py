@@ -9,7 +9,7 @@ from typing import Any
 
 from . import places
 from .keeper import add_socket_options
-from .limits import seconds_of
+from .limits import seconds_of, seconds_said
 
 USAGE = """prefork-serve [OPTIONS] CONFIG -- PROGRAM ARGUMENT..
        prefork-serve [OPTIONS] --wsgi MODULE:APP CONFIG
@@ -18,8 +18,8 @@ WSGI_THREADS = 4
 Options = dict[str, tuple[str | None, str]]
 # Options that are handed on to the worker: what they take, and what they mean.
 SHARED: Options = {
-    "--ready-within": ("SECONDS", "how long it may take to be ready (30)"),
-    "--finish": ("SECONDS", "how long it may take to finish (30)"),
+    "--ready-within": ("SECONDS", "how long it may take to be ready (30; by a command of CONFIG, eight times --answer-within)"),
+    "--finish": ("SECONDS", "how long it may take to finish (the same)"),
 }
 PROGRAM: Options = {
     "--ready": ("HOW", "when it is ready: accept (default), notify, or probe PATH"),
@@ -47,8 +47,6 @@ def parser() -> argparse.ArgumentParser:
     )
     made.add_argument("--folder", default="run", help="where its sockets, its pid file and the blocks are (run)")
     made.add_argument("--prefork", default="prefork", help="the program of the master (prefork on the path)")
-    guard = "end a worker that does not answer its master within SECONDS"
-    made.add_argument("--guard", type=float, metavar="SECONDS", help=guard)
     answer = "kill a worker that owes its master an answer for SECONDS (60); 0 is without a limit"
     made.add_argument("--answer-within", type=seconds_of, default=60, metavar="SECONDS", help=answer)
     defer = "accept a TCP connection once its first bytes are there"
@@ -91,7 +89,7 @@ def joined(words: list[str]) -> list[str]:
 
 
 def arguments(words: list[str]) -> argparse.Namespace:
-    """The options, and the program behind `--`."""
+    """The options, and the program after `--`."""
     cut = words.index("--") if "--" in words else len(words)
     made = parser()
     given = made.parse_args(joined(words[:cut]))
@@ -100,11 +98,20 @@ def arguments(words: list[str]) -> argparse.Namespace:
         made.error("no PROGRAM after --")
     if given.wsgi and given.program:
         made.error("give --wsgi or a PROGRAM, not both")
+    fault = None if given.wsgi or given.program else fault_of_limits(given)
+    if fault:
+        made.error(fault)
     for options, is_for, kind in [(PROGRAM, given.program, "a PROGRAM"), (WSGI, given.wsgi, "--wsgi")]:
         strange = handed_on(given, options)
         if strange and not is_for:
             made.error(f"{strange[0]} is an option of {kind}, and there is none")
     return given
+
+
+def fault_of_limits(given: argparse.Namespace) -> str | None:
+    """What is wrong with the limits of a worker that has no adapter, which would look at them."""
+    said = [("--ready-within", text) for text in given.ready_within] + [("--finish", text) for text in given.finish]
+    return next((f"argument {name}: invalid number of seconds: {text!r}" for name, text in said if not seconds_said(text) > 0), None)
 
 
 def handed_on(given: argparse.Namespace, options: Options) -> list[str]:
@@ -148,9 +155,9 @@ def fault_of(program: str) -> str | None:
 
 
 def processes_each(given: argparse.Namespace) -> int:
-    """How many processes and threads a worker is at least: those of its adapter, of the application and its guard."""
+    """How many processes and threads a worker is at least: those of its adapter and of the application."""
     threads = int(given.threads[-1]) if given.threads else WSGI_THREADS
-    return (2 + threads if given.wsgi else 3 if given.program else 1) + bool(given.guard)
+    return 2 + threads if given.wsgi else 3 if given.program else 1
 
 
 def checked(adapter: list[str], program: list[str]) -> list[str]:

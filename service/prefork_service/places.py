@@ -4,7 +4,7 @@ import sys
 
 HOME = pathlib.Path(__file__).resolve().parent.parent
 BIN = HOME / "bin"
-KEEPER, GUARD, WSGI = BIN / "prefork-keeper", BIN / "prefork-guard", BIN / "prefork-wsgi"
+KEEPER, WSGI = BIN / "prefork-keeper", BIN / "prefork-wsgi"
 ACTIVATE, LAUNCH = HOME / "out" / "prefork-activate", HOME / "out" / "prefork-launch"
 
 

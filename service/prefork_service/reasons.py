@@ -38,7 +38,7 @@ class Reasons:
             pass
 
     def take(self) -> dict[str, str]:
-        """The reasons noted since the last time, by who noted them: the last of each."""
+        """The reasons noted since the last time, by those that noted them: the last of each."""
         try:
             with open(self.path, "rb") as file:
                 file.seek(self.read)

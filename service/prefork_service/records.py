@@ -162,7 +162,7 @@ def files_of(folder: pathlib.Path) -> list[pathlib.Path]:
 
 
 def blocks_of(text: str) -> list[str]:
-    """The blocks of a text, each with its lines. What is not complete at the end is none."""
+    """The blocks of a text, each with its lines. What is not complete at the end is left out."""
     found, block = [], ""
     for line in text.splitlines(keepends=True):
         block += line

@@ -51,8 +51,7 @@ from .titles import set_title
 
 def commands_of(given: argparse.Namespace, folder: Folder) -> Commands | None:
     """What starts workers; nothing if the configuration can't be served, and why was said."""
-    before = [str(places.GUARD), f"{given.guard:g}"] if given.guard else []
-    commands = Commands(folder, given.config, worker_command(given), before)
+    commands = Commands(folder, given.config, worker_command(given))
     if is_fit(given, commands) or (commands.is_kept() and is_fit(given, commands)):
         return commands
     commands.clear()

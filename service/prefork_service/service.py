@@ -1,4 +1,4 @@
-"""The loop of a service: words to the master, one at a time, and their blocks to whoever asked."""
+"""The loop of a service: words to the master, one at a time, and their blocks to those that asked."""
 import json
 import os
 import re
@@ -14,7 +14,8 @@ from .commands import PID_OF_MASTER, Commands, mistake_of, refusal_of
 from .door import Door
 from .folder import Folder, say
 from .keeping import Keeping
-from .limits import known
+from .leaving import Leaving
+from .limits import end_seconds, known
 from .master import Master
 from .questions import ANSWERS, NOT_ASKED, STATE, line_of, state
 from .reasons import NEW_MASTER
@@ -56,6 +57,7 @@ class Service:
         self.begun, self.ticks, self.is_stopped = 0.0, Ticks(), False
         self.has_heard, self.is_ready = False, False
         self.record, self.began, self.starts = Record(), time.monotonic(), 0
+        self.leaving = Leaving(self.folder.path, end_seconds(limits))
         self.telling = Telling(self.status, self.brief, self.line, chronicle)
         self.take_signals()
         self.open_door()
@@ -88,10 +90,18 @@ class Service:
             self.keeping.tend()
             if self.keeping.has_lost():
                 self.ticks.hurry()
+            self.end_late()
             self.chronicle.tend()
             self.telling.tend()
         while self.waiting:
             self.waiting.next().answer("lost: the service has stopped\n")
+
+    def end_late(self) -> None:
+        """Kills workers that should have ended, and says so."""
+        for name in self.leaving.tend():
+            late = f"worker {name} has not ended within {self.leaving.seconds:g} s, and is killed"
+            say(late)
+            self.chronicle.journal.note(late)
 
     def pause(self) -> float:
         """How long the loop may wait for something to happen."""
@@ -213,6 +223,7 @@ class Service:
         report, self.has_heard = block.splitlines()[-1], True
         self.commands.settle(report)
         self.record.note(block)
+        self.leaving.note(block)
         if word.text == START:
             self.commands.accept()
         for note in self.notes(word, block):
@@ -274,6 +285,7 @@ class Service:
         if self.master.errors in self.events.get_map():
             self.events.unregister(self.master.errors)
         status = self.master.close()
+        self.leaving.take_all()
         if self.current:
             self.chronicle.cut_word(self.current.text, self.master.block)
         if not self.has_heard:
@@ -311,7 +323,7 @@ class Service:
             current = self.current.text if self.current else None
             word.answer(state(self.question, current, len(self.waiting)))
         else:
-            word.answer(f"{NOTE}{text or 'nothing'} is no word. Words are {', '.join(WORDS)} and {STATUS}\nunread W1\n")
+            word.answer(f"{NOTE}{text or 'nothing'} is not a word. Words are {', '.join(WORDS)} and {STATUS}\nunread W1\n")
 
     def is_ticking(self) -> bool:
         """Whether a tick is being carried out, and not the start of a master."""

@@ -125,7 +125,7 @@ def shown(status: Status) -> str:
         f"service     process {service['process']}, for {service['seconds']} s, in {service['folder']}",
         f"addresses   {' '.join(status['addresses']) or 'none'}",
         f"generation  {status['generation'] or 'none'}, {len(status['workers'])} workers",
-        *(shown_worker(worker, len(status["masters"]) > 1) for worker in status["workers"]),
+        *map(shown_worker, status["workers"]),
         *shown_masters(status["masters"], status["master_restarts"]),
         f"keeper      process {keeper['process'] or 'none'}, started again {times(keeper['restarts'])}",
         f"last word   {last['word']} at {last['at']}: {last['report']}" if last else "last word   none",
@@ -137,11 +137,11 @@ def shown(status: Status) -> str:
     return "".join(f"{line}\n" for line in lines)
 
 
-def shown_worker(worker: Status, is_upgraded: bool) -> str:
+def shown_worker(worker: Status) -> str:
     if not worker["process"]:
         return f"worker {worker['number']:<4} has ended"
     beat = worker["last_beat_seconds"]
-    told = f"beat {beat} s ago" if beat is not None else "told no ticks" if is_upgraded else "no beat yet"
+    told = f"beat {beat} s ago" if beat is not None else "no beat yet"
     return f"worker {worker['number']:<4} process {worker['process']}, for {worker['seconds']} s, {told}"
 
 

@@ -78,7 +78,7 @@ class Site:
         path = words[1].partition("?")[0] if len(words) == 3 else ""
         status, kind, text = 200, "text/plain; charset=utf-8", ""
         if len(words) != 3 or not words[2].startswith("HTTP/1."):
-            status, text = 400, "that is no question\n"
+            status, text = 400, "not a question\n"
         elif words[0] not in ("GET", "HEAD"):
             status, text = 405, "this page is only read\n"
         elif path not in self.pages:

@@ -1,4 +1,4 @@
-"""prefork-checkworker: passes what is a worker, and names the fault of what is none."""
+"""prefork-checkworker: passes a worker, and names the fault of a program that is not one."""
 import concurrent.futures
 import subprocess
 import unittest
@@ -30,10 +30,13 @@ WRONG = {
 }
 
 
-def checked(command: list) -> tuple[int, str]:
-    """The status of the check, and what it said. A wrong worker is not waited for long."""
-    patience = ["--patience", "5"] if PROGRAMS / "wrong.py" in command else []
-    words = [BIN / "prefork-checkworker", "--slow", "/slow", *patience, "--", *command]
+# A wrong worker is not waited for long, unless a busy machine does not let it start in this time.
+SHORT, LONG = 5, 45
+
+
+def checked(command: list, seconds: int = LONG) -> tuple[int, str]:
+    """The status of the check, and what it said."""
+    words = [BIN / "prefork-checkworker", "--slow", "/slow", "--patience", str(seconds), "--", *command]
     found = subprocess.run(words, stdout=subprocess.PIPE, stderr=subprocess.DEVNULL, stdin=subprocess.DEVNULL, text=True)
     return found.returncode, found.stdout
 
@@ -45,15 +48,18 @@ class CheckTest(unittest.TestCase):
 
     def test_workers_and_wrong_ones(self) -> None:
         """All at a time: most of the time they wait."""
-        commands = RIGHT | {fault: [PYTHON, PROGRAMS / "wrong.py", fault] for fault in WRONG}
+        wrong = {fault: [PYTHON, PROGRAMS / "wrong.py", fault] for fault in WRONG}
+        commands, seconds = RIGHT | wrong, [LONG] * len(RIGHT) + [SHORT] * len(wrong)
         with concurrent.futures.ThreadPoolExecutor(8) as pool:
-            found = dict(zip(commands, pool.map(checked, commands.values())))
+            found = dict(zip(commands, pool.map(checked, commands.values(), seconds)))
         for name in RIGHT:
             with self.subTest(name):
                 self.assertEqual(found[name][0], 0, found[name][1])
         for fault, point in WRONG.items():
             with self.subTest(fault):
                 status, said = found[fault]
+                if f"FAULT  {point}; " not in said:
+                    status, said = checked(wrong[fault])
                 self.assertEqual(status, 1)
                 self.assertIn(f"FAULT  {point}; found: ", said)
 

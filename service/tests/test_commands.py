@@ -49,8 +49,8 @@ class CommandsTest(unittest.TestCase):
         self.commands = self.made()
         self.commands.begin()
 
-    def made(self, default: list[str] | None = None, before: list[str] | None = None) -> Commands:
-        return Commands(types.SimpleNamespace(path=self.room), str(self.config), default, before or [])
+    def made(self, default: list[str] | None = None) -> Commands:
+        return Commands(types.SimpleNamespace(path=self.room), str(self.config), default)
 
     def configure(self, text: str) -> None:
         self.config.write_text(text)
@@ -121,12 +121,12 @@ class CommandsTest(unittest.TestCase):
         self.assertEqual((self.start("1.1"), words_of(self.place / "next")), (["one"], ["one"]))
 
     def test_the_program_of_the_command_line_is_for_configurations_without_a_command(self) -> None:
-        commands = self.made(["program"], ["guard", "10"])
+        commands = self.made(["program"])
         commands.begin()
-        self.assertEqual(words_of(self.place / "next"), ["guard", "10", "one"])
+        self.assertEqual(words_of(self.place / "next"), ["one"])
         self.configure("workers = 1\n")
         commands.change("1.1")
-        self.assertEqual(words_of(self.place / "next"), ["guard", "10", "program"])
+        self.assertEqual(words_of(self.place / "next"), ["program"])
 
     def test_without_any_command_no_worker_starts(self) -> None:
         self.configure("workers = 1\n")

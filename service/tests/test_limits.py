@@ -6,13 +6,14 @@ import tempfile
 import unittest
 from unittest import mock
 
-from prefork_service.limits import MOST, killed_by, known, limits_of
+from prefork_service.limits import MOST, end_seconds, killed_by, known, limits_of
 from prefork_service.options import arguments
 
 
 class LimitsTest(unittest.TestCase):
     def limits(self, *words: str) -> list[str]:
-        return limits_of(arguments([*words, "a.toml"]))
+        """Those of a service whose workers have an adapter."""
+        return limits_of(arguments([*words, "a.toml", "--", "p"]))
 
     def test_what_a_master_is_told(self) -> None:
         self.assertEqual(self.limits(), ["--answer-within", "60"])
@@ -27,6 +28,17 @@ class LimitsTest(unittest.TestCase):
             self.assertEqual(self.limits(option, "450.5"), ["--answer-within", "60", "--ready-within", "481"])
             self.assertEqual(self.limits(option, "1e300")[2:], ["--ready-within", str(MOST)])
             self.assertEqual(self.limits(option, "soon"), ["--answer-within", "60"])
+
+    def test_a_worker_without_an_adapter_has_what_is_said(self) -> None:
+        for words, ready in (((), []), (("--ready-within", "3"), ["3"]), (("--finish", "0.5"), ["1"]),
+                             (("--ready-within", "3", "--finish", "7.5"), ["8"]), (("--finish", "900"), ["900"])):
+            wanted = ["--answer-within", "60", *(["--ready-within", *ready] if ready else [])]
+            self.assertEqual(limits_of(arguments([*words, "a.toml"])), wanted)
+        self.assertEqual(limits_of(arguments(["--answer-within", "0", "--finish", "7", "a.toml"])), [])
+
+    def test_how_long_a_worker_may_take_to_end(self) -> None:
+        for limits, wanted in (([], 0), (["--answer-within", "60"], 480), (["--answer-within", "2", "--ready-within", "5"], 5)):
+            self.assertEqual(end_seconds(limits), wanted)
 
     def test_what_is_refused(self) -> None:
         for text in ("-1", "1.5", "", "x", str(MOST + 1)):

@@ -43,7 +43,7 @@ class OptionsTest(unittest.TestCase):
         self.assertEqual(given, [ACTIVATE, "--ready", "probe", "--probe", "/alive", "--", "p"])
 
     def test_none(self) -> None:
-        self.assertIsNone(self.command("--guard", "5", "a.toml"))
+        self.assertIsNone(self.command("--ready-within", "5", "--finish", "1.5", "a.toml"))
 
     @unittest.skipUnless(PYTHON_WITH_WAITRESS, "no Python with waitress")
     def test_a_wsgi_application(self) -> None:
@@ -76,6 +76,8 @@ class OptionsTest(unittest.TestCase):
             (["--stop", "NO", *program], "unknown signal: NO"),
             (["--ready", "no", *program], "not: no"),
             (["--finish", "x", *program], "invalid number of seconds: x"),
+            (["--finish", "x", "a.toml"], "argument --finish: invalid number of seconds: 'x'"),
+            (["--ready-within", "0", "a.toml"], "argument --ready-within: invalid number of seconds: '0'"),
             (["--env", "x", *program], "NAME=VALUE"),
             (["--ready", "probe", *program], "needs --probe"),
             (["--python", "/nonexistent", "--wsgi", "m", "a.toml"], "/nonexistent"),

@@ -95,14 +95,15 @@ class WholeTest(unittest.TestCase):
         (self.blocks / "TTIN").write_text("1 m1 census 1.1 : counted 0-2\ndone cause none pid no-file\n")
         (self.blocks / "tick").write_text("nothing\n")
         self.ctl("TTIN")
-        found = json.loads(self.ctl("--json", "--events", "2", "--forbid", "degraded", "explore", "USR2", "attended").stdout)
-        options = "--workers 3 --events 2 --forbid degraded"
+        options = "--events 2 --forbid degraded --require done --least 1"
+        found = json.loads(self.ctl("--json", *options.split(), "explore", "USR2", "attended").stdout)
+        options = f"--workers 3 {options}"
         wanted = f"explore --why --from {config} --to {site} {options} USR2 attended"
         self.assertEqual(found, {"status": 0, "lines": [wanted], "notes": []})
         (self.blocks / "WINCH").write_text("1 m1 census 1.1 : counted none\ndone cause none pid no-file\n")
         self.ctl("WINCH")
         self.assertEqual(self.ctl("plan", "TTIN").stdout, f"plan --why --from {config} --workers 0 TTIN\n")
-        for words in (("plan",), ("plan", "XX"), ("plan", "HUP", "HUP"), ("--events", "2", "HUP")):
+        for words in (("plan",), ("plan", "XX"), ("plan", "HUP", "HUP"), ("--events", "2", "HUP"), ("--least", "1", "plan", "HUP")):
             self.assertEqual(self.ctl(*words).returncode, 2, words)
         self.assertEqual(self.ctl("--folder", "nowhere", "plan", "HUP").returncode, 1)
 

@@ -6,7 +6,7 @@ from collections.abc import Iterator
 
 from gate.documents.pages import Tree
 
-SECONDS = 60
+SECONDS = 180
 CODE = re.compile(r"\b[A-Z]\d{1,2}\b")
 PAGES = ("docs/FORMATS.md", "docs/formats/configuration.md", "docs/formats/blocks.md", "docs/formats/plans.md")
 

@@ -10,7 +10,7 @@ from collections.abc import Iterator
 
 from gate.documents.pages import CONVENTION, Tree, plain_man
 
-SECONDS = 60
+SECONDS = 180
 # The pages, and the folder of the tree in which each is read.
 FOLDERS = {"README.md": ".", "examples/README.md": "examples"}
 # Lines that are not run here, and why.

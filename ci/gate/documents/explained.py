@@ -7,7 +7,7 @@ from collections.abc import Iterator
 from gate.documents.pages import Tree
 from gate.documents.shape import cells
 
-SECONDS = 60
+SECONDS = 180
 # The lines of a terminal, less what `--why` puts before each of them.
 COLUMNS = 80
 INDENT = 4

@@ -2,7 +2,9 @@
 import dataclasses
 from collections.abc import Callable, Iterator
 
-from gate.documents import claims, codes, commands, explained, links, names, options, shape, versions, words
+from gate.documents import (
+    claims, codes, commands, explained, house, links, names, options, service_options, shape, versions, words,
+)
 from gate.documents.pages import Tree
 
 Check = Callable[[Tree], Iterator[str]]
@@ -10,6 +12,7 @@ CHECKS: dict[str, Check] = {
     "names": names.faults,
     "links": links.faults,
     "options": options.faults,
+    "service options": service_options.faults,
     "codes": codes.faults,
     "explained": explained.faults,
     "commands": commands.faults,
@@ -19,6 +22,9 @@ CHECKS: dict[str, Check] = {
     "screens": shape.screen_faults,
     "versions": versions.faults,
     "words": words.faults,
+    "sizes": house.size_faults,
+    "functions": house.function_faults,
+    "types": house.type_faults,
 }
 
 
@@ -33,6 +39,10 @@ class Mistake:
     said: str
 
 
+# A source, and parameters with which its function has seven.
+EXECUTION = "crates/plan_walk/src/execution.rt"
+MORE = "plan: &Plan, found: Vec<(u32, Answer)>, hears: fn(u32) -> bool, most: [u32; 2], "
+
 MISTAKES = (
     Mistake("names", "README.md", "`plan_executor::enact`", "`plan_performer::enact`", "plan_performer"),
     Mistake("names", "docs/TESTING.md", "`ci/limits`", "`ci/frontiers`", "ci/frontiers"),
@@ -43,6 +53,9 @@ MISTAKES = (
     Mistake("options", "docs/prefork-enact.1", r".B \-\-state", r".B \-\-status", "--status"),
     Mistake("options", "docs/FORMATS.md", "[--state]", "[--status]", "enact has no --status"),
     Mistake("options", "completions/prefork.bash", "--why --dot", "--why", "plan lacks --dot"),
+    Mistake("service options", "service/man/prefork-load.1", r"\-\-seconds", r"\-\-minutes", "--minutes is no option"),
+    Mistake("service options", "service/man/prefork-checkworker.1", r".B \-\-one", "", "--one is not explained"),
+    Mistake("service options", "service/completions/prefork-service.bash", "--slow --one", "--slow", "lacks --one"),
     Mistake("codes", "docs/FORMATS.md", "| `V1` |", "| `V2` |", "the code V1 is missing"),
     Mistake("codes", "docs/formats/plans.md", "| `H5` |", "| `H6` |", "no code H6"),
     Mistake("explained", "docs/formats/blocks.md", "`forked`, `again`", "`forked`, `eagain`", "does not know eagain"),
@@ -54,19 +67,30 @@ MISTAKES = (
     Mistake("claims", "crates/certifier/README.md", "`IsCertified`", "`IsCertain`", "IsCertain"),
     Mistake("claims", "crates/certifier/README.md", "## Tested only", "## Tested", "Tested only"),
     Mistake("claims", "docs/PROVED.md", "(`Says`)", "(`SaysAll`)", "SaysAll"),
-    Mistake("claims", "docs/PROVED.md", "[explorer](../crates/explorer/README.md)", "explorer", "no line for explorer"),
+    Mistake("claims", "docs/proved/crates.md", "[explorer](../../crates/explorer/README.md)", "explorer", "no line for explorer"),
     Mistake("tables", "docs/PROVED.md", "| no: it kills first |", f"| {'no ' * 80} |", "a cell of"),
     Mistake("length", "CONTRIBUTING.md", "## Names", "word " * 2_000, "split it"),
     Mistake("length", "README.md", "## The promise", "\n## The promise", "more than 110"),
     Mistake("screens", "tests/cases/help_of_plan/stdout", "Options:\n", "Options:\n" + 40 * "\n", "more than 40"),
     Mistake("screens", "tests/cases/help_of_enact/stdout", "Control words,", 80 * "word ", "more than 80"),
     Mistake("versions", "docs/prefork-plan.1", "prefork 0.", "prefork 9.", "docs/prefork-plan.1: the version is 9."),
+    Mistake("versions", "service/man/prefork-wsgi.1", "prefork 0.", "prefork 9.", "prefork-wsgi.1: the version is 9."),
+    Mistake("versions", "docs/PROVED.md", "`rattle-kit-", "`rattle-kit-9", "the toolchain is rattle-kit-9"),
     Mistake("versions", "CHANGELOG.md", "## 0.2.0 (", "## 9.9.9 (", "not 9.9.9"),
     Mistake("words", "README.md", "Status 0: the new service runs.", "Status 0: what it came to.", "came to"),
     Mistake("words", "service/man/prefork-ctl.1", "prints who runs", "prints whoever runs", "whoever"),
     Mistake("words", "tests/cases/help_of_child/stdout", "It shows", "It came to", "came to"),
+    Mistake("words", "service/prefork_service/load.py", "a number of seconds", "so many seconds", "so many"),
+    Mistake("words", "service/units/README.md", "systemd", "whoever", "whoever"),
+    Mistake("names", "service/PROMISES.md", "`run/journal`", "`run/diary`", "run/diary"),
+    Mistake("names", "service/guides/wsgi.md", "`--chdir FOLDER`", "`--cddir FOLDER`", "cddir"),
     Mistake("links", "service/guides/README.md", "(wsgi.md)", "(wsgy.md)", "wsgy.md"),
     Mistake("words", "docs/prefork-explore.1", "Standard input is not read.", "Lines are passed over.", "passed over"),
+    Mistake("sizes", "crates/certifier/src/lib.rt", "\nmod blocks;", "\n" * 1_400 + "mod blocks;", "more than 1400"),
+    Mistake("sizes", "crates/certifier/src/lib.rt", "\nmod blocks;", 100 * "\nfn add() {\n}\n", "more than 100"),
+    Mistake("functions", EXECUTION, "plan: &Plan, ", MORE, "7 parameters"),
+    Mistake("functions", EXECUTION, "    course.report()\n", "    course.report()\n" * 40, "more than 40"),
+    Mistake("types", EXECUTION, "\npub fn execute", "\nstruct Replay {\n}\n\npub fn execute", "certifier and of plan_walk"),
 )
 
 

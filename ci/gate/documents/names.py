@@ -6,32 +6,42 @@ import pathlib
 import re
 from collections.abc import Iterator
 
-from gate.documents.pages import Tree, line_of, without_blocks
+from gate.documents.pages import SERVICE, Tree, line_of, without_blocks
 
 # Where names come from. Pages themselves are no source of names, and nor is this check.
 SOURCES = ("crates.txt", "try", "prefork", "install", "package", "crates/*/src/**/*", "crates/*/specs/**/*",
            "crates/*/proofs/**/*", "ci/*", "ci/gate/*.py", "ci/web/*", "ci/shipping/*", "bench/*", "examples/*",
            "completions/*", "tools/*", "service/bin/*", "service/native/*", "service/prefork_service/*.py",
            "service/double/*", "service/examples/*", "service/units/*", "fleet/**/*", "service/tests/**/*.py",
-           "service/build", "service/man/*", "tests/cases/*/args", "tests/cases/*/stdin", "tests/cases/*/stdout",
-           "tests/cases/*/stderr", "tests/faults/*", "tests/children/**/*")
+           "service/build", "service/install", "service/man/*", "service/containers/*", "tests/cases/*/args",
+           "tests/cases/*/stdin", "tests/cases/*/stdout", "tests/cases/*/stderr", "tests/faults/*",
+           "tests/children/**/*")
 WORD = re.compile(r"[A-Za-z_][A-Za-z0-9_]*(?:-[A-Za-z0-9_]+)*")
 SPAN = re.compile(r"`([^`\n]+)`")
 # What looks like a file or a folder.
 PATH = re.compile(r"\.{0,2}/?[\w.*-]+(?:/[\w.*-]+)+/?|[\w*-]+\.(?:md|rt|antt|py|toml|svg|edit|sh|yml)")
-# A place-holder: capitals, and one small letter that stands before numbers.
+# A place-holder: capitals, and one small letter before numbers.
 HOLDER = re.compile(r"[A-Z][A-Z0-9_.-]*|[a-z]?[IJKN](?:\.C(?:\.K)?)?|[a-zA-Z]")
 
 # Names that are not in the tree, and why pages have them.
 ELSEWHERE: dict[str, str] = {
     **dict.fromkeys(("kill", "ulimit", "systemctl", "curl", "dup", "accept", "listen", "shutdown", "poll", "epoll",
                      "select", "nofile", "man", "dot", "cc", "mv", "tee"), "commands and calls of the system"),
-    **dict.fromkeys(("gunicorn", "uvicorn", "puma", "unicorn", "node", "nginx", "server.py"),
-                    "other servers and their files"),
-    **dict.fromkeys(("rt", "doc", "ci", "check", "must-fail", "try", "run", "lib", "version", "rattle-kit-13b", "logic",
+    **dict.fromkeys(("gunicorn", "uvicorn", "puma", "unicorn", "node", "nginx", "server.py", "conf.py", "pidfile",
+                     "_temp_path", "cluster", "process_control_timeout", "fpm.toml", "syslog", "daemonize", "mysite",
+                     "venv/bin/python", "Shutdown"), "other servers, their files and settings"),
+    **dict.fromkeys(("graphviz", "ansible-core", "pip", "journalctl", "dumb-init", "valgrind", "callgrind",
+                     "PREFIX/lib/systemd/system"),
+                    "packages and programs of the system"),
+    **dict.fromkeys(("ContainerStopSignals", "stopSignal", "linux", "startupProbe", "kubectl", "rollout"),
+                    "Kubernetes"),
+    **dict.fromkeys(("rt", "doc", "ci", "check", "must-fail", "try", "run", "lib", "version", "rattle-kit-13f", "logic",
                      "dac8208d650f15bf", "PhantomData", "inline", "never", "Read", "Write"), "the toolchain"),
     **dict.fromkeys(("0.0.0.0", "127.0.0.1"), "addresses"),
+    "config.toml": "a file of a running service",
 }
+# Folders of a running service: a file in one is there if its words are in the sources.
+RUNNING = ("run/", "PREFORK_FOLDER/")
 
 
 @functools.cache
@@ -40,7 +50,7 @@ def vocabulary(root: pathlib.Path) -> frozenset[str]:
     found: set[str] = set()
     for pattern in SOURCES:
         for path in root.glob(pattern):
-            if "out" in path.relative_to(root).parts or not path.is_file():
+            if "out" in path.relative_to(root).parts or path.suffix == ".md" or not path.is_file():
                 continue
             found.update((path.name, path.stem, *path.relative_to(root).parts))
             found.update(WORD.findall(path.read_text(errors="replace")))
@@ -64,6 +74,8 @@ def is_there(root: pathlib.Path, page: str, path: str) -> bool:
     path = path.removeprefix("./").rstrip("/")
     if path.startswith("/"):
         return True
+    if path.startswith(RUNNING):
+        return all(word in vocabulary(root) for word in WORD.findall(path))
     if ".." in path.split("/"):
         return ((root / page).parent / path).exists()
     if path in endings(root) or any(f"{path}.{part}" in endings(root) for part in (1, 5)):
@@ -91,7 +103,7 @@ def missing(root: pathlib.Path, page: str, span: str) -> Iterator[str]:
 
 def faults(tree: Tree) -> Iterator[str]:
     """Names in back-ticks that are not in the tree."""
-    for path, text in tree.markdown():
+    for path, text in tree.markdown(*SERVICE):
         prose = without_blocks(text)
         for span in SPAN.finditer(prose):
             for name in missing(tree.root, path, span[1]):

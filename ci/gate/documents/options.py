@@ -6,12 +6,13 @@ from collections.abc import Iterator
 
 from gate.documents.pages import Tree, plain_man
 
-OPTION = re.compile(r"--[a-z]+(?:-[a-z]+)*")
-SECONDS = 60
+OPTION = re.compile(r"--[a-z]+(?:-[a-z]+)*[0-9]?")
+SECONDS = 180
 # What every subcommand has, and no synopsis names.
 COMMON = {"--help"}
 # The man page of each subcommand, where it is not its own.
-PAGES = {"adopt": "docs/prefork-supervise.1", "check": "docs/prefork.1", "child": "docs/prefork.1", "explain": "docs/prefork.1"}
+PAGES = {"adopt": "docs/prefork-supervise.1",
+         **dict.fromkeys(("check", "child", "explain"), "docs/prefork.1")}
 
 Options = dict[str, set[str]]
 
@@ -28,7 +29,7 @@ def by_help(program: str) -> Options:
     """The options of each subcommand, as --help lists them."""
     listed = re.search(r"^Commands:\n(.*?)\n\n", help_of(program), re.M | re.S)
     names = re.findall(r"^  ([a-z]+) ", listed[1], re.M) if listed else []
-    lines = re.compile(r"^ +(?:-\w, )?(--[a-z]+(?:-[a-z]+)*)", re.M)
+    lines = re.compile(rf"^ +(?:-\w, )?({OPTION.pattern})", re.M)
     return {name: set(lines.findall(help_of(program, name))) - COMMON for name in names}
 
 

@@ -10,12 +10,17 @@ MARKDOWN = ("README.md", "CHANGELOG.md", "CONTRIBUTING.md", "SECURITY.md", "docs
             "examples/README.md")
 MAN = ("docs/*.1", "docs/*.5")
 # Those of the service, of which a check names the ones that it reads too.
-SERVICE = ("service/*.md", "service/guides/*.md")
+SERVICE = ("service/**/*.md", "fleet/*.md")
 SERVICE_MAN = ("service/man/*.1",)
 CONVENTION = ("service/man/prefork-child.1",)
 # What --help prints, as ci/cases compares it with the program, and the sentences of `prefork explain`.
 HELP = "tests/cases/help_of_*/stdout"
 SAID = (HELP, "crates/code_explanations/src/*.rt")
+# Programs and scripts: their first lines and their messages are for operators, and their comments for their readers.
+SCRIPTS = ("try", "prefork", "install", "package", "ci/[a-z]*", "ci/*/*.py", "ci/gate/documents/*.py", "bench/*",
+           "examples/*", "completions/*", "fleet/**/*.y*ml", "service/bin/*", "service/build", "service/install",
+           "service/completions/*", "service/prefork_service/*.py", "service/native/*", "service/double/*",
+           "service/tests/**/*.py", "service/units/*", "service/containers/*", "service/examples/*", "tests/**/*.py")
 FENCE = re.compile(r"^```.*?^```$", re.M | re.S)
 
 

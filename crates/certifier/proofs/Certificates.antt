@@ -44,9 +44,7 @@ has-enacted first r target es report ready due (Ok it) holds led =
         is_run = subst (λ (last : Table). IsWholeRun r target turns (moment_at section.pattern) t es last report) (sym led.table) run;
         room = led.room;
         after = refl;
-        ends = kept.ends;
-        floor = kept.floor;
-        manner = kept.manner;
+        headline = kept.promise;
         apart = apart;
       };
     }

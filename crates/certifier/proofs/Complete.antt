@@ -129,7 +129,7 @@ never-lost : (t : Table) (r : Record) (target : Target) → IsDue t r target →
 never-lost t r target due turns fates lost =
     let ran = run_of r target turns (faults_alone fates) t in
     let kept = due.ends t r turns (faults_alone fates) due.start due.descriptors due.has_plan (none-named fates (r.generation.image ∷ []) (heirs_of r target) 0 ran.entries) in
-    subst (λ e. Says r target (outcome_of (sides_of r target) e ran.last.lacking) t ran.last.table) lost kept.ends.says
+    subst (λ e. Says r target (outcome_of (sides_of r target) e ran.last.lacking) t ran.last.table) lost kept.promise.ends.says
 
 -- what comes of a run under some turns and faults alone
 pub record IsGood (t : Table) (r : Record) (target : Target) (entries : List Entry) (report : Report) : Type 0 where

@@ -18,7 +18,7 @@ use Rattle.vocabulary.specs.declared.calls.Fate.TheVariants as fate
 use Rattle.vocabulary.specs.declared.calls.Reply.{Reply}
 use Rattle.definitions.specs.Table.{Table, Address, Generation, Starting, Master, Worker, Caller, FilePath, live_master, is_worker, is_active, is_starting, is_draining, is_held, owner_at}
 use Rattle.definitions.specs.Calls.{Stepped, gives, opened, forked, spawned, awaited, awaited_gone, lowest_free, with_new_socket, with_new_row, shared, step_with, step_by, own_step, fault_of, fault_if, fault_or_own, has_process_room, is_image, moved_if, suits}
-use Rattle.definitions.specs.Handover.{reading}
+use Rattle.definitions.specs.Reading.{reading}
 use Rattle.definitions.specs.Tree.{reply_of, same_reply}
 use Rattle.definitions.specs.Run.{Moment}
 use Rattle.certifier.specs.Shown.{fate_of, found_gone, is_count, uncounted, workers_named, moment_by}

@@ -2,7 +2,7 @@
 use Rattle.std.proofs.Common.{◌≡◌, ℕ, ◌+◌, length, List, [], ◌∷◌, ◌++◌, replicate, Result, Ok, Err, sym, ◌∙◌, ap, subst}
 use Rattle.std.specs.Prelude.{IfOk, IfErr}
 use Rattle.definitions.specs.Parts.{Turn, New}
-use Rattle.definitions.specs.Apart.{Plays}
+use Rattle.theorems.specs.Apart.{Plays}
 use Rattle.definitions.specs.Path.{Entry, Report, Sides, Trail, IsOver, Reports, trail_after}
 use Rattle.plan_walk.specs.Walk.{trail_under, sides_in}
 use Rattle.kernel_model.specs.Pattern.{moment_at}

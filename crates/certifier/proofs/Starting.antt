@@ -3,7 +3,7 @@ use Rattle.std.proofs.Common.{◌≡◌, ℕ, zero, suc, ◌≤◌, ◌<◌, ◌
 use Rattle.definitions.specs.Tree.{Tree, height, End}
 use Rattle.vocabulary.specs.declared.plans.End.TheVariants.{Done, RolledBack, ShortOld, ShortTarget, Split, JoinReady, JoinBack, Join}
 use Rattle.definitions.specs.Parts.{Turn, New, graft, joined}
-use Rattle.definitions.specs.Apart.{Plays}
+use Rattle.theorems.specs.Apart.{Plays}
 use Rattle.definitions.specs.Path.{Trail, begin}
 use Rattle.definitions.specs.Run.{quiet}
 use Rattle.theorems.proofs.LastTurns.{weave-last}

@@ -2,7 +2,7 @@
 use Rattle.std.proofs.Common.{◌≡◌, ℕ, ◌+◌, nat_eq, List, [], ◌∷◌, ◌++◌, length, length-append, append_assoc, sym, ◌∙◌, ap, subst}
 use Rattle.std.specs.Prelude.{if◌then◌else◌}
 use Rattle.definitions.specs.Parts.{Turn}
-use Rattle.definitions.specs.Apart.{Plays}
+use Rattle.theorems.specs.Apart.{Plays}
 use Rattle.definitions.specs.Path.{Entry, Sides, Trail, Asks, Follows, advance, trail_after}
 use Rattle.definitions.specs.Run.{Moment}
 use Rattle.plan_executor.specs.Naming.{listed}

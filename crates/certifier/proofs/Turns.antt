@@ -1,7 +1,7 @@
 -- Lists of turns, and the trails that they lead along.
 use Rattle.std.proofs.Common.{◌≡◌, ℕ, zero, suc, ◌-◌, ◌<◌, ◌≤◌, List, [], ◌∷◌, ◌++◌, length, replicate, refl, sym, ◌∙◌, ap, arith, append_assoc}
 use Rattle.definitions.specs.Parts.{Turn, New, Old}
-use Rattle.definitions.specs.Apart.{Plays}
+use Rattle.theorems.specs.Apart.{Plays}
 use Rattle.certifier.specs.Turns.{IsTrimmed}
 
 -- one of those that are only counted is told

@@ -6,7 +6,7 @@ use Rattle.definitions.specs.Calls.{Fate}
 use Rattle.vocabulary.specs.declared.targets.Target.{Target}
 use Rattle.definitions.specs.Path.{Entry, Report}
 use Rattle.definitions.specs.Parts.{Turn}
-use Rattle.definitions.specs.Apart.{Plays}
+use Rattle.theorems.specs.Apart.{Plays}
 use Rattle.definitions.specs.Run.{Pattern}
 use Rattle.definitions.specs.Claims.{refusal_of}
 use Rattle.definitions.specs.After.{next_record}

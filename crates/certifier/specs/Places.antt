@@ -2,7 +2,7 @@
 use Rattle.std.specs.Prelude.{ℕ, ◌≡◌, ◌≤◌, ◌<◌, ◌+◌, ◌^◌, ◌==◌, ◌∷◌, ◌++◌, true, false, List, [], is_some, if◌then◌else◌, length, take, ⊤}
 use Rattle.definitions.specs.Table.{Table}
 use Rattle.definitions.specs.Parts.{Turn, New}
-use Rattle.definitions.specs.Apart.{Plays}
+use Rattle.theorems.specs.Apart.{Plays}
 use Rattle.definitions.specs.Path.{Entry, Report, Sides, Trail, Asks, Follows, IsOver, Reports, begin, advance, trail_after, follow}
 use Rattle.definitions.specs.Run.{quiet}
 use Rattle.definitions.specs.Claims.{names_any, executing_at, executing_after}

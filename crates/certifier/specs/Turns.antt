@@ -1,7 +1,7 @@
 -- The turns that entries use.
 use Rattle.std.specs.Prelude.{◌≡◌, List, [], ◌∷◌, ◌++◌, replicate}
 use Rattle.definitions.specs.Parts.{Turn, New}
-use Rattle.definitions.specs.Apart.{Plays}
+use Rattle.theorems.specs.Apart.{Plays}
 use Rattle.plan_walk.specs.declared.walk.Walk.{Walk}
 use Rattle.plan_walk.specs.Walk.{left_by, IsTurnOf}
 use Rattle.certifier.specs.declared.turns_used.TurnsUsed.{TurnsUsed}

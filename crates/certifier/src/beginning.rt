@@ -2,42 +2,19 @@
 ghost use Rattle.std.specs.Prelude.{◌≡◌, ◌⊎◌, ◌↔◌, IfOk, IfErr, IsErrOf};
 ghost use Rattle.definitions.specs.Target.{IsTarget};
 ghost use Rattle.kernel_pattern.specs.declared.section.Section.{Section as Shown};
-ghost use Rattle.rollback_plan.specs.Plans.{length_of, text_of};
-ghost use Rattle.plan_executor.specs.Naming.{listed};
 ghost use Rattle.plan_executor.specs.Refusals.{IsPlannable};
-ghost use Rattle.certifier.specs.Places.{planned_start, Shows, StopsBy};
 ghost use Rattle.certifier.specs.Explained.{IsNoBeginning};
 ghost use Rattle.certifier.specs.Certified.{IsBeginning};
 ghost use Rattle.certifier.specs.declared.mismatch.Mismatch.{Mismatch as Why};
 
 use crate::certification::replay_all;
 use crate::mismatch::Mismatch;
-use crate::replay::Replay;
 use kernel_model::{Kernel, Section};
 use plan_executor::{agrees, heir_of, plan_of, reserved_copy};
 use plan_walk::Transcript;
-use rollback_plan::Plan;
 use service_state::Record;
 use std::alloc::Global;
 use vocabulary::Target;
-
-/// The section that entries show, each of which is next, on a kernel with room for the plan's longest path.
-fn show_all(
-    alloc: Global,
-    plan: &Plan,
-    kernel: Kernel,
-    image: u32,
-    heir: Option<u32>,
-    log: &Transcript,
-) -> Result<Section, Mismatch>
-    requires { kernel.room ≡ length_of plan.now }
-    ensures ok { IfOk result (Shows (text_of plan.now) (listed heir) (planned_start plan.now kernel.table image) log.now.entries) }
-    ensures err { IfErr result (StopsBy (text_of plan.now) (listed heir) (planned_start plan.now kernel.table image) log.now.entries) }
-{
-    let mut replay = Replay::new(alloc, plan, kernel, image, heir);
-    replay_all(&mut replay, log)?;
-    Ok(replay.shown())
-}
 
 /// Holds the beginning of a run of a target, its first calls with their answers, against the modelled kernel.
 ///
@@ -65,5 +42,6 @@ pub fn certify_beginning(
     let plan = plan_of(alloc, state, target)?;
     let copy = reserved_copy(kernel, plan.longest())?;
     let heir = heir_of(state, target);
-    show_all(alloc, &plan, copy, state.generation.image, heir, log)
+    let replay = replay_all(alloc, &plan, copy, state.generation.image, heir, log)?;
+    Ok(replay.shown())
 }

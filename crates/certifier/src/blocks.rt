@@ -2,7 +2,7 @@
 ghost use Rattle.std.specs.Prelude.{⊤, ◌≡◌, ◌<◌, ◌⊎◌, ◌↔◌, [], vec_capacity, vec_len, IfOk, IfErr, OnOk, OnErr, IsErrOf};
 ghost use Rattle.std.specs.Option.{option_copied};
 ghost use Rattle.word_runner.specs.Asking.{IsPossible, IsActOn};
-ghost use Rattle.certifier.specs.Blocks.{asked_at, IsIdle, IsFollowed, IsBodyTaken, IsTaken, IsRunFaultOf, IsBodyFault, IsFault, AreTaken, StopsAtBlock, LeadsUpTo};
+ghost use Rattle.certifier.specs.Blocks.{asked_at, IsIdle, IsFollowed, IsTaken, IsRunFaultOf, IsFault, AreTaken, StopsAtBlock, LeadsUpTo};
 ghost use Rattle.plan_executor.specs.Words.{quiet_section};
 ghost use Rattle.certifier.specs.declared.mismatch.Mismatch.{Mismatch as Why};
 
@@ -81,30 +81,14 @@ pub fn certify_block(
 {
     match block {
         Block::Unread(_) => Ok(Section::new(alloc)),
-        Block::Heard(word, body) => certify_body(alloc, standing, settings, *word, body),
-    }
-}
-
-/// The section that explains what a word came to.
-fn certify_body(
-    alloc: Global,
-    standing: &mut Standing<Kernel>,
-    settings: Option<&Settings>,
-    word: Word,
-    body: &Body,
-) -> Result<Section, Mismatch>
-    ensures ok { IfOk result (λ section. IsBodyTaken (option_copied settings.entry) word body.now standing.old section standing.new) }
-    ensures exact { (why : Why)
-        → IsErrOf result Mismatch.Memory ⊎ (IsErrOf result why ↔ IsBodyFault (option_copied settings.entry) word body.now standing.old why) }
-    ensures err { OnErr result (standing.new ≡ standing.old) }
-{
-    match body {
-        Body::Nothing => {
-            let asked = asked_at(word, standing.record.as_ref(), &standing.workers, settings);
-            certify_nothing(alloc, standing, asked)
-        }
-        Body::Refused(_) => Ok(Section::new(alloc)),
-        Body::Ran(log, report) => certify_run(alloc, standing, settings, word, log, report),
+        Block::Heard(word, body) => match body {
+            Body::Nothing => {
+                let asked = asked_at(*word, standing.record.as_ref(), &standing.workers, settings);
+                certify_nothing(alloc, standing, asked)
+            }
+            Body::Refused(_) => Ok(Section::new(alloc)),
+            Body::Ran(log, report) => certify_run(alloc, standing, settings, *word, log, report),
+        },
     }
 }
 

@@ -1,11 +1,10 @@
 //! A transcript, held against the modelled kernel.
-ghost use Rattle.std.specs.Prelude.{◌≡◌, ◌+◌, ◌⊎◌, ◌↔◌, [], length, OnOk, IfOk, IfErr, IsErrOf};
+ghost use Rattle.std.specs.Prelude.{◌≡◌, ◌+◌, ◌⊎◌, ◌↔◌, length, IfOk, IfErr, IsErrOf};
 ghost use Rattle.definitions.specs.Target.{IsTarget};
 ghost use Rattle.rollback_plan.specs.Plans.{length_of, sides_told, text_of};
-ghost use Rattle.plan_walk.specs.Walk.{sides_in};
 ghost use Rattle.plan_executor.specs.Naming.{listed};
 ghost use Rattle.plan_executor.specs.Refusals.{IsPlannable};
-ghost use Rattle.certifier.specs.Places.{start_of, place_at, planned_start, HasTaken, StopsBy, Holds, IsLed, FailsBy};
+ghost use Rattle.certifier.specs.Places.{planned_start, HasTaken, StopsBy};
 ghost use Rattle.certifier.specs.Explained.{IsMismatch};
 ghost use Rattle.certifier.specs.Certified.{IsCertified, HasEnacted, EnactsSo, IsFaultyRun};
 ghost use Rattle.certifier.specs.declared.mismatch.Mismatch.{Mismatch as Why};
@@ -20,47 +19,28 @@ use service_state::Record;
 use std::alloc::Global;
 use vocabulary::{Report, Target};
 
-/// Replays all entries; the first that can't stand there is a mismatch.
-pub(crate) fn replay_all(replay: &mut Replay<'_>, log: &Transcript) -> Result<(), Mismatch>
-    requires { HasTaken replay.old.text.now (listed replay.old.heir) (sides_in replay.old.walk) (start_of replay.old) [] replay.old }
-    ensures ok { OnOk result (HasTaken replay.old.text.now (listed replay.old.heir) (sides_in replay.old.walk) (start_of replay.old) log.now.entries replay.new) }
-    ensures err { IfErr result (StopsBy replay.old.text.now (listed replay.old.heir) (start_of replay.old) log.now.entries) }
-    ensures left { OnOk result (replay.new.kernel.room + length log.now.entries ≡ replay.old.kernel.room) }
+/// Replays all entries of a plan from its start, on a kernel with room for its longest path; the first entry that can't
+/// stand there is a mismatch.
+pub(crate) fn replay_all<'a>(
+    alloc: Global,
+    plan: &'a Plan,
+    kernel: Kernel,
+    image: u32,
+    heir: Option<u32>,
+    log: &Transcript,
+) -> Result<Replay<'a>, Mismatch>
+    requires { kernel.room ≡ length_of plan.now }
+    ensures ok { IfOk result (HasTaken (text_of plan.now) (listed heir) (sides_told plan.now) (planned_start plan.now kernel.table image) log.now.entries) }
+    ensures err { IfErr result (StopsBy (text_of plan.now) (listed heir) (planned_start plan.now kernel.table image) log.now.entries) }
+    ensures left { IfOk result (λ replay. replay.kernel.room + length log.now.entries ≡ length_of plan.now) }
 {
+    let mut replay = Replay::new(alloc, plan, kernel, image, heir);
     for place in 0..log.len() {
         if !replay.take(&log.get(place))? {
             return Err(Mismatch::Step(place + 1));
         }
     }
-    Ok(())
-}
-
-/// The masters that execute a plan.
-#[derive(Clone, Copy)]
-struct Executing {
-    /// That of the record.
-    image: u32,
-    /// The new one of an upgrade.
-    heir: Option<u32>,
-}
-
-/// Holds entries and a report against a plan, on a kernel with room for its longest path.
-fn hold(
-    alloc: Global,
-    plan: &Plan,
-    kernel: Kernel,
-    masters: Executing,
-    log: &Transcript,
-    report: &Report,
-) -> Result<Certificate, Mismatch>
-    requires { kernel.room ≡ length_of plan.now }
-    ensures ok { IfOk result (λ it. Holds (text_of plan.now) (listed masters.heir) (sides_told plan.now) (planned_start plan.now kernel.table masters.image) log.now.entries report.now it.section) }
-    ensures led { IfOk result (λ it. IsLed (text_of plan.now) (listed masters.heir) (length_of plan.now) (place_at (planned_start plan.now kernel.table masters.image) it.section.turns) log.now.entries it.kernel) }
-    ensures err { IfErr result (FailsBy (text_of plan.now) (listed masters.heir) (sides_told plan.now) (planned_start plan.now kernel.table masters.image) log.now.entries report.now) }
-{
-    let mut replay = Replay::new(alloc, plan, kernel, masters.image, masters.heir);
-    replay_all(&mut replay, log)?;
-    replay.end(report)
+    Ok(replay)
 }
 
 /// The certificate of a transcript, as `certify` gives its section: in it the target was carried out on this kernel, which
@@ -88,11 +68,8 @@ pub(crate) fn certificate(
     let copy = reserved_copy(kernel, plan.longest())?;
     let heir = heir_of(state, target);
     ends_as_reported(target);
-    let masters = Executing {
-        image: state.generation.image,
-        heir,
-    };
-    hold(alloc, &plan, copy, masters, log, report)
+    let replay = replay_all(alloc, &plan, copy, state.generation.image, heir, log)?;
+    replay.end(report)
 }
 
 /// Holds a transcript of a target, its calls with their answers and its report, against the modelled kernel.

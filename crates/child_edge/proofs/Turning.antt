@@ -1,16 +1,20 @@
 -- Turns that go on.
-use Rattle.std.proofs.Common.{◌≡◌, refl, sym, ap, ◌∙◌, ℕ, ◌+◌, ◌<◌, ◌≤◌, Bool, true, false, List, [], ◌∷◌, ◌++◌, suc, length, map, get_or, set, take, drop, zero, Option, subst, arith, add-one, drop-cons, if◌then◌else◌, codes}
+use Rattle.std.proofs.Common.{◌≡◌, refl, sym, ap, ◌∙◌, ℕ, ◌+◌, ◌<◌, ◌≤◌, Bool, true, false, List, [], ◌∷◌, ◌++◌, length, map, get_or, set, take, drop, Option, subst, arith, if◌then◌else◌, codes}
 use Rattle.std.proofs.lemmas.List.{take_more, take_more_set, take_all, drop_all, drop-set-lt, take-append-drop}
 use Rattle.std.specs.List.{remove}
 use Rattle.child_family.specs.Told.{Told, Tells, Hearing, said, heard, stopped, awaited}
 use Rattle.child_family.specs.Talk.{says, hears, stops, awaits}
 use Rattle.child_family.proofs.Talking.{held-says, held-hears, held-stops, held-awaits}
-use Rattle.child_edge.specs.Workers.{Worker, Who, IsReady, means}
+use Rattle.child_workers.specs.declared.worker.Worker.{Worker}
+use Rattle.child_workers.specs.declared.who.Who.{Who}
+use Rattle.child_workers.specs.declared.who.Who.TheVariants.{IsReady}
+use Rattle.child_workers.specs.Workers.{means}
 use Rattle.vocabulary.specs.declared.table.Listener.{Listener}
 use Rattle.child_edge.specs.Table.{Turn, greeted}
 use Rattle.child_edge.specs.Turns.{GoesOn, Begins}
 use Rattle.child_edge.specs.Each.{says_each, says_lines, stops_each, counts_each, awaits_each, beats_each, beaten, with_beat}
 use Rattle.child_family.specs.Lines.{is_line, is_going, beat_of, worker_line, listener_line}
+use Rattle.child_workers.proofs.Places.{at_place, from_place, up_to_place, take-removed, drop-removed}
 
 ---- Calls and turns
 
@@ -34,34 +38,6 @@ goes-from old new a b c is f = let F : Turn → Type 0 = λ t. GoesOn old new t 
 
 pub goes-into : (old new : Option (List Told)) (a b c : Turn) → b ≡ c → GoesOn old new a b → GoesOn old new a c
 goes-into old new a b c is f = let F : Turn → Type 0 = λ t. GoesOn old new a t in subst F is f
-
----- Places of a list
-
--- the elements from a place on
-pub at_place : {A : Type 0} (xs : List A) (i : ℕ) (d : A) → i < length xs → drop i xs ≡ get_or xs i d ∷ drop (i + 1) xs
-at_place xs i d within = rw add-one (drop-cons xs i d within)
-
-pub from_place : {A : Type 0} (xs : List A) (i : ℕ) (x : A) → i < length xs → x ≡ get_or xs i x → drop i xs ≡ x ∷ drop (i + 1) xs
-from_place xs i x within is = at_place xs i x within ∙ ap (λ y. y ∷ drop (i + 1) xs) (sym is)
-
-pub up_to_place : {A : Type 0} (xs : List A) (i : ℕ) (x : A) → i < length xs → x ≡ get_or xs i x → take (i + 1) xs ≡ take i xs ++ x ∷ []
-up_to_place xs i x within is = take_more xs i x within ∙ ap (λ y. take i xs ++ y ∷ []) (sym is)
-
-take-front : {A : Type 0} (i : ℕ) (xs ys : List A) → i ≤ length xs → take i (take i xs ++ ys) ≡ take i xs
-take-front zero xs ys h = refl
-take-front (suc i) [] ys h = absurd (omega (arith, h))
-take-front (suc i) (x ∷ xs) ys h = ap (λ l. x ∷ l) (take-front i xs ys (omega (arith, h)))
-
-drop-front : {A : Type 0} (i : ℕ) (xs ys : List A) → i ≤ length xs → drop i (take i xs ++ ys) ≡ ys
-drop-front zero xs ys h = refl
-drop-front (suc i) [] ys h = absurd (omega (arith, h))
-drop-front (suc i) (x ∷ xs) ys h = drop-front i xs ys (omega (arith, h))
-
-pub take-removed : {A : Type 0} (xs : List A) (i : ℕ) → i < length xs → take i (remove xs i) ≡ take i xs
-take-removed xs i within = take-front i xs (drop (suc i) xs) (omega (arith, within))
-
-pub drop-removed : {A : Type 0} (xs : List A) (i : ℕ) → i < length xs → drop i (remove xs i) ≡ drop (i + 1) xs
-drop-removed xs i within = drop-front i xs (drop (suc i) xs) (omega (arith, within)) ∙ ap (λ n. drop n xs) (sym (add-one i))
 
 ---- A line to each
 

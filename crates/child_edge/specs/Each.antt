@@ -1,7 +1,10 @@
 -- What is asked of several children, or by several lines.
 use Rattle.std.specs.Prelude.{ℕ, Bool, true, false, List, [], ◌∷◌, ◌++◌, Option, Some, None, codes, if◌then◌else◌}
 use Rattle.child_family.specs.Talk.{Talk, says, hears, stops, awaits}
-use Rattle.child_edge.specs.Workers.{Worker, Who, means, IsReady, with_number_of}
+use Rattle.child_workers.specs.declared.worker.Worker.{Worker}
+use Rattle.child_workers.specs.declared.who.Who.{Who}
+use Rattle.child_workers.specs.Workers.{means, with_number_of}
+use Rattle.child_workers.specs.declared.who.Who.TheVariants.{IsReady}
 use Rattle.child_family.specs.Lines.{is_line, is_going, beat_of}
 
 -- a line to each worker that is meant, in order, whatever becomes of it

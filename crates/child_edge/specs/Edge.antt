@@ -5,7 +5,8 @@ use Rattle.definitions.specs.Record.{Record}
 use Rattle.definitions.specs.Handover.{Handover}
 use Rattle.child_family.specs.Told.{Told}
 use Rattle.child_family.specs.Talk.{IsHeld}
-use Rattle.child_edge.specs.Workers.{Worker, is_ready}
+use Rattle.child_workers.specs.declared.worker.Worker.{Worker}
+use Rattle.child_workers.specs.Workers.{is_ready}
 use Rattle.child_edge.specs.State.{State, Listener}
 use Rattle.child_edge.specs.Table.{turn_of}
 

@@ -1,4 +1,3 @@
-pub mod Workers
 pub mod State
 pub mod Each
 pub mod Table

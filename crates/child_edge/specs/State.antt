@@ -1,7 +1,7 @@
 -- What an edge knows.
 use Rattle.std.specs.Prelude.{ℕ, Bool, List, Option}
 pub use Rattle.definitions.specs.Record.{Listener}
-use Rattle.child_edge.specs.Workers.{Worker}
+use Rattle.child_workers.specs.declared.worker.Worker.{Worker}
 pub use Rattle.child_edge.specs.declared.state.ChildMaster.{ChildMaster}
 use Rattle.child_edge.specs.declared.state.EdgeState.{EdgeState}
 

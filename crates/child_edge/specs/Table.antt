@@ -1,5 +1,5 @@
 -- What an edge does at a call: the conversation that it holds, and the answer.
-use Rattle.std.specs.Prelude.{ℕ, ◌+◌, ◌==◌, nat_lt, Bool, true, not, List, [], ◌∷◌, Option, Some, None, Result, Ok, Err, filter, find, map, length, bytes_eq, codes, if◌then◌else◌}
+use Rattle.std.specs.Prelude.{ℕ, ◌+◌, ◌==◌, nat_lt, Bool, true, not, List, [], ◌∷◌, Option, Some, None, option_and_then, Result, Ok, Err, filter, find, map, length, bytes_eq, codes, if◌then◌else◌}
 use Rattle.std.specs.List.{list_any}
 use Rattle.master_listeners.specs.Listeners.{only_under}
 use Rattle.definitions.specs.Table.{Address, Generation}
@@ -8,13 +8,18 @@ use Rattle.definitions.specs.Calls.{Call, OpenAt, CloseAt, Fork, AwaitReady, Qui
 use Rattle.vocabulary.specs.declared.calls.Answer.TheVariants as answer
 use Rattle.call_text.specs.CallText.{call_line}
 use Rattle.call_text.specs.AnswerReading.{answer_to}
+use Rattle.call_text.specs.SetReading.{set_of}
+use Rattle.plain_text.specs.Cuts.{after_prefix}
 use Rattle.plain_text.specs.Lines.{lines_of}
 use Rattle.child_family.specs.Told.{Hearing, line, too_long, ended}
 use Rattle.child_family.specs.declared.role.Role.TheVariants as role
 use Rattle.child_family.specs.declared.role.StartFault.{StartFault}
 use Rattle.child_family.specs.declared.role.StartFault.TheVariants as fault
 use Rattle.child_family.specs.Talk.{Talk, ends, starts, says, hears, stops, writes, renames, removes}
-use Rattle.child_edge.specs.Workers.{Worker, Any, Serving, ReadyOf, Named, ServingNamed, StartingNamed, ReadyNamed, IsReady, Starting, Ready, Draining, means, in_place, without, without_id, moved, moved_first, without_first, numbers_of}
+use Rattle.child_workers.specs.declared.worker.Worker.{Worker}
+use Rattle.child_workers.specs.declared.who.Who.TheVariants.{Any, Serving, ReadyOf, Named, ServingNamed, StartingNamed, ReadyNamed, IsReady}
+use Rattle.child_workers.specs.declared.worker.Stage.TheVariants.{Starting, Ready, Draining}
+use Rattle.child_workers.specs.Workers.{means, in_place, without, without_id, moved, moved_first, without_first, numbers_of}
 use Rattle.child_edge.specs.State.{State, Listener, ChildMaster}
 use Rattle.child_family.specs.Lines.{worker_line, listener_line, close_line, tick_line, is_line, pid_text}
 use Rattle.child_edge.specs.Each.{says_each, says_lines, says_unless, stops_each, counts_each, awaits_each, beats_each}
@@ -231,3 +236,33 @@ tick_turn s now =
     says_each IsReady (tick_line now) s.workers (
     beats_each now [] [] s.workers (λ ws numbers.
     answers (with_workers s ws) (answer.Counted numbers)))
+
+---- A tick after an upgrade: the workers are the child master's
+
+-- the numbers that a child master was heard to count: `counted SET`
+abbrev pub count_in : Hearing → Option (List ℕ)
+count_in (line said) = option_and_then set_of (after_prefix (codes "counted ") said)
+count_in too_long = None
+count_in ended = None
+
+-- by what was read of a count
+abbrev pub count_or : Turn → (List ℕ → Turn) → Option (List ℕ) → Turn
+count_or otherwise read None = otherwise
+count_or otherwise read (Some numbers) = read numbers
+
+-- a tick is said to a child, which answers with a count
+abbrev pub exchanged_tick : ℕ → ℕ → Turn → (List ℕ → Turn) → Turn
+exchanged_tick id now otherwise read = says id (tick_line now) (λ ok. if ok then hears id (λ h. count_or otherwise read (count_in h)) else otherwise)
+
+-- a child master whose pipe fails, or that counts nobody, is stopped, and nobody beat
+abbrev pub beats_nobody : State → ℕ → Turn
+beats_nobody s id = stops id (answers (alone s) (answer.Counted []))
+
+-- the count of a child master is passed back
+abbrev pub passing_tick : State → ℕ → Option ChildMaster → Turn
+passing_tick s now None = answers s (answer.Counted [])
+passing_tick s now (Some master) = exchanged_tick master.id now (beats_nobody s master.id) (λ numbers. answers s (answer.Counted numbers))
+
+-- A master that has left passes the tick on.
+abbrev pub reigning_tick : State → ℕ → Turn
+reigning_tick s now = if s.left then passing_tick s now s.child else tick_turn s now

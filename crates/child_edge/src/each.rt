@@ -5,13 +5,12 @@ ghost use Rattle.child_family.specs.Talk.{hears, stops, awaits};
 ghost use Rattle.child_family.specs.Lines.{is_line, is_going, beat_of};
 ghost use Rattle.child_edge.specs.Each.{says_each, stops_each, counts_each, awaits_each, beats_each, beaten, with_beat};
 ghost use Rattle.child_edge.specs.Table.{Turn};
-ghost use Rattle.child_edge.specs.Workers.{Worker as Listed};
+ghost use Rattle.child_workers.specs.declared.worker.Worker.{Worker as Listed};
 ghost use Rattle.child_edge.specs.Turns.{Begins, Finds, GoesOn};
 
 use crate::hearing::hears_line;
-use crate::who::Who;
-use crate::worker::Worker;
 use child_family::{Family, Heard, beat_start};
+use child_workers::{Who, Worker};
 use listener_set::Numbers;
 use plain_text::Line;
 

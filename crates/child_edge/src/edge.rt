@@ -6,17 +6,16 @@ ghost use Rattle.vocabulary.specs.declared.reports.Entry.{Entry};
 ghost use Rattle.child_family.specs.Told.{Told};
 ghost use Rattle.child_family.specs.Talk.{Held};
 ghost use Rattle.child_edge.specs.State.{State, state_of};
-ghost use Rattle.child_edge.specs.Table.{answers, turn_of, tick_turn};
+ghost use Rattle.child_edge.specs.Table.{answers, turn_of, tick_turn, reigning_tick};
 ghost use Rattle.child_edge.specs.EdgeLemmas.{CallsHeld-none};
 ghost use Rattle.child_edge.specs.Edge.{begun, begun_by, begun_from, start_of, start_after, CallsHeld};
 ghost use Rattle.child_edge.specs.Turns.{GoesOn};
 
 use crate::each::{beat_each, say_each};
 use crate::state::EdgeState;
-use crate::who::Who;
-use crate::worker::Worker;
 use crate::{own, passing};
 use child_family::{Family, tick_line};
+use child_workers::{Who, Worker};
 use handover_text::Handover;
 use listener_set::Numbers;
 use master_listeners::Listeners;
@@ -36,29 +35,31 @@ pub struct Edge<F: Family + Drop> {
     ghost roomy: { room ≤ vec_capacity state.workers - vec_len state.workers },
 }
 
-fn begun(alloc: Global, image: u32, pid: u32, listeners: &Listeners, adopted: bool) -> EdgeState
-    ensures { state_of result ≡ begun image pid listeners.now adopted }
-{
-    EdgeState {
-        image,
-        pid,
-        listeners: *listeners,
-        workers: Vec::new(alloc),
-        starts: 0,
-        child: None,
-        adopted,
-        left: false,
-        text: Vec::new(alloc),
-    }
-}
-
 impl<F: Family + Drop> Edge<F> {
-    /// An edge that knows the state, with room for no call.
-    fn with_state(alloc: Global, family: F, state: EdgeState) -> Edge<F>
-        ensures state { state_of result.state ≡ state_of state }
+    /// The edge of a master of that image and process number, with no workers, and with room for no call.
+    fn begun(
+        alloc: Global,
+        family: F,
+        image: u32,
+        pid: u32,
+        listeners: &Listeners,
+        adopted: bool,
+    ) -> Edge<F>
+        ensures state { state_of result.state ≡ begun image pid listeners.now adopted }
         ensures family { result.family ≡ family }
         ensures room { result.room ≡ 0 }
     {
+        let state = EdgeState {
+            image,
+            pid,
+            listeners: *listeners,
+            workers: Vec::new(alloc),
+            starts: 0,
+            child: None,
+            adopted,
+            left: false,
+            text: Vec::new(alloc),
+        };
         Edge {
             family,
             state,
@@ -85,14 +86,8 @@ impl<F: Family + Drop> Edge<F> {
         ensures family { result.family ≡ family }
         ensures room { result.room ≡ 0 }
     {
-        let state = begun(
-            alloc,
-            known.generation.image,
-            known.pid,
-            &known.listeners,
-            false,
-        );
-        Edge::with_state(alloc, family, state)
+        let image = known.generation.image;
+        Edge::begun(alloc, family, image, known.pid, &known.listeners, false)
     }
 
     /// The edge of a master that runs by itself, with room for so many calls. The only refusal is want of memory.
@@ -117,14 +112,9 @@ impl<F: Family + Drop> Edge<F> {
         ensures family { IfOk result (λ e. e.family ≡ family) }
         ensures room { IfOk result (λ e. e.room ≡ room) }
     {
-        let state = begun(
-            alloc,
-            handover.generation.image,
-            pid,
-            &handover.listeners,
-            true,
-        );
-        Edge::with_state(alloc, family, state).with_room(room)
+        let image = handover.generation.image;
+        let edge = Edge::begun(alloc, family, image, pid, &handover.listeners, true);
+        edge.with_room(room)
     }
 
     /// The family of its children.
@@ -170,6 +160,18 @@ impl<F: Family + Drop> Edge<F> {
         ensures turn { Held (F.told self.old.family) (F.told self.new.family) (tick_turn (state_of self.old.state) now) (state_of self.new.state, Counted result) }
         ensures room { self.new.room ≡ self.old.room }
     {
+        tick(&mut self.family, &mut self.state, now)
+    }
+
+    /// Ticks the workers of the master that reigns: its own, or those of its child master once it has left itself. Gives
+    /// the numbers of those that beat then. A child master that does not count them is stopped.
+    pub fn tick_reigning(&mut self, now: u64) -> Numbers
+        ensures turn { Held (F.told self.old.family) (F.told self.new.family) (reigning_tick (state_of self.old.state) now) (state_of self.new.state, Counted result) }
+        ensures room { self.new.room ≡ self.old.room }
+    {
+        if self.state.left {
+            return passing::pass_tick(&mut self.family, &mut self.state, now);
+        }
         tick(&mut self.family, &mut self.state, now)
     }
 

@@ -8,8 +8,8 @@ ghost use Rattle.child_edge.specs.Turns.{GoesOn};
 
 use crate::each::say_each;
 use crate::state::EdgeState;
-use crate::who::Who;
 use child_family::{Family, close_line};
+use child_workers::Who;
 use listener_set::{Address, ListenerSet, MOST_DESCRIPTORS};
 use master_listeners::Listeners;
 use vocabulary::{Answer, Listener};

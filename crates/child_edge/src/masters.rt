@@ -9,10 +9,10 @@ ghost use Rattle.child_edge.specs.Table.{Turn, answers, spawning, living, termin
 ghost use Rattle.child_edge.specs.Turns.{GoesOn};
 
 use crate::hearing::hears_line;
-use crate::list::drop_id;
 use crate::saying::say_text;
 use crate::state::{ChildMaster, EdgeState};
 use child_family::{Family, Role, StartFault};
+use child_workers::drop_id;
 use vocabulary::Answer;
 
 /// Starts a master, and says the lines of the handover to it. Where there is a child master the family is not asked.

@@ -1,19 +1,24 @@
-//! Calls that the child master makes.
-ghost use Rattle.std.specs.Prelude.{◌≡◌, IsTrue, IfSome, if◌then◌else◌};
+//! Calls that the child master makes, and its ticks.
+ghost use Rattle.std.specs.Prelude.{◌≡◌, ℕ, List, IsTrue, IfSome, codes, option_and_then, if◌then◌else◌};
 ghost use Rattle.definitions.specs.Tree.{is_listed};
 ghost use Rattle.vocabulary.specs.declared.calls.Answer.{Answer as Answered};
+ghost use Rattle.vocabulary.specs.declared.calls.Answer.TheVariants.{Counted};
 ghost use Rattle.call_text.specs.CallText.{call_line};
+ghost use Rattle.call_text.specs.SetReading.{set_of};
+ghost use Rattle.plain_text.specs.Cuts.{after_prefix};
 ghost use Rattle.plain_text.specs.Lines.{lines_of};
 ghost use Rattle.child_family.specs.Told.{Hearing, Tells, said, heard};
+ghost use Rattle.child_family.specs.Talk.{stops};
 ghost use Rattle.child_edge.specs.State.{state_of};
 ghost use Rattle.child_edge.specs.Each.{says_unless};
-ghost use Rattle.child_edge.specs.Table.{Turn, answers, answer_heard, lines_of_call, read_or, exchanged, passing};
+ghost use Rattle.child_edge.specs.Table.{Turn, alone, answers, answer_heard, lines_of_call, read_or, exchanged, passing, count_in, count_or, exchanged_tick, passing_tick};
 ghost use Rattle.child_edge.specs.Turns.{GoesOn};
 
 use crate::state::EdgeState;
-use call_text::{read_answer, write_call};
-use child_family::{Family, Heard};
-use plain_text::{Line, first_line};
+use call_text::{read_answer, read_set, write_call};
+use child_family::{Family, Heard, tick_line};
+use listener_set::Numbers;
+use plain_text::{Line, after_prefix, first_line};
 use vocabulary::{Actor, Answer, Call};
 
 /// Says each line of a text, up to the first that cannot be said. Whether all were said.
@@ -84,6 +89,15 @@ fn exchange<F: Family>(
     hear_answer(family, id, call)
 }
 
+/// Stops a child master, and forgets it.
+fn give_up<F: Family>(family: &mut F, state: &mut EdgeState, id: u32)
+    ensures turn { (a : Answered) → GoesOn (F.told family.old) (F.told family.new) (stops id (answers (alone (state_of state.old)) a)) (answers (state_of state.new) a) }
+    ensures workers { state.new.workers ≡ state.old.workers }
+{
+    family.stop(id);
+    state.child = None;
+}
+
 /// The child master makes a call. Where there is none, its pipe fails, or it says no answer that the call lists, the
 /// master is gone, and the child is stopped.
 pub(crate) fn pass<F: Family>(
@@ -102,7 +116,54 @@ pub(crate) fn pass<F: Family>(
     if let Some(answer) = exchange(family, master.id, by, call, &state.text) {
         return answer;
     }
-    family.stop(master.id);
-    state.child = None;
+    give_up(family, state, master.id);
     Answer::MasterGone
+}
+
+/// The numbers that a count has: `counted SET`.
+fn read_count(said: &[u8]) -> Option<Numbers>
+    ensures { result ≡ option_and_then set_of (after_prefix (codes "counted ") said.now) }
+{
+    match after_prefix(said, b"counted ") {
+        None => None,
+        Some(rest) => read_set(rest),
+    }
+}
+
+/// The numbers that a child is heard to count.
+fn hear_count<F: Family>(family: &mut F, id: u32) -> Option<Numbers>
+    ensures { (h : Hearing) × Tells (F.told family.old) (F.told family.new) (heard id h) × (result ≡ count_in h) }
+{
+    let mut line = Line::new();
+    match family.hear(id, &mut line) {
+        Heard::Line => read_count(line.bytes()),
+        Heard::TooLong | Heard::Ended => None,
+    }
+}
+
+/// A tick is said to a child, which answers with a count.
+fn exchange_tick<F: Family>(family: &mut F, id: u32, now: u64) -> Option<Numbers>
+    ensures { (otherwise : Turn) (read : List ℕ → Turn) → GoesOn (F.told family.old) (F.told family.new)
+        (exchanged_tick id now otherwise read) (count_or otherwise read result) }
+{
+    if !family.say(id, tick_line(now).bytes()) {
+        return None;
+    }
+    hear_count(family, id)
+}
+
+/// The child master ticks its workers, and counts those that beat. Where there is none, nobody beat; where its pipe fails,
+/// or it says no count, the child is stopped besides.
+pub(crate) fn pass_tick<F: Family>(family: &mut F, state: &mut EdgeState, now: u64) -> Numbers
+    ensures turn { GoesOn (F.told family.old) (F.told family.new) (passing_tick (state_of state.old) now state.old.child) (answers (state_of state.new) (Counted result)) }
+    ensures workers { state.new.workers ≡ state.old.workers }
+{
+    let Some(master) = state.child else {
+        return Numbers::none();
+    };
+    if let Some(numbers) = exchange_tick(family, master.id, now) {
+        return numbers;
+    }
+    give_up(family, state, master.id);
+    Numbers::none()
 }

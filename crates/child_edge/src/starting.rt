@@ -4,15 +4,15 @@ ghost use Rattle.definitions.specs.Tree.{is_listed};
 ghost use Rattle.vocabulary.specs.declared.calls.Call.TheVariants.{Fork, AwaitReady};
 ghost use Rattle.child_edge.specs.State.{state_of};
 ghost use Rattle.child_edge.specs.Table.{answers, forking, forked, greeted, given, new_worker, readying, readied, ready_or_gone};
-ghost use Rattle.child_edge.specs.Workers.{means, in_place, without_id};
+ghost use Rattle.child_workers.specs.Workers.{means, in_place, without_id};
 ghost use Rattle.child_edge.specs.Turns.{Begins, GoesOn};
 
-use crate::list::{drop_first, drop_id, first, is_any, move_first, put_in_place};
 use crate::saying::say_listeners;
 use crate::state::EdgeState;
-use crate::who::Who;
-use crate::worker::{Stage, Worker};
 use child_family::{Family, Heard, Role, StartFault, worker_line};
+use child_workers::{
+    Stage, Who, Worker, drop_first, drop_id, first, is_any, move_first, put_in_place,
+};
 use listener_set::{DescriptorSet, Generation};
 use master_listeners::Listeners;
 use plain_text::Line;

@@ -1,5 +1,5 @@
 //! What an edge knows.
-use crate::worker::Worker;
+use child_workers::Worker;
 use master_listeners::Listeners;
 
 /// A child that is a master.

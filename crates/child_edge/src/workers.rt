@@ -5,14 +5,13 @@ ghost use Rattle.vocabulary.specs.declared.calls.Call.TheVariants.{Quit, Kill, C
 ghost use Rattle.child_edge.specs.State.{state_of};
 ghost use Rattle.child_edge.specs.Table.{answers, quitting, killing, counting, awaiting, gone_or_late, leaving};
 ghost use Rattle.child_edge.specs.Each.{says_each};
-ghost use Rattle.child_edge.specs.Workers.{without, moved, numbers_of, at_stage, means};
+ghost use Rattle.child_workers.specs.Workers.{without, moved, numbers_of, at_stage, means};
 ghost use Rattle.child_edge.specs.Turns.{GoesOn};
 
 use crate::each::{await_each, count_each, say_each, stop_each};
 use crate::state::EdgeState;
-use crate::who::Who;
-use crate::worker::{Stage, Worker};
 use child_family::Family;
+use child_workers::{Stage, Who, Worker};
 use listener_set::{Generation, Numbers};
 use vocabulary::Answer;
 

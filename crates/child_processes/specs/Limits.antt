@@ -1,11 +1,11 @@
 -- How long a child may keep its master waiting.
 use Rattle.std.specs.Prelude.{ℕ, ◌*◌, Bool, true, false}
-use Rattle.child_processes.specs.declared.limits.Limits.{Limits}
+use Rattle.child_processes.specs.declared.limits.ChildLimits.{ChildLimits}
 use Rattle.child_processes.specs.declared.limits.Debt.{Debt}
 use Rattle.child_processes.specs.declared.limits.Debt.TheVariants.{Readiness, Answer, Call, End, Room}
 
 -- how many seconds a child has for what it owes; 0 is without a limit
-abbrev pub seconds_for : Limits → Debt → ℕ
+abbrev pub seconds_for : ChildLimits → Debt → ℕ
 seconds_for limits Readiness = limits.ready
 seconds_for limits Answer = limits.answer
 seconds_for limits Call = 8 * limits.ready

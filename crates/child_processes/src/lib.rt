@@ -9,6 +9,6 @@ mod reader;
 mod watch;
 mod writing;
 
-pub use limits::Limits;
+pub use limits::ChildLimits;
 pub use os_family::{ANSWER_WITHIN, OsFamily, READY_WITHIN};
 pub use reader::LineReader;

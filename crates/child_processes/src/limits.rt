@@ -7,7 +7,7 @@ use std::fmt;
 
 /// How long a child may keep its master waiting, in seconds; 0 is without a limit.
 #[derive(Clone, Copy, Debug, PartialEq, Eq)]
-pub struct Limits {
+pub struct ChildLimits {
     /// For an answer, and for room in its input.
     pub answer: u32,
     /// For its first line, since it may have to load first, and for its end once it was told to quit. A new master has
@@ -30,7 +30,7 @@ pub(crate) enum Debt {
     Room,
 }
 
-impl Limits {
+impl ChildLimits {
     /// How many seconds a child has for what it owes; 0 is without a limit.
     pub(crate) fn seconds(&self, debt: Debt) -> u64
         ensures { result ≡ seconds_for self.now debt }
@@ -72,9 +72,9 @@ impl fmt::Display for Debt {
 
 /// A child, as it is named in the log.
 #[derive(Clone, Copy)]
-pub(crate) struct Named(pub(crate) Role);
+pub(crate) struct RoleText(pub(crate) Role);
 
-impl fmt::Display for Named {
+impl fmt::Display for RoleText {
     fn fmt<W: fmt::Write>(&self, f: &mut fmt::Formatter<W>) -> fmt::Result {
         match self.0 {
             Role::Worker { generation, nr, .. } => write!(

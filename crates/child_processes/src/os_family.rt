@@ -1,5 +1,5 @@
 //! A family of processes of the system.
-use crate::limits::Limits;
+use crate::limits::ChildLimits;
 use crate::reader::LineReader;
 use crate::watch::{Open, Watch};
 use crate::writing::{remove, rename, write_whole};
@@ -60,7 +60,7 @@ impl<R: Processes + Files + Drop> OsFamily<R, Discard> {
         Ok(OsFamily {
             watch: Watch {
                 rt,
-                limits: Limits {
+                limits: ChildLimits {
                     answer: 0,
                     ready: 0,
                 },
@@ -77,7 +77,7 @@ impl<R: Processes + Files + Drop> OsFamily<R, Discard> {
     }
 
     /// The same with limits, before it has children. Each child that is killed by them is a line of the log.
-    pub fn limited<L: Log + Drop>(self, limits: Limits, log: L) -> OsFamily<R, L> {
+    pub fn limited<L: Log + Drop>(self, limits: ChildLimits, log: L) -> OsFamily<R, L> {
         let OsFamily {
             watch,
             alloc,
@@ -147,7 +147,7 @@ where
 
     /// Tells a new master the limits, in its environment: a program that knows none can be started too.
     fn tell_limits(&self, command: &mut Command) -> Result<(), AllocError> {
-        let Limits { answer, ready } = self.watch.limits;
+        let ChildLimits { answer, ready } = self.watch.limits;
         for (name, seconds) in [(ANSWER_WITHIN, answer), (READY_WITHIN, ready)] {
             if seconds > 0 {
                 let text = format!(in self.alloc; "{seconds}")?;

@@ -42,8 +42,14 @@ impl<R: Read + Drop> LineReader<R> {
     pub fn hear(&mut self, line: &mut Line) -> io::Result<Heard>
         ensures heard { IfOk result (λ h. IsNext heard_in left_in (unheard R.remaining self.old) (unheard R.remaining self.new) (heard_of h line.new)) }
         ensures failed { OnErr result (Keeps (unheard R.remaining self.old) (unheard R.remaining self.new)) }
+        ensures rest { IfOk result (λ h. h ≡ Ended → IsLast R.remaining self.new) }
     {
-        self.whole_line(line)
+        for _ in 0..u64::MAX {
+            if let Some(heard) = self.turn(line)? {
+                return Ok(heard);
+            }
+        }
+        Err(io::Error::from(ErrorKind::Other))
     }
 
     /// The next line of an input, which is waited for. A last line without a newline is given too, once; `Ended` comes only
@@ -53,7 +59,7 @@ impl<R: Read + Drop> LineReader<R> {
         ensures heard { IfOk result (λ h. IsNext line_in rest_in (unheard R.remaining self.old) (unheard R.remaining self.new) (heard_of h line.new)) }
         ensures failed { OnErr result (Keeps (unheard R.remaining self.old) (unheard R.remaining self.new)) }
     {
-        match self.whole_line(line)? {
+        match self.hear(line)? {
             Heard::Ended => Ok(self.buffer.take_rest(line)),
             heard => Ok(heard),
         }
@@ -94,20 +100,6 @@ impl<R: Read + Drop> LineReader<R> {
             return Some(heard);
         }
         None
-    }
-
-    /// The next line that has a newline. `Ended` at the end; what stands there without a newline is kept.
-    fn whole_line(&mut self, line: &mut Line) -> io::Result<Heard>
-        ensures heard { IfOk result (λ h. IsNext heard_in left_in (unheard R.remaining self.old) (unheard R.remaining self.new) (heard_of h line.new)) }
-        ensures failed { OnErr result (Keeps (unheard R.remaining self.old) (unheard R.remaining self.new)) }
-        ensures rest { IfOk result (λ h. h ≡ Ended → IsLast R.remaining self.new) }
-    {
-        for _ in 0..u64::MAX {
-            if let Some(heard) = self.turn(line)? {
-                return Ok(heard);
-            }
-        }
-        Err(io::Error::from(ErrorKind::Other))
     }
 
     /// What can be told without reading on; else it reads once, and tells the end.

@@ -1,5 +1,5 @@
 //! What is said to a child and heard of it, with a limit for each wait.
-use crate::limits::{Debt, Limits, Named, owed};
+use crate::limits::{ChildLimits, Debt, RoleText, owed};
 use crate::patience::{Patience, Wait};
 use crate::reader::LineReader;
 use crate::writing::{write_in_time, write_line};
@@ -57,7 +57,7 @@ fn hear_whole<P: OpenProcess + Drop>(
 #[derive(Drop)]
 pub(crate) struct Watch<R: Drop, L: Drop> {
     pub(crate) rt: R,
-    pub(crate) limits: Limits,
+    pub(crate) limits: ChildLimits,
     /// Each child that is ended for its silence is a line of it.
     pub(crate) log: L,
     /// How long it has waited so far.
@@ -78,7 +78,7 @@ impl<R: Clock + Drop, L: Log + Drop> Watch<R, L> {
     /// Kills a child, and logs why.
     fn kill<P: OpenProcess>(&self, child: &mut Child<P>, role: Role, debt: Debt) {
         let (number, seconds) = (child.id(), self.limits.seconds(debt));
-        info!(&self.log; target: "prefork", "killed {}, process {number}: {debt} within {seconds} s", Named(role));
+        info!(&self.log; target: "prefork", "killed {}, process {number}: {debt} within {seconds} s", RoleText(role));
         let _ = child.kill();
     }
 

@@ -1,12 +1,14 @@
 -- How a new master serves, from the first line of its handover on.
 use Rattle.std.specs.Prelude.{⊤, ℕ, ◌≡◌, ◌⊎◌, List, [], ◌∷◌, ◌++◌, Option, Some, None, Ok, Err}
 use Rattle.definitions.specs.Calls.{Call, Answer}
-use Rattle.definitions.specs.Handover.{Handover, HandoverRefusal, reading}
+use Rattle.vocabulary.specs.declared.calls.Answer.TheVariants.{Counted}
+use Rattle.definitions.specs.Handover.{Handover, HandoverRefusal}
+use Rattle.definitions.specs.Reading.{reading}
 use Rattle.child_family.specs.declared.family.Family.{Ghosts}
 use Rattle.child_family.specs.Talk.{Held}
 use Rattle.child_edge.specs.declared.edge.Edge.{Edge}
 use Rattle.child_edge.specs.State.{state_of}
-use Rattle.child_edge.specs.Table.{turn_of}
+use Rattle.child_edge.specs.Table.{turn_of, reigning_tick}
 use Rattle.child_edge.specs.Edge.{begun_from}
 use Rattle.child_programs.specs.declared.answering.Refusing.{Refusing}
 use Rattle.child_programs.specs.declared.master.NewMaster.{NewMaster}
@@ -24,14 +26,21 @@ use Rattle.child_programs.specs.Master.{waits_of, asked, IsHeard}
 abbrev pub AnswersByEdge : {F : Type 0} (f : Ghosts F) → Edge F f → ℕ → Call → List ℕ → Edge F f → Answer → Type 0
 AnswersByEdge f old by call text new a = Held (f.told old.family) (f.told new.family) (turn_of (record (state_of old.state) { text = text }) by call) (state_of new.state, a)
 
--- a master whose handover was faulty took nothing over
+-- at a tick it counts those that beat of its workers, or of those of its own child master once it has left
+abbrev pub BeatsByEdge : {F : Type 0} (f : Ghosts F) → Edge F f → ℕ → Edge F f → List ℕ → Type 0
+BeatsByEdge f old now new numbers = Held (f.told old.family) (f.told new.family) (reigning_tick (state_of old.state) now) (state_of new.state, Counted numbers)
+
+-- a master whose handover was faulty took nothing over, and has no workers
 abbrev pub AnswersNothing : Refusing → ℕ → Call → List ℕ → Refusing → Answer → Type 0
 AnswersNothing old by call text new a = a ≡ refused call
 
--- What a line comes to, where calls are answered so. Where memory is refused, the master fails.
-abbrev pub HearsBy : {M : Type 0} → (M → ℕ → Call → List ℕ → M → Answer → Type 0) → NewMaster M → List ℕ → NewMaster M → Response → Type 0
-HearsBy answers old line new r =
-    (IsHeard answers (asked (waits_of old.waiting old.handover) line).0 old.answers new.answers r × (waits_of new.waiting new.handover ≡ (asked (waits_of old.waiting old.handover) line).1)) ⊎ (r ≡ fails)
+abbrev pub BeatsNobody : Refusing → ℕ → Refusing → List ℕ → Type 0
+BeatsNobody old now new numbers = numbers ≡ []
+
+-- What a line comes to, where calls and ticks are answered so. Where memory is refused, the master fails.
+abbrev pub HearsBy : {M : Type 0} → (M → ℕ → Call → List ℕ → M → Answer → Type 0) → (M → ℕ → M → List ℕ → Type 0) → NewMaster M → List ℕ → NewMaster M → Response → Type 0
+HearsBy answers beats old line new r =
+    (IsHeard answers beats (asked (waits_of old.waiting old.handover) line).0 old.answers new.answers r × (waits_of new.waiting new.handover ≡ (asked (waits_of old.waiting old.handover) line).1)) ⊎ (r ≡ fails)
 
 ---- The handover
 
@@ -77,13 +86,13 @@ IsReceived unread line left received.Ended = IsCut unread
 
 ---- The service
 
--- A master that waits for nothing yet serves on an input, and calls are answered so; who answers at first and at last is named.
-pub record IsServedBy {M : Type 0} (answers : M → ℕ → Call → List ℕ → M → Answer → Type 0) (first : M) (unread before : Option (List ℕ)) (status : ℕ) (last : M) (after : Option (List ℕ)) : Type 0 where
+-- A master that waits for nothing yet serves on an input, and calls and ticks are answered so; who answers at first and at last is named.
+pub record IsServedBy {M : Type 0} (answers : M → ℕ → Call → List ℕ → M → Answer → Type 0) (beats : M → ℕ → M → List ℕ → Type 0) (first : M) (unread before : Option (List ℕ)) (status : ℕ) (last : M) (after : Option (List ℕ)) : Type 0 where
   pub old : NewMaster M
   pub new : NewMaster M
   pub begins : old.answers ≡ first
   pub waits : old.waiting ≡ None
-  pub served : IsServed (HearsBy answers) unread old before status new after
+  pub served : IsServed (HearsBy answers beats) unread old before status new after
   pub ends : new.answers ≡ last
 
 -- A faulty handover was refused: a whole one that cannot be read, or one that a line broke off which asks for an answer. That line
@@ -95,7 +104,7 @@ pub record IsRefused (unread before : Option (List ℕ)) (status : ℕ) (after :
   pub faulty :
       ((text : List ℕ) × IsWhole unread text from × (why : HandoverRefusal) × (reading text ≡ Err why))
       ⊎ ((line : List ℕ) × (left : Option (List ℕ)) × (handed : IsHandedOver unread line Other left) × (handed.from ≡ from))
-  pub served : IsServedBy AnswersNothing first from before status last after
+  pub served : IsServedBy AnswersNothing BeatsNobody first from before status last after
 
 -- A handover was taken over: the edge begins with what it says.
 pub record IsAdopted {F : Type 0} (f : Ghosts F) (family : F) (pid : ℕ) (unread before : Option (List ℕ)) (status : ℕ) (left : F) (after : Option (List ℕ)) : Type 0 where
@@ -108,7 +117,7 @@ pub record IsAdopted {F : Type 0} (f : Ghosts F) (family : F) (pid : ℕ) (unrea
   pub last : Edge F f
   pub begins : state_of first.state ≡ begun_from handover pid
   pub family_is : first.family ≡ family
-  pub served : IsServedBy (AnswersByEdge f) first from before status last after
+  pub served : IsServedBy (AnswersByEdge f) (BeatsByEdge f) first from before status last after
   pub left_is : last.family ≡ left
 
 -- A master on an input: memory was refused or a read failed, and nothing was said; its handover was cut, and nothing was said; the

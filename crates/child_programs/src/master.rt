@@ -1,7 +1,8 @@
 //! A new master that makes the calls that it is told.
-ghost use Rattle.std.specs.Prelude.{◌≡◌, ◌<◌, IfOk, OnOk, [], None, codes, length};
+ghost use Rattle.std.specs.Prelude.{◌≡◌, ◌<◌, ℕ, IfOk, List, OnOk, [], None, codes, length};
 ghost use Rattle.call_text.specs.CallText.{answer_text};
 ghost use Rattle.definitions.specs.Calls.{Answer as Answered};
+ghost use Rattle.vocabulary.specs.declared.calls.Answer.TheVariants.{Counted};
 ghost use Rattle.child_programs.specs.Requests.{request_of, part_of};
 ghost use Rattle.child_programs.specs.Response.{says, response_of, HasRoom};
 ghost use Rattle.child_programs.specs.Master.{waits_of, called, requested, handed, asked, IsHeard};
@@ -14,7 +15,7 @@ use crate::requests::{CallLine, MasterRequest, read_request};
 use call_text::write_answer;
 use plain_text::Line;
 use std::alloc::AllocError;
-use vocabulary::{Actor, Call};
+use vocabulary::{Actor, Answer, Call};
 
 /// A call that starts a master.
 #[derive(Clone, Copy, Debug)]
@@ -51,6 +52,16 @@ fn make<A: Answers>(
     Ok(Reaction::Says)
 }
 
+/// Ticks the workers, and makes a line of the numbers that beat.
+fn tick<A: Answers>(answers: &mut A, now: u64, answer: &mut Line) -> Reaction
+    ensures response { (numbers : List ℕ) × (response_of result answer.new ≡ says (answer_text (Counted numbers))) × A.beats answers.old now answers.new numbers }
+    ensures room { length answer.new < 4096 }
+{
+    let numbers = answers.tick(now);
+    write_answer(&Answer::Counted(numbers), answer);
+    Reaction::Says
+}
+
 impl<A: Answers + Drop> NewMaster<A> {
     /// A new master that was told nothing since its own handover. The room of `handover` serves for the next one.
     pub fn new(answers: A, handover: HandoverLines) -> NewMaster<A>
@@ -74,7 +85,7 @@ impl<A: Answers + Drop> NewMaster<A> {
     /// Has a call made; one that starts a master waits for its handover.
     fn take_call(&mut self, made: CallLine, answer: &mut Line) -> Result<Reaction, AllocError>
         requires { self.old.waiting ≡ None }
-        ensures heard { IfOk result (λ step. IsHeard A.answers (called made.by made.call).0 self.old.answers self.new.answers (response_of step answer.new)) }
+        ensures heard { IfOk result (λ step. IsHeard A.answers A.beats (called made.by made.call).0 self.old.answers self.new.answers (response_of step answer.new)) }
         ensures waits { OnOk result (waits_of self.new.waiting self.new.handover ≡ (called made.by made.call).1) }
         ensures room { IfOk result (λ step. HasRoom (response_of step answer.new)) }
     {
@@ -89,7 +100,7 @@ impl<A: Answers + Drop> NewMaster<A> {
     /// Hears a line where it waits for one that asks something.
     fn hear_request(&mut self, line: &[u8], answer: &mut Line) -> Result<Reaction, AllocError>
         requires { self.old.waiting ≡ None }
-        ensures heard { IfOk result (λ step. IsHeard A.answers (requested (request_of line.now)).0 self.old.answers self.new.answers (response_of step answer.new)) }
+        ensures heard { IfOk result (λ step. IsHeard A.answers A.beats (requested (request_of line.now)).0 self.old.answers self.new.answers (response_of step answer.new)) }
         ensures waits { OnOk result (waits_of self.new.waiting self.new.handover ≡ (requested (request_of line.now)).1) }
         ensures room { IfOk result (λ step. HasRoom (response_of step answer.new)) }
     {
@@ -99,6 +110,7 @@ impl<A: Answers + Drop> NewMaster<A> {
                 write_text(answer, b"alive");
                 Ok(Reaction::Says)
             }
+            Some(MasterRequest::Tick(now)) => Ok(tick(&mut self.answers, now, answer)),
             Some(MasterRequest::Make(made)) => self.take_call(made, answer),
         }
     }
@@ -111,7 +123,7 @@ impl<A: Answers + Drop> NewMaster<A> {
         answer: &mut Line,
     ) -> Result<Reaction, AllocError>
         requires { self.old.waiting ≡ Some spawn }
-        ensures heard { IfOk result (λ step. IsHeard A.answers (handed spawn.by spawn.image self.old.handover line.now (part_of line.now)).0 self.old.answers self.new.answers (response_of step answer.new)) }
+        ensures heard { IfOk result (λ step. IsHeard A.answers A.beats (handed spawn.by spawn.image self.old.handover line.now (part_of line.now)).0 self.old.answers self.new.answers (response_of step answer.new)) }
         ensures waits { OnOk result (waits_of self.new.waiting self.new.handover ≡ (handed spawn.by spawn.image self.old.handover line.now (part_of line.now)).1) }
         ensures room { IfOk result (λ step. HasRoom (response_of step answer.new)) }
     {
@@ -132,12 +144,13 @@ impl<A: Answers + Drop> NewMaster<A> {
         }
     }
 
-    /// Hears a line, without its newline. To `alive` it says `alive`. A call is made by who answers, and its answer is
-    /// said; one that starts a master waits for the lines of the handover that follow it, up to the line `end`, and is
-    /// made then. At any other line it fails, and at a line that asks for an answer where a handover isn't at its end.
-    /// The only refusal is want of memory.
+    /// Hears a line, without its newline. To `alive` it says `alive`. At `tick NOW` the workers are told the moment, and it
+    /// says `counted` and the numbers of those that beat. A call is made by who answers, and its answer is said; one that
+    /// starts a master waits for the lines of the handover that follow it, up to the line `end`, and is made then. At any
+    /// other line it fails, and at a line that asks for an answer where a handover isn't at its end. The only refusal is
+    /// want of memory.
     pub fn hear(&mut self, line: &[u8], answer: &mut Line) -> Result<Reaction, AllocError>
-        ensures heard { IfOk result (λ step. IsHeard A.answers (asked (waits_of self.old.waiting self.old.handover) line.now).0 self.old.answers self.new.answers (response_of step answer.new)) }
+        ensures heard { IfOk result (λ step. IsHeard A.answers A.beats (asked (waits_of self.old.waiting self.old.handover) line.now).0 self.old.answers self.new.answers (response_of step answer.new)) }
         ensures waits { OnOk result (waits_of self.new.waiting self.new.handover ≡ (asked (waits_of self.old.waiting self.old.handover) line.now).1) }
         ensures room { IfOk result (λ step. HasRoom (response_of step answer.new)) }
     {
@@ -152,7 +165,7 @@ impl<A: Answers + Drop> NewMaster<A> {
 impl<A: Answers + Drop> Hears for NewMaster<A> {
     ghost use Rattle.child_programs.specs.Adopting.{HearsBy};
 
-    ghost hears = { HearsBy A.answers };
+    ghost hears = { HearsBy A.answers A.beats };
 
     fn hear(&mut self, line: &[u8], answer: &mut Line) -> Reaction {
         match self.hear(line, answer) {

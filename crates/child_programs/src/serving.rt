@@ -6,7 +6,7 @@ ghost use Rattle.child_programs.specs.Worker.{Obeys};
 ghost use Rattle.child_programs.specs.Served.{if_more, IsNextLine, IsObeyed, IsServed};
 ghost use Rattle.child_edge.specs.declared.edge.Edge.{Edge as Edged};
 ghost use Rattle.child_programs.specs.declared.answering.Refusing.{Refusing as Refuser};
-ghost use Rattle.child_programs.specs.Adopting.{AnswersByEdge, AnswersNothing, IsReceived, IsServedBy, IsServedAsMaster};
+ghost use Rattle.child_programs.specs.Adopting.{AnswersByEdge, AnswersNothing, BeatsByEdge, BeatsNobody, IsReceived, IsServedBy, IsServedAsMaster};
 
 use crate::answering::{Answers, Refusing};
 use crate::handover_lines::{HandoverLines, Part};
@@ -135,7 +135,7 @@ fn serve_adopted<F: Family + Drop, I: Read + Drop, O: Write>(
     lines: &mut LineReader<I>,
     output: &mut O,
 ) -> ServedMaster<F>
-    ensures { (last : Edged F ⟦<F as Family>⟧) × (result.family ≡ Some last.family) × IsServedBy (AnswersByEdge ⟦<F as Family>⟧) edge (unheard I.remaining lines.old) (O.contents output.old) result.status last (O.contents output.new) }
+    ensures { (last : Edged F ⟦<F as Family>⟧) × (result.family ≡ Some last.family) × IsServedBy (AnswersByEdge ⟦<F as Family>⟧) (BeatsByEdge ⟦<F as Family>⟧) edge (unheard I.remaining lines.old) (O.contents output.old) result.status last (O.contents output.new) }
 {
     let mut master = NewMaster::new(edge, handover);
     let status = serve(&mut master, lines, output);
@@ -151,7 +151,7 @@ fn serve_refusing<I: Read + Drop, O: Write>(
     lines: &mut LineReader<I>,
     output: &mut O,
 ) -> u8
-    ensures { (first : Refuser) × (last : Refuser) × IsServedBy AnswersNothing first (unheard I.remaining lines.old) (O.contents output.old) result last (O.contents output.new) }
+    ensures { (first : Refuser) × (last : Refuser) × IsServedBy AnswersNothing BeatsNobody first (unheard I.remaining lines.old) (O.contents output.old) result last (O.contents output.new) }
 {
     let mut master = NewMaster::new(Refusing, handover);
     serve(&mut master, lines, output)
@@ -165,7 +165,7 @@ fn serve_broken<I: Read + Drop, O: Write>(
     output: &mut O,
 ) -> u8
     ensures { (unread : Option (List ℕ)) → IsNextLine unread (Some line.now) (unheard I.remaining lines.old)
-        → (first : Refuser) × (last : Refuser) × IsServedBy AnswersNothing first unread (O.contents output.old) result last (O.contents output.new) }
+        → (first : Refuser) × (last : Refuser) × IsServedBy AnswersNothing BeatsNobody first unread (O.contents output.old) result last (O.contents output.new) }
 {
     let mut master = NewMaster::new(Refusing, handover);
     if let Some(status) = obey(&mut master, line, output) {

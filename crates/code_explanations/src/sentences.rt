@@ -4,16 +4,16 @@ use crate::Explanation;
 
 /// The codes that the program prints: those that begin its faults, and those of addresses, starts, configurations and
 /// handovers. (There are three lists, since the prover takes too long over one of all.)
-pub const FAULTS: [Explanation; 36] = [
+pub const FAULTS: [Explanation; 37] = [
     Explanation {
         code: "usage",
         meaning: "invalid command line",
         remedy: "\
 An argument is unknown, missing or given twice, or its value is not allowed.
 N and K are decimal numbers up to 4294967295 without leading zeros; --events
-is 1 or 2, --turns has letters n and o, --forbid is 'degraded', --require is
-'done'. `prefork --help` has the subcommands, and `prefork enact --help` the
-options of one.",
+is 1 or 2, --turns is 'all' or letters n and o, --forbid is 'degraded',
+--require is 'done'. `prefork --help` has the subcommands, and
+`prefork enact --help` the options of one.",
     },
     Explanation {
         code: "word",
@@ -91,6 +91,15 @@ memory or raise the limit (ulimit -v), then try again.",
         remedy: "\
 `prefork explain` lists every code, answer and outcome. Give one of them,
 as it is written there and without what follows it: Y1, and not 'Y1 9'.",
+    },
+    Explanation {
+        code: "orders",
+        meaning: "the upgrade has more than 5000 orders of turns",
+        remedy: "\
+`explore --turns all` tries each order of the calls of the two masters. Two
+things make them many: the workers of the new master, and --events 2. Take
+configurations with fewer workers, or single events, or give one order with
+--turns and letters n and o.",
     },
     Explanation {
         code: "running",
@@ -536,10 +545,10 @@ After 'alive' the new master has ended. Correct the cause and try again.",
         code: "late",
         meaning: "the worker was not ready, or had not ended, in time",
         remedy: "\
-An answer of 'await-ready' and 'await-gone'; the worker is killed. Real
-workers have no limit of time here: one is late if its next line is not
-'ready', or 'gone'. Its standard output is for the master alone, so let the
-program print to standard error. `prefork-serve --guard` ends silent ones.",
+An answer of 'await-ready' and 'await-gone'; the worker is killed. A real
+worker is late if its next line is not 'ready', or 'gone'. Its standard
+output is for the master alone, so let the program print to standard error.
+One that says nothing is gone, once `--answer-within` has ended it.",
     },
     Explanation {
         code: "counted",

@@ -41,7 +41,7 @@ pub(crate) const STATE_HELP: &str = "Print processes, files and service after th
 
 pub(crate) const EVENTS_HELP: &str = "At most K events in a run, 1 or 2 [default: 1]";
 
-pub(crate) const TURNS_HELP: &str = "Whose call is next in an upgrade, letters n and o";
+pub(crate) const TURNS_HELP: &str = "Whose call is next in an upgrade: n and o, or 'all'";
 
 pub(crate) const LIMIT_HELP: &str = "Stop after N runs, and say 'cut' if runs are left";
 
@@ -123,8 +123,8 @@ Example: a tick, a reload and a stop:
 
 pub(crate) const ADOPT_NOTES: &str = "\
 On USR2 the old master starts PROGRAM adopt. Standard input has the handover,
-and then a call on each line, which is answered on standard output. At the end
-of the input the new master stops its children and ends.
+and then a call or a tick on each line, which is answered on standard output.
+At the end of the input the new master stops its children and ends.
 Status: 0 the input has ended, 1 a line or memory was refused, 2 usage.
 
 Example: a script that wraps prefork passes its own name on:
@@ -147,6 +147,7 @@ It carries out WORD under no event, under each single event and, with --events
 back, or the exit of a worker or of the new master. Where both masters of an
 upgrade have a call to make, the turns of --turns say whose is next, n the new
 one's and o the old one's; after their end, or without them, the new one's is.
+--turns all tries each order of their calls, unless there are more than 5000.
 Status: 0 counted, 1 refused, 2 usage, 4 degraded with --forbid degraded or too
 few workers with --least, 6 not known: no run was done with --require done, no
 address stays with --least, or --limit left runs out with any of the three.
@@ -155,13 +156,14 @@ Example: what is left if any one thing goes wrong during a reload:
   prefork explore --from a.toml --to b.toml HUP
 
 Example: whether a pipeline may deploy a configuration:
-  prefork explore --from a.toml --to b.toml --forbid degraded --require done \\
-    --least 1 HUP";
+  prefork explore --to b.toml --forbid degraded --require done --least 1 HUP";
 
 pub(crate) const PLAN_NOTES: &str = "\
 Each line has a step: its number, the master that makes the call, the call, and
 for each answer the next step or how the plan ends. The line 'nothing' means
 that no calls are needed.
+Missing workers are started again as often as the retries of the configuration
+that runs say, on HUP and USR2 too.
 Status: 0 a plan or nothing, 1 refused, 2 usage.
 
 Example: the plan of a reload:

@@ -62,7 +62,7 @@ pub struct ExploreOptions<'a> {
     pub held: Option<&'a str>,
     /// `--events`: how many events a run has at most. Without it one.
     pub events: Option<u32>,
-    /// `--turns`: a letter for each turn of two masters, `n` or `o`. Without it the new one goes first.
+    /// `--turns`: a letter for each turn of two masters, `n` or `o`, or `all` orders of them. Without it the new one goes first.
     pub turns: Option<&'a str>,
     /// `--limit`: how many runs there are at most. Without it as many as it takes.
     pub limit: Option<u32>,

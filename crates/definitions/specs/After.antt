@@ -1,5 +1,11 @@
 -- What a master's record becomes once a plan has ended.
-use Rattle.std.specs.Prelude.{ℕ, ◌+◌, ◌==◌, nat_lt, nat_le, Bool, true, false, ◌&&◌, not, List, [], ◌∷◌, Option, Some, None, is_none, option_map, option_and_then, unwrap_or, filter, bytes_eq, length, if◌then◌else◌}
+--
+-- After POSIX: a descriptor that is opened is the lowest free one. Our own: after a way back a master is what it was.
+
+use Rattle.std.specs.Prelude.{◌≡◌, refl, codes}
+use Rattle.std.specs.Prelude.{ℕ, ◌+◌, ◌==◌, nat_lt, nat_le, Bool, true, false, ◌&&◌, not, List, [], ◌∷◌, Option, Some}
+use Rattle.std.specs.Prelude.{None, is_none, option_map, option_and_then, unwrap_or, filter, bytes_eq, length}
+use Rattle.std.specs.Prelude.{if◌then◌else◌}
 use Rattle.std.specs.List.{list_any}
 use Rattle.listener_set.specs.AddressList.{has}
 use Rattle.listener_set.specs.Numbers.{first_from}
@@ -28,7 +34,8 @@ abbrev pub opened_from : ℕ → Address → List Listener → List Listener
 opened_from fd a [] = listener_at fd a ∷ []
 opened_from fd a (l ∷ ls) = if l.descriptor == fd then l ∷ opened_from (fd + 1) a ls else listener_at fd a ∷ l ∷ ls
 
--- addresses opened one after another, each at the descriptor that is the lowest free one then; a process has 64 descriptors
+-- addresses opened one after another, each at the descriptor that is the lowest free one then; a process has 64
+-- descriptors
 abbrev pub all_opened : List Address → List Listener → Option (List Listener)
 all_opened [] ls = Some ls
 all_opened (a ∷ more) ls = if nat_lt (length ls) 64 then all_opened more (opened_from 3 a ls) else None
@@ -55,25 +62,19 @@ upgraded addresses ls = with_added addresses (still_wanted addresses ls)
 
 ---- Where the workers of a target listen
 
--- The listeners while the target's workers are started: with what is added, and, of an upgrade, without what is dropped. Where the
--- added ones are too many no worker is started, and it does not matter.
+-- The listeners while the target's workers are started: with what is added, and, of an upgrade, without what is
+-- dropped. Where the added ones are too many no worker is started, and it does not matter.
 abbrev pub listeners_then : Record → Target → List Listener
-listeners_then r (target.Workers n) = r.listeners
-listeners_then r (target.Mend overdue) = r.listeners
-listeners_then r target.Reopen = r.listeners
 listeners_then r (target.Reload s) = unwrap_or (with_added s.listeners r.listeners) r.listeners
 listeners_then r (target.Upgrade s) = unwrap_or (upgraded s.listeners r.listeners) r.listeners
 listeners_then r (target.Attended s) = unwrap_or (upgraded s.listeners r.listeners) r.listeners
-listeners_then r (target.Stop quick) = r.listeners
+listeners_then r _ = r.listeners
 
 abbrev pub posts_wanted : Record → Target → Posts
-posts_wanted r (target.Workers n) = r.posts
-posts_wanted r (target.Mend overdue) = r.posts
-posts_wanted r target.Reopen = r.posts
 posts_wanted r (target.Reload s) = posts_of s.groups s.listeners (listeners_then r (target.Reload s))
 posts_wanted r (target.Upgrade s) = posts_of s.groups s.listeners (listeners_then r (target.Upgrade s))
 posts_wanted r (target.Attended s) = posts_of s.groups s.listeners (listeners_then r (target.Attended s))
-posts_wanted r (target.Stop quick) = r.posts
+posts_wanted r _ = r.posts
 
 -- the workers that a target wants, as they are started
 abbrev pub crew_wanted : Record → Target → Crew
@@ -90,7 +91,14 @@ pub record Setup : Type 0 where
   pub timeout : ℕ
 
 abbrev pub setup_of : Record → Setup
-setup_of r = record { listeners = r.listeners; posts = r.posts; generation = r.generation; wanted = r.wanted; retries = r.retries; timeout = r.timeout }
+setup_of r = record {
+  listeners = r.listeners;
+  posts = r.posts;
+  generation = r.generation;
+  wanted = r.wanted;
+  retries = r.retries;
+  timeout = r.timeout;
+}
 
 -- image and config numbers end at 4,294,967,295
 abbrev pub next_number : ℕ → Option ℕ
@@ -111,39 +119,47 @@ next_image g = numbered (next_number g.image) (next_number g.config)
 
 -- a reload or an upgrade that has no generation, since a number would pass its limit
 abbrev pub lacks_generation : Record → Target → Bool
-lacks_generation r (target.Workers n) = false
-lacks_generation r (target.Mend overdue) = false
-lacks_generation r target.Reopen = false
 lacks_generation r (target.Reload s) = is_none (next_config r.generation)
 lacks_generation r (target.Upgrade s) = is_none (next_image r.generation)
 lacks_generation r (target.Attended s) = is_none (next_image r.generation)
-lacks_generation r (target.Stop quick) = false
+lacks_generation r _ = false
 
 -- the service of new settings
 abbrev pub renewed : Settings → Posts → Option (List Listener) → Option Generation → Option Setup
 renewed s posts None g = None
 renewed s posts (Some ls) None = None
-renewed s posts (Some ls) (Some g) = Some (record { listeners = ls; posts = posts; generation = g; wanted = s.workers; retries = s.retries; timeout = s.timeout })
+renewed s posts (Some ls) (Some g) = Some (record {
+  listeners = ls;
+  posts = posts;
+  generation = g;
+  wanted = s.workers;
+  retries = s.retries;
+  timeout = s.timeout;
+})
 
 -- the target's service; a stop has none
 abbrev pub target_setup : Record → Target → Option Setup
-target_setup r (target.Workers n) = Some (record { listeners = r.listeners; posts = r.posts; generation = r.generation; wanted = n; retries = r.retries; timeout = r.timeout })
-target_setup r (target.Mend overdue) = Some (setup_of r)
-target_setup r target.Reopen = Some (setup_of r)
-target_setup r (target.Reload s) = renewed s (posts_wanted r (target.Reload s)) (reloaded s.listeners r.listeners) (next_config r.generation)
-target_setup r (target.Upgrade s) = renewed s (posts_wanted r (target.Upgrade s)) (upgraded s.listeners r.listeners) (next_image r.generation)
-target_setup r (target.Attended s) = renewed s (posts_wanted r (target.Attended s)) (upgraded s.listeners r.listeners) (next_image r.generation)
+target_setup r (target.Workers n) = Some (record {
+  listeners = r.listeners;
+  posts = r.posts;
+  generation = r.generation;
+  wanted = n;
+  retries = r.retries;
+  timeout = r.timeout;
+})
+target_setup r (target.Reload s) =
+    renewed s (posts_wanted r (target.Reload s)) (reloaded s.listeners r.listeners) (next_config r.generation)
+target_setup r (target.Upgrade s) =
+    renewed s (posts_wanted r (target.Upgrade s)) (upgraded s.listeners r.listeners) (next_image r.generation)
+target_setup r (target.Attended s) =
+    renewed s (posts_wanted r (target.Attended s)) (upgraded s.listeners r.listeners) (next_image r.generation)
 target_setup r (target.Stop quick) = None
+target_setup r _ = Some (setup_of r)
 
 -- the service that ran before; nothing runs after a stop
 abbrev pub old_setup : Record → Target → Option Setup
-old_setup r (target.Workers n) = Some (setup_of r)
-old_setup r (target.Mend overdue) = Some (setup_of r)
-old_setup r target.Reopen = Some (setup_of r)
-old_setup r (target.Reload s) = Some (setup_of r)
-old_setup r (target.Upgrade s) = Some (setup_of r)
-old_setup r (target.Attended s) = Some (setup_of r)
 old_setup r (target.Stop quick) = None
+old_setup r _ = Some (setup_of r)
 
 -- the service that an outcome names
 abbrev pub setup_after : Outcome → Record → Target → Option Setup
@@ -170,10 +186,11 @@ recorded s path report pid = record {
   pid = pid;
 }
 
--- what a report might break of the rules of a record: it listens, at most 1024 workers are wanted, each ready number is below
--- the wanted count, and there is a process number
+-- what a report might break of the rules of a record: it listens, at most 1024 workers are wanted, each ready number
+-- is below the wanted count, and there is a process number
 abbrev pub keeps_rules : Record → Bool
-keeps_rules r = nat_le 1 (length r.listeners) && (nat_le r.wanted 1024 && (is_none (first_from r.wanted r.ready) && nat_le 1 r.pid))
+keeps_rules r =
+    nat_le 1 (length r.listeners) && (nat_le r.wanted 1024 && (is_none (first_from r.wanted r.ready) && nat_le 1 r.pid))
 
 abbrev pub record_if : Bool → Record → Option Record
 record_if true r = Some r
@@ -183,8 +200,8 @@ abbrev pub record_from : Option Setup → Option FilePath → Report → ℕ →
 record_from None path report pid = None
 record_from (Some s) path report pid = record_if (keeps_rules (recorded s path report pid)) (recorded s path report pid)
 
--- The record after a plan for a target: the service that the report names, with its ready numbers and its note. There is none
--- after a stop or where the run was lost, nor where the result would break the rules of a record.
+-- The record after a plan for a target: the service that the report names, with its ready numbers and its note. There
+-- is none after a stop or where the run was lost, nor where the result would break the rules of a record.
 abbrev pub record_after : Record → Target → Report → ℕ → Option Record
 record_after r t report pid = record_from (setup_after report.outcome r t) r.pid_path report pid
 
@@ -195,11 +212,18 @@ abbrev pub master_of : Option Setup → Table → Option ℕ
 master_of None t = None
 master_of (Some s) t = option_map (λ (c : Caller). c.number) (live_master s.generation.image t.rows)
 
--- The process number of the master that reigns in a table after an outcome: the live master of the image of the service that
--- the outcome names.
+-- The process number of the master that reigns in a table after an outcome: the live master of the image of the
+-- service that the outcome names.
 abbrev pub reigning : Record → Target → Outcome → Table → Option ℕ
 reigning r t outcome table = master_of (setup_after outcome r t) table
 
 -- The record that a report leaves to the master that reigns in the last table.
 abbrev pub next_record : Record → Target → Report → Table → Option Record
 next_record r t report last = option_and_then (record_after r t report) (reigning r t report.outcome last)
+
+---- An example: the gap in the descriptors is filled first
+
+example :
+    opened_from 3 (codes "1.2.3.4:82") (listener_at 3 (codes "1.2.3.4:80") ∷ listener_at 5 (codes "1.2.3.4:81") ∷ [])
+    ≡ listener_at 3 (codes "1.2.3.4:80") ∷ listener_at 4 (codes "1.2.3.4:82") ∷ listener_at 5 (codes "1.2.3.4:81") ∷ []
+example = refl

@@ -1,7 +1,8 @@
 -- What a call by which a master builds or mends leaves alone.
 use Rattle.std.specs.Prelude.{ℕ, ◌≡◌, Bool, true, false, not, List, Option, Some, None, filter}
 use Rattle.definitions.specs.Table.{Process, Table, Caller, live_master}
-use Rattle.definitions.specs.Calls.{Call, OpenAt, CloseAt, Fork, AwaitReady, Quit, Kill, Census, Adopt, Fate, is_of, step_with}
+use Rattle.definitions.specs.Calls.{Call, OpenAt, CloseAt, Fork, AwaitReady, Quit, Kill, Census, Adopt, Fate, is_of}
+use Rattle.definitions.specs.Calls.{step_with}
 
 -- the calls that concern a master and its workers alone
 abbrev pub is_own_call : Call → Bool
@@ -19,8 +20,8 @@ is_own_call _ = false
 abbrev pub aside_of : ℕ → List Process → List Process
 aside_of master rows = filter (λ p. not (is_of master p)) rows
 
--- Such a call, however it is answered, leaves every other process as it was, with all its holds, and every file; where its master is
--- gone it leaves the whole table.
+-- Such a call, however it is answered, leaves every other process as it was, with all its holds, and every file;
+-- where its master is gone it leaves the whole table.
 pub record LeavesAlone (image : ℕ) (o : Option Caller) (before after : Table) : Type 0 where
   pub rows : (c : Caller) → o ≡ Some c → aside_of c.number after.rows ≡ aside_of c.number before.rows
   pub gone : o ≡ None → after ≡ before

@@ -1,13 +1,25 @@
 -- Calls: what each is answered, and what it changes in the table.
-use Rattle.std.specs.Prelude.{ℕ, ◌+◌, Bool, true, false, ◌&&◌, ◌==◌, nat_lt, not, List, [], ◌∷◌, ◌++◌, Option, Some, None, filter, count_by, length, if◌then◌else◌, zero, suc, bytes_eq, Result, Ok, Err}
+--
+-- After POSIX (bind, fork, kill, waitpid, rename, unlink), nginx's "Controlling nginx" (the pid file with the suffix)
+-- and Unicorn's SIGNALS (QUIT lets a worker finish). Our own: a census, and that a new worker says when it is ready.
+
+use Rattle.std.specs.Prelude.{◌≡◌, refl}
+use Rattle.std.specs.Prelude.{ℕ, ◌+◌, Bool, true, false, ◌&&◌, ◌==◌, nat_lt, not, List, [], ◌∷◌, ◌++◌, Option, Some}
+use Rattle.std.specs.Prelude.{None, filter, count_by, length, if◌then◌else◌, zero, suc, bytes_eq, Result, Ok, Err}
 use Rattle.std.specs.List.{list_any, filter_map}
 use Rattle.listener_set.specs.Numbers.{numbers_below, is_in}
 use Rattle.vocabulary.specs.declared.table.Listener.{Listener}
-use Rattle.definitions.specs.Handover.{Handover, HandoverRefusal, reading}
-use Rattle.definitions.specs.Table.{FilePath, File, owner_at, is_draining, Address, Generation, Hold, Starting, Ready, Draining, Process, Master, Worker, Foreign, Table, with_rows, is_starting, is_ready, is_active, is_exited, is_any, is_worker, is_own, is_at, is_held, Caller, live_master}
+use Rattle.definitions.specs.Handover.{Handover, HandoverRefusal}
+use Rattle.definitions.specs.Reading.{reading}
+use Rattle.definitions.specs.Table.{FilePath, File, owner_at, is_draining, Address, Generation, Hold, Starting, Ready}
+use Rattle.definitions.specs.Table.{Draining, Process, Master, Worker, Foreign, Table, with_rows, is_starting, is_ready}
+use Rattle.definitions.specs.Table.{is_active, is_exited, is_any, is_worker, is_own, is_at, is_held, Caller}
+use Rattle.definitions.specs.Table.{live_master}
 use Rattle.definitions.specs.Exits.{change}
 pub use Rattle.vocabulary.specs.declared.calls.Call.{Call}
-pub use Rattle.vocabulary.specs.declared.calls.Call.TheVariants.{OpenAt, CloseAt, Fork, AwaitReady, Quit, Kill, Census, AwaitGone, SpawnMaster, Adopt, WritePid, MovePid, RemovePid, Alive, Leave, Usr1, TermMaster, Ask}
+pub use Rattle.vocabulary.specs.declared.calls.Call.TheVariants.{OpenAt, CloseAt, Fork, AwaitReady, Quit, Kill, Census}
+pub use Rattle.vocabulary.specs.declared.calls.Call.TheVariants.{AwaitGone, SpawnMaster, Adopt, WritePid, MovePid}
+pub use Rattle.vocabulary.specs.declared.calls.Call.TheVariants.{RemovePid, Alive, Leave, Usr1, TermMaster, Ask}
 pub use Rattle.vocabulary.specs.declared.calls.Answer.{Answer}
 pub use Rattle.vocabulary.specs.declared.calls.Answer.TheVariants as answer
 pub use Rattle.vocabulary.specs.declared.calls.Fate.{Fate}
@@ -52,18 +64,22 @@ with_holds f (Foreign n hs) = Foreign n (f hs)
 -- the master's own row
 abbrev pub is_row : ℕ → Process → Bool
 is_row caller (Master n q i live hs) = n == caller
-is_row caller (Worker n q g k s hs) = false
-is_row caller (Foreign n hs) = false
+is_row caller _ = false
 
 abbrev pub with_new_socket : Table → ℕ → Hold → Table
-with_new_socket t caller h = record t { rows = filter_map (change (is_row caller) (with_holds (put_hold h))) t.rows; next_socket = t.next_socket + 1 }
+with_new_socket t caller h = record t {
+  rows = filter_map (change (is_row caller) (with_holds (put_hold h))) t.rows;
+  next_socket = t.next_socket + 1;
+}
 
 -- A new socket of the address, unless somebody holds the address or the caller has as many descriptors as it may.
 abbrev pub opened : Caller → Address → Table → Stepped
 opened c a t =
     if is_held a t.rows then gives answer.InUse t
     else if nat_lt (length c.holds) t.limits.descriptors
-    then gives (answer.Opened (lowest_free c.holds)) (with_new_socket t c.number (record { fd = lowest_free c.holds; socket = t.next_socket; address = a }))
+    then
+    gives (answer.Opened (lowest_free c.holds))
+    (with_new_socket t c.number (record { fd = lowest_free c.holds; socket = t.next_socket; address = a }))
     else gives answer.TooMany t
 
 ---- CloseAt
@@ -94,20 +110,20 @@ abbrev pub shared : Option (List ℕ) → List Hold → List Hold
 shared None hs = hs
 shared (Some fds) hs = filter (λ h. is_in fds h.fd) hs
 
--- A new Starting worker with the caller's holds under these descriptors, or all of them, unless an active worker of the caller bears
--- the name or the process limit is reached.
+-- A new Starting worker with the caller's holds under these descriptors, or all of them, unless an active worker of
+-- the caller bears the name or the process limit is reached.
 abbrev pub forked : Caller → Generation → ℕ → Option (List ℕ) → Table → Stepped
 forked c g k fds t =
     if list_any (is_worker is_active c.number g k) t.rows then gives answer.Again t
-    else if has_process_room t then gives answer.Forked (with_new_row t (λ n. Worker n c.number g k Starting (shared fds c.holds)))
+    else if has_process_room t
+    then gives answer.Forked (with_new_row t (λ n. Worker n c.number g k Starting (shared fds c.holds)))
     else gives answer.Again t
 
 ---- AwaitReady
 
 abbrev pub made_ready : Process → Process
 made_ready (Worker n q g k s hs) = Worker n q g k Ready hs
-made_ready (Master n q i live hs) = Master n q i live hs
-made_ready (Foreign n hs) = Foreign n hs
+made_ready p = p
 
 -- A Starting worker of the name becomes Ready; one that is Ready stays so; else the Exited ones of the name leave.
 abbrev pub awaited : Caller → Generation → ℕ → Table → Stepped
@@ -120,8 +136,7 @@ awaited c g k t =
 
 abbrev pub made_draining : Process → Process
 made_draining (Worker n q g k s hs) = Worker n q g k Draining []
-made_draining (Master n q i live hs) = Master n q i live hs
-made_draining (Foreign n hs) = Foreign n hs
+made_draining p = p
 
 -- The active worker of the name drains and holds nothing.
 abbrev pub quitted : Caller → Generation → ℕ → Table → Stepped
@@ -143,8 +158,7 @@ census_of caller g rows = census_below 1024 caller g rows
 
 abbrev pub is_exited_of : ℕ → Process → Bool
 is_exited_of caller (Worker n q g k s hs) = is_exited s && (q == caller)
-is_exited_of caller (Master n q i live hs) = false
-is_exited_of caller (Foreign n hs) = false
+is_exited_of caller _ = false
 
 -- The numbers of the caller's Ready workers; its Exited ones of every generation leave.
 abbrev pub counted : Caller → Generation → Table → Stepped
@@ -163,8 +177,7 @@ awaited_gone c g k t =
 -- a master of the image, live or exited
 abbrev pub is_image : ℕ → Process → Bool
 is_image image (Master n q i live hs) = i == image
-is_image image (Worker n q g k s hs) = false
-is_image image (Foreign n hs) = false
+is_image image _ = false
 
 -- A new master with the caller's holds, unless a master of the image is there or the process limit is reached.
 abbrev pub spawned : Caller → ℕ → Table → Stepped
@@ -181,8 +194,7 @@ asked_alive None image t = gives answer.Gone (each_row (drop_where (is_image ima
 -- a master of the image with the number
 abbrev pub is_image_row : ℕ → ℕ → Process → Bool
 is_image_row image m (Master n q i live hs) = (i == image) && (n == m)
-is_image_row image m (Worker n q g k s hs) = false
-is_image_row image m (Foreign n hs) = false
+is_image_row image m _ = false
 
 -- a master of the image or one of its workers
 abbrev pub is_of_image : ℕ → List Process → Process → Bool
@@ -219,7 +231,8 @@ with_files files t = record t { files = files }
 -- a file's number in its place, or a file more
 abbrev pub with_file : FilePath → ℕ → List File → List File
 with_file path owner [] = (record { path = path; owner = owner }) ∷ []
-with_file path owner (f ∷ files) = if bytes_eq f.path path then record { path = path; owner = owner } ∷ files else f ∷ with_file path owner files
+with_file path owner (f ∷ files) =
+    if bytes_eq f.path path then record { path = path; owner = owner } ∷ files else f ∷ with_file path owner files
 
 abbrev pub without_file : FilePath → List File → List File
 without_file path files = filter (λ f. not (bytes_eq f.path path)) files
@@ -242,7 +255,8 @@ unlinked path t = gives answer.Fine (with_files (without_file path t.files) t)
 
 ---- Leave
 
--- what becomes of a row where a master leaves: its own and its workers' leave, and a master whose parent it was gets parent 1
+-- what becomes of a row where a master leaves: its own and its workers' leave, and a master whose parent it was gets
+-- parent 1
 abbrev pub without_master : ℕ → Process → Option Process
 without_master m (Master n q i live hs) = if n == m then None else Some (Master n (if q == m then 1 else q) i live hs)
 without_master m (Worker n q g k s hs) = if q == m then None else Some (Worker n q g k s hs)
@@ -311,7 +325,12 @@ abbrev pub step_by : List ℕ → ℕ → Option Caller → Call → Option Fate
 step_by text image None call f t = gives answer.MasterGone t
 step_by text image (Some c) call f t = fault_or_own (fault_at c call f t) text image c call t
 
--- A call by the master of an image, which is handed a text: master-gone where it is not live, without effect; then the fate,
--- without effect; then the call's own answer.
+-- A call by the master of an image, which is handed a text: master-gone where it is not live, without effect; then
+-- the fate, without effect; then the call's own answer.
 abbrev pub step_with : List ℕ → ℕ → Call → Option Fate → Table → Stepped
 step_with text image call f t = step_by text image (live_master image t.rows) call f t
+
+---- An example: a file that is not there can't be moved
+
+example : (t : Table) (from to : FilePath) → (moved from to (with_files [] t)).answer ≡ answer.IoFault
+example t from to = refl

@@ -1,16 +1,25 @@
--- What the run of a plan keeps, and how it ends.
-use Rattle.std.specs.Prelude.{map, ℕ, ◌≡◌, ◌≤◌, ◌+◌, ◌*◌, min, sum, Bool, true, false, ◌&&◌, ◌||◌, ◌==◌, ◌++◌, List, [], if◌then◌else◌, ◌∷◌, length, Option, Some, None, is_some, count_by, bytes_eq, ⊤}
+-- What the run of a plan keeps, and how it ends: the headline.
+--
+-- Our own. Read `Headline`, then what it names, upwards.
+
+use Rattle.std.specs.Prelude.{refl}
+use Rattle.std.specs.Prelude.{map, ℕ, ◌≡◌, ◌≤◌, ◌+◌, ◌*◌, min, sum, Bool, true, false, ◌&&◌, ◌||◌, ◌==◌, ◌++◌, List, []}
+use Rattle.std.specs.Prelude.{if◌then◌else◌, ◌∷◌, length, Option, Some, None, is_some, count_by, bytes_eq, ⊤}
 use Rattle.std.specs.List.{list_any, AllByRecursion}
 use Rattle.listener_set.specs.Numbers.{IsRising, RisesFrom, is_in}
 use Rattle.listener_set.specs.AddressList.{has}
-use Rattle.definitions.specs.Table.{FilePath, owner_at, is_own, Address, same_generation, Hold, Process, Master, Worker, Foreign, Table, Generation, is_ready, has_address}
+use Rattle.definitions.specs.Table.{FilePath, owner_at, is_own, Address, same_generation, Hold, Process, Worker, Table}
+use Rattle.definitions.specs.Table.{Generation, is_ready, has_address}
 use Rattle.definitions.specs.Exits.{Name}
 use Rattle.vocabulary.specs.declared.names.Name.TheVariants as name
 use Rattle.definitions.specs.Formed.{IsFormed}
 use Rattle.definitions.specs.Service.{Service, is_live_with, service, IsSame}
-use Rattle.definitions.specs.Record.{Listener, Record, IsRecord, Agrees, layout_of, PidNote, InPlace, AtOldbin, OldbinLeft, Left, NoFile, oldbin}
+use Rattle.definitions.specs.Record.{Listener, Record, IsRecord, Agrees, layout_of, PidNote, InPlace, AtOldbin}
+use Rattle.definitions.specs.Record.{OldbinLeft, Left, NoFile, oldbin}
 use Rattle.definitions.specs.Crew.{Layout, short_at}
-use Rattle.definitions.specs.Target.{Target, Workers, Mend, Reopen, Reload, Upgrade, Attended, Stop, want, wanted_at, numbers_wanted, addresses_wanted, layout_wanted, sides_of, upgrade_generation, text_handed}
+use Rattle.definitions.specs.Target.{Target, Workers, Mend, Reopen, Reload, Upgrade, Attended, Stop, want, wanted_at}
+use Rattle.definitions.specs.Target.{numbers_wanted, addresses_wanted, layout_wanted, sides_of, upgrade_generation}
+use Rattle.definitions.specs.Target.{text_handed}
 use Rattle.definitions.specs.Tree.{Tree, height}
 use Rattle.definitions.specs.Parts.{Turn}
 use Rattle.definitions.specs.Plans.{plan_tree, plan_length}
@@ -42,7 +51,8 @@ names_any images (name.Master i ∷ es) = is_in images i || names_any images es
 names_any images (name.Worker g k ∷ es) = names_any images es
 names_any images (name.Draining g k ∷ es) = names_any images es
 
--- The executing masters, at a call and after it: those who leave are executing up to and at their Leave, and their heirs from it on.
+-- The executing masters, at a call and after it: those who leave are executing up to and at their Leave, and their
+-- heirs from it on.
 abbrev pub executing_at : Call → List ℕ → List ℕ → List ℕ
 executing_at call executing heirs = if is_leave_call call then executing ++ heirs else executing
 
@@ -60,20 +70,17 @@ refused_among executing heirs pattern n (e ∷ entries) =
 abbrev pub heirs_of : Record → Target → List ℕ
 heirs_of r (Upgrade s) = (upgrade_generation r.generation).image ∷ []
 heirs_of r (Attended s) = (upgrade_generation r.generation).image ∷ []
-heirs_of r (Workers n) = []
-heirs_of r (Mend overdue) = []
-heirs_of r Reopen = []
-heirs_of r (Reload s) = []
-heirs_of r (Stop quick) = []
+heirs_of r _ = []
 
 -- The run of a target's plan under the turns.
 abbrev pub run_of : Record → Target → List Turn → Pattern → Table → Ran
 run_of r target turns pattern t = run_with (text_handed r target) (plan_tree r target turns) pattern (start_at t r.note)
 
--- The first moment of the run in which an executing master exits: a pattern with such a moment is refused, with its number.
--- Moments after the run's end aren't looked at.
+-- The first moment of the run in which an executing master exits: a pattern with such a moment is refused, with its
+-- number. Moments after the run's end aren't looked at.
 abbrev pub refusal_of : Record → Target → List Turn → Pattern → Table → Option ℕ
-refusal_of r target turns pattern t = refused_among (r.generation.image ∷ []) (heirs_of r target) pattern 0 (run_of r target turns pattern t).entries
+refusal_of r target turns pattern t =
+    refused_among (r.generation.image ∷ []) (heirs_of r target) pattern 0 (run_of r target turns pattern t).entries
 
 ---- How it ends
 
@@ -89,23 +96,25 @@ IsFewerAt m (Some full) None = ⊥
 abbrev pub IsFewer : (Address → ℕ) → Service → Service → Type 0
 IsFewer short full less = (a : Address) → IsFewerAt (short a) (full a) (less a)
 
--- One service is the other less the shortfalls of its groups, each at the addresses where the group listens. There is one for each
--- group, and one of them is at least 1.
+-- One service is the other less the shortfalls of its groups, each at the addresses where the group listens. There is
+-- one for each group, and one of them is at least 1.
 abbrev pub FallsShort : Layout → List ℕ → Service → Service → Type 0
 FallsShort layout shortfalls full less =
     (length shortfalls ≡ length layout.groups) × (1 ≤ sum shortfalls) × IsFewer (short_at layout shortfalls) full less
 
--- What an outcome says of the last table: Done, the target's service; RolledBack, the one of the first table; Degraded, that side's
--- less the named shortfalls. Lost never comes.
+-- What an outcome says of the last table: Done, the target's service; RolledBack, the one of the first table;
+-- Degraded, that side's less the named shortfalls. Lost never comes.
 abbrev pub Says : Record → Target → Outcome → Table → Table → Type 0
 Says r target outcome.Done first last = IsSame (service last) (want r target)
 Says r target outcome.RolledBack first last = IsSame (service last) (service first)
-Says r target (outcome.Degraded side.Old shortfalls) first last = FallsShort (layout_of r) shortfalls (service first) (service last)
-Says r target (outcome.Degraded side.Target shortfalls) first last = FallsShort (layout_wanted r target) shortfalls (want r target) (service last)
+Says r target (outcome.Degraded side.Old shortfalls) first last =
+    FallsShort (layout_of r) shortfalls (service first) (service last)
+Says r target (outcome.Degraded side.Target shortfalls) first last =
+    FallsShort (layout_wanted r target) shortfalls (want r target) (service last)
 Says r target outcome.Lost first last = ⊥
 
--- The record that the report leaves to the master that reigns agrees with the last table, and its values are in range. Its note
--- says what the files are. A master of the old image is the old master.
+-- The record that the report leaves to the master that reigns agrees with the last table, and its values are in
+-- range. Its note says what the files are. A master of the old image is the old master.
 pub record AgreesAfter (r : Record) (target : Target) (report : Report) (t : Table) : Type 0 where
   pub record_then : Record
   pub is : next_record r target report t ≡ Some record_then
@@ -128,13 +137,17 @@ first_owner path (p ∷ passed) = owner_at path p.table.files
 
 -- Where the removal of the file failed, what was there at first is there: its owner, or no file. Else no file is there.
 abbrev pub IsRemoved : FilePath → Ran → Type 0
-IsRemoved path ran = owner_at path ran.last.table.files ≡ (if was_failed (path ∷ []) ran.entries then first_owner path ran.passed else None)
+IsRemoved path ran =
+    owner_at path ran.last.table.files ≡
+    (if was_failed (path ∷ []) ran.entries then first_owner path ran.passed else None)
 
 -- The note after a stop: no file is there, or a removal failed and left what was there.
 abbrev pub StopNote : PidNote → Option FilePath → Ran → Type 0
 StopNote NoFile None ran = ⊤
-StopNote NoFile (Some path) ran = (owner_at path ran.last.table.files ≡ None) × (owner_at (oldbin path) ran.last.table.files ≡ None)
-StopNote Left (Some path) ran = (was_failed (path ∷ oldbin path ∷ []) ran.entries ≡ true) × IsRemoved path ran × IsRemoved (oldbin path) ran
+StopNote NoFile (Some path) ran =
+    (owner_at path ran.last.table.files ≡ None) × (owner_at (oldbin path) ran.last.table.files ≡ None)
+StopNote Left (Some path) ran =
+    (was_failed (path ∷ oldbin path ∷ []) ran.entries ≡ true) × IsRemoved path ran × IsRemoved (oldbin path) ran
 StopNote Left None ran = ⊥
 StopNote InPlace path ran = ⊥
 StopNote AtOldbin path ran = ⊥
@@ -143,13 +156,15 @@ StopNote OldbinLeft path ran = ⊥
 -- What a run leaves: after a stop there is no record, and no master and no worker.
 abbrev pub IsSucceeded : Record → Target → Ran → Type 0
 IsSucceeded r (Workers n) ran = AgreesAfter r (Workers n) (report_of (sides_of r (Workers n)) ran) ran.last.table
-IsSucceeded r (Mend overdue) ran = AgreesAfter r (Mend overdue) (report_of (sides_of r (Mend overdue)) ran) ran.last.table
+IsSucceeded r (Mend overdue) ran =
+    AgreesAfter r (Mend overdue) (report_of (sides_of r (Mend overdue)) ran) ran.last.table
 IsSucceeded r Reopen ran = AgreesAfter r Reopen (report_of (sides_of r Reopen) ran) ran.last.table
 IsSucceeded r (Reload s) ran = AgreesAfter r (Reload s) (report_of (sides_of r (Reload s)) ran) ran.last.table
 IsSucceeded r (Upgrade s) ran = AgreesAfter r (Upgrade s) (report_of (sides_of r (Upgrade s)) ran) ran.last.table
 IsSucceeded r (Attended s) ran = AgreesAfter r (Attended s) (report_of (sides_of r (Attended s)) ran) ran.last.table
 IsSucceeded r (Stop quick) ran =
-    (next_record r (Stop quick) (report_of (sides_of r (Stop quick)) ran) ran.last.table ≡ None) × (list_any is_own ran.last.table.rows ≡ false) × StopNote ran.last.note r.pid_path ran
+    (next_record r (Stop quick) (report_of (sides_of r (Stop quick)) ran) ran.last.table ≡ None)
+    × (list_any is_own ran.last.table.rows ≡ false) × StopNote ran.last.note r.pid_path ran
 
 ---- What is kept throughout
 
@@ -164,47 +179,49 @@ has_socket a socket hs = list_any (λ h. bytes_eq h.address a && (h.socket == so
 abbrev pub Kept : Service → Service → Table → Table → Type 0
 Kept old target first t =
     (a : Address) (socket : ℕ) → IsCommon old target a →
-    list_any (is_live_with (has_socket a socket)) first.rows ≡ true → list_any (is_live_with (has_socket a socket)) t.rows ≡ true
+    list_any (is_live_with (has_socket a socket)) first.rows ≡ true →
+    list_any (is_live_with (has_socket a socket)) t.rows ≡ true
 
 abbrev pub is_ready_with : Address → Process → Bool
 is_ready_with a (Worker n q g k s hs) = is_ready s && has_address a hs
-is_ready_with a (Master n q i live hs) = false
-is_ready_with a (Foreign n hs) = false
+is_ready_with a _ = false
 
 -- how many Ready workers hold an address
 abbrev pub ready_with : Address → Table → ℕ
 ready_with a t = count_by (is_ready_with a) t.rows
 
--- At each such address the Ready workers that hold it, and the losses so far, are at least as many as in the first table or as
--- are wanted, whichever is fewer.
+-- At each such address the Ready workers that hold it, and the losses so far, are at least as many as in the first
+-- table or as are wanted, whichever is fewer.
 abbrev pub Floor : Service → Service → Table → (Address → ℕ) → Progress → Type 0
-Floor old target first wanted p = (a : Address) → IsCommon old target a → min (ready_with a first) (wanted a) ≤ ready_with a p.table + p.losses
+Floor old target first wanted p =
+    (a : Address) → IsCommon old target a → min (ready_with a first) (wanted a) ≤ ready_with a p.table + p.losses
 
--- The same for an attended upgrade, except that once the operator went back at the second question, when the old workers were
--- gone, the faults since then count beside the losses: each may have kept an old worker from being started again.
+-- The same for an attended upgrade, except that once the operator went back at the second question, when the old
+-- workers were gone, the faults since then count beside the losses: each may have kept an old worker from being
+-- started again.
 abbrev pub AttendedFloor : Service → Service → Table → (Address → ℕ) → Progress → Type 0
 AttendedFloor old target first wanted p =
-    (a : Address) → IsCommon old target a → min (ready_with a first) (wanted a) ≤ ready_with a p.table + p.losses + faults_since 2 p.returns p.faults
+    (a : Address) → IsCommon old target a →
+    min (ready_with a first) (wanted a) ≤ ready_with a p.table + p.losses + faults_since 2 p.returns p.faults
 
 ---- The accounts
 
 -- As long as no call went wrong there was no fault; once one did there was a fault, a loss, or the operator went back.
 abbrev pub IsBlamed : Progress → Type 0
-IsBlamed p = (is_some p.cause ≡ false → p.faults ≡ 0) × (is_some p.cause ≡ true → 1 ≤ p.faults + p.losses + length p.returns)
+IsBlamed p =
+    (is_some p.cause ≡ false → p.faults ≡ 0) × (is_some p.cause ≡ true → 1 ≤ p.faults + p.losses + length p.returns)
 
 -- A run that goes back or falls short has a cause.
 abbrev pub HasCause : Outcome → Option ℕ → Type 0
 HasCause outcome.Done cause = ⊤
-HasCause outcome.RolledBack cause = is_some cause ≡ true
-HasCause (outcome.Degraded side shortfalls) cause = is_some cause ≡ true
 HasCause outcome.Lost cause = ⊥
+HasCause _ cause = is_some cause ≡ true
 
 -- The shortfalls of all groups and the retries before them are together no more than what failed or was lost.
 abbrev pub IsPaid : ℕ → Outcome → Progress → Type 0
-IsPaid retries outcome.Done p = ⊤
-IsPaid retries outcome.RolledBack p = ⊤
 IsPaid retries (outcome.Degraded side shortfalls) p = sum shortfalls + retries ≤ p.faults + p.losses
 IsPaid retries outcome.Lost p = ⊥
+IsPaid retries _ p = ⊤
 
 ---- The headline
 
@@ -221,7 +238,8 @@ abbrev pub KeepsFloor : Table → Record → Target → Ran → Type 0
 KeepsFloor t r target ran = AllByRecursion (Floor (service t) (want r target) t (wanted_at r target)) ran.passed
 
 abbrev pub KeepsAttendedFloor : Table → Record → Target → Ran → Type 0
-KeepsAttendedFloor t r target ran = AllByRecursion (AttendedFloor (service t) (want r target) t (wanted_at r target)) ran.passed
+KeepsAttendedFloor t r target ran =
+    AllByRecursion (AttendedFloor (service t) (want r target) t (wanted_at r target)) ran.passed
 
 -- Descriptors rise, from 3 on, and a process may have at most 64.
 pub record HasDescriptors (t : Table) (r : Record) : Type 0 where
@@ -231,72 +249,64 @@ pub record HasDescriptors (t : Table) (r : Record) : Type 0 where
 -- What is asked beside a start: of the target, and of the pattern, which must not name an executing master.
 abbrev pub Accepts : Table → Record → Target → Type 0
 Accepts t r (Workers n) = n ≤ 1024
-Accepts t r (Mend overdue) = ⊤
-Accepts t r Reopen = ⊤
 Accepts t r (Reload s) = IsInRange s × HasDescriptors t r × (is_some (next_config r.generation) ≡ true)
 Accepts t r (Upgrade s) = IsInRange s × HasDescriptors t r × (is_some (next_image r.generation) ≡ true)
 Accepts t r (Attended s) = IsInRange s × HasDescriptors t r × (is_some (next_image r.generation) ≡ true)
-Accepts t r (Stop quick) = ⊤
+Accepts t r _ = ⊤
 
 pub record IsAccepted (t : Table) (r : Record) (target : Target) (turns : List Turn) (pattern : Pattern) : Type 0 where
   pub start : IsStart t r
   pub accepts : Accepts t r target
   pub spared : refusal_of r target turns pattern t ≡ None
 
--- Each headline: whatever fails and whoever exits but an executing master, the target's plan ends as it reports.
-abbrev pub WorkersHeadline : Type 0
-WorkersHeadline =
-    (t : Table) (r : Record) (n : ℕ) (turns : List Turn) (pattern : Pattern) → IsAccepted t r (Workers n) turns pattern →
-    EndsAsReported t r (Workers n) (run_of r (Workers n) turns pattern t) × KeepsFloor t r (Workers n) (run_of r (Workers n) turns pattern t)
+-- The floor holds where a target quits nobody, or only when others are ready. A mend kills first, and a stop leaves
+-- none.
+abbrev pub HasFloor : Table → Record → Target → Ran → Type 0
+HasFloor t r (Attended s) ran = KeepsAttendedFloor t r (Attended s) ran
+HasFloor t r (Mend overdue) ran = ⊤
+HasFloor t r (Stop quick) ran = ⊤
+HasFloor t r target ran = KeepsFloor t r target ran
 
-abbrev pub MendHeadline : Type 0
-MendHeadline =
-    (t : Table) (r : Record) (overdue : List ℕ) (turns : List Turn) (pattern : Pattern) → IsAccepted t r (Mend overdue) turns pattern →
-    EndsAsReported t r (Mend overdue) (run_of r (Mend overdue) turns pattern t)
+-- What is promised of a run: it ends as its report says and keeps what it has to, the floor too, in the target's
+-- manner.
+pub record KeepsPromise (t : Table) (r : Record) (target : Target) (ran : Ran) : Type 0 where
+  pub ends : EndsAsReported t r target ran
+  pub floor : HasFloor t r target ran
+  pub manner : Manner r target (report_of (sides_of r target) ran).outcome t ran
 
-abbrev pub ReopenHeadline : Type 0
-ReopenHeadline = (t : Table) (r : Record) (turns : List Turn) (pattern : Pattern) → IsAccepted t r Reopen turns pattern → EndsAsReported t r Reopen (run_of r Reopen turns pattern t)
+-- THE HEADLINE. For every running state (`t`, `r`), accepted target, order of two masters' calls (`turns`) and
+-- pattern of failing calls and child exits, the run of the target's plan ends with the target's service where the
+-- report says Done, the old service where RolledBack, and the named side less exactly the named shortfall where
+-- Degraded (`Says`); throughout, an address that both services name stays open on the same listening socket (`Kept`).
+abbrev pub Headline : Type 0
+Headline =
+    (t : Table) (r : Record) (target : Target) (turns : List Turn) (pattern : Pattern) →
+    IsAccepted t r target turns pattern → KeepsPromise t r target (run_of r target turns pattern t)
 
--- And keeps the floor: it touches no worker, and starts what is lacking.
-abbrev pub ReopenFloor : Type 0
-ReopenFloor = (t : Table) (r : Record) (turns : List Turn) (pattern : Pattern) → IsAccepted t r Reopen turns pattern → KeepsFloor t r Reopen (run_of r Reopen turns pattern t)
+---- How long a run is
 
-abbrev pub ReloadHeadline : Type 0
-ReloadHeadline =
-    (t : Table) (r : Record) (s : Settings) (turns : List Turn) (pattern : Pattern) → IsAccepted t r (Reload s) turns pattern →
-    EndsAsReported t r (Reload s) (run_of r (Reload s) turns pattern t) × KeepsFloor t r (Reload s) (run_of r (Reload s) turns pattern t)
-
-abbrev pub StopHeadline : Type 0
-StopHeadline =
-    (t : Table) (r : Record) (quick : Bool) (turns : List Turn) (pattern : Pattern) → IsAccepted t r (Stop quick) turns pattern → EndsAsReported t r (Stop quick) (run_of r (Stop quick) turns pattern t)
-
-abbrev pub UpgradeHeadline : Type 0
-UpgradeHeadline =
-    (t : Table) (r : Record) (s : Settings) (turns : List Turn) (pattern : Pattern) → IsAccepted t r (Upgrade s) turns pattern →
-    EndsAsReported t r (Upgrade s) (run_of r (Upgrade s) turns pattern t) × KeepsFloor t r (Upgrade s) (run_of r (Upgrade s) turns pattern t)
-
-abbrev pub AttendedHeadline : Type 0
-AttendedHeadline =
-    (t : Table) (r : Record) (s : Settings) (turns : List Turn) (pattern : Pattern) → IsAccepted t r (Attended s) turns pattern →
-    EndsAsReported t r (Attended s) (run_of r (Attended s) turns pattern t) × KeepsAttendedFloor t r (Attended s) (run_of r (Attended s) turns pattern t)
-
--- And its run has the target's manner.
-abbrev pub InManner : Target → Type 0
-InManner target =
-    (t : Table) (r : Record) (turns : List Turn) (pattern : Pattern) → IsAccepted t r target turns pattern →
-    Manner r target (report_of (sides_of r target) (run_of r target turns pattern t)).outcome t (run_of r target turns pattern t)
-
--- A run makes no more calls than the longest path of its plan has steps; and under any turns a plan has no longer one than its
--- stretches have together.
+-- A run makes no more calls than the longest path of its plan has steps; and under any turns a plan has no longer one
+-- than its stretches have together.
 abbrev pub PlansFit : Type 0
 PlansFit = (r : Record) (target : Target) (turns : List Turn) → height (plan_tree r target turns) ≤ plan_length r target
 
 -- That is bounded, attended or not.
 abbrev pub most_calls : Record → Target → ℕ
-most_calls r target = 9 * (length r.ready + length (numbers_wanted r target)) + 3 * (length r.listeners + length (addresses_wanted r target)) + 16 * r.retries + 48
+most_calls r target =
+    9 * (length r.ready + length (numbers_wanted r target))
+    + 3 * (length r.listeners + length (addresses_wanted r target)) + 16 * r.retries + 48
 
 abbrev pub UpgradesAreShort : Type 0
-UpgradesAreShort = (r : Record) (s : Settings) → (plan_length r (Upgrade s) ≤ most_calls r (Upgrade s)) × (plan_length r (Attended s) ≤ most_calls r (Attended s))
+UpgradesAreShort =
+    (r : Record) (s : Settings) →
+    (plan_length r (Upgrade s) ≤ most_calls r (Upgrade s)) × (plan_length r (Attended s) ≤ most_calls r (Attended s))
 
 abbrev pub RunsWithin : Type 0
-RunsWithin = (text : List ℕ) (plan : Tree) (pattern : Pattern) (p : Progress) → length (run_with text plan pattern p).entries ≤ height plan
+RunsWithin =
+    (text : List ℕ) (plan : Tree) (pattern : Pattern) (p : Progress) →
+    length (run_with text plan pattern p).entries ≤ height plan
+
+---- An example: a pattern that ends the master of another image names no executing one
+
+example : names_any (1 ∷ []) (name.Master 2 ∷ []) ≡ false
+example = refl

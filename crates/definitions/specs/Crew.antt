@@ -1,5 +1,10 @@
 -- Groups of workers: what the workers of each are given, and whom an address counts.
-use Rattle.std.specs.Prelude.{ℕ, zero, suc, Bool, List, [], ◌∷◌, Option, Some, None, map, filter, length, take, drop, get_or, count_by, if◌then◌else◌}
+--
+-- Our own, as pools of php-fpm are: each group takes the next so many addresses and worker numbers of a configuration.
+
+use Rattle.std.specs.Prelude.{◌≡◌, refl, codes}
+use Rattle.std.specs.Prelude.{ℕ, zero, suc, Bool, List, [], ◌∷◌, Option, Some, None, map, filter, length, take, drop}
+use Rattle.std.specs.Prelude.{get_or, count_by, if◌then◌else◌}
 use Rattle.std.specs.List.{sum_by}
 use Rattle.listener_set.specs.Numbers.{numbers_below, is_in}
 use Rattle.listener_set.specs.AddressList.{has}
@@ -22,12 +27,14 @@ share posts k holds = shared (fds_of posts k) holds
 
 -- the descriptors of the listeners whose addresses a list has
 abbrev pub descriptors_at : List Listener → List Address → List ℕ
-descriptors_at ls addresses = map (λ (l : Listener). l.descriptor) (filter (λ (l : Listener). has addresses l.address) ls)
+descriptors_at ls addresses =
+    map (λ (l : Listener). l.descriptor) (filter (λ (l : Listener). has addresses l.address) ls)
 
 -- of each group the descriptors: it takes the next so many addresses
 abbrev pub descriptors_by : List Group → List Address → List Listener → List (List ℕ)
 descriptors_by [] addresses ls = []
-descriptors_by (g ∷ gs) addresses ls = descriptors_at ls (take g.addresses addresses) ∷ descriptors_by gs (drop g.addresses addresses) ls
+descriptors_by (g ∷ gs) addresses ls =
+    descriptors_at ls (take g.addresses addresses) ∷ descriptors_by gs (drop g.addresses addresses) ls
 
 abbrev pub posts_of : List Group → List Address → List Listener → Posts
 posts_of groups addresses ls = record { groups = groups; descriptors = descriptors_by groups addresses ls }
@@ -47,7 +54,8 @@ addresses_of_group (g ∷ gs) addresses (suc place) = addresses_of_group gs (dro
 
 -- as a configuration lays it out
 abbrev pub layout_in : List Group → List Address → Layout
-layout_in groups addresses = record { groups = groups; listens = λ place a. has (addresses_of_group groups addresses place) a }
+layout_in groups addresses =
+    record { groups = groups; listens = λ place a. has (addresses_of_group groups addresses place) a }
 
 -- the listeners at these descriptors, or all
 abbrev pub listeners_under : Option (List ℕ) → List Listener → List Listener
@@ -56,7 +64,10 @@ listeners_under (Some fds) ls = filter (λ (l : Listener). is_in fds l.descripto
 
 -- as a master's descriptors lay it out
 abbrev pub layout_at : Posts → List Listener → Layout
-layout_at posts ls = record { groups = posts.groups; listens = λ place a. has (map (λ (l : Listener). l.address) (listeners_under (fds_in posts place) ls)) a }
+layout_at posts ls = record {
+  groups = posts.groups;
+  listens = λ place a. has (map (λ (l : Listener). l.address) (listeners_under (fds_in posts place) ls)) a;
+}
 
 -- how many of these worker numbers an address counts: those whose group listens there
 abbrev pub served : Layout → List ℕ → Address → ℕ
@@ -64,4 +75,14 @@ served layout numbers a = count_by (λ k. layout.listens (group_of layout.groups
 
 -- what an address is short by, where each group is short by so many
 abbrev pub short_at : Layout → List ℕ → Address → ℕ
-short_at layout shortfalls a = sum_by (λ place. if layout.listens place a then get_or shortfalls place 0 else 0) (numbers_below (length shortfalls))
+short_at layout shortfalls a =
+    sum_by (λ place. if layout.listens place a then get_or shortfalls place 0 else 0)
+    (numbers_below (length shortfalls))
+
+---- An example: the addresses of the second of two groups
+
+example :
+    addresses_of_group (record { addresses = 1; workers = 2 } ∷ record { addresses = 1; workers = 1 } ∷ [])
+    (codes "1.2.3.4:80" ∷ codes "1.2.3.4:81" ∷ []) 1
+    ≡ codes "1.2.3.4:81" ∷ []
+example = refl

@@ -1,7 +1,15 @@
 -- Exits: what they change in the table, one after another.
-use Rattle.std.specs.Prelude.{ℕ, ◌-◌, Bool, true, false, ◌==◌, not, List, [], ◌∷◌, Option, Some, None, count_by, if◌then◌else◌}
+--
+-- After POSIX: with a process all its descriptors close. Our own choice: workers end at once with their master, and a
+-- worker that exits is in the table until its master hears of it.
+
+use Rattle.std.specs.Prelude.{◌≡◌, refl}
+use Rattle.definitions.specs.Table.{Ready}
+use Rattle.std.specs.Prelude.{ℕ, ◌-◌, Bool, true, false, ◌==◌, not, List, [], ◌∷◌, Option, Some, None, count_by}
+use Rattle.std.specs.Prelude.{if◌then◌else◌}
 use Rattle.std.specs.List.{list_any, filter_map}
-use Rattle.definitions.specs.Table.{Generation, Exited, Process, Master, Worker, Foreign, Table, with_rows, is_active, is_draining, is_named, Caller, live_master, is_live_master}
+use Rattle.definitions.specs.Table.{Generation, Exited, Process, Master, Worker, Foreign, Table, with_rows, is_active}
+use Rattle.definitions.specs.Table.{is_draining, is_named, Caller, live_master, is_live_master}
 pub use Rattle.vocabulary.specs.declared.names.Name.{Name}
 pub use Rattle.vocabulary.specs.declared.names.Name.TheVariants as name
 
@@ -11,8 +19,7 @@ change test f p = Some (if test p then f p else p)
 
 abbrev pub made_exited : Process → Process
 made_exited (Worker n q g k s hs) = Worker n q g k Exited []
-made_exited (Master n q i live hs) = Master n q i live hs
-made_exited (Foreign n hs) = Foreign n hs
+made_exited p = p
 
 -- A Starting or Ready worker becomes Exited.
 abbrev pub worker_exits : Generation → ℕ → List Process → List Process
@@ -30,11 +37,13 @@ abbrev pub kept_if : {X : Type 0} → Bool → X → Option X
 kept_if true x = Some x
 kept_if false x = None
 
--- What becomes of a row where the live master with the number exits: its own row stays, exited and without holds, where its
--- parent is a live master, and leaves otherwise; its workers leave; a master whose parent it was gets parent 1.
+-- What becomes of a row where the live master with the number exits: its own row stays, exited and without holds,
+-- where its parent is a live master, and leaves otherwise; its workers leave; a master whose parent it was gets
+-- parent 1.
 abbrev pub without_exited : ℕ → (ℕ → Bool) → Process → Option Process
 without_exited gone lives (Master n q i live hs) =
-    if n == gone then kept_if (lives q) (Master n q i false []) else Some (Master n (if q == gone then 1 else q) i live hs)
+    if n == gone then kept_if (lives q) (Master n q i false [])
+    else Some (Master n (if q == gone then 1 else q) i live hs)
 without_exited gone lives (Worker n q g k s hs) = kept_if (not (q == gone)) (Worker n q g k s hs)
 without_exited gone lives (Foreign n hs) = Some (Foreign n hs)
 
@@ -61,9 +70,16 @@ after_exits es t = with_rows t (all_exited es t.rows)
 
 abbrev pub is_active_worker : Process → Bool
 is_active_worker (Worker n q g k s hs) = is_active s
-is_active_worker (Master n q i live hs) = false
-is_active_worker (Foreign n hs) = false
+is_active_worker _ = false
 
 -- The losses: how many Starting or Ready workers the exits end, an exiting master's included.
 abbrev pub losses_of : List Name → Table → ℕ
 losses_of es t = count_by is_active_worker t.rows - count_by is_active_worker (all_exited es t.rows)
+
+---- An example: a Ready worker exits, and is there until its master hears of it
+
+example :
+    all_exited (name.Worker (record { image = 1; config = 1 }) 0 ∷ [])
+    (Worker 101 100 (record { image = 1; config = 1 }) 0 Ready [] ∷ [])
+    ≡ Worker 101 100 (record { image = 1; config = 1 }) 0 Exited [] ∷ []
+example = refl

@@ -1,22 +1,23 @@
 -- What every table that the kernel makes keeps by itself.
+--
+-- After POSIX: process numbers are not used again here, and a process without a parent is handed on, or ends.
+
+use Rattle.std.specs.Prelude.{refl}
 use Rattle.std.specs.Prelude.{ℕ, ◌≡◌, ◌≤◌, ◌+◌, true, List, [], ◌∷◌, count_by, ⊤}
 use Rattle.std.specs.List.{list_any, AllByRecursion}
-use Rattle.definitions.specs.Table.{Generation, Starting, Ready, Draining, Exited, Process, Master, Worker, Foreign, Table, number_of, is_active, is_worker, is_live_master}
+use Rattle.definitions.specs.Table.{Generation, Draining, Exited, Process, Worker, Table, number_of, is_active}
+use Rattle.definitions.specs.Table.{is_worker, is_live_master}
 
 -- A worker that drains or has exited holds nothing; of a master, or of somebody else's process, nothing is asked.
 abbrev pub IsQuiet : Process → Type 0
-IsQuiet (Worker n q g k Starting hs) = ⊤
-IsQuiet (Worker n q g k Ready hs) = ⊤
 IsQuiet (Worker n q g k Draining hs) = hs ≡ []
 IsQuiet (Worker n q g k Exited hs) = hs ≡ []
-IsQuiet (Master n q i live hs) = ⊤
-IsQuiet (Foreign n hs) = ⊤
+IsQuiet _ = ⊤
 
 -- A worker's parent is a live master.
 abbrev pub HasParent : List Process → Process → Type 0
 HasParent rows (Worker n q g k s hs) = list_any (is_live_master q) rows ≡ true
-HasParent rows (Master n q i live hs) = ⊤
-HasParent rows (Foreign n hs) = ⊤
+HasParent rows _ = ⊤
 
 -- Process numbers rise from the first on and stay below the last.
 abbrev pub IsAscending : ℕ → List Process → ℕ → Type 0
@@ -29,3 +30,8 @@ pub record IsFormed (t : Table) : Type 0 where
   pub quiet : AllByRecursion IsQuiet t.rows
   pub parents : AllByRecursion (HasParent t.rows) t.rows
   pub ascending : IsAscending 0 t.rows t.next_process
+
+---- An example: a worker that drains and holds nothing
+
+example : IsQuiet (Worker 101 100 (record { image = 1; config = 1 }) 0 Draining [])
+example = refl

@@ -1,8 +1,13 @@
 -- The manner of a run: which processes it leaves alone, and which it ends only after they were asked to end.
-use Rattle.std.specs.Prelude.{ℕ, ◌≡◌, ◌==◌, nat_lt, Bool, true, false, ◌&&◌, ◌||◌, not, List, [], ◌∷◌, ◌++◌, Option, Some, None, ⊤, ◌⊎◌, if◌then◌else◌}
+--
+-- After Unicorn's SIGNALS: QUIT lets a worker finish its request, and KILL is for one that does not.
+
+use Rattle.std.specs.Prelude.{refl}
+use Rattle.std.specs.Prelude.{ℕ, ◌≡◌, ◌==◌, nat_lt, Bool, true, false, ◌&&◌, ◌||◌, not, List, [], ◌∷◌, ◌++◌, Option}
+use Rattle.std.specs.Prelude.{Some, None, ⊤, ◌⊎◌, if◌then◌else◌}
 use Rattle.std.specs.List.{list_any, AllByRecursion}
 use Rattle.listener_set.specs.Numbers.{is_in}
-use Rattle.definitions.specs.Table.{Generation, bears, Process, Master, Worker, Foreign, Table, number_of, is_ready, is_active}
+use Rattle.definitions.specs.Table.{Generation, bears, Process, Worker, Table, number_of, is_ready, is_active}
 use Rattle.definitions.specs.Calls.{Call, Quit, Kill, AwaitGone, Leave, Usr1, Answer}
 use Rattle.vocabulary.specs.declared.calls.Answer.TheVariants as answer
 use Rattle.definitions.specs.Record.{Record}
@@ -17,8 +22,7 @@ use Rattle.definitions.specs.Run.{Progress, Ran}
 -- the process with the number, where it is a Ready worker with the worker number
 abbrev pub is_ready_as : ℕ → ℕ → Process → Bool
 is_ready_as p k (Worker n q g j s hs) = is_ready s && ((n == p) && (j == k))
-is_ready_as p k (Master n q i live hs) = false
-is_ready_as p k (Foreign n hs) = false
+is_ready_as p k _ = false
 
 abbrev pub has_ready : Table → ℕ → ℕ → Bool
 has_ready t p k = list_any (is_ready_as p k) t.rows
@@ -26,8 +30,7 @@ has_ready t p k = list_any (is_ready_as p k) t.rows
 -- the process with the number, where it is a Starting or Ready worker
 abbrev pub is_active_process : ℕ → Process → Bool
 is_active_process p (Worker n q g k s hs) = is_active s && (n == p)
-is_active_process p (Master n q i live hs) = false
-is_active_process p (Foreign n hs) = false
+is_active_process p _ = false
 
 abbrev pub has_active : Table → ℕ → Bool
 has_active t p = list_any (is_active_process p) t.rows
@@ -35,16 +38,17 @@ has_active t p = list_any (is_active_process p) t.rows
 abbrev pub has_process : Table → ℕ → Bool
 has_process t p = list_any (λ row. number_of row == p) t.rows
 
--- A process is a loss where the exits of a moment end it while it is Starting or Ready. The tables of a run come in pairs,
--- before and after the exits of a moment, and the last one.
+-- A process is a loss where the exits of a moment end it while it is Starting or Ready. The tables of a run come in
+-- pairs, before and after the exits of a moment, and the last one.
 abbrev pub is_lost : ℕ → List Progress → Bool
-is_lost p [] = false
-is_lost p (last ∷ []) = false
 is_lost p (before ∷ middle ∷ rest) = (has_active before.table p && not (has_active middle.table p)) || is_lost p rest
+is_lost p _ = false
 
 -- Each process that is Ready at first, of these worker numbers, is Ready at the end or is a loss.
 abbrev pub Stays : Table → (ℕ → Bool) → Ran → Type 0
-Stays first stays ran = (p k : ℕ) → has_ready first p k ≡ true → stays k ≡ true → (has_ready ran.last.table p k ≡ true) ⊎ (is_lost p ran.passed ≡ true)
+Stays first stays ran =
+    (p k : ℕ) → has_ready first p k ≡ true → stays k ≡ true →
+    (has_ready ran.last.table p k ≡ true) ⊎ (is_lost p ran.passed ≡ true)
 
 -- No process that was Ready at first, of these worker numbers, is in the last table.
 abbrev pub Goes : Table → (ℕ → Bool) → Ran → Type 0
@@ -96,17 +100,18 @@ was_waited_for g k entries = one_then (λ e. is_quit_of g k e.call) (λ e. is_wa
 -- the process with the number, where it bears the name
 abbrev pub is_process_of : ℕ → Generation → ℕ → Process → Bool
 is_process_of p g k (Worker n q h j s hs) = (n == p) && bears g k h j
-is_process_of p g k (Master n q i live hs) = false
-is_process_of p g k (Foreign n hs) = false
+is_process_of p g k _ = false
 
 -- A kill of a name that a process Ready at first bears comes after it was late.
 abbrev pub IsKillDue : Table → List Entry → Call → Table → Type 0
-IsKillDue first before (Kill g k) t = (p j : ℕ) → has_ready first p j ≡ true → list_any (is_process_of p g k) t.rows ≡ true → was_late g k before ≡ true
+IsKillDue first before (Kill g k) t =
+    (p j : ℕ) → has_ready first p j ≡ true → list_any (is_process_of p g k) t.rows ≡ true → was_late g k before ≡ true
 IsKillDue first before _ t = ⊤
 
 -- Each entry with the table that its call meets.
 abbrev pub KillsAreDue : Table → List Entry → List Entry → List Progress → Type 0
-KillsAreDue first before (e ∷ entries) (p ∷ middle ∷ rest) = IsKillDue first before e.call middle.table × KillsAreDue first (before ++ e ∷ []) entries rest
+KillsAreDue first before (e ∷ entries) (p ∷ middle ∷ rest) =
+    IsKillDue first before e.call middle.table × KillsAreDue first (before ++ e ∷ []) entries rest
 KillsAreDue first before [] passed = ⊤
 KillsAreDue first before (e ∷ entries) [] = ⊥
 KillsAreDue first before (e ∷ entries) (p ∷ []) = ⊥
@@ -134,11 +139,9 @@ LeavesLast r ran = AreWaitedFor r (before_leave ran.entries)
 ---- The manner of each target
 
 abbrev pub is_old_side : Outcome → Bool
-is_old_side outcome.Done = false
 is_old_side outcome.RolledBack = true
 is_old_side (outcome.Degraded side.Old shortfalls) = true
-is_old_side (outcome.Degraded side.Target shortfalls) = false
-is_old_side outcome.Lost = false
+is_old_side _ = false
 
 -- Which worker numbers stay: on the old side all.
 abbrev pub stays_below : ℕ → Outcome → ℕ → Bool
@@ -147,19 +150,27 @@ stays_below n end k = is_old_side end || nat_lt k n
 -- An upgrade that comes back leaves all workers, unless it had waited for them to go.
 abbrev pub UpgradeManner : Record → Outcome → Table → Ran → Type 0
 UpgradeManner r end first ran =
-    (is_old_side end ≡ true → list_any (λ e. is_wait_call e.call) ran.entries ≡ false → Stays first (λ k. true) ran) × KillsOnlyLate first ran × LeavesLast r ran
+    (is_old_side end ≡ true → list_any (λ e. is_wait_call e.call) ran.entries ≡ false → Stays first (λ k. true) ran)
+    × KillsOnlyLate first ran × LeavesLast r ran
 
--- A change of the number of workers leaves those alone whose number stays; a mend leaves all that aren't overdue, and ends the
--- others; a reopening leaves and tells all; a reload that comes back leaves all. Outside a mend and a quick stop a worker is
--- killed only after it was told to quit and was late; before a master leaves in peace its workers were told to quit and waited
--- for; at a quick stop none is told to quit.
+-- A change of the number of workers leaves those alone whose number stays; a mend leaves all that aren't overdue, and
+-- ends the others; a reopening leaves and tells all; a reload that comes back leaves all. Outside a mend and a quick
+-- stop a worker is killed only after it was told to quit and was late; before a master leaves in peace its workers
+-- were told to quit and waited for; at a quick stop none is told to quit.
 abbrev pub Manner : Record → Target → Outcome → Table → Ran → Type 0
 Manner r (Workers n) end first ran = Stays first (stays_below n end) ran × KillsOnlyLate first ran
 Manner r (Mend overdue) end first ran = Stays first (λ k. not (is_in overdue k)) ran × Goes first (is_in overdue) ran
 Manner r Reopen end first ran =
-    Stays first (λ k. true) ran × AllByRecursion (λ k. list_any (λ e. is_usr1_of r.generation k e.call) ran.entries ≡ true) r.ready × KillsOnlyLate first ran
+    Stays first (λ k. true) ran
+    × AllByRecursion (λ k. list_any (λ e. is_usr1_of r.generation k e.call) ran.entries ≡ true) r.ready
+    × KillsOnlyLate first ran
 Manner r (Reload s) end first ran = (is_old_side end ≡ true → Stays first (λ k. true) ran) × KillsOnlyLate first ran
 Manner r (Upgrade s) end first ran = UpgradeManner r end first ran
 Manner r (Attended s) end first ran = UpgradeManner r end first ran
 Manner r (Stop false) end first ran = KillsOnlyLate first ran × LeavesLast r ran
 Manner r (Stop true) end first ran = list_any (λ e. is_quit_call e.call) ran.entries ≡ false
+
+---- An example: no entry, so nobody was late
+
+example : (g : Generation) (k : ℕ) → was_late g k [] ≡ false
+example g k = refl

@@ -1,9 +1,14 @@
 -- Paths of a plan's tree, and what a report says of one.
-use Rattle.std.specs.Prelude.{ℕ, ◌+◌, ◌==◌, ◌≡◌, Bool, true, false, not, List, [], ◌∷◌, ◌++◌, Option, Some, None, unwrap_or, if◌then◌else◌}
+--
+-- Our own: a report is what the calls that were made and their answers tell, and nothing else.
+
+use Rattle.std.specs.Prelude.{ℕ, ◌+◌, ◌==◌, ◌≡◌, Bool, true, false, not, List, [], ◌∷◌, ◌++◌, Option, Some, None}
+use Rattle.std.specs.Prelude.{unwrap_or, if◌then◌else◌}
 use Rattle.listener_set.specs.Numbers.{lacks}
 use Rattle.definitions.specs.Calls.{Call, Answer}
 use Rattle.vocabulary.specs.declared.calls.Answer.TheVariants as answer
-use Rattle.definitions.specs.Tree.{Reply, same_reply, reply_of, plain_reply, Old, Target, End, Done, RolledBack, ShortOld, ShortTarget, PidNote, call_of, Tree, Ends, Does, branch}
+use Rattle.definitions.specs.Tree.{Reply, same_reply, reply_of, plain_reply, Old, Target, End, Done, RolledBack}
+use Rattle.definitions.specs.Tree.{ShortOld, ShortTarget, PidNote, call_of, Tree, Ends, Does, branch}
 pub use Rattle.vocabulary.specs.declared.reports.Entry.{Entry}
 pub use Rattle.vocabulary.specs.declared.reports.Report.{Report}
 pub use Rattle.vocabulary.specs.declared.reports.Outcome.{Outcome}
@@ -12,8 +17,8 @@ pub use Rattle.vocabulary.specs.declared.plans.Sides.{Sides}
 pub use Rattle.vocabulary.specs.declared.plans.Lack.{Lack}
 use Rattle.definitions.specs.Crew.{shortfalls_of}
 
--- How far a path has come: the rest of the tree, or nothing where the last answer had no edge; the last count and what it
--- lacked of its set; the note; the first call that went wrong, counted from 1; and how many calls were made.
+-- How far a path has come: the rest of the tree, or nothing where the last answer had no edge; the last count and
+-- what it lacked of its set; the note; the first call that went wrong, counted from 1; and how many calls were made.
 pub record Trail : Type 0 where
   pub rest : Option Tree
   pub ready : List ℕ
@@ -25,7 +30,8 @@ pub record Trail : Type 0 where
   pub made : ℕ
 
 abbrev pub begin : Tree → PidNote → Trail
-begin tree note = record { rest = Some tree; ready = []; lacking = []; lacked = []; note = note; cause = None; made = 0 }
+begin tree note =
+    record { rest = Some tree; ready = []; lacking = []; lacked = []; note = note; cause = None; made = 0 }
 
 abbrev pub ready_after : Answer → List ℕ → List ℕ
 ready_after (answer.Counted ns) ready = ns
@@ -45,8 +51,8 @@ abbrev pub beside : ℕ → List Lack → List Lack
 beside by [] = []
 beside by (lack ∷ lacked) = if lack.by == by then beside by lacked else lack ∷ []
 
--- What the last counts lack, after an answer to a master. A plan has two masters at most: their last counts are kept, the
--- newest first.
+-- What the last counts lack, after an answer to a master. A plan has two masters at most: their last counts are kept,
+-- the newest first.
 abbrev pub lacked_after : ℕ → List ℕ → Answer → List Lack → List Lack
 lacked_after by set (answer.Counted ns) lacked = record { by = by; numbers = lacks set ns } ∷ beside by lacked
 lacked_after by set _ lacked = lacked
@@ -69,9 +75,8 @@ follow (Some (Ends end)) a = None
 follow (Some (Does by order set branches)) a = branch branches (reply_of set a)
 
 abbrev pub set_of : Option Tree → List ℕ
-set_of None = []
-set_of (Some (Ends end)) = []
 set_of (Some (Does by order set branches)) = set
+set_of _ = []
 
 abbrev pub rest_after : Option (Option PidNote × Tree) → Option Tree
 rest_after None = None
@@ -100,9 +105,8 @@ trail_after t (e ∷ entries) = trail_after (advance t e) entries
 
 -- The entry is a call of the step that is next, by its master, with the worker that it names.
 abbrev pub Asks : Option Tree → List Lack → Entry → Type 0
-Asks None lacked e = ⊥
-Asks (Some (Ends end)) lacked e = ⊥
 Asks (Some (Does by order set branches)) lacked e = (e.by ≡ by) × (e.call ≡ call_of order (lacked_by by lacked))
+Asks _ lacked e = ⊥
 
 -- Each entry is the next step's.
 abbrev pub Follows : Trail → List Entry → Type 0
@@ -111,9 +115,8 @@ Follows t (e ∷ entries) = Asks t.rest t.lacked e × Follows (advance t e) entr
 
 -- No step is next: the path is at an end, or its last answer had no edge.
 abbrev pub IsOver : Option Tree → Type 0
-IsOver None = Unit {0}
-IsOver (Some (Ends end)) = Unit {0}
 IsOver (Some (Does by order set branches)) = ⊥
+IsOver _ = Unit {0}
 
 ---- Reports
 
@@ -140,11 +143,18 @@ pub record Reports (sides : Sides) (t : Trail) (report : Report) : Type 0 where
 
 -- the last entry says that its master is gone
 abbrev pub EndsGone : List Entry → Type 0
-EndsGone entries = (front : List Entry) × (last : Entry) × (entries ≡ front ++ last ∷ []) × (last.answer ≡ answer.MasterGone)
+EndsGone entries =
+    (front : List Entry) × (last : Entry) × (entries ≡ front ++ last ∷ []) × (last.answer ≡ answer.MasterGone)
 
--- The entries are a whole path of the tree, or a path and one entry after it where a master is gone and the step has no edge for
--- that, and the report is theirs.
-pub record KeepsPathLaw (tree : Tree) (note : PidNote) (sides : Sides) (entries : List Entry) (report : Report) : Type 0 where
+-- The entries are a whole path of the tree, or a path and one entry after it where a master is gone and the step has
+-- no edge for that, and the report is theirs.
+pub record KeepsPathLaw
+    (tree : Tree) (note : PidNote) (sides : Sides) (entries : List Entry) (report : Report) : Type 0 where
   pub path : Follows (begin tree note) entries
   pub report_is : Reports sides (trail_after (begin tree note) entries) report
   pub lost : report.outcome ≡ outcome.Lost → EndsGone entries
+
+---- An example: a tree without a step has the empty path, which is over
+
+example : (note : PidNote) → IsOver (trail_after (begin (Ends Done) note) []).rest
+example note = tt

@@ -1,13 +1,24 @@
 -- The tree of each target, from named pieces.
-use Rattle.std.specs.Prelude.{ℕ, zero, suc, max, ◌+◌, not, ◌||◌, nat_lt, Bool, true, false, List, [], ◌∷◌, ◌++◌, Option, Some, None, filter, map, reverse, if◌then◌else◌}
+--
+-- After Unicorn's SIGNALS and nginx's "Controlling nginx": new workers are ready before old ones quit; a reload that
+-- can't open its addresses goes on with the old configuration; USR2 moves the pid file aside, and back when the new
+-- master is gone.
+
+use Rattle.std.specs.Prelude.{◌≡◌, refl}
+use Rattle.std.specs.Prelude.{ℕ, zero, suc, max, ◌+◌, not, ◌||◌, nat_lt, Bool, true, false, List, [], ◌∷◌, ◌++◌, Option}
+use Rattle.std.specs.Prelude.{Some, None, filter, map, reverse, if◌then◌else◌}
 use Rattle.listener_set.specs.Numbers.{numbers_below, is_in}
 use Rattle.definitions.specs.Table.{Address, FilePath, Generation}
-use Rattle.definitions.specs.Calls.{Call, OpenAt, CloseAt, AwaitReady, Quit, Kill, Census, AwaitGone, SpawnMaster, Adopt, WritePid, MovePid, RemovePid, Alive, Leave, Usr1, TermMaster, Ask}
+use Rattle.definitions.specs.Calls.{Call, OpenAt, CloseAt, AwaitReady, Quit, Kill, Census, AwaitGone, SpawnMaster}
+use Rattle.definitions.specs.Calls.{Adopt, WritePid, MovePid, RemovePid, Alive, Leave, Usr1, TermMaster, Ask}
 use Rattle.definitions.specs.Crew.{Crew, fork_of}
-use Rattle.definitions.specs.Record.{Record, PidNote, InPlace, AtOldbin, OldbinLeft, Left, NoFile, oldbin, addresses_of, crew_of}
+use Rattle.definitions.specs.Record.{Record, PidNote, InPlace, AtOldbin, OldbinLeft, Left, NoFile, oldbin, addresses_of}
+use Rattle.definitions.specs.Record.{crew_of}
 use Rattle.definitions.specs.Target.{Target, Workers, Mend, Reopen, Reload, Upgrade, Attended, Stop, only_in}
 use Rattle.definitions.specs.After.{crew_wanted, lacks_generation}
-use Rattle.definitions.specs.Tree.{Reply, plain_reply, replies_to, Side, End, Done, RolledBack, ShortOld, ShortTarget, Split, JoinReady, JoinBack, Join, Make, ForkLacking, AwaitLacking, KillLacking, Tree, Branches, Ends, Does, Nothing, Branch, height}
+use Rattle.definitions.specs.Tree.{Reply, plain_reply, replies_to, Side, End, Done, RolledBack, ShortOld, ShortTarget}
+use Rattle.definitions.specs.Tree.{Split, JoinReady, JoinBack, Join, Make, ForkLacking, AwaitLacking, KillLacking, Tree}
+use Rattle.definitions.specs.Tree.{Branches, Ends, Does, Nothing, Branch, height}
 use Rattle.definitions.specs.Parts.{Turn, weave, joined}
 use Rattle.vocabulary.specs.declared.plans.Side.TheVariants as side
 use Rattle.vocabulary.specs.declared.calls.Reply.TheVariants as reply
@@ -35,7 +46,8 @@ abbrev pub census_edges : Tree → Tree → Branches
 census_edges full short = on (reply.Full ∷ []) full (on (reply.Short ∷ []) short Nothing)
 
 abbrev pub open_edges : Tree → Tree → Branches
-open_edges ok bad = on (reply.Opened ∷ []) ok (on (reply.InUse ∷ reply.TooMany ∷ reply.Denied ∷ reply.NoMemory ∷ []) bad Nothing)
+open_edges ok bad =
+    on (reply.Opened ∷ []) ok (on (reply.InUse ∷ reply.TooMany ∷ reply.Denied ∷ reply.NoMemory ∷ []) bad Nothing)
 
 -- whatever is answered
 abbrev pub fork_any_edges : Tree → Branches
@@ -68,24 +80,31 @@ short_end side.Target = ShortTarget
 abbrev pub round : ℕ → Crew → Tree → Tree
 round by crew rest =
     Does by (ForkLacking crew) []
-    (fork_edges (Does by (AwaitLacking crew.generation) [] (await_any_edges rest (Does by (KillLacking crew.generation) [] (then_edge rest)))) rest)
+    (fork_edges
+    (Does by (AwaitLacking crew.generation) []
+    (await_any_edges rest (Does by (KillLacking crew.generation) [] (then_edge rest))))
+    rest)
 
 -- A census of the set: full ends well; short makes a round and counts again, as long as rounds are left.
 abbrev pub settle : ℕ → Crew → List ℕ → Side → ℕ → Tree
-settle by crew set side zero = census by crew.generation set (census_edges (Ends (full_end side)) (Ends (short_end side)))
-settle by crew set side (suc rounds) = census by crew.generation set (census_edges (Ends (full_end side)) (round by crew (settle by crew set side rounds)))
+settle by crew set side zero =
+    census by crew.generation set (census_edges (Ends (full_end side)) (Ends (short_end side)))
+settle by crew set side (suc rounds) =
+    census by crew.generation set (census_edges (Ends (full_end side)) (round by crew (settle by crew set side rounds)))
 
 ---- Starts and quits
 
 -- Fork these numbers upwards. The first failed fork leads to `bad` of those that were forked, the last first.
 abbrev pub forks : ℕ → Crew → List ℕ → List ℕ → (List ℕ → Tree) → (List ℕ → Tree) → Tree
 forks by crew [] done ok bad = ok done
-forks by crew (k ∷ ks) done ok bad = does by (fork_of crew k) (fork_edges (forks by crew ks (k ∷ done) ok bad) (bad done))
+forks by crew (k ∷ ks) done ok bad =
+    does by (fork_of crew k) (fork_edges (forks by crew ks (k ∷ done) ok bad) (bad done))
 
 -- Wait for these numbers upwards. The first that fails, killed where it is late, leads to `bad`.
 abbrev pub awaits : ℕ → Generation → List ℕ → Tree → Tree → Tree
 awaits by g [] ok bad = ok
-awaits by g (k ∷ ks) ok bad = does by (AwaitReady g k) (await_edges (awaits by g ks ok bad) bad (does by (Kill g k) (then_edge bad)))
+awaits by g (k ∷ ks) ok bad =
+    does by (AwaitReady g k) (await_edges (awaits by g ks ok bad) bad (does by (Kill g k) (then_edge bad)))
 
 -- Fork all, then wait for all. A failure leads to `bad` of those that were forked, the last first.
 abbrev pub starts : ℕ → Crew → List ℕ → Tree → (List ℕ → Tree) → Tree
@@ -105,7 +124,8 @@ forks_any by crew (k ∷ ks) rest = does by (fork_of crew k) (fork_any_edges (fo
 abbrev pub awaits_any : ℕ → Generation → List ℕ → Tree → Tree
 awaits_any by g [] rest = rest
 awaits_any by g (k ∷ ks) rest =
-    does by (AwaitReady g k) (await_any_edges (awaits_any by g ks rest) (does by (Kill g k) (then_edge (awaits_any by g ks rest))))
+    does by (AwaitReady g k)
+    (await_any_edges (awaits_any by g ks rest) (does by (Kill g k) (then_edge (awaits_any by g ks rest))))
 
 -- Fork all, then wait for all, going on after a failure.
 abbrev pub starts_any : ℕ → Crew → List ℕ → Tree → Tree
@@ -123,7 +143,8 @@ usr1s by g (k ∷ ks) rest = does by (Usr1 g k) (then_edge (usr1s by g ks rest))
 abbrev pub awaits_gone : ℕ → Generation → List ℕ → Tree → Tree
 awaits_gone by g [] rest = rest
 awaits_gone by g (k ∷ ks) rest =
-    does by (AwaitGone g k) (gone_edges (awaits_gone by g ks rest) (does by (Kill g k) (then_edge (awaits_gone by g ks rest))))
+    does by (AwaitGone g k)
+    (gone_edges (awaits_gone by g ks rest) (does by (Kill g k) (then_edge (awaits_gone by g ks rest))))
 
 ---- Opens and closes
 
@@ -138,20 +159,22 @@ closes by (a ∷ more) rest = does by (CloseAt a) (then_edge (closes by more res
 
 ---- One master
 
--- The numbers below n that are lacking are started, those from n on quit downwards, and the target settles. A failed start
--- quits what was forked, downwards, and the old side settles.
+-- The numbers below n that are lacking are started, those from n on quit downwards, and the target settles. A failed
+-- start quits what was forked, downwards, and the old side settles.
 abbrev pub workers_tree : ℕ → Crew → List ℕ → ℕ → ℕ → Tree
 workers_tree by crew ready retries n =
     starts by crew (filter (λ k. not (is_in ready k)) (numbers_below n))
-    (quits by crew.generation (reverse (filter (λ k. not (nat_lt k n)) ready)) (settle by crew (numbers_below n) side.Target retries))
+    (quits by crew.generation (reverse (filter (λ k. not (nat_lt k n)) ready))
+    (settle by crew (numbers_below n) side.Target retries))
     (λ forked. quits by crew.generation forked (settle by crew ready side.Old retries))
 
--- Those that are overdue and ready are killed; each wanted number that isn't ready or is overdue is started, going on after
--- a failure; and the target settles.
+-- Those that are overdue and ready are killed; each wanted number that isn't ready or is overdue is started, going on
+-- after a failure; and the target settles.
 abbrev pub mend_tree : ℕ → Crew → List ℕ → ℕ → List ℕ → ℕ → Tree
 mend_tree by crew ready retries overdue wanted =
     kills by crew.generation (filter (is_in ready) overdue)
-    (starts_any by crew (filter (λ k. not (is_in ready k) || is_in overdue k) (numbers_below wanted)) (settle by crew (numbers_below wanted) side.Target retries))
+    (starts_any by crew (filter (λ k. not (is_in ready k) || is_in overdue k) (numbers_below wanted))
+    (settle by crew (numbers_below wanted) side.Target retries))
 
 -- Each ready worker is told, and the target settles.
 abbrev pub reopen_tree : ℕ → Crew → List ℕ → ℕ → Tree
@@ -159,7 +182,8 @@ reopen_tree by crew ready retries = usr1s by crew.generation ready (settle by cr
 
 -- Back from a reload: the new workers quit, what was opened is closed, the last first, and the old side settles.
 abbrev pub reload_back : ℕ → Crew → Crew → List ℕ → ℕ → List Address → List ℕ → Tree
-reload_back by old new ready retries opened forked = quits by new.generation forked (closes by opened (settle by old ready side.Old retries))
+reload_back by old new ready retries opened forked =
+    quits by new.generation forked (closes by opened (settle by old ready side.Old retries))
 
 -- On with a reload: the old workers quit, the dropped addresses are closed in the old order, and the target settles.
 abbrev pub reload_on : ℕ → Crew → Crew → List ℕ → ℕ → List Address → ℕ → Tree
@@ -181,11 +205,9 @@ reload_tree by old new ready retries held wanted n =
 
 -- whether a file stands at the path with the suffix
 abbrev pub has_oldbin : PidNote → Bool
-has_oldbin InPlace = false
 has_oldbin AtOldbin = true
 has_oldbin OldbinLeft = true
-has_oldbin Left = false
-has_oldbin NoFile = false
+has_oldbin _ = false
 
 -- The file with the suffix is removed, where there is one; a fault leaves it.
 abbrev pub remove_oldbin_too : ℕ → FilePath → Bool → Tree → Tree
@@ -195,7 +217,8 @@ remove_oldbin_too by path false rest = rest
 -- The pid files are removed.
 abbrev pub removes : ℕ → Option FilePath → PidNote → Tree → Tree
 removes by None note rest = rest
-removes by (Some path) note rest = does by (RemovePid path) (note_edges (Some NoFile) (Some Left) (remove_oldbin_too by path (has_oldbin note) rest))
+removes by (Some path) note rest =
+    does by (RemovePid path) (note_edges (Some NoFile) (Some Left) (remove_oldbin_too by path (has_oldbin note) rest))
 
 abbrev pub stopped : ℕ → Tree
 stopped by = does by Leave (then_edge (Ends Done))
@@ -203,7 +226,8 @@ stopped by = does by Leave (then_edge (Ends Done))
 -- The workers quit and are waited for, or are killed at once; the files are removed, and the master leaves.
 abbrev pub stop_tree : ℕ → Generation → List ℕ → Option FilePath → PidNote → Bool → Tree
 stop_tree by g ready path note true = kills by g ready (removes by path note (stopped by))
-stop_tree by g ready path note false = quits by g (reverse ready) (awaits_gone by g (reverse ready) (removes by path note (stopped by)))
+stop_tree by g ready path note false =
+    quits by g (reverse ready) (awaits_gone by g (reverse ready) (removes by path note (stopped by)))
 
 ---- Upgrade
 
@@ -213,7 +237,9 @@ others (r ∷ rs) = rs
 
 -- A step of the new master: the plain reply goes on; any other, and that the master is gone, goes back.
 abbrev pub tries : ℕ → Call → List ℕ → Tree → Tree → Tree
-tries by call set rest back = Does by (Make call) set (on (plain_reply call ∷ []) rest (on (others (replies_to call) ++ reply.MasterGone ∷ []) back Nothing))
+tries by call set rest back =
+    Does by (Make call) set
+    (on (plain_reply call ∷ []) rest (on (others (replies_to call) ++ reply.MasterGone ∷ []) back Nothing))
 
 abbrev pub tries_all : ℕ → List Call → Tree → Tree → Tree
 tries_all by [] rest back = rest
@@ -223,28 +249,32 @@ abbrev pub pid_calls : Option FilePath → (FilePath → Call) → List Call
 pid_calls None call = []
 pid_calls (Some path) call = call path ∷ []
 
--- What the new master does on its own: it adopts, closes the dropped addresses and opens the added ones, forks its workers and
--- waits for them.
+-- What the new master does on its own: it adopts, closes the dropped addresses and opens the added ones, forks its
+-- workers and waits for them.
 abbrev pub new_calls : Crew → List Address → List Address → ℕ → List Call
 new_calls crew held wanted n =
-    Adopt ∷ map CloseAt (only_in held wanted) ++ map OpenAt (only_in wanted held) ++ map (fork_of crew) (numbers_below n)
+    Adopt ∷ map CloseAt (only_in held wanted) ++ map OpenAt (only_in wanted held)
+    ++ map (fork_of crew) (numbers_below n)
     ++ map (AwaitReady crew.generation) (numbers_below n)
 
 -- The new master's part is ready after the last of these calls; any other answer than the plain one ends it.
 abbrev pub new_part : Crew → List Address → List Address → ℕ → Tree
-new_part crew held wanted n = tries_all crew.generation.image (new_calls crew held wanted n) (Ends JoinReady) (Ends JoinBack)
+new_part crew held wanted n =
+    tries_all crew.generation.image (new_calls crew held wanted n) (Ends JoinReady) (Ends JoinBack)
 
--- The old master meanwhile mends its own workers: it counts those that were ready, and starts what is lacking, so many rounds; what the
--- last count says is no matter.
+-- The old master meanwhile mends its own workers: it counts those that were ready, and starts what is lacking, so
+-- many rounds; what the last count says is no matter.
 abbrev pub old_part : ℕ → Crew → List ℕ → ℕ → Tree
 old_part by crew ready zero = census by crew.generation ready (on (reply.Full ∷ reply.Short ∷ []) (Ends Join) Nothing)
-old_part by crew ready (suc rounds) = census by crew.generation ready (census_edges (Ends Join) (round by crew (old_part by crew ready rounds)))
+old_part by crew ready (suc rounds) =
+    census by crew.generation ready (census_edges (Ends Join) (round by crew (old_part by crew ready rounds)))
 
 -- The pid file goes aside, where it isn't yet.
 abbrev pub move_aside : ℕ → Option FilePath → PidNote → Tree → Tree → Tree
 move_aside by None note ok bad = ok
 move_aside by (Some path) AtOldbin ok bad = ok
-move_aside by (Some path) note ok bad = does by (MovePid path (oldbin path)) (on (reply.Fine ∷ []) ok (on (reply.IoFault ∷ []) bad Nothing))
+move_aside by (Some path) note ok bad =
+    does by (MovePid path (oldbin path)) (on (reply.Fine ∷ []) ok (on (reply.IoFault ∷ []) bad Nothing))
 
 -- The pid file goes back to its path.
 abbrev pub move_back : ℕ → Option FilePath → Tree → Tree
@@ -261,33 +291,42 @@ abbrev pub back_alone : ℕ → Crew → List ℕ → ℕ → Option FilePath �
 back_alone by crew ready retries path = move_back by path (settle by crew ready side.Old retries)
 
 abbrev pub back_from : ℕ → ℕ → Crew → List ℕ → ℕ → Option FilePath → Tree
-back_from by heir crew ready retries path = does by (TermMaster heir) (then_edge (back_alone by crew ready retries path))
+back_from by heir crew ready retries path =
+    does by (TermMaster heir) (then_edge (back_alone by crew ready retries path))
 
 -- Back after the old workers are gone: they are started again.
 abbrev pub back_late : ℕ → ℕ → Crew → List ℕ → ℕ → Option FilePath → Tree
-back_late by heir crew ready retries path = does by (TermMaster heir) (then_edge (starts_any by crew ready (back_alone by crew ready retries path)))
+back_late by heir crew ready retries path =
+    does by (TermMaster heir) (then_edge (starts_any by crew ready (back_alone by crew ready retries path)))
 
--- Back once the old workers are gone: they are started again while the new master still serves, and only then is it ended.
+-- Back once the old workers are gone: they are started again while the new master still serves, and only then is it
+-- ended.
 abbrev pub back_serving : ℕ → ℕ → Crew → List ℕ → ℕ → Option FilePath → Tree
 back_serving by heir crew ready retries path = starts_any by crew ready (back_from by heir crew ready retries path)
 
 -- An attended upgrade asks the operator whether to go on or back; any other goes on.
 abbrev pub asks : Bool → ℕ → ℕ → Tree → Tree → Tree
-asks true by question on_go on_back = does by (Ask question) (on (reply.Go ∷ []) on_go (on (reply.Back ∷ []) on_back Nothing))
+asks true by question on_go on_back =
+    does by (Ask question) (on (reply.Go ∷ []) on_go (on (reply.Back ∷ []) on_back Nothing))
 asks false by question on_go on_back = on_go
 
 -- The old master leaves; the new one removes the old file and settles.
 abbrev pub hand_over : ℕ → Crew → ℕ → Option FilePath → ℕ → Tree
 hand_over by new retries path n =
-    does by Leave (then_edge (remove_oldbin new.generation.image path (settle new.generation.image new (numbers_below n) side.Target retries)))
+    does by Leave
+    (then_edge (remove_oldbin new.generation.image path
+    (settle new.generation.image new (numbers_below n) side.Target retries)))
 
 -- If the new master still lives, the old one leaves.
 abbrev pub retire : ℕ → Crew → Crew → List ℕ → ℕ → Option FilePath → ℕ → Tree
 retire by old new ready retries path n =
     let heir = new.generation.image in
-    does by (Alive heir) (on (reply.IsAlive ∷ []) (hand_over by new retries path n) (on (reply.Gone ∷ []) (back_late by heir old ready retries path) Nothing))
+    does by (Alive heir)
+    (on (reply.IsAlive ∷ []) (hand_over by new retries path n)
+    (on (reply.Gone ∷ []) (back_late by heir old ready retries path) Nothing))
 
--- The old workers quit and are waited for; then the old master retires. An attended upgrade asks before they quit and once they are gone.
+-- The old workers quit and are waited for; then the old master retires. An attended upgrade asks before they quit and
+-- once they are gone.
 abbrev pub relieve : Bool → ℕ → Crew → Crew → List ℕ → ℕ → Option FilePath → ℕ → Tree
 relieve attended by old new ready retries path n =
     let heir = new.generation.image in
@@ -303,20 +342,24 @@ spawn_edges ok bad = on (reply.Spawned ∷ []) ok (on (reply.Again ∷ reply.NoM
 abbrev pub taken_over : Bool → ℕ → Crew → Crew → List ℕ → ℕ → Option FilePath → ℕ → Tree → Tree
 taken_over attended by old new ready retries path n back =
     let heir = new.generation.image in
-    tries_all heir (pid_calls path WritePid) (tries heir (Census new.generation) (numbers_below n) (relieve attended by old new ready retries path n) back) back
+    tries_all heir (pid_calls path WritePid)
+    (tries heir (Census new.generation) (numbers_below n) (relieve attended by old new ready retries path n) back) back
 
-abbrev pub upgrade_tree : Bool → ℕ → Crew → Crew → List ℕ → ℕ → Option FilePath → PidNote → List Address → List Address → ℕ → List Turn → Tree
+abbrev pub upgrade_tree :
+    Bool → ℕ → Crew → Crew → List ℕ → ℕ → Option FilePath → PidNote → List Address → List Address → ℕ → List Turn → Tree
 upgrade_tree attended by old new ready retries path note held wanted n turns =
     let heir = new.generation.image in
     let back = back_from by heir old ready retries path in
     move_aside by path note
     (does by (SpawnMaster heir) (spawn_edges
-    (weave (joined (taken_over attended by old new ready retries path n back) back) (new_part new held wanted n) turns (old_part by old ready retries))
+    (weave (joined (taken_over attended by old new ready retries path n back) back)
+    (new_part new held wanted n) turns (old_part by old ready retries))
     (back_alone by old ready retries path)))
     (settle by old ready side.Old retries)
 
 -- The steps on its longest path: those before the parts, both parts, and the longer of what follows them.
-abbrev pub upgrade_length : Bool → ℕ → Crew → Crew → List ℕ → ℕ → Option FilePath → PidNote → List Address → List Address → ℕ → ℕ
+abbrev pub upgrade_length :
+    Bool → ℕ → Crew → Crew → List ℕ → ℕ → Option FilePath → PidNote → List Address → List Address → ℕ → ℕ
 upgrade_length attended by old new ready retries path note held wanted n =
     let heir = new.generation.image in
     let back = back_from by heir old ready retries path in
@@ -331,11 +374,15 @@ abbrev pub plan_tree : Record → Target → List Turn → Tree
 plan_tree r (Workers n) turns = workers_tree r.generation.image (crew_of r) r.ready r.retries n
 plan_tree r (Mend overdue) turns = mend_tree r.generation.image (crew_of r) r.ready r.retries overdue r.wanted
 plan_tree r Reopen turns = reopen_tree r.generation.image (crew_of r) r.ready r.retries
-plan_tree r (Reload s) turns = reload_tree r.generation.image (crew_of r) (crew_wanted r (Reload s)) r.ready r.retries (addresses_of r) s.listeners s.workers
+plan_tree r (Reload s) turns =
+    reload_tree r.generation.image (crew_of r) (crew_wanted r (Reload s)) r.ready r.retries (addresses_of r) s.listeners
+    s.workers
 plan_tree r (Upgrade s) turns =
-    upgrade_tree false r.generation.image (crew_of r) (crew_wanted r (Upgrade s)) r.ready r.retries r.pid_path r.note (addresses_of r) s.listeners s.workers turns
+    upgrade_tree false r.generation.image (crew_of r) (crew_wanted r (Upgrade s)) r.ready r.retries r.pid_path r.note
+    (addresses_of r) s.listeners s.workers turns
 plan_tree r (Attended s) turns =
-    upgrade_tree true r.generation.image (crew_of r) (crew_wanted r (Attended s)) r.ready r.retries r.pid_path r.note (addresses_of r) s.listeners s.workers turns
+    upgrade_tree true r.generation.image (crew_of r) (crew_wanted r (Attended s)) r.ready r.retries r.pid_path r.note
+    (addresses_of r) s.listeners s.workers turns
 plan_tree r (Stop quick) turns = stop_tree r.generation.image r.generation r.ready r.pid_path r.note quick
 
 -- The steps on the longest path of a target's plan.
@@ -345,11 +392,19 @@ plan_length r (Mend overdue) = height (plan_tree r (Mend overdue) [])
 plan_length r Reopen = height (plan_tree r Reopen [])
 plan_length r (Reload s) = height (plan_tree r (Reload s) [])
 plan_length r (Upgrade s) =
-    upgrade_length false r.generation.image (crew_of r) (crew_wanted r (Upgrade s)) r.ready r.retries r.pid_path r.note (addresses_of r) s.listeners s.workers
+    upgrade_length false r.generation.image (crew_of r) (crew_wanted r (Upgrade s)) r.ready r.retries r.pid_path r.note
+    (addresses_of r) s.listeners s.workers
 plan_length r (Attended s) =
-    upgrade_length true r.generation.image (crew_of r) (crew_wanted r (Attended s)) r.ready r.retries r.pid_path r.note (addresses_of r) s.listeners s.workers
+    upgrade_length true r.generation.image (crew_of r) (crew_wanted r (Attended s)) r.ready r.retries r.pid_path r.note
+    (addresses_of r) s.listeners s.workers
 plan_length r (Stop quick) = height (plan_tree r (Stop quick) [])
 
--- The plan of a target for a running master. There is none where a number of the target's generation would pass its limit.
+-- The plan of a target for a running master. There is none where a number of the target's generation would pass its
+-- limit.
 abbrev pub planned : Record → Target → Option (List Turn → Tree)
 planned r target = if lacks_generation r target then None else Some (plan_tree r target)
+
+---- An example: a settle with one round makes five calls at most: count, fork, wait, kill, count
+
+example : (by : ℕ) (crew : Crew) (set : List ℕ) (side : Side) → height (settle by crew set side 1) ≡ 5
+example by crew set side = refl

@@ -1,5 +1,10 @@
 -- What a master knows of itself, and when it is so.
-use Rattle.std.specs.Prelude.{ℕ, ◌≡◌, ◌≤◌, ◌<◌, ◌+◌, ◌++◌, true, List, [], ◌∷◌, Option, Some, None, map, length, count_by, is_some, codes, ⊤}
+--
+-- Our own. The pid file and its suffix are those of nginx's "Controlling nginx".
+
+use Rattle.std.specs.Prelude.{refl}
+use Rattle.std.specs.Prelude.{ℕ, ◌≡◌, ◌≤◌, ◌<◌, ◌+◌, ◌++◌, true, List, [], ◌∷◌, Option, Some, None, map, length}
+use Rattle.std.specs.Prelude.{count_by, is_some, codes, ⊤}
 use Rattle.std.specs.List.{list_any, AllByRecursion}
 use Rattle.listener_set.specs.Numbers.{is_in}
 pub use Rattle.vocabulary.specs.declared.table.Listener.{Listener}
@@ -7,7 +12,8 @@ use Rattle.vocabulary.specs.Settings.{Settings, HasSuffixRoom}
 use Rattle.worker_groups.specs.Groups.{AreGroups}
 use Rattle.worker_groups.specs.Crews.{first_posts}
 use Rattle.definitions.specs.Crew.{Posts, Crew, share, Layout, layout_at}
-use Rattle.definitions.specs.Table.{Address, FilePath, Generation, Hold, Starting, Ready, Draining, Exited, Process, Master, Worker, Foreign, File, Table, is_master, is_ready, is_worker, live_master, owner_at}
+use Rattle.definitions.specs.Table.{Address, FilePath, Generation, Hold, Starting, Ready, Process, Worker, File, Table}
+use Rattle.definitions.specs.Table.{is_master, is_ready, is_worker, live_master, owner_at}
 pub use Rattle.vocabulary.specs.declared.plans.PidNote.{PidNote}
 pub use Rattle.vocabulary.specs.declared.plans.PidNote.TheVariants.{InPlace, AtOldbin, OldbinLeft, Left, NoFile}
 
@@ -59,8 +65,8 @@ first_note (Some path) = InPlace
 abbrev pub first_generation : Generation
 first_generation = record { image = 1; config = 1 }
 
--- The record of a master that starts with these settings: generation 1.1, descriptors from 3 on, of which each group takes the
--- next so many.
+-- The record of a master that starts with these settings: generation 1.1, descriptors from 3 on, of which each group
+-- takes the next so many.
 abbrev pub started : Settings → ℕ → List ℕ → ℕ → Record
 started s wanted ready pid = record {
   listeners = listeners_from 3 s.listeners;
@@ -80,29 +86,28 @@ started s wanted ready pid = record {
 abbrev pub listener_of : Hold → Listener
 listener_of h = record { descriptor = h.fd; address = h.address }
 
--- Of the master's workers none is Starting, and each Ready one is of the crew's generation and holds its share of what the master
--- holds.
+-- Of the master's workers none is Starting, and each Ready one is of the crew's generation and holds its share of
+-- what the master holds.
 abbrev pub IsRunning : ℕ → Crew → List Hold → Process → Type 0
 IsRunning m crew holds (Worker n q g k Ready hs) = q ≡ m → (g ≡ crew.generation) × (hs ≡ share crew.posts k holds)
 IsRunning m crew holds (Worker n q g k Starting hs) = q ≡ m → ⊥
-IsRunning m crew holds (Worker n q g k Draining hs) = ⊤
-IsRunning m crew holds (Worker n q g k Exited hs) = ⊤
-IsRunning m crew holds (Master n q i live hs) = ⊤
-IsRunning m crew holds (Foreign n hs) = ⊤
+IsRunning m crew holds _ = ⊤
 
 abbrev pub oldbin : FilePath → FilePath
 oldbin path = path ++ codes ".oldbin"
 
--- The files are as the note says. A master whose file stands at the path with the suffix may have a stale file at the path.
+-- The files are as the note says. A master whose file stands at the path with the suffix may have a stale file at the
+-- path.
 abbrev pub FilesAre : PidNote → Option FilePath → ℕ → List File → Type 0
 FilesAre InPlace (Some path) pid files = (owner_at path files ≡ Some pid) × (owner_at (oldbin path) files ≡ None)
 FilesAre AtOldbin (Some path) pid files = owner_at (oldbin path) files ≡ Some pid
-FilesAre OldbinLeft (Some path) pid files = (owner_at path files ≡ Some pid) × (is_some (owner_at (oldbin path) files) ≡ true)
+FilesAre OldbinLeft (Some path) pid files =
+    (owner_at path files ≡ Some pid) × (is_some (owner_at (oldbin path) files) ≡ true)
 FilesAre NoFile None pid files = ⊤
 FilesAre note path pid files = ⊥
 
--- One master row, live, with the record's image and process number, its descriptors the record's, its Ready workers exactly
--- the record's, and the files as the note says.
+-- One master row, live, with the record's image and process number, its descriptors the record's, its Ready workers
+-- exactly the record's, and the files as the note says.
 pub record Agrees (t : Table) (r : Record) : Type 0 where
   pub holds : List Hold
   pub lives : live_master r.generation.image t.rows ≡ Some (record { number = r.pid; holds = holds })
@@ -111,3 +116,8 @@ pub record Agrees (t : Table) (r : Record) : Type 0 where
   pub running : AllByRecursion (IsRunning r.pid (crew_of r) holds) t.rows
   pub ready : (k : ℕ) → list_any (is_worker is_ready r.pid r.generation k) t.rows ≡ is_in r.ready k
   pub files : FilesAre r.note r.pid_path r.pid t.files
+
+---- An example: the pid file with the suffix
+
+example : oldbin (codes "/run/a.pid") ≡ codes "/run/a.pid.oldbin"
+example = refl

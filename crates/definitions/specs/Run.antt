@@ -1,10 +1,17 @@
 -- The run of a plan's tree on a table under a pattern.
-use Rattle.std.specs.Prelude.{ℕ, ◌≡◌, ◌+◌, ◌-◌, ◌==◌, not, Bool, true, false, List, [], ◌∷◌, Option, Some, None, if◌then◌else◌}
+--
+-- Our own. One moment is: some children exit, and then one call by one master takes effect.
+
+use Rattle.std.specs.Prelude.{refl}
+use Rattle.std.specs.Prelude.{ℕ, ◌≡◌, ◌+◌, ◌-◌, ◌==◌, not, Bool, true, false, List, [], ◌∷◌, Option, Some, None}
+use Rattle.std.specs.Prelude.{if◌then◌else◌}
 use Rattle.definitions.specs.Table.{Table}
 use Rattle.definitions.specs.Exits.{Name, after_exits, losses_of}
 use Rattle.definitions.specs.Calls.{Call, Ask, Answer, Fate, Stepped, step_with}
-use Rattle.definitions.specs.Tree.{Reply, among, reply_of, same_reply, plain_reply, End, PidNote, Order, call_of, Tree, Branches, Ends, Does, Nothing, Branch}
-use Rattle.definitions.specs.Path.{Report, Outcome, Sides, outcome_at, Entry, ready_after, lacking_after, Lack, lacked_by, lacked_after, went_wrong, first_cause}
+use Rattle.definitions.specs.Tree.{Reply, among, reply_of, same_reply, plain_reply, End, PidNote, Order, call_of, Tree}
+use Rattle.definitions.specs.Tree.{Branches, Ends, Does, Nothing, Branch}
+use Rattle.definitions.specs.Path.{Report, Outcome, Sides, outcome_at, Entry, ready_after, lacking_after, Lack}
+use Rattle.definitions.specs.Path.{lacked_by, lacked_after, went_wrong, first_cause}
 use Rattle.vocabulary.specs.declared.calls.Answer.TheVariants as answer
 use Rattle.vocabulary.specs.declared.reports.Outcome.TheVariants as outcome
 
@@ -43,10 +50,11 @@ returns_after _ _ faults returns = returns
 -- The number of faults since the operator went back at a question; 0 where the operator did not.
 abbrev pub faults_since : ℕ → List Return → ℕ → ℕ
 faults_since question [] faults = 0
-faults_since question (b ∷ returns) faults = if b.question == question then faults - b.faults else faults_since question returns faults
+faults_since question (b ∷ returns) faults =
+    if b.question == question then faults - b.faults else faults_since question returns faults
 
--- How far a run has come: its table, the number of calls made, the last count and what it lacked of its set, the faults and
--- losses so far, where the operator went back, the first call that went wrong, and the note.
+-- How far a run has come: its table, the number of calls made, the last count and what it lacked of its set, the
+-- faults and losses so far, where the operator went back, the first call that went wrong, and the note.
 pub record Progress : Type 0 where
   pub table : Table
   pub calls : ℕ
@@ -60,7 +68,18 @@ pub record Progress : Type 0 where
   pub note : PidNote
 
 abbrev pub start_at : Table → PidNote → Progress
-start_at t note = record { table = t; calls = 0; ready = []; lacking = []; lacked = []; faults = 0; losses = 0; returns = []; cause = None; note = note }
+start_at t note = record {
+  table = t;
+  calls = 0;
+  ready = [];
+  lacking = [];
+  lacked = [];
+  faults = 0;
+  losses = 0;
+  returns = [];
+  cause = None;
+  note = note;
+}
 
 -- the middle of a moment, after its exits
 abbrev pub after_moment : List Name → Progress → Progress
@@ -75,7 +94,8 @@ after_call by order set s p = record p {
   lacked = lacked_after by set s.answer p.lacked;
   faults = if is_fault (call_of order (lacked_by by p.lacked)) s.answer then p.faults + 1 else p.faults;
   returns = returns_after (call_of order (lacked_by by p.lacked)) s.answer p.faults p.returns;
-  cause = first_cause p.cause (went_wrong (call_of order (lacked_by by p.lacked)) (reply_of set s.answer)) (p.calls + 1);
+  cause =
+      first_cause p.cause (went_wrong (call_of order (lacked_by by p.lacked)) (reply_of set s.answer)) (p.calls + 1);
 }
 
 abbrev pub noted : Option PidNote → Progress → Progress
@@ -103,9 +123,11 @@ abbrev pub ends_at : Ending → Progress → Ran
 ends_at e p = record { entries = []; passed = p ∷ []; ending = e; last = p }
 
 abbrev pub with_entry : Entry → Progress → Progress → Ran → Ran
-with_entry entry before middle rest = record rest { entries = entry ∷ rest.entries; passed = before ∷ middle ∷ rest.passed }
+with_entry entry before middle rest =
+    record rest { entries = entry ∷ rest.entries; passed = before ∷ middle ∷ rest.passed }
 
--- The run of a tree, each call of which is handed a text, and of what is behind the first of some edges that has the reply.
+-- The run of a tree, each call of which is handed a text, and of what is behind the first of some edges that has the
+-- reply.
 abbrev mutual
   pub run_with : List ℕ → Tree → Pattern → Progress → Ran
   run_with text (Ends end) pattern p = ends_at (At end) p
@@ -131,13 +153,23 @@ outcome_of sides Lost lacking = outcome.Lost
 
 -- What the report of a run says, by the groups of both sides.
 abbrev pub report_of : Sides → Ran → Report
-report_of sides ran = record { outcome = outcome_of sides ran.ending ran.last.lacking; cause = ran.last.cause; note = ran.last.note; ready = ran.last.ready }
+report_of sides ran = record {
+  outcome = outcome_of sides ran.ending ran.last.lacking;
+  cause = ran.last.cause;
+  note = ran.last.note;
+  ready = ran.last.ready;
+}
 
--- From one table to another by these calls, each of which is handed the text, the first being number n + 1 of the pattern:
--- before each the exits of its moment, and each with the one answer that it can have there.
+-- From one table to another by these calls, each of which is handed the text, the first being number n + 1 of the
+-- pattern: before each the exits of its moment, and each with the one answer that it can have there.
 abbrev pub Replays : List ℕ → Pattern → ℕ → Table → List Entry → Table → Type 0
 Replays text pattern n t [] last = t ≡ last
 Replays text pattern n t (e ∷ entries) last =
     let moment = pattern (n + 1) in
     let s = step_with text e.by e.call moment.fate (after_exits moment.exits t) in
     (s.answer ≡ e.answer) × Replays text pattern (n + 1) s.table entries last
+
+---- An example: a plan without a step makes no call, whatever the pattern
+
+example : (pattern : Pattern) (p : Progress) (end : End) → (run_with [] (Ends end) pattern p).entries ≡ []
+example pattern p end = refl

@@ -1,7 +1,12 @@
 -- The service of a table: which addresses are served, and by how many workers of each generation.
+--
+-- Our own notion. It is what clients can tell: a worker that drains serves nobody new, and does not count.
+
+use Rattle.std.specs.Prelude.{refl, codes, [], ◌∷◌}
 use Rattle.std.specs.Prelude.{ℕ, ◌≡◌, Bool, false, ◌&&◌, List, Option, Some, None, count_by, bytes_eq, if◌then◌else◌}
 use Rattle.std.specs.List.{list_any}
-use Rattle.definitions.specs.Table.{Address, Generation, same_generation, Hold, Process, Master, Worker, Foreign, Table, is_ready, has_address}
+use Rattle.definitions.specs.Table.{Address, Generation, same_generation, Hold, Process, Master, Worker, Table}
+use Rattle.definitions.specs.Table.{is_ready, has_address}
 
 -- A map by extension: each address that is a key goes to the count of each generation.
 abbrev pub Service : Type 0
@@ -10,14 +15,12 @@ Service = Address → Option (Generation → ℕ)
 -- a live master whose holds pass a test
 abbrev pub is_live_with : (List Hold → Bool) → Process → Bool
 is_live_with test (Master n q i live hs) = live && test hs
-is_live_with test (Worker n q g k s hs) = false
-is_live_with test (Foreign n hs) = false
+is_live_with test _ = false
 
 -- a Ready worker of the generation that holds the address
 abbrev pub is_serving : Address → Generation → Process → Bool
 is_serving a g (Worker n q g' k s hs) = is_ready s && (same_generation g' g && has_address a hs)
-is_serving a g (Master n q i live hs) = false
-is_serving a g (Foreign n hs) = false
+is_serving a g _ = false
 
 -- The keys are the addresses that a live master holds, each with its Ready workers, by generation.
 abbrev pub service : Table → Service
@@ -35,3 +38,8 @@ serving addresses g count a =
 
 abbrev pub IsSame : Service → Service → Type 0
 IsSame s s' = (a : Address) → s a ≡ s' a
+
+---- An example: an address that is not among those served is no key
+
+example : serving (codes "1.2.3.4:80" ∷ []) (record { image = 1; config = 1 }) (λ a. 2) (codes "1.2.3.4:81") ≡ None
+example = refl

@@ -1,4 +1,9 @@
 -- How a kernel starts with a master.
+--
+-- Our own choice of first numbers: master 100 with parent 1, its workers from 101 on, descriptors from 3 on, as POSIX
+-- gives them after the standard three.
+
+use Rattle.std.specs.Prelude.{◌≡◌, refl}
 use Rattle.std.specs.Prelude.{ℕ, ◌+◌, true, List, [], ◌∷◌, length, map, Option, Some, None}
 use Rattle.listener_set.specs.Numbers.{numbers_below}
 use Rattle.vocabulary.specs.Settings.{Settings}
@@ -10,7 +15,8 @@ use Rattle.definitions.specs.Record.{first_generation, started, Agrees}
 -- a socket for each address in order, from a descriptor and a socket number on
 abbrev pub holds_from : ℕ → ℕ → List Address → List Hold
 holds_from fd socket [] = []
-holds_from fd socket (a ∷ rest) = (record { fd = fd; socket = socket; address = a }) ∷ holds_from (fd + 1) (socket + 1) rest
+holds_from fd socket (a ∷ rest) =
+    (record { fd = fd; socket = socket; address = a }) ∷ holds_from (fd + 1) (socket + 1) rest
 
 abbrev pub first_worker : Posts → List Hold → ℕ → Process
 first_worker posts holds k = Worker (101 + k) 100 first_generation k Ready (share posts k holds)
@@ -22,8 +28,8 @@ abbrev pub first_files : Option FilePath → List File
 first_files None = []
 first_files (Some path) = (record { path = path; owner = 100 }) ∷ []
 
--- The master of image 1 with the listeners from descriptor 3 on, its Ready workers from number 0 on, each with its group's share,
--- and the pid file.
+-- The master of image 1 with the listeners from descriptor 3 on, its Ready workers from number 0 on, each with its
+-- group's share, and the pid file.
 abbrev pub booted : List Address → List Group → ℕ → Option FilePath → Limits → Table
 booted listeners groups workers pid_file limits = record {
   rows = first_rows (first_posts groups) (holds_from 3 1 listeners) workers;
@@ -33,6 +39,14 @@ booted listeners groups workers pid_file limits = record {
   limits = limits;
 }
 
--- What the master of process 100 that starts with some settings knows of itself is so, however many workers run and are wanted.
+-- What the master of process 100 that starts with some settings knows of itself is so, however many workers run and
+-- are wanted.
 abbrev pub StartsAgree : Type 0
-StartsAgree = (s : Settings) (wanted workers : ℕ) (limits : Limits) → Agrees (booted s.listeners s.groups workers s.pid limits) (started s wanted (numbers_below workers) 100)
+StartsAgree =
+    (s : Settings) (wanted workers : ℕ) (limits : Limits) →
+    Agrees (booted s.listeners s.groups workers s.pid limits) (started s wanted (numbers_below workers) 100)
+
+---- An example: after a master and two workers the next process is 103
+
+example : (path : Option FilePath) (limits : Limits) → (booted [] [] 2 path limits).next_process ≡ 103
+example path limits = refl

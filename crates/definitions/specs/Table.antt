@@ -1,4 +1,9 @@
--- The table of processes: who runs, what each holds, which files are there.
+-- The table of processes: who runs, what each holds, and which files are there.
+--
+-- After POSIX, as far as masters need it: a process has a number and a parent, a descriptor leads to a socket, and an
+-- address is taken as long as a process holds a socket of it.
+
+use Rattle.std.specs.Prelude.{◌≡◌, refl}
 use Rattle.std.specs.Prelude.{ℕ, Bool, true, false, ◌&&◌, ◌==◌, List, [], ◌∷◌, Option, Some, None, bytes_eq}
 use Rattle.std.specs.List.{list_any}
 pub use Rattle.listener_set.specs.declared.generation.Generation.{Generation}
@@ -23,7 +28,8 @@ pub record Hold : Type 0 where
   pub address : Address
 
 -- A process: its number, its parent's number, what it is, and its holds in ascending descriptors. A master is live or
--- has exited and holds nothing. A worker that drains or has exited holds nothing either. A foreign process is somebody else's.
+-- has exited and holds nothing. A worker that drains or has exited holds nothing either. A foreign process is
+-- somebody else's.
 pub data Process : Type 0 where
   Master : (number parent image : ℕ) (live : Bool) (holds : List Hold) → Process
   Worker : (number parent : ℕ) (generation : Generation) (nr : ℕ) (stance : Stance) (holds : List Hold) → Process
@@ -56,47 +62,36 @@ holds_of (Foreign n hs) = hs
 
 -- The rows that the process limit counts.
 abbrev pub is_own : Process → Bool
-is_own (Master n q i live hs) = true
-is_own (Worker n q g k s hs) = true
 is_own (Foreign n hs) = false
+is_own _ = true
 
 abbrev pub is_master : Process → Bool
 is_master (Master n q i live hs) = true
-is_master (Worker n q g k s hs) = false
-is_master (Foreign n hs) = false
+is_master _ = false
 
 ---- Stances
 
 abbrev pub is_starting : Stance → Bool
 is_starting Starting = true
-is_starting Ready = false
-is_starting Draining = false
-is_starting Exited = false
+is_starting _ = false
 
 abbrev pub is_ready : Stance → Bool
-is_ready Starting = false
 is_ready Ready = true
-is_ready Draining = false
-is_ready Exited = false
+is_ready _ = false
 
 -- Starting or Ready.
 abbrev pub is_active : Stance → Bool
 is_active Starting = true
 is_active Ready = true
-is_active Draining = false
-is_active Exited = false
+is_active _ = false
 
 abbrev pub is_draining : Stance → Bool
-is_draining Starting = false
-is_draining Ready = false
 is_draining Draining = true
-is_draining Exited = false
+is_draining _ = false
 
 abbrev pub is_exited : Stance → Bool
-is_exited Starting = false
-is_exited Ready = false
-is_exited Draining = false
 is_exited Exited = true
+is_exited _ = false
 
 abbrev pub is_any : Stance → Bool
 is_any s = true
@@ -109,14 +104,12 @@ bears g k g' k' = same_generation g' g && (k' == k)
 -- a worker of any master with the name, in such a stance
 abbrev pub is_named : (Stance → Bool) → Generation → ℕ → Process → Bool
 is_named stance g k (Worker n q g' k' s hs) = stance s && bears g k g' k'
-is_named stance g k (Master n q i live hs) = false
-is_named stance g k (Foreign n hs) = false
+is_named stance g k _ = false
 
 -- a worker of the caller with the name, in such a stance
 abbrev pub is_worker : (Stance → Bool) → ℕ → Generation → ℕ → Process → Bool
 is_worker stance caller g k (Worker n q g' k' s hs) = stance s && ((q == caller) && bears g k g' k')
-is_worker stance caller g k (Master n q i live hs) = false
-is_worker stance caller g k (Foreign n hs) = false
+is_worker stance caller g k _ = false
 
 -- A live master, as its process number and its holds.
 pub record Caller : Type 0 where
@@ -137,8 +130,7 @@ live_master image (Foreign n hs ∷ rows) = live_master image rows
 -- The number is a live master's.
 abbrev pub is_live_master : ℕ → Process → Bool
 is_live_master m (Master n q i live hs) = live && (n == m)
-is_live_master m (Worker n q g k s hs) = false
-is_live_master m (Foreign n hs) = false
+is_live_master m _ = false
 
 ---- Addresses
 
@@ -165,3 +157,8 @@ owner_at path (f ∷ files) = owner_if (bytes_eq f.path path) f.owner (owner_at 
 
 abbrev pub with_rows : Table → List Process → Table
 with_rows t rows = record t { rows = rows }
+
+---- An example: a master that has exited is no live master of its image
+
+example : live_master 2 (Master 103 100 2 false [] ∷ []) ≡ None
+example = refl

@@ -1,4 +1,9 @@
 -- The service that a target wants.
+--
+-- After Unicorn's SIGNALS and nginx's "Controlling nginx": HUP starts workers of the next configuration, USR2 a new
+-- executable, TTIN and TTOU change the number of workers, USR1 reopens logs, QUIT and TERM stop.
+
+use Rattle.std.specs.Prelude.{◌≡◌, refl, ◌∷◌}
 use Rattle.std.specs.Prelude.{⊤, ℕ, ◌≤◌, ◌+◌, not, List, [], filter}
 use Rattle.definitions.specs.Table.{Address, Generation}
 use Rattle.listener_set.specs.AddressList.{has}
@@ -10,17 +15,13 @@ use Rattle.definitions.specs.Crew.{Layout, layout_in, served}
 use Rattle.definitions.specs.Record.{Record, addresses_of, layout_of}
 pub use Rattle.vocabulary.specs.declared.plans.Sides.{Sides}
 pub use Rattle.vocabulary.specs.declared.targets.Target.{Target}
-pub use Rattle.vocabulary.specs.declared.targets.Target.TheVariants.{Workers, Mend, Reopen, Reload, Upgrade, Attended, Stop}
+pub use Rattle.vocabulary.specs.declared.targets.Target.TheVariants.{Workers, Mend, Reopen, Reload, Upgrade, Attended}
+pub use Rattle.vocabulary.specs.declared.targets.Target.TheVariants.{Stop}
 
 -- A number of workers that is wanted is at most 1024. What settings say is in range by itself.
 abbrev pub IsTarget : Target → Type 0
 IsTarget (Workers n) = n ≤ 1024
-IsTarget (Mend overdue) = ⊤
-IsTarget Reopen = ⊤
-IsTarget (Reload s) = ⊤
-IsTarget (Upgrade s) = ⊤
-IsTarget (Attended s) = ⊤
-IsTarget (Stop quick) = ⊤
+IsTarget _ = ⊤
 
 -- what the first list has and the second lacks
 abbrev pub only_in : List Address → List Address → List Address
@@ -36,22 +37,17 @@ upgrade_generation g = record { image = g.image + 1; config = g.config + 1 }
 ---- The service that is wanted
 
 abbrev pub addresses_wanted : Record → Target → List Address
-addresses_wanted r (Workers n) = addresses_of r
-addresses_wanted r (Mend overdue) = addresses_of r
-addresses_wanted r Reopen = addresses_of r
 addresses_wanted r (Reload s) = s.listeners
 addresses_wanted r (Upgrade s) = s.listeners
 addresses_wanted r (Attended s) = s.listeners
 addresses_wanted r (Stop quick) = []
+addresses_wanted r _ = addresses_of r
 
 abbrev pub generation_wanted : Record → Target → Generation
-generation_wanted r (Workers n) = r.generation
-generation_wanted r (Mend overdue) = r.generation
-generation_wanted r Reopen = r.generation
 generation_wanted r (Reload s) = reload_generation r.generation
 generation_wanted r (Upgrade s) = upgrade_generation r.generation
 generation_wanted r (Attended s) = upgrade_generation r.generation
-generation_wanted r (Stop quick) = r.generation
+generation_wanted r _ = r.generation
 
 -- The worker numbers that are wanted. A reopening wants those that are ready.
 abbrev pub numbers_wanted : Record → Target → List ℕ
@@ -65,13 +61,10 @@ numbers_wanted r (Stop quick) = []
 
 -- Which groups there are then, and which listens where.
 abbrev pub layout_wanted : Record → Target → Layout
-layout_wanted r (Workers n) = layout_of r
-layout_wanted r (Mend overdue) = layout_of r
-layout_wanted r Reopen = layout_of r
 layout_wanted r (Reload s) = layout_in s.groups s.listeners
 layout_wanted r (Upgrade s) = layout_in s.groups s.listeners
 layout_wanted r (Attended s) = layout_in s.groups s.listeners
-layout_wanted r (Stop quick) = layout_of r
+layout_wanted r _ = layout_of r
 
 -- how many workers a target wants at an address: the numbers of its group
 abbrev pub wanted_at : Record → Target → Address → ℕ
@@ -101,8 +94,9 @@ handover_of r s = record {
 abbrev pub text_handed : Record → Target → List ℕ
 text_handed r (Upgrade s) = spelling (handover_of r s)
 text_handed r (Attended s) = spelling (handover_of r s)
-text_handed r (Workers n) = []
-text_handed r (Mend overdue) = []
-text_handed r Reopen = []
-text_handed r (Reload s) = []
-text_handed r (Stop quick) = []
+text_handed r _ = []
+
+---- An example: two workers have the numbers 0 and 1, whatever the master
+
+example : (r : Record) → numbers_wanted r (Workers 2) ≡ 0 ∷ 1 ∷ []
+example r = refl

@@ -1,8 +1,14 @@
 -- Plans as trees: steps, what follows each reply, ends.
-use Rattle.std.specs.Prelude.{ℕ, suc, max, Bool, true, false, ◌&&◌, ◌||◌, not, List, [], ◌∷◌, Option, Some, None, is_some}
+--
+-- Our own. Other masters go on after a failure as their code happens to; a plan has an edge for every reply.
+
+use Rattle.std.specs.Prelude.{◌≡◌, refl}
+use Rattle.std.specs.Prelude.{ℕ, suc, max, Bool, true, false, ◌&&◌, ◌||◌, not, List, [], ◌∷◌, Option, Some, None}
+use Rattle.std.specs.Prelude.{is_some}
 use Rattle.std.specs.List.{list_any, list_all}
 use Rattle.listener_set.specs.Numbers.{lacks}
-use Rattle.definitions.specs.Calls.{Call, OpenAt, CloseAt, Fork, AwaitReady, Quit, Kill, Census, AwaitGone, SpawnMaster, Adopt, WritePid, MovePid, RemovePid, Alive, Leave, Usr1, TermMaster, Ask, Answer}
+use Rattle.definitions.specs.Calls.{Call, OpenAt, Fork, AwaitReady, Kill, Census, AwaitGone, SpawnMaster, Adopt}
+use Rattle.definitions.specs.Calls.{WritePid, MovePid, RemovePid, Alive, Ask, Answer}
 use Rattle.definitions.specs.Crew.{fork_of}
 use Rattle.vocabulary.specs.declared.calls.Answer.TheVariants as answer
 pub use Rattle.vocabulary.specs.declared.calls.Reply.{Reply}
@@ -10,15 +16,16 @@ pub use Rattle.vocabulary.specs.declared.calls.Reply.TheVariants as reply
 pub use Rattle.vocabulary.specs.declared.plans.Side.{Side}
 pub use Rattle.vocabulary.specs.declared.plans.Side.TheVariants.{Old, Target}
 pub use Rattle.vocabulary.specs.declared.plans.End.{End}
-pub use Rattle.vocabulary.specs.declared.plans.End.TheVariants.{Done, RolledBack, ShortOld, ShortTarget, Split, JoinReady, JoinBack, Join}
+pub use Rattle.vocabulary.specs.declared.plans.End.TheVariants.{Done, RolledBack, ShortOld, ShortTarget, Split}
+pub use Rattle.vocabulary.specs.declared.plans.End.TheVariants.{JoinReady, JoinBack, Join}
 pub use Rattle.vocabulary.specs.declared.plans.PidNote.{PidNote}
 pub use Rattle.vocabulary.specs.declared.plans.Order.{Order}
 pub use Rattle.vocabulary.specs.declared.plans.Order.TheVariants.{Make, ForkLacking, AwaitLacking, KillLacking}
 use denote.Enum.Bare.{sameb}
 use Rattle.vocabulary.specs.contracts.calls.Reply.{the_type}
 
--- An end; or a step: the master that makes it, by its image, what it asks for, the set that a census of it must contain, and
--- what follows each reply.
+-- An end; or a step: the master that makes it, by its image, what it asks for, the set that a census of it must
+-- contain, and what follows each reply.
 mutual
   pub data Tree : Type 0 where
     Ends : End → Tree
@@ -68,11 +75,8 @@ reply_of set answer.MasterGone = reply.MasterGone
 -- the replies to a call, the plain one first; besides, each may be answered that the master is gone
 abbrev pub replies_to : Call → List Reply
 replies_to (OpenAt a) = reply.Opened ∷ reply.InUse ∷ reply.TooMany ∷ reply.Denied ∷ reply.NoMemory ∷ []
-replies_to (CloseAt a) = reply.Fine ∷ []
 replies_to (Fork g k fds) = reply.Forked ∷ reply.Again ∷ reply.NoMemory ∷ []
 replies_to (AwaitReady g k) = reply.IsReady ∷ reply.Gone ∷ reply.Late ∷ []
-replies_to (Quit g k) = reply.Fine ∷ []
-replies_to (Kill g k) = reply.Fine ∷ []
 replies_to (Census g) = reply.Full ∷ reply.Short ∷ []
 replies_to (AwaitGone g k) = reply.Gone ∷ reply.Late ∷ []
 replies_to (SpawnMaster i) = reply.Spawned ∷ reply.Again ∷ reply.NoMemory ∷ reply.NoImage ∷ []
@@ -81,31 +85,21 @@ replies_to (WritePid path) = reply.Fine ∷ reply.IoFault ∷ []
 replies_to (MovePid from to) = reply.Fine ∷ reply.IoFault ∷ []
 replies_to (RemovePid path) = reply.Fine ∷ reply.IoFault ∷ []
 replies_to (Alive i) = reply.IsAlive ∷ reply.Gone ∷ []
-replies_to Leave = reply.Fine ∷ []
-replies_to (Usr1 g k) = reply.Fine ∷ []
-replies_to (TermMaster i) = reply.Fine ∷ []
 replies_to (Ask n) = reply.Go ∷ reply.Back ∷ []
+replies_to _ = reply.Fine ∷ []
 
 -- the plain reply to a call; of a census, a full one
 abbrev pub plain_reply : Call → Reply
 plain_reply (OpenAt a) = reply.Opened
-plain_reply (CloseAt a) = reply.Fine
 plain_reply (Fork g k fds) = reply.Forked
 plain_reply (AwaitReady g k) = reply.IsReady
-plain_reply (Quit g k) = reply.Fine
-plain_reply (Kill g k) = reply.Fine
 plain_reply (Census g) = reply.Full
 plain_reply (AwaitGone g k) = reply.Gone
 plain_reply (SpawnMaster i) = reply.Spawned
 plain_reply Adopt = reply.Adopted
-plain_reply (WritePid path) = reply.Fine
-plain_reply (MovePid from to) = reply.Fine
-plain_reply (RemovePid path) = reply.Fine
 plain_reply (Alive i) = reply.IsAlive
-plain_reply Leave = reply.Fine
-plain_reply (Usr1 g k) = reply.Fine
-plain_reply (TermMaster i) = reply.Fine
 plain_reply (Ask n) = reply.Go
+plain_reply _ = reply.Fine
 
 -- whether a call can be answered so
 abbrev pub is_listed : Call → Answer → Bool
@@ -155,9 +149,7 @@ order_replies (KillLacking g) = reply.Fine ∷ []
 
 abbrev pub names_lacking : Order → Bool
 names_lacking (Make call) = false
-names_lacking (ForkLacking crew) = true
-names_lacking (AwaitLacking g) = true
-names_lacking (KillLacking g) = true
+names_lacking _ = true
 
 -- whether the last census was short, after a reply
 abbrev pub short_after : Bool → Reply → Bool
@@ -170,8 +162,15 @@ abbrev mutual
   pub is_fit : Bool → Tree → Bool
   is_fit short (Ends end) = true
   is_fit short (Does by order set branches) =
-      (not (names_lacking order) || short) && (list_all (λ r. is_some (branch branches r)) (order_replies order) && are_fit short branches)
+      (not (names_lacking order) || short)
+      && (list_all (λ r. is_some (branch branches r)) (order_replies order) && are_fit short branches)
 
   pub are_fit : Bool → Branches → Bool
   are_fit short Nothing = true
-  are_fit short (Branch replies said rest more) = list_all (λ r. is_fit (short_after short r) rest) replies && are_fit short more
+  are_fit short (Branch replies said rest more) =
+      list_all (λ r. is_fit (short_after short r) rest) replies && are_fit short more
+
+---- An example: a census that lacks a number of its set is short
+
+example : reply_of (0 ∷ 1 ∷ []) (answer.Counted (0 ∷ [])) ≡ reply.Short
+example = refl

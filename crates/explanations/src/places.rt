@@ -81,10 +81,13 @@ fn tell_turns<E: Write>(turns: Option<&str>, errors: &mut E) {
     let Some(turns) = turns else {
         return;
     };
+    if turns == "all" {
+        return;
+    }
     if turns.is_empty() || !turns.bytes().all(|byte| byte == b'n' || byte == b'o') {
         let _ = writeln!(
             errors,
-            "  --turns {turns}: only the letters n and o are allowed"
+            "  --turns {turns}: only 'all' and the letters n and o are allowed"
         );
     }
 }

@@ -1,11 +1,15 @@
 -- What all runs came to.
-use Rattle.std.specs.Prelude.{ℕ, Bool, List, [], ◌++◌, Option, Some, None, codes, if◌then◌else◌}
+use Rattle.std.specs.Prelude.{ℕ, Bool, List, [], ◌∷◌, ◌++◌, Option, Some, None, unwrap_or, slice_get, codes, if◌then◌else◌}
+use Rattle.definitions.specs.Parts.{Turn}
+use Rattle.pattern_text.specs.TurnsText.{letters}
 use Rattle.std.specs.Fmt.{decimal}
 use Rattle.explorer.specs.declared.events.Tried.{Tried}
 use Rattle.explorer.specs.declared.events.Tried.TheVariants.{Nothing, One, Two}
-use Rattle.explorer.specs.declared.tally.Ended.{Ended}
-use Rattle.explorer.specs.declared.tally.Tally.{Tally}
 use Rattle.explorer.specs.declared.findings.Least.{Least}
+use Rattle.order_explorer.specs.declared.totals.OrderedRun.{OrderedRun}
+use Rattle.order_explorer.specs.declared.totals.Ends.{Ends}
+use Rattle.order_explorer.specs.declared.totals.OrderedLeast.{OrderedLeast}
+use Rattle.order_explorer.specs.declared.totals.Totals.{Totals}
 use Rattle.exploration_text.specs.RunText.{event_text}
 
 -- the events of a run, on one line
@@ -14,36 +18,55 @@ tried_text Nothing = codes "no event"
 tried_text (One e) = event_text e
 tried_text (Two e f) = event_text e ++ codes ", " ++ event_text f
 
--- in which run something is so
-unfoldable pub under_text : Tried → List ℕ
-under_text tried = codes " under " ++ tried_text tried
+-- the turns of an order that has some, as their line is without its newline
+abbrev pub order_text : List Turn → List ℕ
+order_text turns = codes "turns " ++ letters turns
 
-abbrev pub shortest_text : Option Tried → List ℕ
-shortest_text None = []
-shortest_text (Some tried) = under_text tried
+-- the section of a run, on one line: its turns, where there are any, and its events
+abbrev pub section_text : List Turn → Tried → List ℕ
+section_text [] tried = tried_text tried
+section_text (turn ∷ turns) Nothing = order_text (turn ∷ turns)
+section_text (turn ∷ turns) (One e) = order_text (turn ∷ turns) ++ codes ", " ++ tried_text (One e)
+section_text (turn ∷ turns) (Two e f) = order_text (turn ∷ turns) ++ codes ", " ++ tried_text (Two e f)
+
+-- the turns of the order at a place, and none where there is no such order
+abbrev pub turns_at : List (List Turn) → ℕ → List Turn
+turns_at orders n = unwrap_or (slice_get orders n) []
+
+-- the section of a run by one of these orders
+abbrev pub run_section : List (List Turn) → OrderedRun → List ℕ
+run_section orders run = section_text (turns_at orders run.order) run.tried
+
+-- in which run something is so
+unfoldable pub under_text : List (List Turn) → OrderedRun → List ℕ
+under_text orders run = codes " under " ++ run_section orders run
+
+abbrev pub shortest_text : List (List Turn) → Option OrderedRun → List ℕ
+shortest_text orders None = []
+shortest_text orders (Some run) = under_text orders run
 
 -- a number behind what it counts
 unfoldable pub count_text : List ℕ → ℕ → List ℕ
 count_text name n = name ++ codes " " ++ decimal n
 
 -- how many runs ended so, and in which of them fewest things went wrong
-unfoldable pub end_line : List ℕ → Ended → List ℕ
-end_line name ended = count_text name ended.count ++ shortest_text ended.shortest ++ codes "\n"
+unfoldable pub end_line : List (List Turn) → List ℕ → Ends → List ℕ
+end_line orders name ends = count_text name ends.count ++ shortest_text orders ends.shortest ++ codes "\n"
 
 unfoldable pub shortfall_line : ℕ → List ℕ
 shortfall_line shortfall = count_text (codes "largest shortfall") shortfall ++ codes "\n"
 
 -- the runs after which all workers are there
-unfoldable pub full_text : Tally → List ℕ
-full_text tally = end_line (codes "done") tally.done ++ end_line (codes "rolled-back") tally.rolled_back
+unfoldable pub full_text : List (List Turn) → Totals → List ℕ
+full_text orders totals = end_line orders (codes "done") totals.done ++ end_line orders (codes "rolled-back") totals.rolled_back
 
 -- and those after which some are lacking
-unfoldable pub degraded_text : Tally → List ℕ
-degraded_text tally = end_line (codes "degraded old") tally.degraded_old ++ end_line (codes "degraded target") tally.degraded_target
+unfoldable pub degraded_text : List (List Turn) → Totals → List ℕ
+degraded_text orders totals = end_line orders (codes "degraded old") totals.degraded_old ++ end_line orders (codes "degraded target") totals.degraded_target
 
 -- A run is never lost (the headline of its theorem says so), and no line tells of such runs.
-unfoldable pub ends_text : Tally → List ℕ
-ends_text tally = full_text tally ++ degraded_text tally ++ shortfall_line tally.shortfall
+unfoldable pub ends_text : List (List Turn) → Totals → List ℕ
+ends_text orders totals = full_text orders totals ++ degraded_text orders totals ++ shortfall_line totals.shortfall
 
 -- which address had the fewest Ready workers, and after which call
 unfoldable pub place_text : Least → List ℕ
@@ -53,11 +76,15 @@ place_text least = codes " at " ++ least.address ++ count_text (codes " after ca
 unfoldable pub ready_text : ℕ → List ℕ
 ready_text ready = count_text (codes "least ready") ready
 
+-- the run of the fewest Ready workers
+abbrev pub run_of_least : OrderedLeast → OrderedRun
+run_of_least found = record { order = found.order; tried = found.least.tried }
+
 -- all of that, and in which run
-unfoldable pub least_line : Option Least → List ℕ
-least_line None = codes "least ready none\n"
-least_line (Some least) =
-    ready_text least.ready ++ place_text least ++ under_text least.tried ++ codes "\n"
+unfoldable pub least_line : List (List Turn) → Option OrderedLeast → List ℕ
+least_line orders None = codes "least ready none\n"
+least_line orders (Some found) =
+    ready_text found.least.ready ++ place_text found.least ++ under_text orders (run_of_least found) ++ codes "\n"
 
 unfoldable pub tables_line : ℕ → List ℕ
 tables_line tables = count_text (codes "tables") tables ++ codes "\n"
@@ -66,5 +93,5 @@ tables_line tables = count_text (codes "tables") tables ++ codes "\n"
 abbrev pub cut_text : Bool → List ℕ
 cut_text is_cut = if is_cut then codes "cut: there are more runs than the limit\n" else []
 
-abbrev pub summary_text : Tally → Option Least → ℕ → Bool → List ℕ
-summary_text tally least tables is_cut = ends_text tally ++ least_line least ++ tables_line tables ++ cut_text is_cut
+abbrev pub summary_text : List (List Turn) → Totals → Bool → List ℕ
+summary_text orders totals is_cut = ends_text orders totals ++ least_line orders totals.least ++ tables_line totals.tables ++ cut_text is_cut

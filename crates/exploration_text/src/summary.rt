@@ -1,11 +1,21 @@
 //! What runs ended in, counted.
-ghost use Rattle.std.specs.Prelude.{◌≡◌, ◌++◌, IfOk};
-ghost use Rattle.exploration_text.specs.SummaryText.{tried_text, under_text, shortest_text, count_text, end_line, shortfall_line, full_text, degraded_text, ends_text, place_text, ready_text, least_line, tables_line, cut_text, summary_text};
+ghost use Rattle.std.specs.Prelude.{◌≡◌, ◌≢◌, ◌++◌, [], codes, IfOk};
+ghost use Rattle.exploration_text.specs.SummaryText.{tried_text, order_text, section_text, run_section, under_text, run_of_least, shortest_text, count_text, end_line, shortfall_line, full_text, degraded_text, ends_text, place_text, ready_text, least_line, tables_line, cut_text, summary_text};
 
 use crate::events::write_event;
-use explorer::{Ended, Findings, Least, Tally, Tried};
+use explorer::{Least, Tried};
+use order_explorer::{Ends, OrderedLeast, OrderedRun, Totals};
+use pattern_text::write_turns;
 use plain_text::write_number;
+use plan_turns::Turns;
 use std::alloc::AllocError;
+
+/// What parts the lines of a section that are on one line.
+fn write_comma(out: &mut Vec<u8>) -> Result<(), AllocError>
+    ensures { IfOk result (λ _. out.new.items ≡ out.old.items ++ codes ", ") }
+{
+    out.extend_from_slice(b", ")
+}
 
 /// The events of a run, on one line.
 fn write_tried(out: &mut Vec<u8>, tried: &Tried) -> Result<(), AllocError>
@@ -16,27 +26,71 @@ fn write_tried(out: &mut Vec<u8>, tried: &Tried) -> Result<(), AllocError>
         Tried::One(event) => write_event(out, event),
         Tried::Two(first, second) => {
             write_event(out, first)?;
-            out.extend_from_slice(b", ")?;
+            write_comma(out)?;
             write_event(out, second)
         }
     }
 }
 
-/// In which run something is so.
-#[tactic(auto, unfolding(crate::specs::SummaryText::under_text))]
-fn write_under(out: &mut Vec<u8>, tried: &Tried) -> Result<(), AllocError>
-    ensures { IfOk result (λ _. out.new.items ≡ out.old.items ++ under_text tried.now) }
+/// The turns of an order, which has some: their line without its newline.
+#[tactic(auto, using(crate::proofs::Sections::turns_line))]
+fn write_order(out: &mut Vec<u8>, turns: &Turns) -> Result<(), AllocError>
+    requires { turns.now ≢ [] }
+    ensures { IfOk result (λ _. out.new.items ≡ out.old.items ++ order_text turns.now) }
 {
-    out.extend_from_slice(b" under ")?;
-    write_tried(out, tried)
+    write_turns(out, turns)?;
+    let _newline = out.pop();
+    Ok(())
 }
 
-fn write_shortest(out: &mut Vec<u8>, shortest: Option<Tried>) -> Result<(), AllocError>
-    ensures { IfOk result (λ _. out.new.items ≡ out.old.items ++ shortest_text shortest) }
+/// The section of a run, on one line: its turns, where there are any, and its events.
+#[tactic(auto, using(crate::proofs::Sections::without_turns, crate::proofs::Sections::turns_alone, crate::proofs::Sections::turns_with_one, crate::proofs::Sections::turns_with_two))]
+fn write_section(out: &mut Vec<u8>, turns: &Turns, tried: &Tried) -> Result<(), AllocError>
+    ensures { IfOk result (λ _. out.new.items ≡ out.old.items ++ section_text turns.now tried.now) }
+{
+    if turns.is_empty() {
+        return write_tried(out, tried);
+    }
+    write_order(out, turns)?;
+    match tried {
+        Tried::Nothing => Ok(()),
+        Tried::One(_) | Tried::Two(..) => {
+            write_comma(out)?;
+            write_tried(out, tried)
+        }
+    }
+}
+
+/// The section of a run, by the turns of its order.
+#[tactic(auto, using(crate::proofs::Sections::section_of_order, crate::proofs::Sections::section_of_none))]
+fn write_run_of(out: &mut Vec<u8>, orders: &[Turns], run: &OrderedRun) -> Result<(), AllocError>
+    ensures { IfOk result (λ _. out.new.items ≡ out.old.items ++ run_section orders.now run.now) }
+{
+    match orders.get(run.order) {
+        Some(turns) => write_section(out, turns, &run.tried),
+        None => write_tried(out, &run.tried),
+    }
+}
+
+/// In which run something is so.
+#[tactic(auto, unfolding(crate::specs::SummaryText::under_text))]
+fn write_under(out: &mut Vec<u8>, orders: &[Turns], run: &OrderedRun) -> Result<(), AllocError>
+    ensures { IfOk result (λ _. out.new.items ≡ out.old.items ++ under_text orders.now run.now) }
+{
+    out.extend_from_slice(b" under ")?;
+    write_run_of(out, orders, run)
+}
+
+fn write_shortest(
+    out: &mut Vec<u8>,
+    orders: &[Turns],
+    shortest: Option<OrderedRun>,
+) -> Result<(), AllocError>
+    ensures { IfOk result (λ _. out.new.items ≡ out.old.items ++ shortest_text orders.now shortest) }
 {
     match shortest {
         None => Ok(()),
-        Some(tried) => write_under(out, &tried),
+        Some(run) => write_under(out, orders, &run),
     }
 }
 
@@ -52,11 +106,16 @@ fn write_count(out: &mut Vec<u8>, name: &[u8], number: u64) -> Result<(), AllocE
 
 /// How many runs ended so, and in which of them fewest things went wrong.
 #[tactic(auto, unfolding(crate::specs::SummaryText::end_line))]
-fn write_end(out: &mut Vec<u8>, name: &[u8], ended: &Ended) -> Result<(), AllocError>
-    ensures { IfOk result (λ _. out.new.items ≡ out.old.items ++ end_line name.now ended.now) }
+fn write_end(
+    out: &mut Vec<u8>,
+    orders: &[Turns],
+    name: &[u8],
+    ends: &Ends,
+) -> Result<(), AllocError>
+    ensures { IfOk result (λ _. out.new.items ≡ out.old.items ++ end_line orders.now name.now ends.now) }
 {
-    write_count(out, name, ended.count)?;
-    write_shortest(out, ended.shortest)?;
+    write_count(out, name, ends.count)?;
+    write_shortest(out, orders, ends.shortest)?;
     out.extend_from_slice(b"\n")
 }
 
@@ -70,29 +129,29 @@ fn write_shortfall(out: &mut Vec<u8>, shortfall: u64) -> Result<(), AllocError>
 
 /// The runs after which all workers are there.
 #[tactic(auto, unfolding(crate::specs::SummaryText::full_text))]
-fn write_full(out: &mut Vec<u8>, tally: &Tally) -> Result<(), AllocError>
-    ensures { IfOk result (λ _. out.new.items ≡ out.old.items ++ full_text tally.now) }
+fn write_full(out: &mut Vec<u8>, orders: &[Turns], totals: &Totals) -> Result<(), AllocError>
+    ensures { IfOk result (λ _. out.new.items ≡ out.old.items ++ full_text orders.now totals.now) }
 {
-    write_end(out, b"done", &tally.done)?;
-    write_end(out, b"rolled-back", &tally.rolled_back)
+    write_end(out, orders, b"done", &totals.done)?;
+    write_end(out, orders, b"rolled-back", &totals.rolled_back)
 }
 
 /// Those after which some are lacking.
 #[tactic(auto, unfolding(crate::specs::SummaryText::degraded_text))]
-fn write_degraded(out: &mut Vec<u8>, tally: &Tally) -> Result<(), AllocError>
-    ensures { IfOk result (λ _. out.new.items ≡ out.old.items ++ degraded_text tally.now) }
+fn write_degraded(out: &mut Vec<u8>, orders: &[Turns], totals: &Totals) -> Result<(), AllocError>
+    ensures { IfOk result (λ _. out.new.items ≡ out.old.items ++ degraded_text orders.now totals.now) }
 {
-    write_end(out, b"degraded old", &tally.degraded_old)?;
-    write_end(out, b"degraded target", &tally.degraded_target)
+    write_end(out, orders, b"degraded old", &totals.degraded_old)?;
+    write_end(out, orders, b"degraded target", &totals.degraded_target)
 }
 
 #[tactic(auto, unfolding(crate::specs::SummaryText::ends_text))]
-fn write_ends(out: &mut Vec<u8>, tally: &Tally) -> Result<(), AllocError>
-    ensures { IfOk result (λ _. out.new.items ≡ out.old.items ++ ends_text tally.now) }
+fn write_ends(out: &mut Vec<u8>, orders: &[Turns], totals: &Totals) -> Result<(), AllocError>
+    ensures { IfOk result (λ _. out.new.items ≡ out.old.items ++ ends_text orders.now totals.now) }
 {
-    write_full(out, tally)?;
-    write_degraded(out, tally)?;
-    write_shortfall(out, tally.shortfall)
+    write_full(out, orders, totals)?;
+    write_degraded(out, orders, totals)?;
+    write_shortfall(out, totals.shortfall)
 }
 
 /// Which address had the fewest Ready workers, and after which call.
@@ -112,17 +171,32 @@ fn write_ready(out: &mut Vec<u8>, ready: u32) -> Result<(), AllocError>
     write_count(out, b"least ready", u64::from(ready))
 }
 
+/// The run of the fewest Ready workers.
+fn run_of_least(found: &OrderedLeast) -> OrderedRun
+    ensures { result ≡ run_of_least found.now }
+{
+    OrderedRun {
+        order: found.order,
+        tried: found.least.tried,
+    }
+}
+
 /// The fewest Ready workers that an address had.
 #[tactic(auto, unfolding(crate::specs::SummaryText::least_line))]
-fn write_least(out: &mut Vec<u8>, least: Option<Least>) -> Result<(), AllocError>
-    ensures { IfOk result (λ _. out.new.items ≡ out.old.items ++ least_line least) }
+fn write_least(
+    out: &mut Vec<u8>,
+    orders: &[Turns],
+    found: Option<OrderedLeast>,
+) -> Result<(), AllocError>
+    ensures { IfOk result (λ _. out.new.items ≡ out.old.items ++ least_line orders.now found) }
 {
-    let Some(least) = least else {
+    let Some(found) = found else {
         return out.extend_from_slice(b"least ready none\n");
     };
-    write_ready(out, least.ready)?;
-    write_place(out, &least)?;
-    write_under(out, &least.tried)?;
+    let run = run_of_least(&found);
+    write_ready(out, found.least.ready)?;
+    write_place(out, &found.least)?;
+    write_under(out, orders, &run)?;
     out.extend_from_slice(b"\n")
 }
 
@@ -143,13 +217,19 @@ fn write_cut(out: &mut Vec<u8>, is_cut: bool) -> Result<(), AllocError>
     Ok(())
 }
 
-/// Appends what runs ended in: a line for each kind of end, one for the largest shortfall, one for the fewest workers that an
-/// address had, one for the number of tables, and one more where runs were left out. It fails only where memory is refused.
-pub fn write_summary(out: &mut Vec<u8>, found: &Findings, is_cut: bool) -> Result<(), AllocError>
-    ensures { IfOk result (λ _. out.new.items ≡ out.old.items ++ summary_text found.now.tally found.now.least found.now.tables is_cut) }
+/// Appends what the runs of these orders ended in: a line for each kind of end, one for the largest shortfall, one for the fewest
+/// workers that an address had, one for the number of tables, and one more where runs were left out. It fails only where memory
+/// is refused.
+pub fn write_summary(
+    out: &mut Vec<u8>,
+    orders: &[Turns],
+    totals: &Totals,
+    is_cut: bool,
+) -> Result<(), AllocError>
+    ensures { IfOk result (λ _. out.new.items ≡ out.old.items ++ summary_text orders.now totals.now is_cut) }
 {
-    write_ends(out, &found.tally)?;
-    write_least(out, found.least)?;
-    write_tables(out, found.tables)?;
+    write_ends(out, orders, totals)?;
+    write_least(out, orders, totals.least)?;
+    write_tables(out, totals.tables)?;
     write_cut(out, is_cut)
 }

@@ -2,7 +2,7 @@
 use Rattle.std.proofs.Common.{◌≡◌, ◌≢◌, ◌≤◌, ◌<◌, ℕ, Bool, List, [], Option, Some, None, refl, ap, ◌∙◌, arith}
 use Rattle.std.specs.Prelude.{◌==◌, if◌then◌else◌}
 use Rattle.std.proofs.lemmas.Bool.{le-ltb}
-use Rattle.theorems.proofs.Views.{eqb-off, eqb-refl}
+use Rattle.table_laws.proofs.Views.{eqb-off, eqb-refl}
 use Rattle.definitions.specs.Table.{Table}
 use Rattle.definitions.specs.Calls.{Call}
 use Rattle.definitions.specs.Tree.{Tree, Ends, Does}

@@ -10,7 +10,7 @@ use Rattle.vocabulary.specs.declared.calls.Call.TheVariants.{OpenAt, CloseAt, Fo
 use Rattle.definitions.specs.Table.{FilePath, Hold, Starting, Process, Master, Worker, Foreign, Table, number_of, is_active, is_starting, is_exited, is_any, is_draining, is_named, is_worker, is_held, is_live_master, Caller, live_master, owner_at}
 use Rattle.definitions.specs.Exits.{change, made_exited, kept_if, without_exited, caller_exits, exited, all_exited, after_exits}
 use Rattle.definitions.specs.Calls.{Fate, Stepped, with_holds, made_ready, made_draining, drop_where, without_master, with_new_row, lacks_address, put_hold, lowest_free, shared, suits, has_process_room, is_row, is_of, is_exited_of, is_image, is_of_image, moved_if, asked_alive, own_step, fault_at, fault_or_own, step_by, step_with}
-use Rattle.definitions.specs.Handover.{reading}
+use Rattle.definitions.specs.Reading.{reading}
 use Rattle.definitions.specs.Formed.{IsAscending}
 use Rattle.kernel_table.proofs.Keeping.{Becomes, Becomes-filter_map, Becomes-first_changed, says-change, says-dropped}
 use Rattle.kernel_model.proofs.CallSteps.{ascending-append}

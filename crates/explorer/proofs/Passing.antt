@@ -12,8 +12,9 @@ use Rattle.definitions.specs.Table.{Process, Master, Worker, Foreign, Table, Cal
 use Rattle.definitions.specs.Exits.{change, made_exited, after_exits, losses_of, is_active_worker}
 use Rattle.definitions.specs.Calls.{Stepped, Answer, Call, OpenAt, CloseAt, Fork, AwaitReady, Quit, Kill, Census, AwaitGone, SpawnMaster, Adopt, WritePid, MovePid, RemovePid, Alive, Leave, Usr1, TermMaster, Ask, step_with, step_by, own_step, gives, each_row, drop_where, made_ready, made_draining, has_process_room, with_new_row, shared}
 use Rattle.vocabulary.specs.declared.calls.Answer.TheVariants as answer
-use Rattle.theorems.proofs.Rows.{one, worth, weigh, change-same, count-weigh, weigh-append, every-any, pick, and-left, and-right, both-true}
-use Rattle.theorems.proofs.Views.{eqb-is, eqb-refl}
+use Rattle.table_laws.proofs.Rows.{one, worth, weigh, change-same, count-weigh, weigh-append, every-any, both-true}
+use Rattle.call_laws.proofs.Choices.{pick, and-left, and-right}
+use Rattle.table_laws.proofs.Views.{eqb-is, eqb-refl}
 use Rattle.explorer.specs.Known.{passes_by}
 
 off : (x z : Bool) → z ≡ false → (x && z) ≡ false

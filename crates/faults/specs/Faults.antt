@@ -23,7 +23,7 @@ use Rattle.faults.specs.declared.fault.Fault.{Fault}
 use Rattle.certifier.specs.Codes.{mismatch_code}
 use Rattle.certifier.specs.declared.mismatch.Mismatch.{Mismatch}
 use Rattle.certifier.specs.declared.mismatch.Mismatch.TheVariants as mismatch
-use Rattle.faults.specs.declared.fault.Fault.TheVariants.{Usage, Word, Config, Boot, Address, Foreign, Pattern, Transcript, Certify, Code, Running, File, Memory}
+use Rattle.faults.specs.declared.fault.Fault.TheVariants.{Usage, Word, Config, Boot, Address, Foreign, Pattern, Transcript, Certify, Code, Orders, Running, File, Memory}
 
 ---- Which fault a refusal is: want of memory or a file where it is that, and else its own
 
@@ -73,11 +73,12 @@ IsOfFile fault = (fault ≡ File) ⊎ (fault ≡ Memory)
 
 ---- What a fault says
 
--- 2 for the fault of the command line, or of one of its words, and 5 for a block that is not the master's
+-- 2 for the fault of the command line, of one of its words or of what it asks too much of, and 5 for a block that is not the master's
 abbrev pub fault_status : Fault → ℕ
 fault_status Usage = 2
 fault_status (Word number refusal) = 2
 fault_status Code = 2
+fault_status Orders = 2
 fault_status (Certify number mismatch) = 5
 fault_status _ = 1
 
@@ -92,6 +93,7 @@ fault_text (Pattern refusal) = codes "pattern " ++ refusal_text refusal
 fault_text (Transcript refusal) = codes "transcript " ++ refusal_text refusal
 fault_text (Certify number mismatch) = codes "certify " ++ decimal number ++ codes " " ++ mismatch_code mismatch
 fault_text Code = codes "code"
+fault_text Orders = codes "orders"
 fault_text (Running number) = codes "running " ++ decimal number
 fault_text File = codes "file"
 fault_text Memory = codes "memory"

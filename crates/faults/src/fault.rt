@@ -38,6 +38,8 @@ pub enum Fault {
     Certify(usize, Mismatch),
     /// The code that is to be explained is none.
     Code,
+    /// An upgrade has more orders of turns than are explored.
+    Orders,
     /// Another process runs whose number the pid file has: this one.
     Running(u32),
     /// A read or a write failed.
@@ -74,7 +76,7 @@ impl Fault {
         // There is nobody left to tell where standard error is closed too.
         let _ = writeln!(errors, "prefork: {self}");
         match self {
-            Fault::Usage | Fault::Word(..) | Fault::Code => 2,
+            Fault::Usage | Fault::Word(..) | Fault::Code | Fault::Orders => 2,
             Fault::Certify(..) => 5,
             _ => 1,
         }
@@ -97,6 +99,7 @@ impl fmt::Display for Fault {
             Fault::Transcript(refusal) => write!(f, "transcript {refusal}"),
             Fault::Certify(number, mismatch) => write!(f, "certify {number} {mismatch}"),
             Fault::Code => write!(f, "code"),
+            Fault::Orders => write!(f, "orders"),
             Fault::Running(number) => write!(f, "running {number}"),
             Fault::File => write!(f, "file"),
             Fault::Memory => write!(f, "memory"),

@@ -17,7 +17,8 @@ use Rattle.listener_set.proofs.AddressLists.{has_address}
 use Rattle.vocabulary.specs.declared.handover.HandoverRefusal.{HandoverRefusal}
 use Rattle.vocabulary.specs.declared.table.Listener.{Listener}
 use Rattle.definitions.specs.After.{listens_on}
-use Rattle.definitions.specs.Handover.{Handover, HandoverVersion, One, Two, Reached, AtVersion, AtOldPid, AtGeneration, AtFirstListener, AtListeners, AtWants, AtGroup, AtPidFile, AtEnd, Over, Read, nothing_read, then_read, read_rest, read_pieces, reading, is_space, is_address, is_above, listener_read, one_more, joined, with_old_pid, with_generation, with_listener, with_want, with_groups, with_workers, can_begin, with_group, with_pid_file, read_wanted, read_behind, read_pid_file, read_end, read_if, read_line}
+use Rattle.definitions.specs.Handover.{Handover, HandoverVersion, One, Two}
+use Rattle.definitions.specs.Reading.{Reached, AtVersion, AtOldPid, AtGeneration, AtFirstListener, AtListeners, AtWants, AtGroup, AtPidFile, AtEnd, Over, Read, nothing_read, then_read, read_rest, read_pieces, reading, is_space, is_address, is_above, listener_read, one_more, joined, with_old_pid, with_generation, with_listener, with_want, with_groups, with_workers, can_begin, with_group, with_pid_file, read_wanted, read_behind, read_pid_file, read_end, read_if, read_line}
 use Rattle.plain_text.specs.Cuts.{after_prefix}
 use Rattle.vocabulary.specs.Settings.{HasSuffixRoom}
 use Rattle.handover_text.specs.Reader.{read_to}

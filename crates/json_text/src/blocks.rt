@@ -5,7 +5,7 @@ use std::alloc::{AllocError, Global};
 
 /// All blocks, and the lines of the table of `--state`.
 #[derive(Drop, Serialize)]
-struct Answer<'a> {
+struct BlocksAnswer<'a> {
     blocks: Vec<BlockValue<'a>>,
     state: Vec<&'a str>,
 }
@@ -32,7 +32,7 @@ struct CallValue<'a> {
 
 /// Blocks as JSON.
 pub fn blocks_json(alloc: Global, answer: &[u8]) -> Result<Vec<u8>, AllocError> {
-    let mut value = Answer {
+    let mut value = BlocksAnswer {
         blocks: Vec::new(alloc),
         state: Vec::new(alloc),
     };
@@ -43,7 +43,11 @@ pub fn blocks_json(alloc: Global, answer: &[u8]) -> Result<Vec<u8>, AllocError> 
 }
 
 /// Takes the next line of an answer: it begins a block, belongs to the last one, or is one of the table.
-fn add_line<'a>(alloc: Global, value: &mut Answer<'a>, line: &'a str) -> Result<(), AllocError> {
+fn add_line<'a>(
+    alloc: Global,
+    value: &mut BlocksAnswer<'a>,
+    line: &'a str,
+) -> Result<(), AllocError> {
     if let Some(word) = line.strip_prefix("word ") {
         let block = begun(alloc, word);
         return Ok(value.blocks.push(block).map_err(AllocError::from)?);

@@ -4,7 +4,7 @@ use serde::Serialize;
 use std::alloc::{AllocError, Global};
 
 #[derive(Drop, Serialize)]
-struct Certificate<'a> {
+struct PatternsAnswer<'a> {
     accepted: usize,
     patterns: Vec<Vec<&'a str>>,
 }
@@ -24,5 +24,5 @@ pub fn patterns_json(alloc: Global, accepted: usize, answer: &[u8]) -> Result<Ve
     if accepted > 0 {
         patterns.push(lines).map_err(AllocError::from)?;
     }
-    line_of(alloc, &Certificate { accepted, patterns })
+    line_of(alloc, &PatternsAnswer { accepted, patterns })
 }

@@ -17,8 +17,8 @@ module _ (names : List Name) (i : ℕ) (d : Name) (s t : Table) (e : t ≡ with_
 
 pub EditsRows-then : (a b c : Store) → EditsRows a b → EditsRows b c → EditsRows a c
 EditsRows-then a b c g h = record {
-  others = h.others ∙ ap (λ (s : Store). record s { holders = c.holders; last = c.last }) g.others;
-  free = λ known. h.free (g.free known);
+  others = h.others ∙ ap (λ (s : Store). record s { holders = c.holders; last = c.last; lone = c.lone }) g.others;
+  names = λ known. h.names (g.names known);
   len = omega (arith, g.len, h.len);
   capacity = h.capacity ∙ g.capacity;
 }

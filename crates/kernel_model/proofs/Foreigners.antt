@@ -10,8 +10,8 @@ use Rattle.kernel_table.specs.declared.store.Store.{Store}
 use Rattle.kernel_table.specs.Seen.{seen}
 use Rattle.kernel_table.specs.Room.{GrowsByOne, HasMemoryFor, LacksNumbers, HasSockets, IsKept, IsSound}
 use Rattle.kernel_table.specs.Foreign.{with_foreign}
-use Rattle.kernel_table.specs.Free.{KnowsFree}
-use Rattle.kernel_table.proofs.Free.{KnowsFree-same}
+use Rattle.kernel_table.specs.Names.{KnowsNames}
+use Rattle.kernel_table.proofs.Names.{KnowsNames-same}
 use Rattle.kernel_table.proofs.Keeping.{AreKept}
 use Rattle.kernel_model.proofs.Steps.{KeepsMasters, HasParent-up}
 use Rattle.kernel_model.proofs.CallSteps.{all-append, all-up, ascending-append, count-append, within-wider}
@@ -46,8 +46,8 @@ no-less m n h = at (nat_lt m n) refl
     at true e = absurd (h (grind (arith, nat_tests)))
     at false e = grind (arith, nat_tests)
 
-pub sound-foreign : (old middle new : Store) (room needed : ℕ) (a : Address) → needed ≡ room + 1 → seen middle ≡ seen old → HasMemoryFor needed middle → (LacksNumbers (seen old) needed → ⊥) → IsKept (seen old) → seen new ≡ with_foreign a (seen middle) → GrowsByOne middle new → middle.free ≡ old.free → KnowsFree old → IsSound room new
-sound-foreign old middle new room needed a more same memory enough kept table grows free known =
+pub sound-foreign : (old middle new : Store) (room needed : ℕ) (a : Address) → needed ≡ room + 1 → seen middle ≡ seen old → HasMemoryFor needed middle → (LacksNumbers (seen old) needed → ⊥) → IsKept (seen old) → seen new ≡ with_foreign a (seen middle) → GrowsByOne middle new → middle.free ≡ old.free → middle.lone ≡ old.lone → KnowsNames old → IsSound room new
+sound-foreign old middle new room needed a more same memory enough kept table grows free lone known =
     let processes = no-less (2 ^ 32) (old.next_process + needed) (λ lt. enough (inl lt)) in
     let sockets = no-less (2 ^ 32) (length old.addresses.items + 1 + needed) (λ lt. enough (inr lt)) in
     let process : middle.next_process ≡ old.next_process = ap (λ (t : Table). t.next_process) same in
@@ -63,5 +63,5 @@ sound-foreign old middle new room needed a more same memory enough kept table gr
         socket_numbers = omega (arith, more, sockets, socket, grows.sizes.socket_numbers);
       };
       kept = subst IsKept (sym table) (IsKept-foreign (seen middle) a (subst IsKept (sym same) kept));
-      free = grows.free (KnowsFree-same old middle same free known);
+      names = grows.names (KnowsNames-same old middle same free known lone);
     }

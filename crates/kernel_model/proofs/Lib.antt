@@ -2,6 +2,7 @@ pub mod Steps
 pub mod CallSteps
 pub mod MasterSteps
 pub mod CallsKept
+pub mod Alone
 pub mod Ended
 pub mod Adopted
 pub mod Foreigners

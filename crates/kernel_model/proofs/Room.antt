@@ -9,7 +9,7 @@ use Rattle.definitions.specs.Calls.{Stepped, step_with}
 use Rattle.kernel_table.specs.declared.store.Store.{Store}
 use Rattle.kernel_table.specs.Seen.{seen}
 use Rattle.kernel_table.specs.Room.{EditsRows, GrowsByOne, HasMemoryFor, HasRoomFor, IsKept, IsSound}
-use Rattle.kernel_table.proofs.Free.{KnowsFree-same}
+use Rattle.kernel_table.proofs.Names.{KnowsNames-same}
 use Rattle.kernel_model.proofs.CallsKept.{IsKept-exits, IsKept-step}
 
 module _ (a b : Store) (e : EditsRows a b) where
@@ -48,7 +48,7 @@ module _ (a b : Store) (e : EditsRows a b) where
           files = rw files (omega arith);
           file_room = rw files (omega arith);
         };
-        free = e.free;
+        names = e.names;
       }
 
 -- a call needs room for one
@@ -62,14 +62,14 @@ HasRoomFor-call room b c least h g =
     }
 
 -- memory for at least as many calls, and the same table
-pub sound-grown : (a b : Store) (room : ℕ) → seen b ≡ seen a → b.free ≡ a.free → (HasMemoryFor room a → HasMemoryFor room b) → IsSound room a → IsSound room b
-sound-grown a b room same free kept h =
+pub sound-grown : (a b : Store) (room : ℕ) → seen b ≡ seen a → b.free ≡ a.free → b.lone ≡ a.lone → (HasMemoryFor room a → HasMemoryFor room b) → IsSound room a → IsSound room b
+sound-grown a b room same free lone kept h =
     let processes : b.next_process ≡ a.next_process = ap (λ (t : Table). t.next_process) same in
     let sockets : length b.addresses.items + 1 ≡ length a.addresses.items + 1 = ap (λ (t : Table). t.next_socket) same in
     record {
       room = record { memory = kept h.room.memory; process_numbers = omega (arith, h.room.process_numbers, processes); socket_numbers = omega (arith, h.room.socket_numbers, sockets) };
       kept = subst IsKept (sym same) h.kept;
-      free = KnowsFree-same a b same free h.free;
+      names = KnowsNames-same a b same free h.names lone;
     }
 
 module _ (a b : Store) (es : List Name) (exits : seen b ≡ after_exits es (seen a)) (kept : IsKept (seen a)) where

@@ -169,6 +169,7 @@ fn allowed(
         limits,
         last: 0,
         free,
+        lone: None,
     })
 }
 

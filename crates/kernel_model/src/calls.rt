@@ -6,7 +6,7 @@ ghost use Rattle.definitions.specs.Calls.{opened, closed, forked, awaited, quitt
 ghost use Rattle.kernel_table.specs.Seen.{seen, seen_caller, has_stance};
 ghost use Rattle.kernel_table.specs.Room.{GrowsByOne, HasRoomFor, IsKept};
 ghost use Rattle.kernel_table.specs.Rows.{IsOwn};
-ghost use Rattle.kernel_table.specs.Free.{KnowsFree};
+ghost use Rattle.kernel_table.specs.Names.{KnowsNames};
 
 use crate::master_calls;
 use kernel_table::{Caller, Edit, Stances, Store, files, holds};
@@ -51,7 +51,7 @@ fn fork(
     descriptors: Option<DescriptorSet>,
 ) -> Answer
     requires room { HasRoomFor 1 store.old }
-    requires free { KnowsFree store.old }
+    requires names { KnowsNames store.old }
     ensures outcome { record { answer = result; table = seen store.new } ≡ forked (seen_caller store.old.addresses.items caller.now) generation nr descriptors (seen store.old) }
     ensures grows { GrowsByOne store.old store.new }
 {
@@ -94,11 +94,11 @@ fn quit(store: &mut Store, caller: &Caller, generation: Generation, nr: u32) -> 
 
 /// The workers of the name leave, in any stance.
 fn kill(store: &mut Store, caller: &Caller, generation: Generation, nr: u32) -> Answer
+    requires { KnowsNames store.old }
     ensures outcome { record { answer = result; table = seen store.new } ≡ killed (seen_caller store.old.addresses.items caller.now) generation nr (seen store.old) }
     ensures grows { GrowsByOne store.old store.new }
 {
-    let name = caller.worker(generation, nr);
-    store.edit(&Edit::Kill(name));
+    store.remove(caller.worker(generation, nr));
     Answer::Fine
 }
 
@@ -114,15 +114,15 @@ fn census(store: &mut Store, caller: &Caller, generation: Generation) -> Answer
 
 /// Late while a worker of the name is Starting or Ready; else all of the name leave.
 fn await_gone(store: &mut Store, caller: &Caller, generation: Generation, nr: u32) -> Answer
+    requires { KnowsNames store.old }
     ensures outcome { record { answer = result; table = seen store.new } ≡ awaited_gone (seen_caller store.old.addresses.items caller.now) generation nr (seen store.old) }
     ensures grows { GrowsByOne store.old store.new }
 {
-    let name = caller.worker(generation, nr);
-    if store.has_worker(Stances::Active, name) {
-        return Answer::Late;
+    if store.dismiss(caller.worker(generation, nr)) {
+        Answer::Gone
+    } else {
+        Answer::Late
     }
-    store.edit(&Edit::Kill(name));
-    Answer::Gone
 }
 
 /// The file has the caller's process number.
@@ -162,7 +162,7 @@ fn remove_pid(store: &mut Store, path: &FilePath) -> Answer
 fn own_answer(store: &mut Store, image: u32, caller: &Caller, call: &Call, text: &[u8]) -> Answer
     requires room { HasRoomFor 1 store.old }
     requires kept { IsKept (seen store.old) }
-    requires free { KnowsFree store.old }
+    requires names { KnowsNames store.old }
     requires own { IsOwn store.old caller.now }
     ensures outcome { record { answer = result; table = seen store.new } ≡ own_step text.now image (seen_caller store.old.addresses.items caller.now) call.now (seen store.old) }
     ensures grows { GrowsByOne store.old store.new }
@@ -292,7 +292,7 @@ pub fn answered(
 ) -> Answer
     requires room { HasRoomFor 1 store.old }
     requires kept { IsKept (seen store.old) }
-    requires free { KnowsFree store.old }
+    requires names { KnowsNames store.old }
     ensures outcome { record { answer = result; table = seen store.new } ≡ step_with text.now image call.now fate (seen store.old) }
     ensures grows { GrowsByOne store.old store.new }
 {

@@ -6,6 +6,7 @@ ghost use Rattle.definitions.specs.Exits.{after_exits};
 ghost use Rattle.definitions.specs.Calls.{step_with};
 ghost use Rattle.definitions.specs.Formed.{IsFormed};
 ghost use Rattle.definitions.specs.Start.{booted};
+ghost use Rattle.kernel_model.specs.Alone.{LeavesOthersAlone};
 ghost use Rattle.kernel_model.specs.Boot.{AreBadLimits};
 ghost use Rattle.kernel_table.specs.Room.{LacksNumbers};
 ghost use Rattle.kernel_table.specs.Seen.{seen};
@@ -160,12 +161,14 @@ impl Kernel {
 
     /// One moment: the exits, one after another, and then the call by the master of the image. A master that is gone is
     /// answered so; then comes the fault that a fate gives; then the call's own answer. The text is what the master is
-    /// handed as it starts, which Adopt reads. It takes no memory.
+    /// handed as it starts, which Adopt reads. It takes no memory. A call by which a master builds or mends leaves other
+    /// masters and their workers alone.
     pub fn call(&mut self, by: Actor, call: &Call, text: &[u8], moment: &Moment<'_>) -> Answer
         requires { 1 ≤ self.old.room }
         ensures step { record { answer = result; table = self.new.table } ≡ step_with text.now by call.now moment.now.fate (after_exits moment.now.exits.now self.old.table) }
         ensures room { self.new.room + 1 ≡ self.old.room }
         ensures formed { IsFormed self.new.table }
+        ensures alone { LeavesOthersAlone by call.now (after_exits moment.now.exits.now self.old.table) self.new.table }
     {
         self.room -= 1;
         exits::exit_all(&mut self.store, moment.exits);

@@ -2,7 +2,7 @@
 ghost use Rattle.std.specs.Prelude.{◌≡◌};
 ghost use Rattle.definitions.specs.Table.{live_master};
 ghost use Rattle.definitions.specs.Calls.{spawned, suits, adopted, asked_alive, departed, terminated};
-ghost use Rattle.definitions.specs.Handover.{reading};
+ghost use Rattle.definitions.specs.Reading.{reading};
 ghost use Rattle.kernel_table.specs.Holds.{seen_holds};
 ghost use Rattle.kernel_table.specs.Seen.{seen, seen_caller};
 ghost use Rattle.kernel_table.specs.Room.{GrowsByOne, HasRoomFor, IsKept};

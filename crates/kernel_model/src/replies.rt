@@ -6,7 +6,7 @@ ghost use Rattle.definitions.specs.Table.{is_active, is_worker, live_master};
 ghost use Rattle.definitions.specs.Calls.{opened, forked, spawned, adopted, moved, asked_alive, census_of, own_step, step_with};
 ghost use Rattle.definitions.specs.Tree.{reply_of};
 ghost use Rattle.kernel_table.specs.Seen.{seen, seen_caller};
-ghost use Rattle.kernel_table.specs.Free.{KnowsFree};
+ghost use Rattle.kernel_table.specs.Names.{KnowsNames};
 
 use crate::{Kernel, master_calls};
 use kernel_table::{Caller, Stances, Store, files};
@@ -27,7 +27,7 @@ fn open_reply(store: &Store, caller: &Caller, address: &Address) -> Reply
 }
 
 fn fork_reply(store: &Store, caller: &Caller, generation: Generation, nr: u32) -> Reply
-    requires { KnowsFree store.now }
+    requires { KnowsNames store.now }
     ensures { (fds : Option (List ℕ)) → result ≡ reply_of [] (forked (seen_caller store.now.addresses.items caller.now) generation nr fds (seen store.now)).answer }
 {
     if store.is_borne(caller.worker(generation, nr)) {
@@ -101,7 +101,7 @@ fn alive_reply(store: &Store, image: u32) -> Reply
 
 /// What an edge tells apart of the call's own answer, to a caller that lives.
 fn own_reply(store: &Store, image: u32, caller: &Caller, call: &Call, text: &[u8]) -> Reply
-    requires { KnowsFree store.now }
+    requires { KnowsNames store.now }
     ensures { result ≡ reply_of [] (own_step text.now image (seen_caller store.now.addresses.items caller.now) call.now (seen store.now)).answer }
 {
     match call {

@@ -6,22 +6,21 @@ use Rattle.std.proofs.lemmas.Bool.{false≢true}
 use Rattle.std.proofs.lemmas.Bool.Decides.{nat_tests}
 use Rattle.std.proofs.lemmas.List.Folds.{list_any-append}
 use Rattle.vocabulary.specs.declared.table.Stance.TheVariants.{Starting, Ready, Draining, Exited}
-use Rattle.definitions.specs.Table.{Address, Generation, Hold, Process, Master, Worker, Foreign, Table, is_active, is_starting, is_exited, is_any, is_named, is_draining, is_worker, same_generation}
+use Rattle.definitions.specs.Table.{Address, Generation, Hold, Process, Master, Worker, Foreign, is_active, is_starting, is_exited, is_any, is_named, is_draining, is_worker, same_generation}
 use Rattle.definitions.specs.Exits.{made_exited, without_exited, kept_if, draining_exits}
 use Rattle.definitions.specs.Calls.{is_row, is_image, is_of, is_exited_of, lacks_address, made_ready, made_draining, with_holds}
 use Rattle.kernel_table.specs.declared.edits.Edit.{Edit}
 use Rattle.kernel_table.specs.declared.edits.Edit.TheVariants.{ExitWorker, ExitMaster, MakeReady, Drain, Reap, Kill, ReapAll, Hold as HoldAs, Close, ReapMaster, Terminate}
 use Rattle.kernel_table.specs.declared.free_names.FreeNames.{FreeNames}
-use Rattle.kernel_table.specs.declared.store.Store.{Store}
 use Rattle.kernel_table.specs.declared.process.Holder.{Holder}
 use Rattle.kernel_table.specs.declared.process.WorkerName.{WorkerName}
 use Rattle.kernel_table.specs.declared.process.Row.{Row}
 use Rattle.kernel_table.specs.declared.process.Row.TheVariants as row
 use Rattle.kernel_table.specs.Holds.{seen_holds}
 use Rattle.kernel_table.specs.Edits.{edited, is_of_either}
-use Rattle.kernel_table.specs.Seen.{seen, is_number, process_of, seen_holder, seen_rows}
+use Rattle.kernel_table.specs.Seen.{is_number, process_of, seen_holder, seen_rows}
 use Rattle.kernel_table.proofs.Lists.{map-push}
-use Rattle.kernel_table.specs.Free.{AreFree, IsAmong, KnowsFree}
+use Rattle.kernel_table.specs.Free.{AreFree, IsAmong}
 use Rattle.kernel_table.proofs.Census.{any-more}
 use Rattle.kernel_table.proofs.Keeping.{Becomes, Becomes-filter_map, Becomes-first_changed, says-change, says-dropped}
 
@@ -169,9 +168,3 @@ AreFree-addresses free a b holders known k le = same-any free.parent free.genera
 pub AreFree-pushed : (free : FreeNames) (a b : List Address) (holders holders' : List Holder) (h : Holder) → holders' ≡ holders ++ h ∷ [] → ((k : ℕ) → is_worker is_active free.parent free.generation k (seen_holder b h) ≡ false) → AreFree free (seen_rows a holders) → AreFree free (seen_rows b holders')
 AreFree-pushed free a b holders holders' h pushed other known =
     subst (AreFree free) (sym (ap (seen_rows b) pushed ∙ map-push (seen_holder b) holders h)) (AreFree-more free (seen_rows b holders) (AreFree-addresses free a b holders known) (seen_holder b h) (λ k le. other k))
-
-pub KnowsFree-same : (s s' : Store) → seen s' ≡ seen s → s'.free ≡ s.free → KnowsFree s → KnowsFree s'
-KnowsFree-same s s' table free known k le =
-    ap (λ (names : FreeNames). list_any (is_worker is_active names.parent names.generation k) (seen s').rows) free
-    ∙ ap (λ (t : Table). list_any (is_worker is_active s.free.parent s.free.generation k) t.rows) table
-    ∙ known k (omega (arith, le, ap (λ (names : FreeNames). names.first) free))

@@ -6,6 +6,9 @@ pub mod Census
 pub mod First
 pub mod Lone
 pub mod Free
+pub mod Leaving
+pub mod Doubled
+pub mod Names
 pub mod Opening
 pub mod WrittenFiles
 pub mod Foreigners

@@ -38,16 +38,16 @@ module _ {X : Type 0} (test : X → Bool) where
       or-later false h = h
 
 -- one more that passes, and one that does not
-passing : (b : Bool) {m n : ℕ} → b ≡ true → m ≡ cond b 1 0 + n → m ≡ suc n
+pub passing : (b : Bool) {m n : ℕ} → b ≡ true → m ≡ cond b 1 0 + n → m ≡ suc n
 passing true e more = omega (arith, more)
 passing false e more = absurd (false≢true e)
 
-failing : (b : Bool) {m n : ℕ} → m ≡ cond b 1 0 + n → m ≤ n → b ≡ false
+pub failing : (b : Bool) {m n : ℕ} → m ≡ cond b 1 0 + n → m ≤ n → b ≡ false
 failing true more le = absurd (omega (arith, more, le))
 failing false more le = refl
 
 module _ (active : Process → Bool) where
-  more : (p : Process) (ps : List Process) → count_by active (p ∷ ps) ≡ cond (active p) 1 0 + count_by active ps
+  pub more : (p : Process) (ps : List Process) → count_by active (p ∷ ps) ≡ cond (active p) 1 0 + count_by active ps
   more p ps = sum_by-cons (λ (x : Process). cond (active x) 1 0) p ps
 
   pub none-counted : (ps : List Process) → list_any active ps ≡ false → count_by active ps ≡ 0

@@ -4,8 +4,6 @@ use Rattle.std.specs.List.{list_any}
 use Rattle.definitions.specs.Table.{Process, is_active, is_worker}
 use Rattle.kernel_table.specs.declared.free_names.FreeNames.{FreeNames}
 use Rattle.kernel_table.specs.declared.process.WorkerName.{WorkerName}
-use Rattle.kernel_table.specs.declared.store.Store.{Store}
-use Rattle.kernel_table.specs.Seen.{seen}
 
 -- From the first number on no worker of the master and generation is Starting or Ready.
 abbrev pub AreFree : FreeNames → List Process → Type 0
@@ -14,7 +12,3 @@ AreFree free rows = (k : ℕ) → free.first ≤ k → list_any (is_worker is_ac
 -- The name is one of these.
 abbrev pub IsAmong : WorkerName → FreeNames → Type 0
 IsAmong name free = (free.parent ≡ name.parent) × (free.generation ≡ name.generation) × (free.first ≤ name.nr)
-
--- The names that a store takes for free are.
-abbrev pub KnowsFree : Store → Type 0
-KnowsFree s = AreFree s.free (seen s).rows

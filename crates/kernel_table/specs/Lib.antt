@@ -3,6 +3,8 @@ pub mod Seen
 pub mod Edits
 pub mod Places
 pub mod Free
+pub mod Lone
+pub mod Names
 pub mod Room
 pub mod Rows
 pub mod Files

@@ -1,6 +1,6 @@
 -- Where a row is.
 use Rattle.std.specs.Prelude.{ℕ, ◌≡◌, ◌<◌, true, List, length, get_or}
-use Rattle.definitions.specs.Table.{Address, is_active, is_worker}
+use Rattle.definitions.specs.Table.{Address, is_active, is_any, is_worker}
 use Rattle.kernel_table.specs.declared.process.Holder.{Holder}
 use Rattle.kernel_table.specs.declared.process.WorkerName.{WorkerName}
 use Rattle.kernel_table.specs.Seen.{seen_holder}
@@ -9,3 +9,8 @@ use Rattle.kernel_table.specs.Seen.{seen_holder}
 pub record IsActiveAt (holders : List Holder) (name : WorkerName) (place : ℕ) : Type 0 where
   pub there : place < length holders
   pub active : (addresses : List Address) (d : Holder) → is_worker is_active name.parent name.generation name.nr (seen_holder addresses (get_or holders place d)) ≡ true
+
+-- At the place is a worker of the name.
+pub record IsWorkerAt (holders : List Holder) (name : WorkerName) (place : ℕ) : Type 0 where
+  pub there : place < length holders
+  pub named : (addresses : List Address) (d : Holder) → is_worker is_any name.parent name.generation name.nr (seen_holder addresses (get_or holders place d)) ≡ true

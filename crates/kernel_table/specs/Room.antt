@@ -6,14 +6,15 @@ use Rattle.definitions.specs.Calls.{is_image}
 use Rattle.definitions.specs.Formed.{IsFormed}
 use Rattle.kernel_table.specs.declared.store.Store.{Store}
 use Rattle.kernel_table.specs.Seen.{seen}
-use Rattle.kernel_table.specs.Free.{KnowsFree}
+use Rattle.kernel_table.specs.Names.{KnowsNames}
 
--- only rows change, and where one was found last; their number does not grow, and names that were free stay so
+-- only rows change, where one was found last, and which names are known to be lone; the number of rows does not grow, and what is
+-- known of names stays true
 pub record EditsRows (old new : Store) : Type 0 where
-  pub others : new ≡ record old { holders = new.holders; last = new.last }
+  pub others : new ≡ record old { holders = new.holders; last = new.last; lone = new.lone }
   pub len : vec_len new.holders ≤ vec_len old.holders
   pub capacity : vec_capacity new.holders ≡ vec_capacity old.holders
-  pub free : KnowsFree old → KnowsFree new
+  pub names : KnowsNames old → KnowsNames new
 
 -- at most one row, one socket, one file and one number more, and no less memory
 pub record GrowsInSize (old new : Store) : Type 0 where
@@ -26,10 +27,10 @@ pub record GrowsInSize (old new : Store) : Type 0 where
   pub files : vec_len new.files ≤ vec_len old.files + 1
   pub file_room : vec_capacity old.files ≤ vec_capacity new.files
 
--- that, and what names are free is known as before
+-- that, and what is known of names stays true
 pub record GrowsByOne (old new : Store) : Type 0 where
   pub sizes : GrowsInSize old new
-  pub free : KnowsFree old → KnowsFree new
+  pub names : KnowsNames old → KnowsNames new
 
 -- Memory for that many rows, sockets and files more.
 pub record HasMemoryFor (calls : ℕ) (s : Store) : Type 0 where
@@ -64,4 +65,4 @@ pub record IsKept (t : Table) : Type 0 where
 pub record IsSound (calls : ℕ) (s : Store) : Type 0 where
   pub room : HasRoomFor calls s
   pub kept : IsKept (seen s)
-  pub free : KnowsFree s
+  pub names : KnowsNames s

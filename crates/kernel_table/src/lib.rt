@@ -9,11 +9,13 @@ mod file_row;
 pub mod files;
 mod free_names;
 pub mod holds;
+mod lone_names;
 mod process;
 mod store;
 
 pub use edits::Edit;
 pub use file_row::FileRow;
 pub use free_names::FreeNames;
+pub use lone_names::LoneNames;
 pub use process::{Caller, Holder, Row, Stances, WorkerName};
 pub use store::Store;

@@ -1,18 +1,19 @@
 //! The rows of the table, and the few ways to read and change them.
-ghost use Rattle.std.specs.Prelude.{true, false, ◌≡◌, ◌<◌, ◌≤◌, ◌+◌, ◌^◌, ◌↔◌, ℕ, List, length, count_by, Contains, IsTrue, IsFalse, IfOk, IfSome, None, OnOk, vec_len, vec_capacity};
+ghost use Rattle.std.specs.Prelude.{true, false, not, if◌then◌else◌, ◌≡◌, ◌<◌, ◌≤◌, ◌+◌, ◌^◌, ◌↔◌, ℕ, List, length, count_by, Contains, IsTrue, IsFalse, IfOk, IfSome, Some, None, OnOk, vec_len, vec_capacity};
 ghost use Rattle.std.specs.List.{list_any, filter_map};
 ghost use Rattle.std.specs.Option.{option_map};
-ghost use Rattle.definitions.specs.Table.{Master, Worker, is_active, is_worker, is_own, is_live_master, is_held, live_master, with_rows};
-ghost use Rattle.definitions.specs.Calls.{is_image, has_process_room, lowest_free, with_new_row, with_new_socket, each_row, census_of};
+ghost use Rattle.definitions.specs.Table.{Master, Worker, is_active, is_any, is_worker, is_own, is_live_master, is_held, live_master, with_rows};
+ghost use Rattle.definitions.specs.Calls.{is_image, has_process_room, lowest_free, with_new_row, with_new_socket, each_row, drop_where, census_of};
 ghost use Rattle.definitions.specs.Exits.{kept_if, draining_exits};
 ghost use Rattle.kernel_table.specs.Seen.{seen_rows, seen_holder};
 ghost use Rattle.kernel_table.specs.Edits.{edited, ChangesActive};
-ghost use Rattle.kernel_table.specs.Places.{IsActiveAt};
+ghost use Rattle.kernel_table.specs.Places.{IsActiveAt, IsWorkerAt};
 
 use crate::edits::Edit;
 use crate::file_row::FileRow;
 use crate::free_names::FreeNames;
 use crate::holds;
+use crate::lone_names::LoneNames;
 use crate::process::{Caller, Holder, Row, Stances, WorkerName};
 use listener_set::{Address, DescriptorTable, Generation, Numbers, WORKER_LIMIT};
 use std::alloc::AllocError;
@@ -30,6 +31,8 @@ pub struct Store {
     pub last: usize,
     /// Names that no Starting or Ready worker bears. A fork of one of them looks at no row.
     pub free: FreeNames,
+    /// Names that one worker bears at most, where workers are taken out one after another.
+    pub lone: Option<LoneNames>,
 }
 
 /// The same items in memory of their own, which is taken at once for so many more.
@@ -92,6 +95,30 @@ fn active_place(holders: &[Holder], name: WorkerName, last: usize) -> Option<usi
         .position(|holder| holder.row.is_worker(Stances::Active, name))
 }
 
+/// Whether a worker of the name is at the place.
+fn is_worker_at(holders: &[Holder], name: WorkerName, place: usize) -> bool
+    ensures { IsTrue result → IsWorkerAt holders.now name place }
+{
+    place < holders.len() && holders[place].row.is_worker(Stances::Any, name)
+}
+
+/// The place of a worker of the name. It is looked for where one was found last and beside that, since of workers that
+/// leave in turn the next one is there; and then everywhere.
+fn worker_place(holders: &[Holder], name: WorkerName, last: usize) -> Option<usize>
+    ensures { IfSome result (IsWorkerAt holders.now name) }
+{
+    let before = last.saturating_sub(1);
+    if is_worker_at(holders, name, before) {
+        return Some(before);
+    }
+    if is_worker_at(holders, name, last) {
+        return Some(last);
+    }
+    holders
+        .iter()
+        .position(|holder| holder.row.is_worker(Stances::Any, name))
+}
+
 /// Changes the only Starting or Ready worker of the name.
 fn change_at(
     holders: &mut [Holder],
@@ -140,7 +167,7 @@ impl Store {
     ghost use Rattle.kernel_table.specs.Seen.{has_stance, seen_caller, caller_row, seen};
     ghost use Rattle.kernel_table.specs.Room.{EditsRows, GrowsByOne, HasMemoryFor, LacksNumbers, IsKept};
     ghost use Rattle.kernel_table.specs.Rows.{IsOwn, master_number};
-    ghost use Rattle.kernel_table.specs.Free.{KnowsFree};
+    ghost use Rattle.kernel_table.specs.Names.{KnowsNames, IsLoneAt};
     ghost use Rattle.kernel_table.specs.Foreign.{with_foreign};
 
     /// The live master of an image.
@@ -195,7 +222,7 @@ impl Store {
 
     /// Whether a Starting or Ready worker bears the name.
     pub fn is_borne(&self, name: WorkerName) -> bool
-        requires { KnowsFree self.now }
+        requires { KnowsNames self.now }
         ensures { result ≡ list_any (is_worker is_active name.parent name.generation name.nr) (seen self.now).rows }
     {
         !self.free.have(name) && self.has_worker(Stances::Active, name)
@@ -229,7 +256,98 @@ impl Store {
         ensures last { self.new.last ≡ self.old.last }
         ensures room { EditsRows self.old self.new }
     {
+        self.lone = None;
         edit_all(&mut self.holders, &self.addresses, edit);
+    }
+
+    /// Whether it was looked up how many workers bear each name of the master's generation, and none came or changed since.
+    fn has_looked_up(&self, name: WorkerName) -> bool {
+        match &self.lone {
+            Some(lone) => lone.are_of(name),
+            None => false,
+        }
+    }
+
+    /// Looks up how many workers bear each name of the master's generation, unless that is known.
+    fn look_up(&mut self, name: WorkerName)
+        requires { KnowsNames self.old }
+        ensures same { self.new ≡ record self.old { lone = self.new.lone } }
+        ensures names { KnowsNames self.new }
+    {
+        if !self.has_looked_up(name) {
+            self.lone = Some(LoneNames::among(&self.holders, name.parent, name.generation));
+        }
+    }
+
+    /// Whether one worker at most is known to bear the name.
+    fn is_lone(&self, name: WorkerName) -> bool
+        requires { KnowsNames self.now }
+        ensures { IsTrue result → count_by (is_worker is_any name.parent name.generation name.nr) (seen self.now).rows ≤ 1 }
+    {
+        match &self.lone {
+            Some(lone) => lone.are_of(name) && lone.have(name.nr),
+            None => false,
+        }
+    }
+
+    /// The place of the only worker of the name. None where there is none, or may be more than one.
+    fn lone_place(&mut self, name: WorkerName) -> Option<usize>
+        requires { KnowsNames self.old }
+        ensures place { IfSome result (IsLoneAt self.new name) }
+        ensures same { self.new ≡ record self.old { lone = self.new.lone } }
+        ensures names { KnowsNames self.new }
+    {
+        self.look_up(name);
+        if !self.is_lone(name) {
+            return None;
+        }
+        worker_place(&self.holders, name, self.last)
+    }
+
+    /// The only worker of the name, which is at the place, leaves.
+    fn take_out(&mut self, name: WorkerName, place: usize)
+        requires { IsLoneAt self.old name place }
+        ensures table { seen self.new ≡ each_row (drop_where (is_worker is_any name.parent name.generation name.nr)) (seen self.old) }
+        ensures room { EditsRows self.old self.new }
+    {
+        self.holders.remove(place);
+        self.last = place;
+    }
+
+    /// The workers of the name leave, in any stance.
+    pub fn remove(&mut self, name: WorkerName)
+        requires { KnowsNames self.old }
+        ensures table { seen self.new ≡ each_row (drop_where (is_worker is_any name.parent name.generation name.nr)) (seen self.old) }
+        ensures room { EditsRows self.old self.new }
+    {
+        match self.lone_place(name) {
+            Some(place) => self.take_out(name, place),
+            None => self.edit(&Edit::Kill(name)),
+        }
+    }
+
+    /// The workers of the name leave, in any stance, unless one is Starting or Ready; whether they do.
+    pub fn dismiss(&mut self, name: WorkerName) -> bool
+        requires { KnowsNames self.old }
+        ensures active { result ≡ not (list_any (is_worker is_active name.parent name.generation name.nr) (seen self.old).rows) }
+        ensures table { seen self.new ≡ (if result then each_row (drop_where (is_worker is_any name.parent name.generation name.nr)) (seen self.old) else seen self.old) }
+        ensures room { EditsRows self.old self.new }
+    {
+        match self.lone_place(name) {
+            Some(place) => {
+                if self.holders[place].row.is_worker(Stances::Active, name) {
+                    return false;
+                }
+                self.take_out(name, place);
+            }
+            None => {
+                if self.has_worker(Stances::Active, name) {
+                    return false;
+                }
+                self.edit(&Edit::Kill(name));
+            }
+        }
+        true
     }
 
     /// Changes the Starting or Ready worker of the name, of which there is one at most; whether there is one.
@@ -247,6 +365,7 @@ impl Store {
         };
         change_at(&mut self.holders, &self.addresses, name, place, edit);
         self.last = place;
+        self.lone = None;
         true
     }
 
@@ -256,6 +375,7 @@ impl Store {
         ensures last { self.new.last ≡ self.old.last }
         ensures room { EditsRows self.old self.new }
     {
+        self.lone = None;
         exit_first_draining(&mut self.holders, generation, nr);
     }
 
@@ -277,6 +397,7 @@ impl Store {
         self.holders.push(Holder { row, holds }).unwrap();
         self.next_process += 1;
         self.free = self.free.without(&self.holders, name);
+        self.lone = None;
     }
 
     /// Adds a live master of the image with these holds.
@@ -295,6 +416,7 @@ impl Store {
         };
         self.holders.push(Holder { row, holds }).unwrap();
         self.next_process += 1;
+        self.lone = None;
     }
 
     /// Adds a socket of the address, which the master holds from then on at its lowest free descriptor. That is given.
@@ -313,6 +435,7 @@ impl Store {
         let mut holds = caller.holds;
         let descriptor = holds.put(socket).unwrap();
         self.addresses.push(*address).unwrap();
+        self.lone = None;
         self.edit(&Edit::Hold(caller.number, holds));
         descriptor
     }
@@ -337,6 +460,7 @@ impl Store {
         self.addresses.push(*address).unwrap();
         self.holders.push(Holder { row, holds }).unwrap();
         self.next_process += 1;
+        self.lone = None;
     }
 
     /// Whether fewer process or socket numbers are left than that many.
@@ -353,6 +477,7 @@ impl Store {
     pub fn grow(&mut self, calls: u32) -> Result<(), AllocError>
         ensures same { seen self.new ≡ seen self.old }
         ensures free { self.new.free ≡ self.old.free }
+        ensures lone { self.new.lone ≡ self.old.lone }
         ensures more { OnOk result (HasMemoryFor calls self.new) }
         ensures kept { (n : ℕ) → HasMemoryFor n self.old → HasMemoryFor n self.new }
     {
@@ -366,6 +491,7 @@ impl Store {
     pub fn copy(&self, calls: u32) -> Result<Self, AllocError>
         ensures same { IfOk result (λ s. seen s ≡ seen self.now) }
         ensures free { IfOk result (λ s. s.free ≡ self.now.free) }
+        ensures lone { IfOk result (λ s. s.lone ≡ None) }
         ensures room { IfOk result (HasMemoryFor calls) }
     {
         let more = calls as usize;
@@ -377,6 +503,7 @@ impl Store {
             limits: self.limits,
             last: self.last,
             free: self.free,
+            lone: None,
         })
     }
 }

@@ -17,7 +17,7 @@ use Rattle.listener_set.proofs.Rising.{with_number-above}
 use Rattle.vocabulary.specs.declared.table.Listener.{Listener}
 use Rattle.definitions.specs.Record.{listeners_from}
 use Rattle.definitions.specs.After.{listens_on, listener_at, opened_from, added, with_added, all_opened}
-use Rattle.definitions.specs.Handover.{is_above}
+use Rattle.definitions.specs.Reading.{is_above}
 use Rattle.master_listeners.specs.Listeners.{AreKept, AreListed, AreListedFrom, blank_listener}
 
 pub blanks_kept : (a : List ℕ) → a ≡ codes "0.0.0.0:8080" → AreKept (replicate 64 (record { descriptor = 3; address = a })) 0

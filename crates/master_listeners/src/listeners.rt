@@ -4,7 +4,7 @@ ghost use Rattle.definitions.specs.Record.{listeners_from};
 ghost use Rattle.definitions.specs.Table.{Address as AddressText};
 ghost use Rattle.definitions.specs.After.{listener_at, listens_on, opened_from, still_wanted, with_added, reloaded, upgraded};
 ghost use Rattle.definitions.specs.Crew.{descriptors_at};
-ghost use Rattle.definitions.specs.Handover.{is_above};
+ghost use Rattle.definitions.specs.Reading.{is_above};
 ghost use Rattle.master_listeners.specs.Listeners.{AreListed, only_under};
 
 use listener_set::{Address, DescriptorSet, FIRST_DESCRIPTOR, ListenerSet, MOST_DESCRIPTORS};

@@ -9,7 +9,7 @@ use Rattle.control_words.specs.declared.words.Word.TheVariants.{Hup, Quit, Int, 
 use Rattle.child_family.specs.declared.family.Family.{Ghosts}
 use Rattle.child_family.specs.Talk.{Held}
 use Rattle.child_edge.specs.State.{state_of}
-use Rattle.child_edge.specs.Table.{tick_turn}
+use Rattle.child_edge.specs.Table.{reigning_tick}
 use Rattle.child_edge.specs.declared.edge.Edge.{Edge}
 use Rattle.word_runner.specs.declared.standing.Standing.{Standing}
 use Rattle.word_runner.specs.Words.{AreDone}
@@ -51,11 +51,11 @@ module _ {F I L : Type 0} {f : Ghosts F} (remaining : I → Option (List ℕ)) w
     pub done : AreDone EnactsOn DeclinesOn settings words 0 old said.blocks.items new
     pub all : OnOk said.done (length said.blocks.items ≡ length words)
 
-  -- All ready workers are asked at a tick, and each beat that is heard is a word of its own before it.
+  -- All ready workers of the master that reigns are asked at a tick, and each beat that is heard is a word of its own before it.
   abbrev pub IsAsked : ℕ → Standing (Attended F I L f) → Said → Standing (Attended F I L f) → Type 0
   IsAsked now old said new =
       (edge : Edge F f) × (heard : List ℕ)
-      × Held (f.told old.world.edge.family) (f.told edge.family) (tick_turn (state_of old.world.edge.state) now) (state_of edge.state, Counted heard)
+      × Held (f.told old.world.edge.family) (f.told edge.family) (reigning_tick (state_of old.world.edge.state) now) (state_of edge.state, Counted heard)
       × AreActed None (tick_words heard now) (record old { world = record old.world { edge = edge } }) said new
 
   -- A tick. Where a master runs, its workers are asked first.

@@ -40,6 +40,8 @@ impl<F: Family + Drop, I: Read + Drop, L: Log + Drop> Enactor for OnChildren<F, 
 
     ghost wants_memory = { λ _ first place r target. HasPlan r target };
 
+    /// Carries a target out on the children of an edge, with the operator's answers: its plan is made, memory for all of its
+    /// calls is taken, that of the edge last, and then the calls are made. In an upgrade the two masters take turns.
     fn enact(
         &self,
         alloc: Global,
@@ -48,40 +50,23 @@ impl<F: Family + Drop, I: Read + Drop, L: Log + Drop> Enactor for OnChildren<F, 
         state: &Record,
         target: &Target,
     ) -> Result<Enacted, TargetRefusal> {
-        carry_out(alloc, world, state, target)
+        let plan = match upgrade_planner::plan_target(alloc, state, target) {
+            Ok(plan) => plan,
+            Err(PlanRefusal::Memory) => return Err(TargetRefusal::Memory),
+            Err(refusal) => return Err(TargetRefusal::Coded(CodeText::unplanned(refusal))),
+        };
+        let longest = plan.longest();
+        let Ok(mut log) = Transcript::with_room(alloc, longest) else {
+            return Err(TargetRefusal::Memory);
+        };
+        let Ok(turns) = turns_by_turns(alloc, state.retries) else {
+            return Err(TargetRefusal::Memory);
+        };
+        if world.edge.reserve(longest, plan.text()).is_err() {
+            return Err(TargetRefusal::Memory);
+        }
+        let report = execute(&plan, world, &turns, &mut log);
+        let after = state.after(target, &report, state.pid);
+        Ok(Enacted { log, report, after })
     }
-}
-
-/// Carries a target out on the children of an edge, with the operator's answers: its plan is made, memory for all of its
-/// calls is taken, that of the edge last, and then the calls are made. In an upgrade the two masters take turns.
-fn carry_out<F: Family + Drop, I: Read + Drop, L: Log + Drop>(
-    alloc: Global,
-    world: &mut Attended<F, I, L>,
-    state: &Record,
-    target: &Target,
-) -> Result<Enacted, TargetRefusal>
-    requires { IsTarget target.now }
-    ensures ok { IfOk result (λ done. IsCarriedOut I.remaining world.old state.now target.now done world.new) }
-    ensures declined { IfErr result (HasCode (IsUnplanned state.now target.now)) }
-    ensures memory { IsErrOf result TargetRefusal.Memory → HasPlan state.now target.now }
-    ensures err { OnErr result (world.new ≡ world.old) }
-{
-    let plan = match upgrade_planner::plan_target(alloc, state, target) {
-        Ok(plan) => plan,
-        Err(PlanRefusal::Memory) => return Err(TargetRefusal::Memory),
-        Err(refusal) => return Err(TargetRefusal::Coded(CodeText::unplanned(refusal))),
-    };
-    let longest = plan.longest();
-    let Ok(mut log) = Transcript::with_room(alloc, longest) else {
-        return Err(TargetRefusal::Memory);
-    };
-    let Ok(turns) = turns_by_turns(alloc, state.retries) else {
-        return Err(TargetRefusal::Memory);
-    };
-    if world.reserve(longest, plan.text()).is_err() {
-        return Err(TargetRefusal::Memory);
-    }
-    let report = execute(&plan, world, &turns, &mut log);
-    let after = state.after(target, &report, state.pid);
-    Ok(Enacted { log, report, after })
 }

@@ -6,7 +6,7 @@ ghost use Rattle.definitions.specs.Record.{started};
 ghost use Rattle.child_edge.specs.State.{state_of};
 ghost use Rattle.child_edge.specs.Edge.{begun_by};
 ghost use Rattle.master_on_children.specs.Inbox.{unread, IsNextLine};
-ghost use Rattle.master_on_children.specs.Lines.{tick_words, taken, AreActed, IsAsked, IsTicked, IsRenewed, WordComesTo, LineComesTo, EndComesTo};
+ghost use Rattle.master_on_children.specs.Lines.{tick_words, taken, AreActed, IsTicked, IsRenewed, LineComesTo, EndComesTo};
 
 use crate::inbox::Inbox;
 use crate::said::Said;
@@ -54,8 +54,13 @@ impl<F: Family + Drop, I: Read + Drop, L: Log + Drop> Master<F, I, L> {
         let Operator { input, log } = operator;
         let settings = &start.settings;
         let record = Record::start(settings, settings.workers, &Numbers::none(), start.pid);
+        let world = Attended {
+            edge: Edge::begin(alloc, family, &record),
+            inbox: Inbox::new(input),
+            log,
+        };
         let standing = Standing {
-            world: Attended::new(Edge::begin(alloc, family, &record), Inbox::new(input), log),
+            world,
             record: Some(record),
             workers,
         };
@@ -72,7 +77,12 @@ impl<F: Family + Drop, I: Read + Drop, L: Log + Drop> Master<F, I, L> {
             record: _,
             workers: _,
         } = standing;
-        world.into_family()
+        let Attended {
+            edge,
+            inbox: _,
+            log: _,
+        } = world;
+        edge.into_family()
     }
 
     /// The next line to act on. At the end of the input there is none.
@@ -80,12 +90,12 @@ impl<F: Family + Drop, I: Read + Drop, L: Log + Drop> Master<F, I, L> {
         ensures next { IsNextLine I.remaining self.old.standing.world.inbox result self.new.standing.world.inbox }
         ensures others { self.new.standing ≡ taken self.old.standing self.new.standing.world.inbox }
     {
-        self.standing.world.next_line()
+        self.standing.world.inbox.next_line()
     }
 
     /// The log of the operator.
     pub(crate) fn log(&self) -> &L {
-        self.standing.world.log()
+        &self.standing.world.log
     }
 
     /// Carries words out one after another.
@@ -113,38 +123,24 @@ impl<F: Family + Drop, I: Read + Drop, L: Log + Drop> Master<F, I, L> {
         ensures { LineComesTo I.remaining N.reads line next.old self.old.standing result next.new self.new.standing }
     {
         match line {
-            Ok(word) => self.obey(word, next),
+            Ok(Word::Tick { now }) => self.tick(now),
+            Ok(Word::Hup) => self.renew(Word::Hup, next),
+            Ok(Word::Usr2) => self.renew(Word::Usr2, next),
+            Ok(Word::Usr2Attended) => self.renew(Word::Usr2Attended, next),
+            Ok(word) => self.act(&[word], None),
             Err(refusal) => Said::unread(self.alloc, refusal),
         }
     }
 
-    /// What a word comes to.
-    fn obey<N: NextSettings>(&mut self, word: Word, next: &mut N) -> Said
-        ensures { WordComesTo I.remaining N.reads word next.old self.old.standing result next.new self.new.standing }
-    {
-        match word {
-            Word::Tick { now } => self.tick(now),
-            Word::Hup | Word::Usr2 | Word::Usr2Attended => self.renew(word, next),
-            _ => self.act(&[word], None),
-        }
-    }
-
-    /// What a tick comes to. Where a master runs, its workers are asked first, and each beat that is heard is a word of
-    /// its own before the tick.
+    /// What a tick comes to. Where a master runs, the workers of the one that reigns are asked first, and each beat
+    /// that is heard is a word of its own before the tick.
     pub(crate) fn tick(&mut self, now: u64) -> Said
         ensures { IsTicked I.remaining self.old.standing.record now self.old.standing result self.new.standing }
     {
-        if self.standing.record.is_none() {
+        let Some(_) = self.standing.record else {
             return self.act(&[Word::Tick { now }], None);
-        }
-        self.ask_all(now)
-    }
-
-    /// Asks the workers at a tick, and acts on what is heard and on the tick.
-    fn ask_all(&mut self, now: u64) -> Said
-        ensures { IsAsked I.remaining now self.old.standing result self.new.standing }
-    {
-        let heard = self.standing.world.tick(now);
+        };
+        let heard = self.standing.world.edge.tick_reigning(now);
         match tick_words(self.alloc, &heard, now) {
             Ok(words) => self.act(&words, None),
             Err(AllocError) => Said::short(self.alloc),

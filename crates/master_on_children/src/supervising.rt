@@ -169,7 +169,7 @@ fn hear_all<F: Family + Drop, I: Read + Drop, L: Log + Drop, N: NextSettings, O:
     Err(Halt::Fault(SupervisorFault::File))
 }
 
-/// Tells what was said, and gives the status then. Want of memory comes behind the blocks that there are.
+/// Tells the blocks of what was said one after another, and gives the status then. Want of memory comes behind them.
 fn tell<O: Write, L: Log>(
     alloc: Global,
     before: u8,
@@ -183,30 +183,15 @@ fn tell<O: Write, L: Log>(
     ensures behind { IsErrOf result Halt.Short → Appends (O.contents output.old) (O.contents output.new) (transcript_text said.now.blocks.items) }
     ensures short { IsErrOf result Halt.Short → IsErr said.now.done }
 {
-    let status = tell_all(alloc, before, &said.blocks, output, log)?;
+    let mut status = before;
+    for block in &said.blocks {
+        tell_block(alloc, block, output, log)?;
+        status = graver(status, status_of(block));
+    }
     match said.done {
         Ok(()) => Ok(status),
         Err(_) => Err(Halt::Short),
     }
-}
-
-/// Tells blocks one after another, and gives the status then.
-fn tell_all<O: Write, L: Log>(
-    alloc: Global,
-    before: u8,
-    blocks: &[Block],
-    output: &mut O,
-    log: &L,
-) -> Result<u8, SupervisorFault>
-    ensures told { OnOk result (Appends (O.contents output.old) (O.contents output.new) (transcript_text blocks.now)) }
-    ensures status { IfOk result (λ status. status ≡ status_after before blocks.now) }
-{
-    let mut status = before;
-    for block in blocks {
-        tell_block(alloc, block, output, log)?;
-        status = graver(status, status_of(block));
-    }
-    Ok(status)
 }
 
 /// Writes a block in one write, flushes it, and logs it in a line.

@@ -1,5 +1,5 @@
 -- What is counted of the runs of a word.
-use Rattle.std.specs.Prelude.{◌≡◌, Bool, List, Option, Some, None}
+use Rattle.std.specs.Prelude.{◌≡◌, Bool, List, [], ◌∷◌, Option, Some, None}
 use Rattle.vocabulary.specs.declared.targets.Target.{Target}
 use Rattle.definitions.specs.Table.{Table}
 use Rattle.definitions.specs.Record.{Record}
@@ -16,8 +16,11 @@ use Rattle.word_runner.specs.Asking.{asked_by, IsNoted, AsksTarget}
 use Rattle.plan_executor.specs.Codes.{enact_code}
 use Rattle.plan_executor.specs.Refusals.{IsRefused}
 use Rattle.plan_executor.specs.declared.enactment.EnactRefusal.{EnactRefusal}
-use Rattle.explorer.specs.declared.tally.Tally.{Tally}
-use Rattle.explorer.specs.Explored.{explored_from}
+use Rattle.order_explorer.specs.declared.choosing.ChosenOrders.{ChosenOrders}
+use Rattle.order_explorer.specs.declared.exploring.OrderSearch.{OrderSearch}
+use Rattle.order_explorer.specs.declared.totals.Totals.{Totals}
+use Rattle.order_explorer.specs.Choosing.{IsChosen}
+use Rattle.order_explorer.specs.Exploring.{AreAdded, AreSearched}
 use Rattle.master_on_kernel.specs.declared.exploring.Explored.{Explored}
 use Rattle.master_on_kernel.specs.declared.exploring.Explored.TheVariants.{All, Cut, Told}
 use Rattle.master_on_kernel.specs.declared.rehearsal.Rehearsal.{Rehearsal}
@@ -36,12 +39,12 @@ pub record HasNoRuns (t : Table) (r : Record) (target : Target) (body : Body) : 
   pub due : IsHopeless t r target why
   pub told : body ≡ Refused (enact_code why)
 
--- Where all runs of a target by these turns are counted, the tally has each of them once. Where it is cut, there are some. Where
--- there is none, it is told why.
-abbrev pub AreCounted : Record → Target → List Turn → Table → Bool → Tally → Tally → Explored → Type 0
-AreCounted r target turns t pairs before after All = after ≡ explored_from r target turns t pairs before
-AreCounted r target turns t pairs before after Cut = HasRuns t r target
-AreCounted r target turns t pairs before after (Told body) = HasNoRuns t r target body
+-- Where all runs of a target by these orders are counted, the totals have what was found by each of them, once. Where it is cut,
+-- there are some. Where there is none, it is told why.
+abbrev pub AreCounted : OrderSearch → Totals → Totals → Explored → Type 0
+AreCounted search before after All = AreSearched search before after
+AreCounted search before after Cut = HasRuns search.kernel.now.table search.state.now search.target.now
+AreCounted search before after (Told body) = HasNoRuns search.kernel.now.table search.state.now search.target.now body
 
 -- what is told of a word that a master is asked, where it has no runs
 abbrev pub IsToldOf : Asked → Record → Rehearsal → Body → Type 0
@@ -55,10 +58,25 @@ abbrev pub IsToldInstead : Option Record → Rehearsal → Word → Body → Typ
 IsToldInstead None m word body = body ≡ Nothing
 IsToldInstead (Some r) m word body = IsToldOf (asked_by word r m.standing.workers (Some m.next)) r m body
 
--- Where all runs of a word by these turns are counted, they are those of the target that it asks for. Where it has none, it is told
+-- Where all runs of a word by these orders are counted, they are those of the target that it asks for. Where it has none, it is told
 -- what it comes to instead.
-abbrev pub IsExplored : Rehearsal → Word → List Turn → Bool → Tally → Tally → Explored → Type 0
-IsExplored m word turns pairs before after All =
-    AsksTarget (λ r target. after ≡ explored_from r target turns m.standing.world.table pairs before) m.standing.record (Some m.next) word m.standing.workers
-IsExplored m word turns pairs before after Cut = AsksTarget (HasRuns m.standing.world.table) m.standing.record (Some m.next) word m.standing.workers
-IsExplored m word turns pairs before after (Told body) = IsToldInstead m.standing.record m word body
+abbrev pub IsExplored : Rehearsal → Word → List (List Turn) → Bool → Totals → Totals → Explored → Type 0
+IsExplored m word orders pairs before after All =
+    AsksTarget (λ r target. AreAdded r target m.standing.world.table pairs 0 orders before after) m.standing.record (Some m.next) word m.standing.workers
+IsExplored m word orders pairs before after Cut = AsksTarget (HasRuns m.standing.world.table) m.standing.record (Some m.next) word m.standing.workers
+IsExplored m word orders pairs before after (Told body) = IsToldInstead m.standing.record m word body
+
+---- The orders of a word
+
+-- those of a target; of a word that asks for none, the one without turns
+abbrev pub HasOrdersOf : Asked → Record → Bool → ChosenOrders → Type 0
+HasOrdersOf (asks.Act target) r pairs chosen = IsChosen r target pairs chosen
+HasOrdersOf _ r pairs chosen = chosen.lists.items ≡ [] ∷ []
+
+abbrev pub HasOrdersBy : Option Record → Rehearsal → Word → Bool → ChosenOrders → Type 0
+HasOrdersBy None m word pairs chosen = chosen.lists.items ≡ [] ∷ []
+HasOrdersBy (Some r) m word pairs chosen = HasOrdersOf (asked_by word r m.standing.workers (Some m.next)) r pairs chosen
+
+-- All orders in which two masters can carry a word out.
+abbrev pub HasOrders : Rehearsal → Word → Bool → ChosenOrders → Type 0
+HasOrders m word pairs chosen = HasOrdersBy m.standing.record m word pairs chosen

@@ -3,8 +3,9 @@ ghost use Rattle.std.specs.Prelude.{IfOk};
 ghost use Rattle.definitions.specs.Target.{IsTarget};
 ghost use Rattle.master_on_kernel.specs.Explorations.{AreCounted};
 
-use explorer::{Audience, Findings, Search, Unexplored, explore};
+use explorer::Unexplored;
 use kernel_model::Turns;
+use order_explorer::{OrderAudience, OrderSearch, Totals, explore_orders};
 use std::alloc::{AllocError, Global};
 use word_runner::{Body, TargetRefusal};
 
@@ -22,24 +23,24 @@ pub enum Explored {
 /// Which runs of a word are counted.
 #[derive(Clone, Copy)]
 pub struct Trials<'a> {
-    /// By whose turns they go, where two masters have parts of the plan.
-    pub turns: &'a Turns,
+    /// The orders of turns by which they go, where two masters have parts of the plan.
+    pub orders: &'a [Turns],
     /// Whether there are runs with pairs of events.
     pub pairs: bool,
 }
 
-/// Counts how a target ends under no event, under each event that this run meets, and under each pair where these are
-/// asked for.
-pub(crate) fn count_runs<A: Audience>(
+/// Counts how a target ends by each order, under no event, under each event that this run meets, and under each pair where
+/// these are asked for.
+pub(crate) fn count_runs<A: OrderAudience>(
     alloc: Global,
-    search: &Search<'_>,
-    found: &mut Findings,
+    search: &OrderSearch<'_>,
+    totals: &mut Totals,
     audience: &mut A,
 ) -> Result<Explored, AllocError>
     requires { IsTarget search.now.target.now }
-    ensures { IfOk result (AreCounted search.now.state.now search.now.target.now search.now.turns.now search.now.kernel.now.table search.now.pairs found.old.tally found.new.tally) }
+    ensures { IfOk result (AreCounted search.now totals.old totals.new) }
 {
-    match explore(alloc, search, found, audience) {
+    match explore_orders(alloc, search, totals, audience) {
         Ok(()) => Ok(Explored::All),
         Err(Unexplored::Enough) => Ok(Explored::Cut),
         Err(Unexplored::Enact(refusal)) => match TargetRefusal::from(refusal) {

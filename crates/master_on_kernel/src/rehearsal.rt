@@ -1,5 +1,5 @@
 //! A master on the modelled kernel, word by word.
-ghost use Rattle.std.specs.Prelude.{◌≡◌, ◌≤◌, ◌+◌, ◌++◌, ◌∷◌, [], List, length, Some, OnOk, OnErr, IfOk, IfErr};
+ghost use Rattle.std.specs.Prelude.{◌≡◌, ◌⊎◌, ◌≤◌, ◌+◌, ◌++◌, ◌∷◌, [], List, length, Some, OnOk, OnErr, IfOk, IfErr};
 ghost use Rattle.listener_set.specs.AddressText.{reading};
 ghost use Rattle.kernel_pattern.specs.declared.section.Section.{Section as Decided};
 ghost use Rattle.table_text.specs.TableText.{IsTextOf};
@@ -8,24 +8,26 @@ ghost use Rattle.certifier.specs.Blocks.{AreTaken, StopsAtBlock};
 ghost use Rattle.faults.specs.Faults.{IsDue};
 ghost use Rattle.master_on_kernel.specs.Starts.{IsStarted, limits, record_at};
 ghost use Rattle.definitions.specs.Start.{booted};
-ghost use Rattle.faults.specs.declared.fault.Fault.TheVariants.{Memory};
+ghost use Rattle.faults.specs.declared.fault.Fault.TheVariants.{Memory, Orders};
 ghost use Rattle.definitions.specs.Target.{IsTarget};
-ghost use Rattle.master_on_kernel.specs.Explorations.{IsExplored};
+ghost use Rattle.master_on_kernel.specs.Explorations.{IsExplored, HasOrders};
+ghost use Rattle.order_explorer.specs.Choosing.{IsChosen};
 ghost use Rattle.master_on_kernel.specs.Rehearsals.{Held, IsOfHeld, IsRehearsed, IsShownOf, IsShownBy};
 
 use crate::exploring::{Explored, Trials, count_runs};
 use crate::start::{Start, silent_workers};
 use certifier::{BlockMismatch, Mismatch, certify_beginning, certify_blocks};
 use control_words::Word;
-use explorer::{Audience, Findings, Search};
 use faults::Fault;
-use kernel_model::{Kernel, Section, WIDEST_LIMITS};
+use kernel_model::{Kernel, Section, Turns, WIDEST_LIMITS};
 use listener_set::{Address, WORKER_LIMIT};
+use order_explorer::{ChosenOrders, OrderAudience, OrderSearch, Totals, choose_orders};
 use plan_executor::run_words;
 use plan_walk::Transcript;
 use service_state::Record;
 use std::alloc::{AllocError, Global};
 use table_text::table_text;
+use turn_orders::OrdersRefusal;
 use vocabulary::{Settings, Target};
 use word_runner::{Asked, Block, Body, Standing, asked_by, note};
 
@@ -161,31 +163,47 @@ impl Rehearsal {
         shown_of(alloc, &self.standing.world, &record, &target, begun)
     }
 
-    /// Counts how a word ends under no event and under each event that this run meets and, where pairs are asked for, under
-    /// each pair of these, all by the same turns. The audience hears of each run.
-    pub fn explore<A: Audience>(
+    /// All orders in which the two masters can make their calls where they carry a word out side by side, and the one without
+    /// turns of any other word.
+    pub fn orders(&self, alloc: Global, word: Word, pairs: bool) -> Result<ChosenOrders, Fault>
+        ensures ok { IfOk result (HasOrders self.now word pairs) }
+        ensures err { IfErr result (λ fault. (fault ≡ Orders) ⊎ (fault ≡ Memory)) }
+    {
+        let Some(record) = self.standing.record else {
+            return no_turns(alloc);
+        };
+        let Asked::Act(target) = asked_by(word, &record, &self.standing.workers, Some(&self.next))
+        else {
+            return no_turns(alloc);
+        };
+        chosen(alloc, &record, &target, pairs)
+    }
+
+    /// Counts how a word ends by each order, under no event and under each event that this run meets and, where pairs are asked
+    /// for, under each pair of these. The audience hears of each order and run.
+    pub fn explore<A: OrderAudience>(
         &mut self,
         alloc: Global,
         word: Word,
         trials: &Trials<'_>,
-        found: &mut Findings,
+        totals: &mut Totals,
         audience: &mut A,
     ) -> Result<Explored, AllocError>
-        ensures { IfOk result (IsExplored self.old word trials.now.turns.now trials.now.pairs found.old.tally found.new.tally) }
+        ensures { IfOk result (IsExplored self.old word trials.now.orders.now trials.now.pairs totals.old totals.new) }
     {
         let Some(record) = self.standing.record else {
             return Ok(Explored::Told(Body::Nothing));
         };
         match asked_by(word, &record, &self.standing.workers, Some(&self.next)) {
             Asked::Act(target) => {
-                let search = Search {
+                let search = OrderSearch {
                     kernel: &self.standing.world,
                     state: &record,
                     target: &target,
-                    turns: trials.turns,
+                    orders: trials.orders,
                     pairs: trials.pairs,
                 };
-                count_runs(alloc, &search, found, audience)
+                count_runs(alloc, &search, totals, audience)
             }
             Asked::Beat(heard) => Ok(Explored::Told(note(&mut self.standing.workers, heard))),
             Asked::Nothing => Ok(Explored::Told(Body::Nothing)),
@@ -198,6 +216,32 @@ impl Rehearsal {
         ensures { IfOk result (λ text. IsTextOf self.now.standing.world.table text.items) }
     {
         table_text(&self.standing.world)
+    }
+}
+
+/// The one order without turns.
+fn no_turns(alloc: Global) -> Result<ChosenOrders, Fault>
+    ensures ok { IfOk result (λ chosen. chosen.lists.items ≡ [] ∷ []) }
+    ensures err { IfErr result (λ fault. fault ≡ Memory) }
+{
+    Ok(ChosenOrders::only(alloc, Turns::new(alloc))?)
+}
+
+/// All orders of a target.
+fn chosen(
+    alloc: Global,
+    state: &Record,
+    target: &Target,
+    pairs: bool,
+) -> Result<ChosenOrders, Fault>
+    requires { IsTarget target.now }
+    ensures ok { IfOk result (IsChosen state.now target.now pairs) }
+    ensures err { IfErr result (λ fault. (fault ≡ Orders) ⊎ (fault ≡ Memory)) }
+{
+    match choose_orders(alloc, state, target, pairs) {
+        Ok(chosen) => Ok(chosen),
+        Err(OrdersRefusal::Memory) => Err(Fault::Memory),
+        Err(OrdersRefusal::TooMany) => Err(Fault::Orders),
     }
 }
 

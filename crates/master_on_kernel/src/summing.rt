@@ -5,7 +5,8 @@ ghost use Rattle.master_on_kernel.specs.Summaries.{is_degraded, is_short, is_vio
 use crate::exploring::Explored;
 use crate::planning::{Outlook, told};
 use exploration_text::write_summary;
-use explorer::{Findings, Least, Tally};
+use kernel_model::Turns;
+use order_explorer::{OrderedLeast, Totals};
 use std::alloc::{AllocError, Global};
 
 /// What is demanded of the runs of a word.
@@ -19,81 +20,83 @@ pub struct Demands {
     pub least: Option<u32>,
 }
 
-/// What the runs of a word came to, and the exit status that goes with it.
+/// What the runs of a word by these orders came to, and the exit status that goes with it.
 pub fn summary(
     alloc: Global,
     explored: &Explored,
-    found: &Findings,
+    orders: &[Turns],
+    totals: &Totals,
     demands: &Demands,
 ) -> Result<Outlook, AllocError>
-    ensures { IfOk result (IsSummary explored.now found.now.tally found.now.least found.now.tables demands.now) }
+    ensures { IfOk result (IsSummary explored.now orders.now totals.now demands.now) }
 {
     match explored {
-        Explored::All => counted(alloc, found, false, demands),
-        Explored::Cut => counted(alloc, found, true, demands),
+        Explored::All => counted(alloc, orders, totals, false, demands),
+        Explored::Cut => counted(alloc, orders, totals, true, demands),
         Explored::Told(body) => told(alloc, body),
     }
 }
 
 fn counted(
     alloc: Global,
-    found: &Findings,
+    orders: &[Turns],
+    totals: &Totals,
     is_cut: bool,
     demands: &Demands,
 ) -> Result<Outlook, AllocError>
-    ensures { IfOk result (Counts found.now.tally found.now.least found.now.tables is_cut demands.now) }
+    ensures { IfOk result (Counts orders.now totals.now is_cut demands.now) }
 {
     let mut text = Vec::new(alloc);
-    write_summary(&mut text, found, is_cut)?;
+    write_summary(&mut text, orders, totals, is_cut)?;
     Ok(Outlook {
         text,
-        status: status_of(demands, &found.tally, &found.least, is_cut),
+        status: status_of(demands, totals, is_cut),
     })
 }
 
 /// 4 where a run showed what is not to be, and 6 where what is demanded is not known.
-fn status_of(demands: &Demands, tally: &Tally, least: &Option<Least>, is_cut: bool) -> u8
-    ensures { result ≡ status_of demands.now tally.now least.now is_cut }
+fn status_of(demands: &Demands, totals: &Totals, is_cut: bool) -> u8
+    ensures { result ≡ status_of demands.now totals.now is_cut }
 {
-    if is_violated(demands, tally, least) {
+    if is_violated(demands, totals) {
         4
-    } else if is_unknown(demands, tally, least, is_cut) {
+    } else if is_unknown(demands, totals, is_cut) {
         6
     } else {
         0
     }
 }
 
-fn is_violated(demands: &Demands, tally: &Tally, least: &Option<Least>) -> bool
-    ensures { result ≡ is_violated demands.now tally.now least.now }
+fn is_violated(demands: &Demands, totals: &Totals) -> bool
+    ensures { result ≡ is_violated demands.now totals.now }
 {
-    (demands.forbids_degraded && is_degraded(tally)) || is_short(demands.least, least)
+    (demands.forbids_degraded && is_degraded(totals)) || is_short(demands.least, &totals.least)
 }
 
 /// Whether a run ended degraded.
-fn is_degraded(tally: &Tally) -> bool
-    ensures { result ≡ is_degraded tally.now }
+fn is_degraded(totals: &Totals) -> bool
+    ensures { result ≡ is_degraded totals.now }
 {
-    tally.degraded_old.count > 0 || tally.degraded_target.count > 0
+    totals.degraded_old.count > 0 || totals.degraded_target.count > 0
 }
 
 /// Whether an address that stays had fewer ready workers than are wanted.
-fn is_short(wanted: Option<u32>, least: &Option<Least>) -> bool
+fn is_short(wanted: Option<u32>, least: &Option<OrderedLeast>) -> bool
     ensures { result ≡ is_short wanted least.now }
 {
     match (wanted, least) {
-        (Some(wanted), Some(least)) => least.ready < wanted,
+        (Some(wanted), Some(found)) => found.least.ready < wanted,
         _ => false,
     }
 }
 
 /// Whether it is not known if the runs are as is demanded: runs are left, no run was done, or no address stays.
-fn is_unknown(demands: &Demands, tally: &Tally, least: &Option<Least>, is_cut: bool) -> bool
-    ensures { result ≡ is_unknown demands.now tally.now least.now is_cut }
+fn is_unknown(demands: &Demands, totals: &Totals, is_cut: bool) -> bool
+    ensures { result ≡ is_unknown demands.now totals.now is_cut }
 {
     (is_cut && demands_some(demands))
-        || (demands.requires_done && is_never_done(tally))
-        || has_no_address(demands.least, least)
+        || (demands.requires_done && is_never_done(totals))
+        || has_no_address(demands.least, &totals.least)
 }
 
 fn demands_some(demands: &Demands) -> bool
@@ -102,14 +105,14 @@ fn demands_some(demands: &Demands) -> bool
     demands.forbids_degraded || demands.requires_done || demands.least.is_some()
 }
 
-fn is_never_done(tally: &Tally) -> bool
-    ensures { result ≡ is_never_done tally.now }
+fn is_never_done(totals: &Totals) -> bool
+    ensures { result ≡ is_never_done totals.now }
 {
-    tally.done.count == 0
+    totals.done.count == 0
 }
 
 /// Whether no address stays of which so many workers are wanted.
-fn has_no_address(wanted: Option<u32>, least: &Option<Least>) -> bool
+fn has_no_address(wanted: Option<u32>, least: &Option<OrderedLeast>) -> bool
     ensures { result ≡ has_no_address wanted least.now }
 {
     wanted.is_some() && least.is_none()

@@ -29,58 +29,40 @@ use Rattle.plan_executor.specs.Merged.{ActsApart}
 use Rattle.plan_executor.proofs.Merging.{acts-apart}
 use Rattle.plan_executor.proofs.Reporting.{whole-run}
 use Rattle.plan_executor.specs.Prepared.{IsPlanFor, IsReady}
-use Rattle.definitions.specs.Apart.{WalksApart}
-use Rattle.definitions.specs.Claims.{IsAccepted, heirs_of, refused_among, refusal_of, InManner, WorkersHeadline, MendHeadline, ReopenHeadline, ReopenFloor, ReloadHeadline, UpgradeHeadline, AttendedHeadline, StopHeadline}
-use Rattle.vocabulary.specs.Settings.{Settings}
-
--- what the theorems say of each target
-pub record Headlines : Type 0 where
-  pub workers : WorkersHeadline
-  pub workers_manner : (n : ℕ) → InManner (Workers n)
-  pub mends : MendHeadline
-  pub mends_manner : (overdue : List ℕ) → InManner (Mend overdue)
-  pub reopenings : ReopenHeadline
-  pub reopenings_manner : InManner Reopen
-  pub reopenings_floor : ReopenFloor
-  pub reloads : ReloadHeadline
-  pub reloads_manner : (s : Settings) → InManner (Reload s)
-  pub upgrades : UpgradeHeadline
-  pub upgrades_manner : (s : Settings) → InManner (Upgrade s)
-  pub attended : AttendedHeadline
-  pub attended_manner : (s : Settings) → InManner (Attended s)
-  pub stops : StopHeadline
-  pub stops_manner : (quick : Bool) → InManner (Stop quick)
-  pub parts : WalksApart
+use Rattle.theorems.specs.Apart.{WalksApart}
+use Rattle.definitions.specs.Claims.{Accepts, EndsAsReported, HasDescriptors, Headline, heirs_of, refused_among, refusal_of, run_of}
+use Rattle.plan_executor.specs.Refusals.{HasPlan}
 
 -- a generation that is not lacking is there
 there : (g : Option Generation) → is_none g ≡ false → is_some g ≡ true
 there None h = absurd (false≢true (sym h))
 there (Some g) h = refl
 
-pub keeps : Headlines → (target : Target) → IsTarget target → HasRange target → EndsSo target
-keeps h (Workers n) within range t r turns pattern start ds plan spared =
-    let a : IsAccepted t r (Workers n) turns pattern = record { start = start; accepts = within; spared = spared } in
-    let k = h.workers t r n turns pattern a in record { ends = k.0; floor = k.1; manner = h.workers_manner n t r turns pattern a; apart = tt }
-keeps h (Mend overdue) within range t r turns pattern start ds plan spared =
-    let a : IsAccepted t r (Mend overdue) turns pattern = record { start = start; accepts = tt; spared = spared } in
-    record { ends = h.mends t r overdue turns pattern a; floor = tt; manner = h.mends_manner overdue t r turns pattern a; apart = tt }
-keeps h Reopen within range t r turns pattern start ds plan spared =
-    let a : IsAccepted t r Reopen turns pattern = record { start = start; accepts = tt; spared = spared } in
-    record { ends = h.reopenings t r turns pattern a; floor = h.reopenings_floor t r turns pattern a; manner = h.reopenings_manner t r turns pattern a; apart = tt }
-keeps h (Reload s) within range t r turns pattern start ds plan spared =
-    let a : IsAccepted t r (Reload s) turns pattern = record { start = start; accepts = (range, ds, there (next_config r.generation) plan); spared = spared } in
-    let k = h.reloads t r s turns pattern a in record { ends = k.0; floor = k.1; manner = h.reloads_manner s t r turns pattern a; apart = tt }
-keeps h (Upgrade s) within range t r turns pattern start ds plan spared =
-    let a : IsAccepted t r (Upgrade s) turns pattern = record { start = start; accepts = (range, ds, there (next_image r.generation) plan); spared = spared } in
-    let k = h.upgrades t r s turns pattern a in
-    record { ends = k.0; floor = k.1; manner = h.upgrades_manner s t r turns pattern a; apart = acts-apart h.parts t r (Upgrade s) turns pattern k.0 }
-keeps h (Attended s) within range t r turns pattern start ds plan spared =
-    let a : IsAccepted t r (Attended s) turns pattern = record { start = start; accepts = (range, ds, there (next_image r.generation) plan); spared = spared } in
-    let k = h.attended t r s turns pattern a in
-    record { ends = k.0; floor = k.1; manner = h.attended_manner s t r turns pattern a; apart = acts-apart h.parts t r (Attended s) turns pattern k.0 }
-keeps h (Stop quick) within range t r turns pattern start ds plan spared =
-    let a : IsAccepted t r (Stop quick) turns pattern = record { start = start; accepts = tt; spared = spared } in
-    record { ends = h.stops t r quick turns pattern a; floor = tt; manner = h.stops_manner quick t r turns pattern a; apart = tt }
+-- what is asked of a target
+accepted : (target : Target) (t : Table) (r : Record) → IsTarget target → HasRange target → HasDescriptors t r → HasPlan r target → Accepts t r target
+accepted (Workers n) t r within range ds plan = within
+accepted (Mend overdue) t r within range ds plan = tt
+accepted Reopen t r within range ds plan = tt
+accepted (Reload s) t r within range ds plan = (range, ds, there (next_config r.generation) plan)
+accepted (Upgrade s) t r within range ds plan = (range, ds, there (next_image r.generation) plan)
+accepted (Attended s) t r within range ds plan = (range, ds, there (next_image r.generation) plan)
+accepted (Stop quick) t r within range ds plan = tt
+
+-- two masters have parts of an upgrade's plan alone
+parted : WalksApart → (target : Target) (t : Table) (r : Record) (turns : List Turn) (pattern : Pattern) →
+    EndsAsReported t r target (run_of r target turns pattern t) → ActsApart r target turns (run_of r target turns pattern t).entries
+parted parts (Workers n) t r turns pattern ends = tt
+parted parts (Mend overdue) t r turns pattern ends = tt
+parted parts Reopen t r turns pattern ends = tt
+parted parts (Reload s) t r turns pattern ends = tt
+parted parts (Upgrade s) t r turns pattern ends = acts-apart parts t r (Upgrade s) turns pattern ends
+parted parts (Attended s) t r turns pattern ends = acts-apart parts t r (Attended s) turns pattern ends
+parted parts (Stop quick) t r turns pattern ends = tt
+
+pub keeps : Headline → WalksApart → (target : Target) → IsTarget target → HasRange target → EndsSo target
+keeps headline parts target within range t r turns pattern start ds plan spared =
+    let promise = headline t r target turns pattern (record { start = start; accepts = accepted target t r within range ds plan; spared = spared }) in
+    record { promise = promise; apart = parted parts target t r turns pattern promise.ends }
 
 ---- What is made of a plan
 
@@ -125,9 +107,7 @@ enacted first last r target turns pattern plan log e is ends runs room spared af
       is_run = whole;
       room = room;
       after = after;
-      ends = kept.ends;
-      floor = kept.floor;
-      manner = kept.manner;
+      headline = kept.promise;
       apart = subst (ActsApart r target turns) whole.entries_are kept.apart;
     }
 
@@ -144,8 +124,6 @@ enacted-from first ready last r target turns pattern e same h = subst (λ (t : T
       is_run = h.is_run;
       room = h.room;
       after = h.after;
-      ends = h.ends;
-      floor = h.floor;
-      manner = h.manner;
+      headline = h.headline;
       apart = h.apart;
     }

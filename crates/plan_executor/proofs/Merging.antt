@@ -19,7 +19,7 @@ use Rattle.definitions.specs.Parts.{Turn, weave, joined}
 use Rattle.definitions.specs.After.{crew_wanted}
 use Rattle.definitions.specs.Plans.{does, on, spawn_edges, move_aside, new_part, new_calls, old_part, tries_all, taken_over, back_from, back_alone, settle, upgrade_tree, plan_tree}
 use Rattle.definitions.specs.Run.{Pattern, Progress, Ending, At, Lost, Ran, run_with, goes_with, noted, start_at, outcome_of}
-use Rattle.definitions.specs.Apart.{IsOf, WalksAll, WalksApart}
+use Rattle.theorems.specs.Apart.{IsOf, WalksAll, WalksApart}
 use Rattle.definitions.specs.Claims.{run_of, Says, EndsAsReported}
 use Rattle.vocabulary.specs.declared.plans.Side.TheVariants as side
 use Rattle.plan_executor.specs.Merged.{AreMerged, ActsApart}

@@ -9,7 +9,7 @@ use Rattle.definitions.specs.Exits.{after_exits}
 use Rattle.definitions.specs.Calls.{Stepped, step_with, step_by, own_step, asked_alive}
 use Rattle.definitions.specs.Tree.{is_listed}
 use Rattle.definitions.specs.Run.{Pattern, Replays}
-use Rattle.theorems.proofs.Logic.{Unfailing, unfailing, open-cases, fork-cases, await-cases, gone-cases, spawn-cases, ask-cases, adopt-cases, write-cases, move-cases, remove-cases}
+use Rattle.call_laws.proofs.Cases.{Unfailing, unfailing, open-cases, fork-cases, await-cases, gone-cases, spawn-cases, ask-cases, adopt-cases, write-cases, move-cases, remove-cases}
 
 -- what a call under the k-th moment gives
 abbrev pub at_moment : List ℕ → Pattern → ℕ → Entry → Table → Stepped

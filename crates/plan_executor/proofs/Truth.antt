@@ -62,7 +62,7 @@ ran-true sections place old r target log report new h =
     let is = h.enacted in
     let ran = run_of r target (section_at sections place).turns (moment_at (section_at sections place).pattern) old.world.table in
     let left : new.record ≡ next_record r target (report_of (sides_of r target) ran) ran.last.table = is.after ∙ (λ i. next_record r target (is.is_run.report_is i) (sym is.is_run.table i)) in
-    subst (λ (t : Table). IsTrueOf t new.record) is.is_run.table (left-true target r new.record ran left is.ends.after)
+    subst (λ (t : Table). IsTrueOf t new.record) is.is_run.table (left-true target r new.record ran left is.headline.ends.after)
 
 pub done-true : (sections : List Section) (settings : Option Settings) (words : List Word) (first : Standing State) (blocks : List Block) (last : Standing State) → AreDone (EnactsAt sections) (DeclinesAt sections) settings words 0 first blocks last → IsTrueOf first.world.table first.record → IsTrueOf last.world.table last.record
 done-true sections settings words first blocks last done true_of =

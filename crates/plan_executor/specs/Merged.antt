@@ -11,7 +11,7 @@ use Rattle.definitions.specs.Tree.{Tree, Ends, End, Done, Split}
 use Rattle.definitions.specs.After.{crew_wanted}
 use Rattle.definitions.specs.Parts.{Turn, joined}
 use Rattle.definitions.specs.Plans.{does, spawn_edges, move_aside, new_part, old_part, taken_over, back_from}
-use Rattle.definitions.specs.Apart.{WalksAll, IsWalkedApart}
+use Rattle.theorems.specs.Apart.{WalksAll, IsWalkedApart}
 
 -- The steps of an upgrade before the parts of its masters, up to where these begin.
 abbrev pub before_parts : Record → Crew → Tree

@@ -14,13 +14,7 @@ pub fn ends_as_reported(target: &Target)
     ensures { EndsSo target.now }
 {
     read_settings(target);
-    theorems::workers_end_as_reported();
-    theorems::mends_end_as_reported();
-    theorems::reopenings_end_as_reported();
-    theorems::reloads_end_as_reported();
-    theorems::upgrades_end_as_reported();
-    theorems::attended_upgrades_end_as_reported();
-    theorems::stops_end_as_reported();
+    theorems::plans_end_as_reported();
     theorems::parts_are_walked();
 }
 

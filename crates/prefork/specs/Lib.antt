@@ -1,4 +1,1 @@
-pub mod Faults
 pub mod Input
-pub mod Refusals
-pub mod Limits

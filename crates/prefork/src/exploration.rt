@@ -6,10 +6,11 @@ ghost use Rattle.faults.specs.Faults.{IsOfFile};
 
 use command_line::ExploreOptions;
 use exploration_text::write_run;
-use explorer::{Audience, Findings, Tried};
+use explorer::{Audience, Tried};
 use faults::Fault;
 use kernel_model::Turns;
 use master_on_kernel::Explored;
+use order_explorer::{ChosenOrders, OrderAudience, Totals};
 use std::alloc::Global;
 use std::io::Write;
 use vocabulary::Report;
@@ -25,20 +26,21 @@ pub struct Listing<'a, O, E> {
     errors: &'a mut E,
     is_listing: bool,
     is_telling: bool,
-    turns: &'a Turns,
+    orders: &'a [Turns],
+    order: usize,
     heard: u64,
     left: Option<u32>,
     fault: Option<Fault>,
 }
 
 impl<'a, O: Write, E: Write> Listing<'a, O, E> {
-    /// Before the first run. All go by the same turns.
+    /// Before the first run of the first of these orders.
     pub fn new(
         alloc: Global,
         output: &'a mut O,
         errors: &'a mut E,
         options: &ExploreOptions<'_>,
-        turns: &'a Turns,
+        orders: &'a [Turns],
     ) -> Self {
         Listing {
             alloc,
@@ -46,7 +48,8 @@ impl<'a, O: Write, E: Write> Listing<'a, O, E> {
             errors,
             is_listing: options.list,
             is_telling: options.progress,
-            turns,
+            orders,
+            order: 0,
             heard: 0,
             left: options.limit,
             fault: None,
@@ -89,7 +92,10 @@ impl<O: Write, E: Write> Audience for Listing<'_, O, E> {
         if !self.is_listing {
             return true;
         }
-        match list(self.alloc, &mut *self.output, self.turns, tried, report) {
+        let Some(turns) = self.orders.get(self.order) else {
+            return true;
+        };
+        match list(self.alloc, &mut *self.output, turns, tried, report) {
             Ok(()) => true,
             Err(fault) => {
                 self.fault = Some(fault);
@@ -99,18 +105,37 @@ impl<O: Write, E: Write> Audience for Listing<'_, O, E> {
     }
 }
 
+impl<O: Write, E: Write> OrderAudience for Listing<'_, O, E> {
+    fn begin_order(&mut self, order: usize) {
+        self.order = order;
+    }
+}
+
+/// Says how many orders there are, of how many calls of each master.
+pub fn tell_orders<E: Write>(chosen: &ChosenOrders, errors: &mut E) {
+    // (who can't be told how many there are still gets the counts)
+    let _ = writeln!(
+        errors,
+        "prefork: orders {} old {} new {}",
+        chosen.lists.len(),
+        chosen.olds,
+        chosen.news
+    );
+    let _ = errors.flush();
+}
+
 /// Says for people what the counts of runs show that is easily overlooked.
-pub fn tell_findings<E: Write>(explored: &Explored, found: &Findings, errors: &mut E) {
+pub fn tell_findings<E: Write>(explored: &Explored, totals: &Totals, errors: &mut E) {
     if let Explored::Told(_) = explored {
         return;
     }
     if let Explored::Cut = explored {
         let _ = errors.write_all(b"  cut: the counts say nothing of the runs that are left\n");
     }
-    if found.tally.done.count == 0 {
+    if totals.done.count == 0 {
         let _ = errors.write_all(b"  done 0: no run was done\n");
     }
-    if found.least.is_some_and(|least| least.ready == 0) {
+    if totals.least.is_some_and(|found| found.least.ready == 0) {
         let _ = errors.write_all(b"  least ready 0: an address that stays had no ready worker\n");
     }
 }

@@ -3,14 +3,12 @@
 
 mod checking;
 mod exploration;
-mod pid_file;
 mod program;
-mod serving;
 mod setup;
-mod sharing;
 
 use faults::Fault;
-pub use program::{Surroundings, run};
+pub use master_programs::Surroundings;
+pub use program::run;
 use std::env::Env;
 use std::io::IsTerminal;
 use std::process::ExitCode;

@@ -9,22 +9,22 @@ ghost use Rattle.faults.specs.Faults.{IsOfFile};
 ghost use Rattle.prefork.specs.Input.{IsOfPatterns, IsOfBlocks};
 
 use crate::checking::check;
-use crate::exploration::{Listing, tell_findings};
-use crate::serving::{adopt, child, supervise};
-use crate::setup::{begin, setup_of};
+use crate::exploration::{Listing, tell_findings, tell_orders};
+use crate::setup::setup_of;
 use command_line::{CertifyOptions, EnactOptions, ExploreOptions, PlanOptions, Request};
 use control_words::Word;
 use explanations::{
     Evidence, explain, has_why, is_asked, tell, tell_program, tell_refusals, tell_usage,
 };
-use explorer::Findings;
 use faults::Fault;
 use json_text::{blocks_json, exploration_json, patterns_json, plan_json};
 use kernel_model::{Section, Turns};
 use master_on_kernel::{
-    Demands, Explored, Form, Start, Trials, certify_all, line_instead, look_ahead, rehearse,
-    show_state, summary,
+    Demands, Form, Rehearsal, Start, Trials, begin, certify_all, line_instead, look_ahead,
+    rehearse, show_state, summary,
 };
+use master_programs::{Surroundings, adopt, child, supervise};
+use order_explorer::{ChosenOrders, Totals};
 use pattern_text::turns_in;
 use std::alloc::{AllocError, Global};
 use std::env::Env;
@@ -35,17 +35,6 @@ use std::rt::Files;
 use std::time::Clock;
 use transcript::read_transcripts;
 use word_runner::Block;
-
-/// What the program runs in.
-#[derive(Clone, Copy)]
-pub struct Surroundings {
-    /// The number of its own process.
-    pub number: u32,
-    /// Standard input and standard error are a terminal: somebody is to be told what is waited for.
-    pub asks: bool,
-    /// Standard error is a terminal: more is said of faults, as with `--why`.
-    pub explains: bool,
-}
 
 /// Standard input.
 #[derive(Drop)]
@@ -215,7 +204,7 @@ fn enact<R: AllocGlobal + Files, I: Read, O: Write, E: Write>(
 ) -> Result<u8, Fault> {
     let alloc = rt.alloc();
     let words = read_words(alloc, &options.words)?;
-    let mut rehearsal = begin(rt, &options.start, options.held)?;
+    let mut rehearsal = begin(rt, &setup_of(&options.start), options.held)?;
     ask_for(around, "patterns, lines such as '3 fail again'", errors);
     let sections = read_patterns(alloc, &mut *input.reader, &mut input.given)?;
     let mut text = Vec::new(alloc);
@@ -249,7 +238,7 @@ fn certify<R: AllocGlobal + Files, I: Read, O: Write, E: Write>(
     errors: &mut E,
 ) -> Result<u8, Fault> {
     let alloc = rt.alloc();
-    let mut rehearsal = begin(rt, &options.start, options.held)?;
+    let mut rehearsal = begin(rt, &setup_of(&options.start), options.held)?;
     ask_for(around, "blocks, as enact prints them", errors);
     let blocks = read_blocks(alloc, &mut *input.reader, &mut input.given)?;
     let mut text = certify_all(alloc, &mut rehearsal, blocks.as_slice())?;
@@ -321,13 +310,16 @@ fn explore<R: AllocGlobal + Files, O: Write, E: Write>(
     let word = control_words::read(options.word.as_bytes()).map_err(|refusal| Fault::Word(
         1, refusal,
     ))?;
-    let turns = turns_of(alloc, options.turns)?;
-    let trials = Trials {
-        turns: &turns,
-        pairs,
-    };
-    let (explored, found) = explored_by(rt, options, word, &trials, output, errors)?;
-    let outlook = summary(alloc, &explored, &found, &demands)?;
+    let turns = turns_given(alloc, options.turns)?;
+    let mut rehearsal = begin(rt, &setup_of(&options.start), options.held)?;
+    let chosen = orders_of(alloc, &rehearsal, turns, word, pairs, errors)?;
+    let orders = chosen.lists.as_slice();
+    let trials = Trials { orders, pairs };
+    let mut totals = Totals::new();
+    let mut listing = Listing::new(alloc, output, errors, options, orders);
+    let explored = rehearsal.explore(alloc, word, &trials, &mut totals, &mut listing)?;
+    listing.finish()?;
+    let outlook = summary(alloc, &explored, orders, &totals, &demands)?;
     if options.start.json {
         write(
             output,
@@ -337,28 +329,37 @@ fn explore<R: AllocGlobal + Files, O: Write, E: Write>(
         write(output, outlook.text.as_slice())?;
     }
     if around.explains || options.start.why {
-        tell_findings(&explored, &found, errors);
+        tell_findings(&explored, &totals, errors);
         tell_refusals(outlook.text.as_slice(), errors);
     }
     Ok(outlook.status)
 }
 
-/// The runs of a word, printed where that is asked for, and what was found of them.
-fn explored_by<R: AllocGlobal + Files, O: Write, E: Write>(
-    rt: &R,
-    options: &ExploreOptions<'_>,
+/// By which orders a word is explored: the one of these turns, or all, whose number is told.
+fn orders_of<E: Write>(
+    alloc: Global,
+    rehearsal: &Rehearsal,
+    turns: Option<Turns>,
     word: Word,
-    trials: &Trials<'_>,
-    output: &mut O,
+    pairs: bool,
     errors: &mut E,
-) -> Result<(Explored, Findings), Fault> {
-    let alloc = rt.alloc();
-    let mut rehearsal = begin(rt, &options.start, options.held)?;
-    let mut found = Findings::new(alloc);
-    let mut listing = Listing::new(alloc, output, errors, options, trials.turns);
-    let explored = rehearsal.explore(alloc, word, trials, &mut found, &mut listing)?;
-    listing.finish()?;
-    Ok((explored, found))
+) -> Result<ChosenOrders, Fault> {
+    match turns {
+        Some(turns) => Ok(ChosenOrders::only(alloc, turns)?),
+        None => {
+            let chosen = rehearsal.orders(alloc, word, pairs)?;
+            tell_orders(&chosen, errors);
+            Ok(chosen)
+        }
+    }
+}
+
+/// The turns of the command line; none where it asks for all orders of them.
+fn turns_given(alloc: Global, text: Option<&str>) -> Result<Option<Turns>, Fault> {
+    match text {
+        Some("all") => Ok(None),
+        text => Ok(Some(turns_of(alloc, text)?)),
+    }
 }
 
 /// Whether runs with two events are asked for; there are none with more.

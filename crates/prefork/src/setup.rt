@@ -1,10 +1,8 @@
-//! A master on the modelled kernel, as the options of a subcommand ask for it.
+//! What the options of a subcommand say of the master on the modelled kernel.
 ghost use Rattle.std.specs.Prelude.{◌≡◌};
 
 use command_line::StartOptions;
-use faults::Fault;
-use master_on_kernel::{Rehearsal, StartSetup};
-use std::rt::Files;
+use master_on_kernel::StartSetup;
 
 /// What options say of a start.
 pub fn setup_of<'a>(options: &StartOptions<'a>) -> StartSetup<'a>
@@ -19,13 +17,4 @@ pub fn setup_of<'a>(options: &StartOptions<'a>) -> StartSetup<'a>
         workers: options.workers,
         bare: options.bare,
     }
-}
-
-/// Starts it, where somebody else holds the address that is named.
-pub fn begin<R: AllocGlobal + Files>(
-    rt: &R,
-    options: &StartOptions<'_>,
-    held: Option<&str>,
-) -> Result<Rehearsal, Fault> {
-    master_on_kernel::begin(rt, &setup_of(options), held)
 }

@@ -1,7 +1,7 @@
 //! Certificates: what a run came to, compared with the modelled kernel.
 ghost use Rattle.std.specs.Prelude.{◌≤◌};
 
-use crate::kernels::with_two_workers;
+use crate::setup::with_two_workers;
 use certifier::{BlockMismatch, Mismatch, certify, certify_blocks};
 use control_words::Word;
 use kernel_model::{Kernel, Section};

@@ -1,16 +1,12 @@
-//! Tests of masters: the modelled kernel, what a master knows of itself, its plans, and the words that it carries out.
+//! Tests of masters on the modelled kernel: records, upgrades, the words that they carry out, and certificates.
 #![tactic(auto)]
 
 #[cfg(test)]
+mod agreement;
+#[cfg(test)]
 mod certificates;
 #[cfg(test)]
-mod claims;
-#[cfg(test)]
-mod kernels;
-#[cfg(test)]
-mod planning;
-#[cfg(test)]
-mod records;
+mod setup;
 #[cfg(test)]
 mod upgrades;
 #[cfg(test)]

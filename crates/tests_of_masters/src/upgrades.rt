@@ -1,8 +1,7 @@
 //! Upgrades, carried out on the modelled kernel.
 ghost use Rattle.std.specs.Prelude.{◌≤◌};
 
-use crate::kernels::with_two_workers;
-use crate::records::with_workers;
+use crate::setup::with_two_workers;
 use kernel_model::{Pattern, Section};
 use listener_set::{FilePath, Generation, Numbers};
 use plan_executor::{EnactRefusal, enact};
@@ -11,6 +10,7 @@ use std::alloc::Global;
 use std::test::Fail;
 use vocabulary::{Answer, Call, Fate, Name, Outcome, Settings, Target, Turn};
 use word_runner::Enacted;
+use worker_groups::Groups;
 
 /// What comes of a plain upgrade of a master with two workers and a pid file, under a pattern.
 fn upgraded(alloc: Global, pattern: Pattern) -> Result<Result<Enacted, EnactRefusal>, Fail> {
@@ -24,8 +24,12 @@ fn upgraded_among(
     is_attended: bool,
     section: Section,
 ) -> Result<Result<Enacted, EnactRefusal>, Fail> {
-    let mut settings = with_workers(&Settings::plain(), 2);
-    settings.pid = Some(FilePath::read(b"/run/a.pid")?);
+    let settings = Settings {
+        workers: 2,
+        groups: Groups::one(1, 2),
+        pid: Some(FilePath::read(b"/run/a.pid")?),
+        ..Settings::plain()
+    };
     let target = if is_attended {
         Target::Attended(settings)
     } else {

@@ -1,5 +1,5 @@
 //! Words without a master or a configuration, the table of workers, and what is printed of refusals.
-use crate::kernels::with_two_workers;
+use crate::setup::with_two_workers;
 use control_words::{Word, WordRefusal};
 use listener_set::Numbers;
 use plan_executor::{EnactRefusal, run_words};

@@ -2,13 +2,13 @@
 use crate::setup::WORKER;
 use crate::shells::shell;
 use child_family::{Family, Heard, Role};
-use child_processes::{Limits, OsFamily};
+use child_processes::{ChildLimits, OsFamily};
 use log::sink::{Discard, Memory};
 use plain_text::Line;
 use std::alloc::AllocError;
 use std::test::Fail;
 
-const SHORT: Limits = Limits {
+const SHORT: ChildLimits = ChildLimits {
     answer: 3,
     ready: 3,
 };

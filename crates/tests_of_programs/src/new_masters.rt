@@ -2,6 +2,7 @@
 use crate::piped::{Output, joined, lines_in, long_line, master_says, serve_new_master};
 use call_text::{read_answer, read_call};
 use child_family::{Heard, Role};
+use child_programs::ServedMaster;
 use listener_set::Generation;
 use std::alloc::{AllocError, Global};
 use std::test::Fail;
@@ -31,9 +32,10 @@ const SAID: &[u8] =
     gone\nok\nok\ngone\nmaster-gone\nok\nmaster-gone\n";
 
 /// What is asked where a handover was faulty, and what is answered then.
-const ASKED: &[u8] = b"m2 adopt\nm2 fork 2.2 0\nalive\nm2 leave\nm3 adopt\nm3 alive 4\n";
+const ASKED: &[u8] = b"m2 adopt\nm2 fork 2.2 0\nalive\ntick 7\nm2 leave\nm3 adopt\nm3 alive 4\n";
 
-const REFUSED: &[u8] = b"refused\nmaster-gone\nalive\nmaster-gone\nrefused\nmaster-gone\n";
+const REFUSED: &[u8] =
+    b"refused\nmaster-gone\nalive\ncounted none\nmaster-gone\nrefused\nmaster-gone\n";
 
 fn handover(alloc: Global) -> Result<Vec<u8>, AllocError> {
     joined(alloc, &HANDOVER)
@@ -203,6 +205,67 @@ fn calls_are_passed_to_the_next_master(rt: HostRuntime) -> Result<(), Fail> {
     Ok(())
 }
 
+/// What a new master says of these lines, whose own upgrade began before them.
+fn says_after_an_upgrade(
+    alloc: Global,
+    lines: &[u8],
+    fails: Option<usize>,
+) -> Result<(Output, ServedMaster<Recorded>), AllocError> {
+    let next = joined(alloc, &NEXT[..8])?;
+    let told = handed(alloc, &[next.as_slice(), lines])?;
+    let mut output = Output::new(alloc, None);
+    let served = serve_new_master(alloc, told.as_slice(), fails, &mut output);
+    Ok((output, served))
+}
+
+#[test]
+fn a_tick_counts_the_workers_that_beat(rt: HostRuntime) -> Result<(), Fail> {
+    let alloc = rt.alloc();
+    let told = handed(
+        alloc,
+        &[
+            b"tick 5\nm2 fork 2.2 0\nm2 fork 2.2 1\nm2 await-ready 2.2 0\nm2 await-ready 2.2 1\ntick 7\n",
+        ],
+    )?;
+    let said = b"counted none\nforked\nforked\nready\nready\ncounted 0-1\n";
+    assert!(rt; master_says(alloc, told.as_slice(), said, 0).is_some());
+    Ok(())
+}
+
+#[test]
+fn a_tick_is_passed_on_once_the_master_has_left(rt: HostRuntime) -> Result<(), Fail> {
+    let alloc = rt.alloc();
+    let lines = b"tick 7\nm2 leave\ntick 8\nalive\n";
+    let (output, served) = says_after_an_upgrade(alloc, lines, None)?;
+    assert!(rt; output.text() == b"spawned\ncounted none\nok\ncounted 1\nalive\n".as_slice());
+    let Some(family) = served.family else {
+        panic!(rt; "no family");
+    };
+    let (said, heard) = talk_with(alloc, &family, 10)?;
+    assert!(rt; said.ends_with(b"end\ntick 8\n"));
+    assert!(rt; heard.as_slice() == b"counted 1\n".as_slice());
+    Ok(())
+}
+
+#[test]
+fn a_next_master_that_does_not_count_is_stopped(rt: HostRuntime) -> Result<(), Fail> {
+    let alloc = rt.alloc();
+
+    // the tick cannot be said, or its answer is not heard
+    for fails in [8, 9] {
+        let lines = b"m2 leave\ntick 8\ntick 9\nm3 adopt\n";
+        let (output, served) = says_after_an_upgrade(alloc, lines, Some(fails))?;
+        let said = b"spawned\nok\ncounted none\ncounted none\nmaster-gone\n";
+        assert!(rt; output.text() == said.as_slice(), "at {fails}");
+        let Some(family) = served.family else {
+            panic!(rt; "no family");
+        };
+        let is_last = matches!(family.calls().last(), Some(FamilyCall::Stopped(10)));
+        assert!(rt; is_last, "at {fails}");
+    }
+    Ok(())
+}
+
 /// Whether the next master was started, told each line of its handover, and then each of its calls, whose answer is
 /// heard.
 fn hands_over(calls: &[FamilyCall]) -> bool {
@@ -265,6 +328,7 @@ fn nothing_comes_between_a_start_and_its_handover(rt: HostRuntime) -> Result<(),
     for count in 1..8 {
         assert!(rt; is_the_end(alloc, count, b"alive\n")?);
         assert!(rt; is_the_end(alloc, count, b"m2 adopt\n")?);
+        assert!(rt; is_the_end(alloc, count, b"tick 7\n")?);
         assert!(rt; is_the_end(alloc, count, b"m2 spawn-master 3\n")?);
     }
     Ok(())
@@ -299,13 +363,19 @@ fn a_new_master_ends_with_its_input(rt: HostRuntime) -> Result<(), Fail> {
 }
 
 /// Lines that a new master can't be told behind its handover.
-const OTHERS: [&[u8]; 27] = [
+const OTHERS: [&[u8]; 33] = [
     b"",
     b" ",
     b"alive ",
     b" alive",
     b"alive 1",
     b"Alive",
+    b"tick",
+    b"tick ",
+    b"tick 07",
+    b"tick 7 ",
+    b"ticks 7",
+    b"tick 18446744073709551616",
     b"m2",
     b"m2 ",
     b"m adopt",

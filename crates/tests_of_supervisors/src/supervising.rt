@@ -29,12 +29,12 @@ enum Gives {
 
 /// Next settings, and how often they were read.
 #[derive(Drop)]
-struct Next {
+struct CountedSettings {
     gives: Gives,
     reads: u32,
 }
 
-impl NextSettings for Next {
+impl NextSettings for CountedSettings {
     fn read(&mut self) -> Result<Settings, NextRefusal> {
         self.reads = self.reads.saturating_add(1);
         match self.gives {
@@ -58,7 +58,7 @@ fn run<I: Read + Drop, O: Write>(
         settings: Settings::plain(),
         pid: 7,
     };
-    let mut next = Next { gives, reads: 0 };
+    let mut next = CountedSettings { gives, reads: 0 };
     let operator = Operator {
         input,
         log: &Discard,
@@ -410,7 +410,7 @@ fn writes_the_pid_file_first(rt: HostRuntime) -> Result<(), Fail> {
         pid: 41,
     };
     for fails in [None, Some(0)] {
-        let mut next = Next {
+        let mut next = CountedSettings {
             gives: Gives::Plain,
             reads: 0,
         };
@@ -441,7 +441,7 @@ fn logs_a_line_for_each_block(rt: HostRuntime) -> Result<(), Fail> {
         settings: Settings::plain(),
         pid: 7,
     };
-    let mut next = Next {
+    let mut next = CountedSettings {
         gives: Gives::Refused,
         reads: 0,
     };

@@ -11,10 +11,11 @@ use Rattle.vocabulary.specs.declared.plans.PidNote.TheVariants.{InPlace, AtOldbi
 use Rattle.listener_set.specs.Numbers.{is_in}
 use Rattle.definitions.specs.Formed.{IsFormed}
 use Rattle.definitions.specs.Record.{FilesAre, crew_of}
-use Rattle.definitions.specs.Settling.{HasSide}
+use Rattle.theorems.specs.Settling.{HasSide}
 use Rattle.definitions.specs.Claims.{IsStart}
-use Rattle.theorems.specs.Examples.{table_with, own_rows, pid_files, two_ready, two_workers, two_with_stale_file, two_masters, record_with, pid_file, first, holds, HasStart}
-use Rattle.theorems.proofs.Rows.{one, count-weigh}
+use Rattle.theorems.specs.Examples.{table_with, own_rows, pid_files, two_ready, two_workers, two_with_stale_file}
+use Rattle.theorems.specs.Examples.{two_masters, record_with, pid_file, first, holds, HasStart}
+use Rattle.table_laws.proofs.Rows.{one, count-weigh}
 
 at-most : (x s a b : Bool) → (a ≡ true → b ≡ false) → one (x && (s && a)) + (one (x && (s && b)) + 0) ≤ 1
 at-most true true true true h = absurd (cc (h refl))
@@ -28,10 +29,14 @@ apart : (k : ℕ) → (0 == k) ≡ true → (1 == k) ≡ false
 apart k e = grind (arith, nat_tests)
 
 once : (q : ℕ) (h : Generation) (k : ℕ) → count_by (is_worker is_active q h k) two_workers.rows ≤ 1
-once q h k = subst (λ n. n ≤ 1) (sym (count-weigh (is_worker is_active q h k) two_workers.rows)) (omega (arith, at-most (100 == q) (same_generation first h) (0 == k) (1 == k) (apart k)))
+once q h k =
+    subst (λ n. n ≤ 1) (sym (count-weigh (is_worker is_active q h k) two_workers.rows))
+    (omega (arith, at-most (100 == q) (same_generation first h) (0 == k) (1 == k) (apart k)))
 
 -- The two workers and their master, with the files that go with the note.
-start_with : (files : List File) (note : PidNote) → FilesAre note (Some pid_file) 100 files → IsStart (table_with own_rows files 65535) (record_with (0 ∷ 1 ∷ []) 2 3 (Some pid_file) note)
+start_with :
+    (files : List File) (note : PidNote) → FilesAre note (Some pid_file) 100 files →
+    IsStart (table_with own_rows files 65535) (record_with (0 ∷ 1 ∷ []) 2 3 (Some pid_file) note)
 start_with files note files_are = record {
   formed = record {
     once = once;
@@ -71,7 +76,9 @@ stale = start_with two_with_stale_file.files AtOldbin refl
 
 -- Beside another master too.
 once_beside : (q : ℕ) (h : Generation) (k : ℕ) → count_by (is_worker is_active q h k) two_masters.rows ≤ 1
-once_beside q h k = subst (λ n. n ≤ 1) (sym (count-weigh (is_worker is_active q h k) two_masters.rows)) (omega (arith, at-most (100 == q) (same_generation first h) (0 == k) (1 == k) (apart k)))
+once_beside q h k =
+    subst (λ n. n ≤ 1) (sym (count-weigh (is_worker is_active q h k) two_masters.rows))
+    (omega (arith, at-most (100 == q) (same_generation first h) (0 == k) (1 == k) (apart k)))
 
 formed_beside : IsFormed two_masters
 formed_beside = record {

@@ -7,12 +7,12 @@ use Rattle.std.proofs.lemmas.Bool.Decides.{nat_tests}
 use Rattle.listener_set.specs.declared.generation.Generation.{Generation}
 use Rattle.definitions.specs.Table.{same_generation, is_worker, is_active}
 use Rattle.definitions.specs.Calls.{census_of, suits}
-use Rattle.definitions.specs.Handover.{reading}
+use Rattle.definitions.specs.Reading.{reading}
 use Rattle.definitions.specs.Target.{Upgrade, text_handed}
 use Rattle.definitions.specs.Claims.{IsStart}
 use Rattle.theorems.specs.Examples.{first}
 use Rattle.theorems.specs.GroupRuns.{both_holds, grouped, three_workers, three_ready, three_ready_without_file, GroupRuns}
-use Rattle.theorems.proofs.Rows.{one, count-weigh}
+use Rattle.table_laws.proofs.Rows.{one, count-weigh}
 
 -- Of three numbers a number is one at most.
 at-most : (x s : Bool) (k : ℕ) → one (x && (s && (0 == k))) + (one (x && (s && (1 == k))) + (one (x && (s && (2 == k))) + 0)) ≤ 1
@@ -30,7 +30,9 @@ at-most true false k = omega arith
 at-most false s k = omega arith
 
 once : (q : ℕ) (h : Generation) (k : ℕ) → count_by (is_worker is_active q h k) three_workers.rows ≤ 1
-once q h k = subst (λ n. n ≤ 1) (sym (count-weigh (is_worker is_active q h k) three_workers.rows)) (omega (arith, at-most (100 == q) (same_generation first h) k))
+once q h k =
+    subst (λ n. n ≤ 1) (sym (count-weigh (is_worker is_active q h k) three_workers.rows))
+    (omega (arith, at-most (100 == q) (same_generation first h) k))
 
 start : IsStart three_workers three_ready
 start = record {
@@ -64,7 +66,9 @@ start = record {
 }
 
 pub hundred : decimal 100 ≡ codes "100"
-hundred = decimal_step 100 (omega arith) (omega arith) ∙ ap (λ ds. ds ++ 48 ∷ []) (decimal_step 10 (omega arith) (omega arith) ∙ ap (λ ds. ds ++ 48 ∷ []) (decimal_digit 1 (omega arith)))
+hundred =
+    decimal_step 100 (omega arith) (omega arith) ∙ ap (λ ds. ds ++ 48 ∷ [])
+    (decimal_step 10 (omega arith) (omega arith) ∙ ap (λ ds. ds ++ 48 ∷ []) (decimal_digit 1 (omega arith)))
 
 -- What the new master is handed suits it.
 adopts : suits (reading (text_handed three_ready_without_file (Upgrade grouped))) 2 both_holds ≡ true

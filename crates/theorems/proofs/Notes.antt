@@ -100,7 +100,10 @@ module _ (paths : List FilePath) where
 
   -- A run that ends with that note began with it, or a removal failed.
   mutual
-    pub left-by : (text : List ℕ) (t : Tree) (pattern : Pattern) (p : Progress) → LeftByFault t → (run_with text t pattern p).last.note ≡ Left → (p.note ≡ Left) ⊎ (any_failed (run_with text t pattern p).entries ≡ true)
+    pub left-by :
+        (text : List ℕ) (t : Tree) (pattern : Pattern) (p : Progress) → LeftByFault t →
+        (run_with text t pattern p).last.note ≡ Left →
+        (p.note ≡ Left) ⊎ (any_failed (run_with text t pattern p).entries ≡ true)
     left-by text (Ends end) pattern p h e = inl e
     left-by text (Does by order set branches) pattern p h e =
         let moment = pattern (p.calls + 1) in
@@ -110,7 +113,11 @@ module _ (paths : List FilePath) where
         (λ a. inr (⊎_elim (λ b. here (is_failed_removal paths (call_of order (lacked_by by middle.lacked)) s.answer) _ b) (λ b. there (is_failed_removal paths (call_of order (lacked_by by middle.lacked)) s.answer) _ b) a))
         (left-behind text branches order (lacked_by by middle.lacked) set s.answer pattern (after_call by order set s middle) h e)
 
-    left-behind : (text : List ℕ) (bs : Branches) (order : Order) (lacking set : List ℕ) (a : Answer) (pattern : Pattern) (p : Progress) → LeftBehind (is_removal order) bs → (goes_with text bs (reply_of set a) pattern p).last.note ≡ Left → (p.note ≡ Left) ⊎ ((is_failed_removal paths (call_of order lacking) a ≡ true) ⊎ (any_failed (goes_with text bs (reply_of set a) pattern p).entries ≡ true))
+    left-behind :
+        (text : List ℕ) (bs : Branches) (order : Order) (lacking set : List ℕ) (a : Answer) (pattern : Pattern)
+        (p : Progress) → LeftBehind (is_removal order) bs → (goes_with text bs (reply_of set a) pattern p).last.note ≡
+        Left → (p.note ≡ Left) ⊎
+        ((is_failed_removal paths (call_of order lacking) a ≡ true) ⊎ (any_failed (goes_with text bs (reply_of set a) pattern p).entries ≡ true))
     left-behind text Nothing order lacking set a pattern p h e = inl e
     left-behind text (Branch replies said rest more) order lacking set a pattern p h e =
         elim (among replies (reply_of set a)) as (λ b.

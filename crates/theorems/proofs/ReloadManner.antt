@@ -15,15 +15,17 @@ use Rattle.definitions.specs.Tree.{Tree}
 use Rattle.definitions.specs.Plans.{plan_tree, reload_tree, reload_on, reload_back, closes, settle}
 use Rattle.definitions.specs.Run.{Pattern, Progress, Ending, At, start_at, outcome_of}
 use Rattle.definitions.specs.Manner.{has_ready, is_old_side}
-use Rattle.definitions.specs.Claims.{IsStart, InManner}
+use Rattle.definitions.specs.Claims.{IsStart}
+use Rattle.theorems.proofs.Headlines.{InManner}
 use Rattle.theorems.proofs.Reload.{other-next}
-use Rattle.theorems.proofs.Logic.{Course, Along, Anyhow, Unasked}
-use Rattle.theorems.proofs.Lights.{Light, no_claim, any_end, calm-along}
-use Rattle.theorems.proofs.Staying.{Unlost, Stands, standing}
-use Rattle.theorems.proofs.Taken.{NotTaken, untouched, loose, loosens}
-use Rattle.theorems.proofs.Firsts.{first-low, first-stands, first-untouched}
-use Rattle.theorems.proofs.Calms.{IsCalm, by-itself, calm-settle, calm-quits, calm-closes, calm-opens, calm-starts, calm-census, free-along, ends-settle, ends-quits, ends-closes}
-use Rattle.theorems.proofs.Manners.{stays-from, kills-from}
+use Rattle.run_laws.proofs.Logic.{Course, Along, Anyhow, Unasked}
+use Rattle.run_laws.proofs.Lights.{Light, no_claim, any_end, calm-along}
+use Rattle.run_laws.proofs.Staying.{Unlost, Stands, standing}
+use Rattle.run_laws.proofs.Taken.{NotTaken, untouched, loose, loosens}
+use Rattle.run_laws.proofs.Firsts.{first-low, first-stands, first-untouched}
+use Rattle.run_laws.proofs.Calms.{IsCalm, by-itself, calm-settle, calm-quits, calm-closes, calm-opens, calm-starts}
+use Rattle.run_laws.proofs.Calms.{calm-census, free-along, ends-settle, ends-quits, ends-closes}
+use Rattle.run_laws.proofs.Manners.{stays-from, kills-from}
 use Rattle.theorems.proofs.WorkersManner.{own_course, own-acts}
 
 module _ (t : Table) (r : Record) (st : Settings) (pattern : Pattern) (s : IsStart t r) (p k : ℕ) (on : has_ready t p k ≡ true) where
@@ -84,9 +86,12 @@ module _ (t : Table) (r : Record) (st : Settings) (pattern : Pattern) (s : IsSta
       (ends-closes (λ e. (q : Progress) → post (At e) q) g.image (only_in A0 st.listeners) _
       (ends-settle (λ e. (q : Progress) → post (At e) q) g.image next (numbers_below n) Target r.retries (λ q need. absurd (cc)) (λ q need. absurd (cc))))))
 
-  back-calm : (opened : List Address) (forked : List ℕ) → IsCalm g.image (Unlost p) Unasked light post ends co (own-acts r pattern) (reload_back g.image old next R r.retries opened forked)
+  back-calm :
+      (opened : List Address) (forked : List ℕ) → IsCalm g.image (Unlost p) Unasked light post ends co
+      (own-acts r pattern) (reload_back g.image old next R r.retries opened forked)
   back-calm opened forked =
-      calm-quits g.image (Unlost p) Unasked light post ends co (own-acts r pattern) new forked (closes g.image opened (settle g.image old R Old r.retries)) (λ x e. (free-new x, tt))
+      calm-quits g.image (Unlost p) Unasked light post ends co (own-acts r pattern) new forked
+      (closes g.image opened (settle g.image old R Old r.retries)) (λ x e. (free-new x, tt))
       (calm-closes g.image (Unlost p) Unasked light post ends co (own-acts r pattern) opened (settle g.image old R Old r.retries) (λ a. (tt, tt))
       (calm-settle g.image (Unlost p) Unasked light post ends co (own-acts r pattern) Old old R r.retries tt))
 
@@ -118,9 +123,12 @@ module _ (t : Table) (r : Record) (st : Settings) (pattern : Pattern) (s : IsSta
       (calm-settle g.image Anyhow (NotTaken p) loosely any_end (λ e q h. tt) co (own-acts r pattern) Target next (numbers_below n) r.retries (λ x in_it. free-new x))))
       q (loosens r.pid g.image p g k low q.table close))
 
-  back-untaken : (opened : List Address) (forked : List ℕ) → IsCalm g.image Anyhow (NotTaken p) closely any_end (λ e q h. tt) co (own-acts r pattern) (reload_back g.image old next R r.retries opened forked)
+  back-untaken :
+      (opened : List Address) (forked : List ℕ) → IsCalm g.image Anyhow (NotTaken p) closely any_end (λ e q h. tt) co
+      (own-acts r pattern) (reload_back g.image old next R r.retries opened forked)
   back-untaken opened forked =
-      calm-quits g.image Anyhow (NotTaken p) closely any_end (λ e q h. tt) co (own-acts r pattern) new forked (closes g.image opened (settle g.image old R Old r.retries)) (λ x e. (free-new x, tt))
+      calm-quits g.image Anyhow (NotTaken p) closely any_end (λ e q h. tt) co (own-acts r pattern) new forked
+      (closes g.image opened (settle g.image old R Old r.retries)) (λ x e. (free-new x, tt))
       (calm-closes g.image Anyhow (NotTaken p) closely any_end (λ e q h. tt) co (own-acts r pattern) opened (settle g.image old R Old r.retries) (λ a. (tt, tt))
       (calm-settle g.image Anyhow (NotTaken p) closely any_end (λ e q h. tt) co (own-acts r pattern) Old old R r.retries tt))
 
@@ -137,6 +145,8 @@ module _ (t : Table) (r : Record) (st : Settings) (pattern : Pattern) (s : IsSta
 
 pub reload_manner : (st : Settings) → InManner (Reload st)
 reload_manner st t r turns pattern a = (
-  λ back p k on need. stays-from t r a.start p k on (own_course r pattern) (plan_tree r (Reload st) []) (λ e q. is_old_side (outcome_of (sides_of r (Reload st)) e q.lacking) ≡ true) (stays-along t r st pattern a.start p k on) a.spared back,
+  λ back p k on need. stays-from t r a.start p k on (own_course r pattern) (plan_tree r (Reload st) [])
+      (λ e q. is_old_side (outcome_of (sides_of r (Reload st)) e q.lacking) ≡ true)
+      (stays-along t r st pattern a.start p k on) a.spared back,
   kills-from t r (own_course r pattern) (plan_tree r (Reload st) []) (λ e q. ⊤) a.spared (λ p k on. untaken-along t r st pattern a.start p k on),
 )

@@ -1,9 +1,10 @@
 -- The headline for a reopening.
-use Rattle.theorems.proofs.Rows.{and-left, and-right, every-more}
-use Rattle.theorems.proofs.Begins.{rising-distinct}
-use Rattle.theorems.proofs.Views.{named}
-use Rattle.theorems.proofs.Effects.{none, same-is}
-use Rattle.theorems.proofs.Small.{every-is_in}
+use Rattle.table_laws.proofs.Rows.{every-more}
+use Rattle.call_laws.proofs.Choices.{and-left, and-right}
+use Rattle.table_laws.proofs.Begins.{rising-distinct}
+use Rattle.table_laws.proofs.Views.{named}
+use Rattle.table_laws.proofs.Effects.{none, same-is}
+use Rattle.table_laws.proofs.Small.{every-is_in}
 use Rattle.std.proofs.Common.{ℕ, ◌<◌, false, List, [], length, refl, arith}
 use Rattle.listener_set.specs.Numbers.{is_in}
 use Rattle.listener_set.specs.declared.generation.Generation.{Generation}
@@ -13,12 +14,13 @@ use Rattle.vocabulary.specs.declared.targets.Target.TheVariants.{Reopen}
 use Rattle.vocabulary.specs.declared.plans.Side.TheVariants.{Target}
 use Rattle.definitions.specs.Plans.{plan_tree, reopen_tree, settle}
 use Rattle.definitions.specs.Run.{Pattern, start_at}
-use Rattle.definitions.specs.Claims.{IsStart, Floor, ReopenHeadline, ReopenFloor, run_of}
+use Rattle.definitions.specs.Claims.{IsStart, Floor, run_of}
+use Rattle.theorems.proofs.Headlines.{ReopenHeadline, ReopenFloor}
 use Rattle.definitions.specs.Service.{service}
 use Rattle.definitions.specs.Target.{want, wanted_at}
 use Rattle.definitions.specs.Crew.{Crew, served}
 use Rattle.theorems.proofs.Same.{Like, first, scene, Goes, Level, new-full, new-short, start-band, whole, ground}
-use Rattle.theorems.proofs.Rules.{rule-usr1s, rule-settle}
+use Rattle.run_laws.proofs.Rules.{rule-usr1s, rule-settle}
 
 -- The target wants what there is.
 abbrev like_reopen : (t : Table) (rec : Record) → IsStart t rec → Like rec Reopen
@@ -61,10 +63,12 @@ module _ (t : Table) (rec : Record) (pattern : Pattern) (s : IsStart t rec) wher
       (start-band t rec Reopen pattern s like (λ a. omega arith))
 
 pub reopen_headline : ReopenHeadline
-reopen_headline t rec turns pattern a = (whole t rec Reopen pattern a.start (like_reopen t rec a.start) (plan_tree rec Reopen []) (goes t rec pattern a.start) a.spared).0
+reopen_headline t rec turns pattern a =
+    (whole t rec Reopen pattern a.start (like_reopen t rec a.start) (plan_tree rec Reopen []) (goes t rec pattern a.start) a.spared).0
 
 pub reopen_floor : ReopenFloor
 reopen_floor t rec turns pattern a =
     let like = like_reopen t rec a.start in
     let all = whole t rec Reopen pattern a.start like (plan_tree rec Reopen []) (goes t rec pattern a.start) a.spared in
-    every-more (Level t rec Reopen pattern a.start like) (Floor (service t) (want rec Reopen) t (wanted_at rec Reopen)) (λ q h address common. omega (arith, h address common)) (run_of rec Reopen [] pattern t).passed all.1
+    every-more (Level t rec Reopen pattern a.start like) (Floor (service t) (want rec Reopen) t (wanted_at rec Reopen))
+    (λ q h address common. omega (arith, h address common)) (run_of rec Reopen [] pattern t).passed all.1

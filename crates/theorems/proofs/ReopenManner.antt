@@ -15,19 +15,21 @@ use Rattle.definitions.specs.Record.{Record, crew_of}
 use Rattle.definitions.specs.Target.{sides_of}
 use Rattle.definitions.specs.Tree.{Tree, Nothing, reply_of, among}
 use Rattle.definitions.specs.Plans.{plan_tree, reopen_tree, usr1s, settle}
-use Rattle.definitions.specs.Run.{Pattern, Progress, Ending, At, Lost, Ran, run_with, goes_with, noted, after_call, after_moment, answered, start_at, outcome_of}
+use Rattle.definitions.specs.Run.{Pattern, Progress, Ending, At, Lost, Ran, run_with, goes_with, noted, after_call}
+use Rattle.definitions.specs.Run.{after_moment, answered, start_at, outcome_of}
 use Rattle.definitions.specs.Manner.{has_ready, is_usr1_of}
-use Rattle.definitions.specs.Claims.{IsStart, InManner, Says, run_of}
-use Rattle.theorems.proofs.Effects.{bears-refl}
-use Rattle.theorems.proofs.Rows.{every-more}
+use Rattle.definitions.specs.Claims.{IsStart, Says, run_of}
+use Rattle.theorems.proofs.Headlines.{InManner}
+use Rattle.table_laws.proofs.Effects.{bears-refl}
+use Rattle.table_laws.proofs.Rows.{every-more}
 use Rattle.theorems.proofs.Reopen.{reopen_headline}
-use Rattle.theorems.proofs.Logic.{Course, Along, Anyhow, Unasked}
-use Rattle.theorems.proofs.Lights.{Light, no_claim, any_end, calm-along}
-use Rattle.theorems.proofs.Staying.{Unlost, Stands, standing}
-use Rattle.theorems.proofs.Taken.{NotTaken, untouched}
-use Rattle.theorems.proofs.Firsts.{first-low, first-stands, first-untouched}
-use Rattle.theorems.proofs.Calms.{calm-settle, calm-usr1s}
-use Rattle.theorems.proofs.Manners.{stays-from, kills-from}
+use Rattle.run_laws.proofs.Logic.{Course, Along, Anyhow, Unasked}
+use Rattle.run_laws.proofs.Lights.{Light, no_claim, any_end, calm-along}
+use Rattle.run_laws.proofs.Staying.{Unlost, Stands, standing}
+use Rattle.run_laws.proofs.Taken.{NotTaken, untouched}
+use Rattle.run_laws.proofs.Firsts.{first-low, first-stands, first-untouched}
+use Rattle.run_laws.proofs.Calms.{calm-settle, calm-usr1s}
+use Rattle.run_laws.proofs.Manners.{stays-from, kills-from}
 use Rattle.theorems.proofs.WorkersManner.{own_course, own-acts}
 
 module _ (t : Table) (r : Record) (pattern : Pattern) (s : IsStart t r) (p k : ℕ) (on : has_ready t p k ≡ true) where
@@ -78,7 +80,10 @@ abbrev Told : Generation → Ran → ℕ → Type 0
 Told g ran k = list_any (λ e. is_usr1_of g k e.call) ran.entries ≡ true
 
 -- A run of these calls that is not lost has made them all.
-told : (by : ℕ) (g : Generation) (ks : List ℕ) (rest : Tree) (pattern : Pattern) (p : Progress) → (((run_with [] (usr1s by g ks rest) pattern p).ending ≡ Lost) → ⊥) → AllByRecursion (Told g (run_with [] (usr1s by g ks rest) pattern p)) ks
+told :
+    (by : ℕ) (g : Generation) (ks : List ℕ) (rest : Tree) (pattern : Pattern) (p : Progress) →
+    (((run_with [] (usr1s by g ks rest) pattern p).ending ≡ Lost) → ⊥) →
+    AllByRecursion (Told g (run_with [] (usr1s by g ks rest) pattern p)) ks
 told by g [] rest pattern p h = tt
 told by g (x ∷ ks) rest pattern p h =
     let order = Make (Usr1 g x) in
@@ -88,8 +93,13 @@ told by g (x ∷ ks) rest pattern p h =
     let next = after_call by order [] st middle in
     let more = usr1s by g ks rest in
     elim (among (reply.Fine ∷ []) (reply_of [] st.answer)) as (λ b.
-    let later : Ran = elim b as (λ c. Ran) [ true ↦ run_with [] more pattern (noted None next) | false ↦ goes_with [] Nothing (reply_of [] st.answer) pattern next ] in
-    (later.ending ≡ Lost → ⊥) → ((is_usr1_of g x (Usr1 g x) || list_any (λ e. is_usr1_of g x e.call) later.entries) ≡ true) × AllByRecursion (λ k. (is_usr1_of g k (Usr1 g x) || list_any (λ e. is_usr1_of g k e.call) later.entries) ≡ true) ks) [
+    let later : Ran =
+    elim b as (λ c. Ran)
+    [ true ↦ run_with [] more pattern (noted None next) | false ↦ goes_with [] Nothing (reply_of [] st.answer) pattern next ]
+    in
+    (later.ending ≡ Lost → ⊥) →
+    ((is_usr1_of g x (Usr1 g x) || list_any (λ e. is_usr1_of g x e.call) later.entries) ≡ true) × AllByRecursion
+    (λ k. (is_usr1_of g k (Usr1 g x) || list_any (λ e. is_usr1_of g k e.call) later.entries) ≡ true) ks) [
       | true ↦ λ h.
           (rw (bears-refl g x) refl, every-more (Told g (run_with [] more pattern (noted None next))) (λ k. (is_usr1_of g k (Usr1 g x) || list_any (λ e. is_usr1_of g k e.call) (run_with [] more pattern (noted None next)).entries) ≡ true) (λ k e. later (is_usr1_of g k (Usr1 g x)) _ e) ks (told by g ks rest pattern (noted None next) h))
       | false ↦ λ h. absurd (h refl)
@@ -99,7 +109,9 @@ told by g (x ∷ ks) rest pattern p h =
     later true b e = refl
     later false b e = e
 
-pub not-lost : (r : Record) (target : Wanted) (first : Table) (e : Ending) (q : Progress) → Says r target (outcome_of (sides_of r target) e q.lacking) first q.table → e ≡ Lost → ⊥
+pub not-lost :
+    (r : Record) (target : Wanted) (first : Table) (e : Ending) (q : Progress) →
+    Says r target (outcome_of (sides_of r target) e q.lacking) first q.table → e ≡ Lost → ⊥
 not-lost r target first (At end) q says same = cc same
 not-lost r target first Lost q says same = says
 
@@ -107,7 +119,9 @@ pub reopen_manner : InManner Reopen
 reopen_manner t r turns pattern a =
     let ran = run_of r Reopen [] pattern t in
     let keeps = reopen_headline t r turns pattern a in (
-      λ p k on need. stays-from t r a.start p k on (own_course r pattern) (plan_tree r Reopen []) (λ e q. ⊤) (stays-along t r pattern a.start p k on) a.spared tt,
-      told r.generation.image r.generation r.ready (settle r.generation.image (crew_of r) r.ready Target r.retries) pattern (start_at t r.note) (not-lost r Reopen t ran.ending ran.last keeps.says),
+      λ p k on need. stays-from t r a.start p k on (own_course r pattern) (plan_tree r Reopen []) (λ e q. ⊤)
+          (stays-along t r pattern a.start p k on) a.spared tt,
+      told r.generation.image r.generation r.ready (settle r.generation.image (crew_of r) r.ready Target r.retries)
+          pattern (start_at t r.note) (not-lost r Reopen t ran.ending ran.last keeps.says),
       kills-from t r (own_course r pattern) (plan_tree r Reopen []) (λ e q. ⊤) a.spared (λ p k on. untaken-along t r pattern a.start p k on),
     )

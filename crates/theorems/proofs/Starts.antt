@@ -9,8 +9,8 @@ use Rattle.worker_groups.specs.Crews.{first_posts}
 use Rattle.definitions.specs.Crew.{Group, Posts}
 use Rattle.definitions.specs.Record.{FilesAre, IsRunning, first_generation, first_note, listener_of, listeners_from}
 use Rattle.definitions.specs.Start.{StartsAgree, first_files, first_worker, holds_from}
-use Rattle.theorems.proofs.Addresses.{address-refl}
-use Rattle.theorems.proofs.Files.{other-oldbin}
+use Rattle.table_laws.proofs.Addresses.{address-refl}
+use Rattle.table_laws.proofs.Files.{other-oldbin}
 
 first-listeners : (fd s : ℕ) (xs : List Address) → map listener_of (holds_from fd s xs) ≡ listeners_from fd xs
 first-listeners fd s [] = refl
@@ -24,7 +24,9 @@ module _ (groups : List Group) (holds : List Hold) where
   abbrev posts : Posts
   posts = first_posts groups
 
-  all-running : (ns : List ℕ) → AllByRecursion (IsRunning 100 (record { generation = first_generation; posts = posts }) holds) (map (first_worker posts holds) ns)
+  all-running :
+      (ns : List ℕ) → AllByRecursion (IsRunning 100 (record { generation = first_generation; posts = posts }) holds)
+      (map (first_worker posts holds) ns)
   all-running [] = tt
   all-running (n ∷ ns) = ((λ e. (refl, refl)), all-running ns)
 

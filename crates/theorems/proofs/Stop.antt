@@ -17,26 +17,30 @@ use Rattle.definitions.specs.Service.{is_live_with, service, IsSame}
 use Rattle.definitions.specs.Record.{Record, FilesAre, oldbin}
 use Rattle.definitions.specs.Target.{want, sides_of}
 use Rattle.definitions.specs.Tree.{Tree, Ends, reply_of}
-use Rattle.definitions.specs.Plans.{plan_tree, stop_tree, quits, kills, awaits_gone, then_edge, note_edges, removes, remove_oldbin_too, has_oldbin, stopped, does}
+use Rattle.definitions.specs.Plans.{plan_tree, stop_tree, quits, kills, awaits_gone, then_edge, note_edges, removes}
+use Rattle.definitions.specs.Plans.{remove_oldbin_too, has_oldbin, stopped, does}
 use Rattle.definitions.specs.Run.{outcome_of, Pattern, Progress, Ending, At, Lost, Ran, start_at, noted, after_call, after_moment, answered}
-use Rattle.definitions.specs.Claims.{was_failed, IsRemoved, Says, HasCause, IsPaid, IsStart, Kept, IsBlamed, StopNote, StopHeadline, run_of}
-use Rattle.theorems.proofs.Rows.{every-more}
+use Rattle.definitions.specs.Claims.{was_failed, IsRemoved, Says, HasCause, IsPaid, IsStart, Kept, IsBlamed, StopNote, run_of}
+use Rattle.theorems.proofs.Headlines.{StopHeadline}
+use Rattle.table_laws.proofs.Rows.{every-more}
 use Rattle.listener_set.specs.AddressList.{has}
-use Rattle.theorems.proofs.Addresses.{address-refl}
-use Rattle.theorems.proofs.Files.{gone-file, other-oldbin}
+use Rattle.table_laws.proofs.Addresses.{address-refl}
+use Rattle.table_laws.proofs.Files.{gone-file, other-oldbin}
 use Rattle.theorems.proofs.StopFiles.{Ended, files-removed}
-use Rattle.theorems.proofs.Views.{Names, View, Fine, finds, eqb-refl}
-use Rattle.theorems.proofs.Exits.{spares-each}
-use Rattle.theorems.proofs.Effects.{none, looks-allows}
-use Rattle.theorems.proofs.Sets.{in-here}
-use Rattle.theorems.proofs.Services.{sole-fine}
+use Rattle.table_laws.proofs.Views.{Names, View, Fine, finds, eqb-refl}
+use Rattle.table_laws.proofs.Exits.{spares-each}
+use Rattle.table_laws.proofs.Effects.{none, looks-allows}
+use Rattle.table_laws.proofs.Sets.{in-here}
+use Rattle.table_laws.proofs.Services.{sole-fine}
 use Rattle.theorems.proofs.Notes.{LeftByFault, SaidBy, left-by}
 use Rattle.theorems.proofs.Ends.{report_at}
 use Rattle.definitions.specs.After.{next_record}
 use Rattle.vocabulary.specs.declared.calls.Reply.{Reply}
-use Rattle.theorems.proofs.Begins.{first_view, begin}
-use Rattle.theorems.proofs.Logic.{Unasked, course_after, Behind, Course, Anyhow, Along, from-along, are-mild-anyhow, remove-cases, unfailing}
-use Rattle.theorems.proofs.Rules.{IsGood, Ground, rule-waits, band-anew, Scene, plain_scene, Band, view, any, Answers, marks-plain, marks-wrong, rule-step, rule-quits, rule-kills, band-exits, band-inv}
+use Rattle.table_laws.proofs.Begins.{first_view, begin}
+use Rattle.run_laws.proofs.Logic.{Unasked, course_after, Behind, Course, Anyhow, Along, from-along, are-mild-anyhow}
+use Rattle.call_laws.proofs.Cases.{remove-cases, unfailing}
+use Rattle.run_laws.proofs.Rules.{IsGood, Ground, rule-waits, band-anew, Scene, plain_scene, Band, view, any, Answers}
+use Rattle.run_laws.proofs.Rules.{marks-plain, marks-wrong, rule-step, rule-quits, rule-kills, band-exits, band-inv}
 
 ---- Files
 
@@ -45,7 +49,10 @@ pub still-gone : (path other : FilePath) (files : List File) → owner_at path f
 still-gone path other [] e = refl
 still-gone path other (f ∷ files) e = go (bytes_eq f.path path) refl e (still-gone path other files) (not (bytes_eq f.path other))
   where
-    go : (b : Bool) → bytes_eq f.path path ≡ b → owner_if b f.owner (owner_at path files) ≡ None → (owner_at path files ≡ None → owner_at path (without_file other files) ≡ None) → (c : Bool) → owner_at path (if c then f ∷ without_file other files else without_file other files) ≡ None
+    go :
+        (b : Bool) → bytes_eq f.path path ≡ b → owner_if b f.owner (owner_at path files) ≡ None →
+        (owner_at path files ≡ None → owner_at path (without_file other files) ≡ None) → (c : Bool) →
+        owner_at path (if c then f ∷ without_file other files else without_file other files) ≡ None
     go true is e ih c = absurd (cc)
     go false is e ih true = rw is (ih e)
     go false is e ih false = ih e
@@ -53,16 +60,26 @@ still-gone path other (f ∷ files) e = go (bytes_eq f.path path) refl e (still-
 ---- Leaving
 
 -- when the only master leaves, no live master is there
-none-live : (v : View) (test : List Hold → Bool) (rows : List Process) → AllByRecursion (Fine v) rows → list_any (is_live_with test) (filter_map (without_master v.number) rows) ≡ false
+none-live :
+    (v : View) (test : List Hold → Bool) (rows : List Process) → AllByRecursion (Fine v) rows →
+    list_any (is_live_with test) (filter_map (without_master v.number) rows) ≡ false
 none-live v test [] fine = refl
 none-live v test (Master n q i live hs ∷ rows) fine = go (n == v.number) (eqb-refl n v.number fine.0.0) (none-live v test rows fine.1)
   where
-    go : (b : Bool) → b ≡ true → list_any (is_live_with test) (filter_map (without_master v.number) rows) ≡ false → list_any (is_live_with test) (cons_option (if b then None else Some (Master n (if q == v.number then 1 else q) i live hs)) (filter_map (without_master v.number) rows)) ≡ false
+    go :
+        (b : Bool) → b ≡ true → list_any (is_live_with test) (filter_map (without_master v.number) rows) ≡ false →
+        list_any (is_live_with test)
+        (cons_option (if b then None else Some (Master n (if q == v.number then 1 else q) i live hs)) (filter_map (without_master v.number) rows))
+        ≡ false
     go true e ih = ih
     go false e ih = absurd (cc)
 none-live v test (Worker n q g k st hs ∷ rows) fine = go (q == v.number) (none-live v test rows fine.1)
   where
-    go : (b : Bool) → list_any (is_live_with test) (filter_map (without_master v.number) rows) ≡ false → list_any (is_live_with test) (cons_option (if b then None else Some (Worker n q g k st hs)) (filter_map (without_master v.number) rows)) ≡ false
+    go :
+        (b : Bool) → list_any (is_live_with test) (filter_map (without_master v.number) rows) ≡ false → list_any
+        (is_live_with test)
+        (cons_option (if b then None else Some (Worker n q g k st hs)) (filter_map (without_master v.number) rows)) ≡
+        false
     go true ih = ih
     go false ih = ih
 none-live v test (Foreign n hs ∷ rows) fine = none-live v test rows fine.1
@@ -72,12 +89,18 @@ none-own : (v : View) (rows : List Process) → AllByRecursion (Fine v) rows →
 none-own v [] fine = refl
 none-own v (Master n q i live hs ∷ rows) fine = go (n == v.number) (eqb-refl n v.number fine.0.0) (none-own v rows fine.1)
   where
-    go : (b : Bool) → b ≡ true → list_any is_own (filter_map (without_master v.number) rows) ≡ false → list_any is_own (cons_option (if b then None else Some (Master n (if q == v.number then 1 else q) i live hs)) (filter_map (without_master v.number) rows)) ≡ false
+    go :
+        (b : Bool) → b ≡ true → list_any is_own (filter_map (without_master v.number) rows) ≡ false → list_any is_own
+        (cons_option (if b then None else Some (Master n (if q == v.number then 1 else q) i live hs)) (filter_map (without_master v.number) rows))
+        ≡ false
     go true e ih = ih
     go false e ih = absurd (cc)
 none-own v (Worker n q g k st hs ∷ rows) fine = go (q == v.number) (eqb-refl q v.number fine.0.0) (none-own v rows fine.1)
   where
-    go : (b : Bool) → b ≡ true → list_any is_own (filter_map (without_master v.number) rows) ≡ false → list_any is_own (cons_option (if b then None else Some (Worker n q g k st hs)) (filter_map (without_master v.number) rows)) ≡ false
+    go :
+        (b : Bool) → b ≡ true → list_any is_own (filter_map (without_master v.number) rows) ≡ false → list_any is_own
+        (cons_option (if b then None else Some (Worker n q g k st hs)) (filter_map (without_master v.number) rows)) ≡
+        false
     go true e ih = ih
     go false e ih = absurd (cc)
 none-own v (Foreign n hs ∷ rows) fine = none-own v rows fine.1
@@ -137,7 +160,19 @@ module _ (t : Table) (rec : Record) (quick : Bool) (pattern : Pattern) (s : IsSt
 
   widen : (files : List File) (note : PidNote) (st r : Names) (w : Bool) (q : Progress) → Band u (sc files note) st r none 0 0 w [] q → Holds files note w q
   widen files note st r w q b = record {
-    looks = looks-allows (view u st r) (view u any any) (record { number = refl; others = λ n e. e; image = refl; holds = refl; starting = λ h k e. refl; ready = λ h k e. refl; held_starting = λ h k e. refl; held = λ h k e. refl }) q.table.rows b.looks;
+    looks =
+        looks-allows (view u st r) (view u any any)
+        (record {
+          number = refl;
+          others = λ n e. e;
+          image = refl;
+          holds = refl;
+          starting = λ h k e. refl;
+          ready = λ h k e. refl;
+          held_starting = λ h k e. refl;
+          held = λ h k e. refl;
+        })
+        q.table.rows b.looks;
     enough = b.enough;
     secured = λ a e. absurd (omega (arith, e));
     budget = omega arith;
@@ -148,34 +183,71 @@ module _ (t : Table) (rec : Record) (quick : Bool) (pattern : Pattern) (s : IsSt
   }
 
   forget : (files : List File) (note : PidNote) (w : Bool) (q : Progress) → Holds files note w q → Holds files note false q
-  forget files note w q b = record { looks = b.looks; enough = b.enough; secured = λ a e. absurd (omega (arith, e)); budget = omega arith; lacking = b.lacking; still = b.still; marks = record { clean = b.marks.clean; blamed = b.marks.blamed; caused = λ e. absurd (cc e); returned = b.marks.returned }; beside = tt }
+  forget files note w q b = record {
+    looks = b.looks;
+    enough = b.enough;
+    secured = λ a e. absurd (omega (arith, e));
+    budget = omega arith;
+    lacking = b.lacking;
+    still = b.still;
+    marks = record { clean = b.marks.clean; blamed = b.marks.blamed; caused = λ e. absurd (cc e); returned = b.marks.returned };
+    beside = tt;
+  }
 
   ---- The steps
 
-  quits-all : (rest : Tree) (ks : List ℕ) (files : List File) (note : PidNote) (q : Progress) → ((q' : Progress) → Holds files note false q' → Goes rest q') → Holds files note false q → Goes (quits g.image g ks rest) q
+  quits-all :
+      (rest : Tree) (ks : List ℕ) (files : List File) (note : PidNote) (q : Progress) →
+      ((q' : Progress) → Holds files note false q' → Goes rest q') → Holds files note false q →
+      Goes (quits g.image g ks rest) q
   quits-all rest ks files note q next b =
-      rule-quits u (sc files note) (ground files note) rest g ks any any none 0 0 false [] q (λ k e. refl) (λ st r q' less_s less b'. next q' (widen files note st r false q' b')) b
+      rule-quits u (sc files note) (ground files note) rest g ks any any none 0 0 false [] q (λ k e. refl)
+      (λ st r q' less_s less b'. next q' (widen files note st r false q' b')) b
 
-  kills-all : (rest : Tree) (ks : List ℕ) (files : List File) (note : PidNote) (q : Progress) → ((q' : Progress) → Holds files note false q' → Goes rest q') → Holds files note false q → Goes (kills g.image g ks rest) q
+  kills-all :
+      (rest : Tree) (ks : List ℕ) (files : List File) (note : PidNote) (q : Progress) →
+      ((q' : Progress) → Holds files note false q' → Goes rest q') → Holds files note false q →
+      Goes (kills g.image g ks rest) q
   kills-all rest ks files note q next b =
-      rule-kills u (sc files note) (ground files note) rest g ks any any none 0 0 false [] q (λ k e. refl) (λ st r q' less_s less b'. next q' (widen files note st r false q' b')) b
+      rule-kills u (sc files note) (ground files note) rest g ks any any none 0 0 false [] q (λ k e. refl)
+      (λ st r q' less_s less b'. next q' (widen files note st r false q' b')) b
 
-  waits-all : (rest : Tree) (ks : List ℕ) (files : List File) (note : PidNote) (q : Progress) → ((q' : Progress) → Holds files note false q' → Goes rest q') → Holds files note false q → Goes (awaits_gone g.image g ks rest) q
+  waits-all :
+      (rest : Tree) (ks : List ℕ) (files : List File) (note : PidNote) (q : Progress) →
+      ((q' : Progress) → Holds files note false q' → Goes rest q') → Holds files note false q →
+      Goes (awaits_gone g.image g ks rest) q
   waits-all rest ks files note q next b =
       rule-waits u (sc files note) (ground files note) rest g ks any any none 0 false [] q (λ k e. refl)
-      (λ st r w k q' sub_st sub_r up b'. next q' (forget files note w q' (widen files note st r w q' (band-anew u (sc files note) (ground files note) st r none 0 k w [] q' b')))) 0 b
+      (λ st r w k q' sub_st sub_r up b'. next q' (forget files note w q' (widen files note st r w q' (band-anew u (sc files note) (ground files note) st r none 0 k w [] q' b'))))
+      0 b
 
-  said-so : (said : Option PidNote) (files : List File) (note : PidNote) (w : Bool) (q : Progress) → Holds files note w q → Holds files (unwrap_or said note) w (noted said q)
+  said-so :
+      (said : Option PidNote) (files : List File) (note : PidNote) (w : Bool) (q : Progress) → Holds files note w q →
+      Holds files (unwrap_or said note) w (noted said q)
   said-so None files note w q b = b
-  said-so (Some x) files note w q b = record { looks = b.looks; enough = b.enough; secured = λ a e. absurd (omega (arith, e)); budget = omega arith; lacking = b.lacking; still = record { files_stay = b.still.files_stay; note_stays = refl; limits_stay = b.still.limits_stay }; marks = b.marks; beside = tt }
+  said-so (Some x) files note w q b = record {
+    looks = b.looks;
+    enough = b.enough;
+    secured = λ a e. absurd (omega (arith, e));
+    budget = omega arith;
+    lacking = b.lacking;
+    still = record { files_stay = b.still.files_stay; note_stays = refl; limits_stay = b.still.limits_stay };
+    marks = b.marks;
+    beside = tt;
+  }
 
   -- A removal, and what its edges say.
-  removal : (path : FilePath) (fine fault : Option PidNote) (rest : Tree) (files : List File) (note : PidNote) (q : Progress) → ((q' : Progress) → Holds (without_file path files) (unwrap_or fine note) false q' → Goes rest q') → ((q' : Progress) → Holds files (unwrap_or fault note) false q' → Goes rest q') → Holds files note false q → Goes (does g.image (RemovePid path) (note_edges fine fault rest)) q
+  removal :
+      (path : FilePath) (fine fault : Option PidNote) (rest : Tree) (files : List File) (note : PidNote) (q : Progress)
+      → ((q' : Progress) → Holds (without_file path files) (unwrap_or fine note) false q' → Goes rest q') →
+      ((q' : Progress) → Holds files (unwrap_or fault note) false q' → Goes rest q') → Holds files note false q → Goes
+      (does g.image (RemovePid path) (note_edges fine fault rest)) q
   removal path fine fault rest files note q on_fine on_fault b =
       let order = Make (RemovePid path) in
       let bs = note_edges fine fault rest in
       rule-step u (sc files note) (ground files note) order [] bs any any none 0 0 false [] q refl b (λ p b' fate.
-      remove-cases co.text g.image (record { number = rec.pid; holds = s.agrees.holds }) path fate p.table (λ st. Answers u (sc files note) (ground files note) order [] bs p st)
+      remove-cases co.text g.image (record { number = rec.pid; holds = s.agrees.holds }) path fate p.table
+      (λ st. Answers u (sc files note) (ground files note) order [] bs p st)
       (on_fault (noted fault (after_call rec.generation.image order [] (gives answer.IoFault p.table) p)) (forget files (unwrap_or fault note) true _
       (said-so fault files note true (after_call rec.generation.image order [] (gives answer.IoFault p.table) p)
       (record { looks = b'.looks; enough = b'.enough; secured = λ a e. absurd (omega (arith, e)); budget = omega arith; lacking = b'.lacking; still = b'.still; marks = marks-wrong false p.faults (p.faults + 1) p.losses (p.calls + 1) p.cause (omega arith) b'.marks; beside = tt }))))
@@ -203,17 +275,22 @@ module _ (t : Table) (rec : Record) (quick : Bool) (pattern : Pattern) (s : IsSt
       let b' = band-exits u (sc files note) any any none 0 0 false [] moment.exits q sp mild b in
       let me : Caller = record { number = rec.pid; holds = s.agrees.holds } in
       let is : answered [] g.image order moment.fate middle ≡ gives answer.Fine (each_row (without_master rec.pid) middle.table) =
-      ap (λ (o : Option Caller). step_by [] g.image o Leave moment.fate middle.table) (finds (view u any any) middle.table.rows b'.looks) ∙ unfailing [] g.image me Leave moment.fate middle.table tt in
+      ap (λ (o : Option Caller). step_by [] g.image o Leave moment.fate middle.table)
+      (finds (view u any any) middle.table.rows b'.looks) ∙ unfailing [] g.image me Leave moment.fate middle.table tt in
       let gone = after_call rec.generation.image order [] (gives answer.Fine (each_row (without_master rec.pid) middle.table)) middle in
       let marks = marks-plain false middle.faults middle.losses (middle.calls + 1) middle.cause b'.marks in
       let fine = sole-fine (view u any any) (λ n. refl) middle.table.rows b'.looks.fine in
       let kept : inv gone = (λ a socket common on. absurd (cc (common.1)), (marks.clean, marks.blamed)) in
       let empty : IsSame (service gone.table) (want rec (Stop quick)) = λ a. rw (none-live (view u any any) (has_address a) middle.table.rows fine) refl in
-      let files_then : FilesThen gone.note rec.pid_path gone.table.files = subst (λ x. FilesThen x rec.pid_path gone.table.files) (sym b'.still.note_stays) (subst (λ x. FilesThen note rec.pid_path x) (sym b'.still.files_stay) as_said) in (
+      let files_then : FilesThen gone.note rec.pid_path gone.table.files =
+      subst (λ x. FilesThen x rec.pid_path gone.table.files) (sym b'.still.note_stays)
+      (subst (λ x. FilesThen note rec.pid_path x) (sym b'.still.files_stay) as_said) in (
         band-inv u (sc files note) (ground files note) any any none 0 0 false [] q b,
         band-inv u (sc files note) (ground files note) any any none 0 0 false [] middle b',
         tt,
-        subst (λ (st : Stepped). Behind inv post Anyhow Unasked (course_after order co) (then_edge (Ends Done)) (reply_of [] st.answer) (after_call rec.generation.image order [] st middle)) (sym is) (kept, (empty, none-own (view u any any) middle.table.rows fine, files_then)),
+        subst
+            (λ (st : Stepped). Behind inv post Anyhow Unasked (course_after order co) (then_edge (Ends Done)) (reply_of [] st.answer) (after_call rec.generation.image order [] st middle))
+            (sym is) (kept, (empty, none-own (view u any any) middle.table.rows fine, files_then)),
       )
 
   -- the rest of the plan, from what the files and the note are
@@ -221,15 +298,22 @@ module _ (t : Table) (rec : Record) (quick : Bool) (pattern : Pattern) (s : IsSt
   Next path = (files : List File) (note : PidNote) (q : Progress) → FilesThen note path files → Holds files note false q → Goes (stopped g.image) q
 
   -- The file with the suffix goes too.
-  removing-both : (path : FilePath) (files : List File) (note : PidNote) (q : Progress) → Next (Some path) → Holds files note false q → Goes (does g.image (RemovePid path) (note_edges (Some NoFile) (Some Left) (does g.image (RemovePid (oldbin path)) (note_edges None (Some Left) (stopped g.image))))) q
+  removing-both :
+      (path : FilePath) (files : List File) (note : PidNote) (q : Progress) → Next (Some path) → Holds files note false
+      q → Goes
+      (does g.image (RemovePid path) (note_edges (Some NoFile) (Some Left) (does g.image (RemovePid (oldbin path)) (note_edges None (Some Left) (stopped g.image)))))
+      q
   removing-both path files note q next b =
       removal path (Some NoFile) (Some Left) (does g.image (RemovePid (oldbin path)) (note_edges None (Some Left) (stopped g.image))) files note q
       (λ q' b'. removal (oldbin path) None (Some Left) (stopped g.image) (without_file path files) NoFile q'
       (λ q'' b''. next (without_file (oldbin path) (without_file path files)) NoFile q'' (still-gone path (oldbin path) (without_file path files) (gone-file path files), gone-file (oldbin path) (without_file path files)) b'')
       (λ q'' b''. next (without_file path files) Left q'' tt b'') b')
-      (λ q' b'. removal (oldbin path) None (Some Left) (stopped g.image) files Left q' (λ q'' b''. next (without_file (oldbin path) files) Left q'' tt b'') (λ q'' b''. next files Left q'' tt b'') b') b
+      (λ q' b'. removal (oldbin path) None (Some Left) (stopped g.image) files Left q' (λ q'' b''. next (without_file (oldbin path) files) Left q'' tt b'') (λ q'' b''. next files Left q'' tt b'') b')
+      b
 
-  removing : (path : Option FilePath) (note : PidNote) (files : List File) (q : Progress) → Next path → FilesAre note path rec.pid files → Holds files note false q → Goes (removes g.image path note (stopped g.image)) q
+  removing :
+      (path : Option FilePath) (note : PidNote) (files : List File) (q : Progress) → Next path →
+      FilesAre note path rec.pid files → Holds files note false q → Goes (removes g.image path note (stopped g.image)) q
   removing None InPlace files q next are b = absurd are
   removing None AtOldbin files q next are b = absurd are
   removing None OldbinLeft files q next are b = absurd are
@@ -250,7 +334,16 @@ module _ (t : Table) (rec : Record) (quick : Bool) (pattern : Pattern) (s : IsSt
   at_first =
       let looks0 = begin t rec s in
       widen t.files rec.note none u.ready false (start_at t rec.note)
-      (record { looks = looks0; enough = λ a e. absurd (omega (arith, e)); secured = λ a e. absurd (omega (arith, e)); budget = omega arith; lacking = refl; still = record { files_stay = refl; note_stays = refl; limits_stay = refl }; marks = record { clean = λ e. refl; blamed = λ e. absurd (cc e); caused = λ e. absurd (cc e); returned = refl }; beside = tt })
+      (record {
+        looks = looks0;
+        enough = λ a e. absurd (omega (arith, e));
+        secured = λ a e. absurd (omega (arith, e));
+        budget = omega arith;
+        lacking = refl;
+        still = record { files_stay = refl; note_stays = refl; limits_stay = refl };
+        marks = record { clean = λ e. refl; blamed = λ e. absurd (cc e); caused = λ e. absurd (cc e); returned = refl };
+        beside = tt;
+      })
 
   ending : (q : Progress) → Holds t.files rec.note false q → Goes (removes g.image rec.pid_path rec.note (stopped g.image)) q
   ending q b = removing rec.pid_path rec.note t.files q (λ files note q' as_said b'. leaving files note q' as_said b') s.agrees.files b
@@ -258,7 +351,10 @@ module _ (t : Table) (rec : Record) (quick : Bool) (pattern : Pattern) (s : IsSt
   goes-quick : Goes (kills g.image g R (removes g.image rec.pid_path rec.note (stopped g.image))) (start_at t rec.note)
   goes-quick = kills-all (removes g.image rec.pid_path rec.note (stopped g.image)) R t.files rec.note (start_at t rec.note) ending at_first
 
-  goes-slowly : Goes (quits g.image g (reverse R) (awaits_gone g.image g (reverse R) (removes g.image rec.pid_path rec.note (stopped g.image)))) (start_at t rec.note)
+  goes-slowly :
+      Goes
+      (quits g.image g (reverse R) (awaits_gone g.image g (reverse R) (removes g.image rec.pid_path rec.note (stopped g.image))))
+      (start_at t rec.note)
   goes-slowly =
       quits-all (awaits_gone g.image g (reverse R) (removes g.image rec.pid_path rec.note (stopped g.image))) (reverse R) t.files rec.note (start_at t rec.note)
       (λ q b. waits-all (removes g.image rec.pid_path rec.note (stopped g.image)) (reverse R) t.files rec.note q ending b) at_first
@@ -289,7 +385,9 @@ by-waits paths by g (x ∷ ks) rest h =
     let more = by-waits paths by g ks rest h in
     (unsaid paths false _, more, (unsaid paths false _, (unsaid paths false _, more, tt), tt))
 
-by-removes : (by : ℕ) (path : Option FilePath) (note : PidNote) (rest : Tree) → LeftByFault (paths_of path) rest → LeftByFault (paths_of path) (removes by path note rest)
+by-removes :
+    (by : ℕ) (path : Option FilePath) (note : PidNote) (rest : Tree) → LeftByFault (paths_of path) rest →
+    LeftByFault (paths_of path) (removes by path note rest)
 by-removes by None note rest h = h
 by-removes by (Some path) note rest h =
     let paths = paths_of (Some path) in
@@ -304,7 +402,9 @@ by-removes by (Some path) note rest h =
         (unsaid paths _ _, h, ((λ e. (on, refl)), h, tt))
     too false = h
 
-by-stop : (by : ℕ) (g : Generation) (ready : List ℕ) (path : Option FilePath) (note : PidNote) (quick : Bool) → LeftByFault (paths_of path) (stop_tree by g ready path note quick)
+by-stop :
+    (by : ℕ) (g : Generation) (ready : List ℕ) (path : Option FilePath) (note : PidNote) (quick : Bool) →
+    LeftByFault (paths_of path) (stop_tree by g ready path note quick)
 by-stop by g ready path note true =
     let paths = paths_of path in
     by-kills paths by g ready (removes by path note (stopped by)) (by-removes by path note (stopped by) (unsaid paths false _, tt, tt))
@@ -323,7 +423,10 @@ not-left NoFile path pid files are e = cc e
 not-left Left None pid files are e = are
 not-left Left (Some path) pid files are e = are
 
-stop-note : (note : PidNote) (path : Option FilePath) (ran : Ran) → FilesThen note path ran.last.table.files → (note ≡ Left → was_failed (paths_of path) ran.entries ≡ true) → ((x : FilePath) → path ≡ Some x → IsRemoved x ran × IsRemoved (oldbin x) ran) → StopNote note path ran
+stop-note :
+    (note : PidNote) (path : Option FilePath) (ran : Ran) → FilesThen note path ran.last.table.files →
+    (note ≡ Left → was_failed (paths_of path) ran.entries ≡ true) →
+    ((x : FilePath) → path ≡ Some x → IsRemoved x ran × IsRemoved (oldbin x) ran) → StopNote note path ran
 stop-note NoFile None ran files failed removed = tt
 stop-note NoFile (Some path) ran files failed removed = files
 stop-note Left None ran files failed removed = absurd files
@@ -338,9 +441,14 @@ stop-note OldbinLeft path ran files failed removed = absurd files
 abbrev AllDone : Table → Record → Bool → Ending → Progress → Type 0
 AllDone t rec quick e q =
     let sides = sides_of rec (Stop quick) in
-    Says rec (Stop quick) (outcome_of sides e q.lacking) t q.table × (next_record rec (Stop quick) (report_at sides e q) q.table ≡ None) × HasCause (outcome_of sides e q.lacking) q.cause × IsPaid rec.retries (outcome_of sides e q.lacking) q
+    Says rec (Stop quick) (outcome_of sides e q.lacking) t q.table
+    × (next_record rec (Stop quick) (report_at sides e q) q.table ≡ None)
+    × HasCause (outcome_of sides e q.lacking) q.cause × IsPaid rec.retries (outcome_of sides e q.lacking) q
 
-all-done : (t : Table) (rec : Record) (quick : Bool) (pattern : Pattern) (s : IsStart t rec) (e : Ending) (q : Progress) → post t rec quick pattern s e q → AllDone t rec quick e q × Ended e × (list_any is_own q.table.rows ≡ false) × FilesThen q.note rec.pid_path q.table.files
+all-done :
+    (t : Table) (rec : Record) (quick : Bool) (pattern : Pattern) (s : IsStart t rec) (e : Ending) (q : Progress) → post
+    t rec quick pattern s e q → AllDone t rec quick e q × Ended e × (list_any is_own q.table.rows ≡ false) × FilesThen
+    q.note rec.pid_path q.table.files
 all-done t rec quick pattern s (At Done) q h = ((h.0, refl, tt, tt), tt, h.1, h.2)
 all-done t rec quick pattern s (At RolledBack) q h = absurd h
 all-done t rec quick pattern s (At ShortOld) q h = absurd h
@@ -348,7 +456,9 @@ all-done t rec quick pattern s (At ShortTarget) q h = absurd h
 all-done t rec quick pattern s (At _) q h = absurd h
 all-done t rec quick pattern s Lost q h = absurd h
 
-goes : (t : Table) (rec : Record) (quick : Bool) (pattern : Pattern) (s : IsStart t rec) → Goes t rec quick pattern s (plan_tree rec (Stop quick) []) (start_at t rec.note)
+goes :
+    (t : Table) (rec : Record) (quick : Bool) (pattern : Pattern) (s : IsStart t rec) →
+    Goes t rec quick pattern s (plan_tree rec (Stop quick) []) (start_at t rec.note)
 goes t rec true pattern s = goes-quick t rec true pattern s
 goes t rec false pattern s = goes-slowly t rec false pattern s
 
@@ -358,7 +468,9 @@ stop_headline t rec quick turns pattern a =
     let tree = plan_tree rec (Stop quick) [] in
     let i = inv t rec quick pattern a.start in
     let c = co t rec quick pattern a.start in
-    let all = from-along i (post t rec quick pattern a.start) Anyhow Unasked c tree at (goes t rec quick pattern a.start) a.spared (are-mild-anyhow c tree at) in
+    let all =
+    from-along i (post t rec quick pattern a.start) Anyhow Unasked c tree at (goes t rec quick pattern a.start)
+    a.spared (are-mild-anyhow c tree at) in
     let ran = run_of rec (Stop quick) [] pattern t in
     let done = all-done t rec quick pattern a.start ran.ending ran.last all.last in
     let failed : ran.last.note ≡ Left → was_failed (paths_of rec.pid_path) ran.entries ≡ true = λ e.
@@ -366,7 +478,8 @@ stop_headline t rec quick turns pattern a =
     (left-by (paths_of rec.pid_path) [] tree pattern at (by-stop rec.generation.image rec.generation rec.ready rec.pid_path rec.note quick) e) in
     record {
       says = done.0.0;
-      after = (done.0.1, done.2, stop-note ran.last.note rec.pid_path ran done.3 failed (λ x is. files-removed x t rec quick pattern is a.start.agrees.files a.spared done.1));
+      after =
+          (done.0.1, done.2, stop-note ran.last.note rec.pid_path ran done.3 failed (λ x is. files-removed x t rec quick pattern is a.start.agrees.files a.spared done.1));
       kept = every-more i (λ q. Kept (service t) (want rec (Stop quick)) t q.table) (λ q h. h.0) ran.passed all.always;
       blamed = every-more i IsBlamed (λ q h. h.1) ran.passed all.always;
       cause = done.0.2;

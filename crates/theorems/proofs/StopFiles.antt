@@ -20,15 +20,17 @@ use Rattle.definitions.specs.Exits.{after_exits}
 use Rattle.definitions.specs.Calls.{Stepped, gives, own_step, step_by, step_with, with_files, without_file}
 use Rattle.definitions.specs.Record.{Record, FilesAre, oldbin}
 use Rattle.definitions.specs.Tree.{Tree, Branches, Ends, Does, reply_of}
-use Rattle.definitions.specs.Plans.{does, then_edge, gone_edges, note_edges, quits, kills, awaits_gone, removes, remove_oldbin_too, has_oldbin, stopped, stop_tree, plan_tree}
+use Rattle.definitions.specs.Plans.{does, then_edge, gone_edges, note_edges, quits, kills, awaits_gone, removes}
+use Rattle.definitions.specs.Plans.{remove_oldbin_too, has_oldbin, stopped, stop_tree, plan_tree}
 use Rattle.vocabulary.specs.declared.targets.Target.TheVariants.{Stop}
 use Rattle.definitions.specs.Run.{Pattern, Progress, Ending, At, Lost, start_at, run_with, after_call, after_moment, answered}
 use Rattle.definitions.specs.Claims.{names_any, is_failed_removal, was_failed, first_owner, IsRemoved, run_of, refusal_of}
 use Rattle.definitions.specs.Manner.{is_leave_call}
-use Rattle.theorems.proofs.Files.{gone-file, other-removed, oldbin-other, other-oldbin}
-use Rattle.theorems.proofs.Addresses.{address-refl}
-use Rattle.theorems.proofs.Logic.{Course, course_after, Anyhow, are-mild-anyhow, Unfailing, gone-cases, remove-cases, unfailing}
-use Rattle.theorems.proofs.Traces.{entry_of, Asking, Finally, TracedBehind, Good, AllGood, all-good, good-step, from-traced}
+use Rattle.table_laws.proofs.Files.{gone-file, other-removed, oldbin-other, other-oldbin}
+use Rattle.table_laws.proofs.Addresses.{address-refl}
+use Rattle.run_laws.proofs.Logic.{Course, course_after, Anyhow, are-mild-anyhow}
+use Rattle.call_laws.proofs.Cases.{Unfailing, gone-cases, remove-cases, unfailing}
+use Rattle.run_laws.proofs.Traces.{entry_of, Asking, Finally, TracedBehind, Good, AllGood, all-good, good-step, from-traced}
 use Rattle.theorems.proofs.WorkersManner.{own_course}
 
 -- one more entry, which is no such failure
@@ -78,9 +80,13 @@ module _ (path : FilePath) (owner : Option ℕ) (co : Course) where
 
   -- A call that fails no removal of the file, and leaves it alone.
   abbrev IsCalm : Call → Type 0
-  IsCalm call = ((a : Answer) → is_failed_removal paths call a ≡ false) × ((by : ℕ) (o : Option Caller) (fate : Option Fate) (t : Table) → owner_at path (step_by co.text by o call fate t).table.files ≡ owner_at path t.files)
+  IsCalm call =
+      ((a : Answer) → is_failed_removal paths call a ≡ false) ×
+      ((by : ℕ) (o : Option Caller) (fate : Option Fate) (t : Table) → owner_at path (step_by co.text by o call fate t).table.files ≡ owner_at path t.files)
 
-  calm-good : (o : Option ℕ) (b : Bool) (by : ℕ) (call : Call) (bs : Branches) → is_leave_call call ≡ false → IsCalm call → AllGood due Removed Anyhow co not-lost (F o) (K b) bs → IsGood o b (does by call bs)
+  calm-good :
+      (o : Option ℕ) (b : Bool) (by : ℕ) (call : Call) (bs : Branches) → is_leave_call call ≡ false → IsCalm call →
+      AllGood due Removed Anyhow co not-lost (F o) (K b) bs → IsGood o b (does by call bs)
   calm-good o b by call bs stays calm all =
       good-step due Removed Anyhow co not-lost (F o) (K b) by call [] bs stays (exits-keep o) (λ past t k h. tt)
       (λ past q fate k h.
@@ -95,11 +101,16 @@ module _ (path : FilePath) (owner : Option ℕ) (co : Course) where
   StaysAt st t = owner_at path st.table.files ≡ owner_at path t.files
 
   -- a step leaves the file alone where it does so for each caller
-  stays-by : (call : Call) → ((by : ℕ) (c : Caller) (fate : Option Fate) (t : Table) → StaysAt (step_by co.text by (Some c) call fate t) t) → (by : ℕ) (o : Option Caller) (fate : Option Fate) (t : Table) → StaysAt (step_by co.text by o call fate t) t
+  stays-by :
+      (call : Call) →
+      ((by : ℕ) (c : Caller) (fate : Option Fate) (t : Table) → StaysAt (step_by co.text by (Some c) call fate t) t) →
+      (by : ℕ) (o : Option Caller) (fate : Option Fate) (t : Table) → StaysAt (step_by co.text by o call fate t) t
   stays-by call h by None fate t = refl
   stays-by call h by (Some c) fate t = h by c fate t
 
-  stays-sure : (call : Call) → Unfailing call → ((by : ℕ) (c : Caller) (t : Table) → StaysAt (own_step co.text by c call t) t) → (by : ℕ) (o : Option Caller) (fate : Option Fate) (t : Table) → StaysAt (step_by co.text by o call fate t) t
+  stays-sure :
+      (call : Call) → Unfailing call → ((by : ℕ) (c : Caller) (t : Table) → StaysAt (own_step co.text by c call t) t) →
+      (by : ℕ) (o : Option Caller) (fate : Option Fate) (t : Table) → StaysAt (step_by co.text by o call fate t) t
   stays-sure call sure h = stays-by call (λ by c fate t. subst (λ (st : Stepped). StaysAt st t) (sym (unfailing co.text by c call fate t sure)) (h by c t))
 
   quit-calm : (g : Generation) (x : ℕ) → IsCalm (Quit g x)
@@ -125,14 +136,18 @@ module _ (path : FilePath) (owner : Option ℕ) (co : Course) where
 
   ---- The removal
 
-  removal-good : (by : ℕ) (fine fault : Option PidNote) (rest : Tree) → ((b : Bool) → IsGood (left_if b) b rest) → IsGood owner false (does by (RemovePid path) (note_edges fine fault rest))
+  removal-good :
+      (by : ℕ) (fine fault : Option PidNote) (rest : Tree) → ((b : Bool) → IsGood (left_if b) b rest) →
+      IsGood owner false (does by (RemovePid path) (note_edges fine fault rest))
   removal-good by fine fault rest good =
       let call = RemovePid path in
       let bs = note_edges fine fault rest in
       let on : has paths path ≡ true = rw (address-refl path) refl in
       good-step due Removed Anyhow co not-lost (F owner) (K false) by call [] bs refl (exits-keep owner) (λ past t k h. tt)
       (λ past q fate k h.
-      let P : Stepped → Type 0 = λ st. TracedBehind due Removed Anyhow co (past ++ entry_of by call st.answer ∷ []) bs (reply_of [] st.answer) (after_call by (Make call) [] st q) in
+      let P : Stepped → Type 0 =
+      λ st. TracedBehind due Removed Anyhow co (past ++ entry_of by call st.answer ∷ []) bs (reply_of [] st.answer)
+      (after_call by (Make call) [] st q) in
       elim (live_master by q.table.rows) as (λ o. P (step_by co.text by o call fate q.table)) [
         | None ↦ tt
         | Some c ↦ remove-cases co.text by c path fate q.table P
@@ -150,8 +165,11 @@ module _ (path : FilePath) (owner : Option ℕ) (co : Course) where
       let st = answered co.text by order moment.fate middle in
       let e = entry_of by Leave st.answer in (
         tt,
-        all-good due Removed Anyhow (course_after order co) not-lost (F (left_if b)) (K b) (then_edge (Ends Done)) ((λ past p k h. h ∙ ap left_if (sym k)), tt) (past ++ e ∷ []) (reply_of [] st.answer) (after_call by order [] st middle)
-            (any-off (λ x. is_failed_removal paths x.call x.answer) past e refl ∙ k) (leave-files by (live_master by middle.table.rows) moment.fate middle.table ∙ h),
+        all-good due Removed Anyhow (course_after order co) not-lost (F (left_if b)) (K b) (then_edge (Ends Done))
+            ((λ past p k h. h ∙ ap left_if (sym k)), tt) (past ++ e ∷ []) (reply_of [] st.answer)
+            (after_call by order [] st middle)
+            (any-off (λ x. is_failed_removal paths x.call x.answer) past e refl ∙ k)
+            (leave-files by (live_master by middle.table.rows) moment.fate middle.table ∙ h),
       )
 
   ---- Before the removals
@@ -168,29 +186,46 @@ module _ (path : FilePath) (owner : Option ℕ) (co : Course) where
   waits-good by g [] rest h = h
   waits-good by g (x ∷ ks) rest h =
       let more = waits-good by g ks rest h in
-      calm-good owner false by (AwaitGone g x) (gone_edges (awaits_gone by g ks rest) (does by (Kill g x) (then_edge (awaits_gone by g ks rest)))) refl (wait-calm g x)
+      calm-good owner false by (AwaitGone g x)
+      (gone_edges (awaits_gone by g ks rest) (does by (Kill g x) (then_edge (awaits_gone by g ks rest)))) refl
+      (wait-calm g x)
       (more, (calm-good owner false by (Kill g x) (then_edge (awaits_gone by g ks rest)) refl (kill-calm g x) (more, tt), tt))
 
-  stop-good : (by : ℕ) (g : Generation) (ready : List ℕ) (pid_path : Option FilePath) (note : PidNote) (quick : Bool) → IsGood owner false (removes by pid_path note (stopped by)) → IsGood owner false (stop_tree by g ready pid_path note quick)
+  stop-good :
+      (by : ℕ) (g : Generation) (ready : List ℕ) (pid_path : Option FilePath) (note : PidNote) (quick : Bool) →
+      IsGood owner false (removes by pid_path note (stopped by)) →
+      IsGood owner false (stop_tree by g ready pid_path note quick)
   stop-good by g ready pid_path note true h = kills-good by g ready (removes by pid_path note (stopped by)) h
   stop-good by g ready pid_path note false h =
-      quits-good by g (reverse ready) (awaits_gone by g (reverse ready) (removes by pid_path note (stopped by))) (waits-good by g (reverse ready) (removes by pid_path note (stopped by)) h)
+      quits-good by g (reverse ready) (awaits_gone by g (reverse ready) (removes by pid_path note (stopped by)))
+      (waits-good by g (reverse ready) (removes by pid_path note (stopped by)) h)
 
 -- The removals, of the file itself.
-at-path : (path : FilePath) (owner : Option ℕ) (co : Course) (by : ℕ) (note : PidNote) → IsGood path owner co owner false (removes by (Some path) note (stopped by))
-at-path path owner co by note = removal-good path owner co by (Some NoFile) (Some Left) (remove_oldbin_too by path (has_oldbin note) (stopped by)) (λ b. too b (has_oldbin note))
+at-path :
+    (path : FilePath) (owner : Option ℕ) (co : Course) (by : ℕ) (note : PidNote) →
+    IsGood path owner co owner false (removes by (Some path) note (stopped by))
+at-path path owner co by note =
+    removal-good path owner co by (Some NoFile) (Some Left) (remove_oldbin_too by path (has_oldbin note) (stopped by))
+    (λ b. too b (has_oldbin note))
   where
     too : (b c : Bool) → IsGood path owner co (left_if path owner co b) b (remove_oldbin_too by path c (stopped by))
     too b true =
         let leaves = leave-good path owner co b by in
-        calm-good path owner co (left_if path owner co b) b by (RemovePid (oldbin path)) (note_edges None (Some Left) (stopped by)) refl (other-calm path owner co (oldbin path) (other-oldbin path) (oldbin-other path)) (leaves, (leaves, tt))
+        calm-good path owner co (left_if path owner co b) b by (RemovePid (oldbin path))
+        (note_edges None (Some Left) (stopped by)) refl
+        (other-calm path owner co (oldbin path) (other-oldbin path) (oldbin-other path)) (leaves, (leaves, tt))
     too b false = leave-good path owner co b by
 
 -- And of the file with the suffix, where it may be there.
-at-oldbin : (path : FilePath) (owner : Option ℕ) (co : Course) (by : ℕ) (note : PidNote) → (has_oldbin note ≡ false → owner ≡ None) → IsGood (oldbin path) owner co owner false (removes by (Some path) note (stopped by))
+at-oldbin :
+    (path : FilePath) (owner : Option ℕ) (co : Course) (by : ℕ) (note : PidNote) →
+    (has_oldbin note ≡ false → owner ≡ None) →
+    IsGood (oldbin path) owner co owner false (removes by (Some path) note (stopped by))
 at-oldbin path owner co by note absent =
     let more = too (has_oldbin note) absent in
-    calm-good (oldbin path) owner co owner false by (RemovePid path) (note_edges (Some NoFile) (Some Left) (remove_oldbin_too by path (has_oldbin note) (stopped by))) refl (other-calm (oldbin path) owner co path (oldbin-other path) (other-oldbin path)) (more, (more, tt))
+    calm-good (oldbin path) owner co owner false by (RemovePid path)
+    (note_edges (Some NoFile) (Some Left) (remove_oldbin_too by path (has_oldbin note) (stopped by))) refl
+    (other-calm (oldbin path) owner co path (oldbin-other path) (other-oldbin path)) (more, (more, tt))
   where
     too : (b : Bool) → (b ≡ false → owner ≡ None) → IsGood (oldbin path) owner co owner false (remove_oldbin_too by path b (stopped by))
     too true absent = removal-good (oldbin path) owner co by None (Some Left) (stopped by) (λ b. leave-good (oldbin path) owner co b by)
@@ -198,14 +233,18 @@ at-oldbin path owner co by note absent =
 
 ---- The whole plan
 
-absent-by : (note : PidNote) (path : FilePath) (pid : ℕ) (files : List File) → FilesAre note (Some path) pid files → has_oldbin note ≡ false → owner_at (oldbin path) files ≡ None
+absent-by :
+    (note : PidNote) (path : FilePath) (pid : ℕ) (files : List File) → FilesAre note (Some path) pid files →
+    has_oldbin note ≡ false → owner_at (oldbin path) files ≡ None
 absent-by InPlace path pid files are e = are.1
 absent-by AtOldbin path pid files are e = absurd (cc e)
 absent-by OldbinLeft path pid files are e = absurd (cc e)
 absent-by Left path pid files are e = absurd are
 absent-by NoFile path pid files are e = absurd are
 
-owned-first : (path : FilePath) (text : List ℕ) (tree : Tree) (pattern : Pattern) (p : Progress) → first_owner path (run_with text tree pattern p).passed ≡ owner_at path p.table.files
+owned-first :
+    (path : FilePath) (text : List ℕ) (tree : Tree) (pattern : Pattern) (p : Progress) →
+    first_owner path (run_with text tree pattern p).passed ≡ owner_at path p.table.files
 owned-first path text (Ends end) pattern p = refl
 owned-first path text (Does by order set bs) pattern p = refl
 
@@ -213,29 +252,43 @@ abbrev pub Ended : Ending → Type 0
 Ended (At end) = ⊤
 Ended Lost = ⊥
 
-removed-at : (path : FilePath) (owner : Option ℕ) (co : Course) (past : List Entry) (e : Ending) (q : Progress) → Ended e → Removed path owner co past e q → owner_at path q.table.files ≡ left_if path owner co (was_failed (path ∷ []) past)
+removed-at :
+    (path : FilePath) (owner : Option ℕ) (co : Course) (past : List Entry) (e : Ending) (q : Progress) → Ended e →
+    Removed path owner co past e q → owner_at path q.table.files ≡ left_if path owner co (was_failed (path ∷ []) past)
 removed-at path owner co past (At end) q on h = h
 removed-at path owner co past Lost q on h = absurd on
 
 -- What a good tree says of its run.
-removed-by : (path : FilePath) (t : Table) (r : Record) (quick : Bool) (pattern : Pattern) → refusal_of r (Stop quick) [] pattern t ≡ None → Ended (run_of r (Stop quick) [] pattern t).ending →
-    IsGood path (owner_at path t.files) (own_course r pattern) (owner_at path t.files) false (removes r.generation.image r.pid_path r.note (stopped r.generation.image)) → IsRemoved path (run_of r (Stop quick) [] pattern t)
+removed-by :
+    (path : FilePath) (t : Table) (r : Record) (quick : Bool) (pattern : Pattern) →
+    refusal_of r (Stop quick) [] pattern t ≡ None → Ended (run_of r (Stop quick) [] pattern t).ending →
+    IsGood path (owner_at path t.files) (own_course r pattern) (owner_at path t.files) false
+    (removes r.generation.image r.pid_path r.note (stopped r.generation.image)) → IsRemoved path
+    (run_of r (Stop quick) [] pattern t)
 removed-by path t r quick pattern spared ends good =
     let o = owner_at path t.files in
     let c = own_course r pattern in
     let at = start_at t r.note in
     let tree = plan_tree r (Stop quick) [] in
     let ran = run_of r (Stop quick) [] pattern t in
-    let all = from-traced (due path o c) (Removed path o c) Anyhow c [] tree at (stop-good path o c r.generation.image r.generation r.ready r.pid_path r.note quick good [] at refl refl) spared (are-mild-anyhow c tree at) in
+    let all =
+    from-traced (due path o c) (Removed path o c) Anyhow c [] tree at
+    (stop-good path o c r.generation.image r.generation r.ready r.pid_path r.note quick good [] at refl refl) spared
+    (are-mild-anyhow c tree at) in
     removed-at path o c ran.entries ran.ending ran.last ends all.last
     ∙ ap (λ x. if was_failed (path ∷ []) ran.entries then x else None) (sym (owned-first path [] tree pattern at))
 
-pub files-removed : (path : FilePath) (t : Table) (r : Record) (quick : Bool) (pattern : Pattern) → r.pid_path ≡ Some path → FilesAre r.note r.pid_path r.pid t.files → refusal_of r (Stop quick) [] pattern t ≡ None → Ended (run_of r (Stop quick) [] pattern t).ending →
+pub files-removed :
+    (path : FilePath) (t : Table) (r : Record) (quick : Bool) (pattern : Pattern) → r.pid_path ≡ Some path →
+    FilesAre r.note r.pid_path r.pid t.files → refusal_of r (Stop quick) [] pattern t ≡ None →
+    Ended (run_of r (Stop quick) [] pattern t).ending →
     IsRemoved path (run_of r (Stop quick) [] pattern t) × IsRemoved (oldbin path) (run_of r (Stop quick) [] pattern t)
 files-removed path t r quick pattern is are spared ends =
     let c = own_course r pattern in
     let by = r.generation.image in
-    let back : (x : FilePath) → IsGood x (owner_at x t.files) c (owner_at x t.files) false (removes by (Some path) r.note (stopped by)) → IsGood x (owner_at x t.files) c (owner_at x t.files) false (removes by r.pid_path r.note (stopped by)) =
+    let back : (x : FilePath) →
+    IsGood x (owner_at x t.files) c (owner_at x t.files) false (removes by (Some path) r.note (stopped by)) →
+    IsGood x (owner_at x t.files) c (owner_at x t.files) false (removes by r.pid_path r.note (stopped by)) =
     λ x h. subst (λ z. IsGood x (owner_at x t.files) c (owner_at x t.files) false (removes by z r.note (stopped by))) (sym is) h in
     let absent = absent-by r.note path r.pid t.files (subst (λ z. FilesAre r.note z r.pid t.files) is are) in (
       removed-by path t r quick pattern spared ends (back path (at-path path (owner_at path t.files) c by r.note)),

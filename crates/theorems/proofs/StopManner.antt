@@ -17,15 +17,16 @@ use Rattle.definitions.specs.Tree.{Tree, Branches, Ends, Does, Nothing, Branch, 
 use Rattle.definitions.specs.Plans.{then_edge, note_edges, plan_tree, stop_tree, kills, awaits_gone, removes, remove_oldbin_too, has_oldbin, stopped}
 use Rattle.definitions.specs.Run.{Lost, Pattern, Progress, Ran, run_with, goes_with, noted, after_call, after_moment, answered, start_at}
 use Rattle.definitions.specs.Manner.{is_quit_call, is_leave_call, was_late, IsKillDue}
-use Rattle.definitions.specs.Claims.{names_any, InManner}
-use Rattle.theorems.proofs.Small.{in-reverse}
-use Rattle.theorems.proofs.Logic.{Course, course_after, Anyhow, are-mild-anyhow}
+use Rattle.definitions.specs.Claims.{names_any}
+use Rattle.theorems.proofs.Headlines.{InManner}
+use Rattle.table_laws.proofs.Small.{in-reverse}
+use Rattle.run_laws.proofs.Logic.{Course, course_after, Anyhow, are-mild-anyhow}
 use Rattle.vocabulary.specs.declared.names.Name.{Name}
 use Rattle.vocabulary.specs.declared.plans.PidNote.TheVariants.{NoFile, Left}
 use Rattle.vocabulary.specs.declared.plans.End.TheVariants.{Done}
 use Rattle.definitions.specs.Exits.{after_exits}
-use Rattle.theorems.proofs.Traces.{entry_of, Asking, Finally, Traced, Good, AllGood, all-good, good-call, from-traced}
-use Rattle.theorems.proofs.Waits.{Told, AllWaited, told-on, all-waited-on, quits-told, waits-told, kills-traced, leaves-traced}
+use Rattle.run_laws.proofs.Traces.{entry_of, Asking, Finally, Traced, Good, AllGood, all-good, good-call, from-traced}
+use Rattle.run_laws.proofs.Waits.{Told, AllWaited, told-on, all-waited-on, quits-told, waits-told, kills-traced, leaves-traced}
 use Rattle.theorems.proofs.WorkersManner.{own_course}
 
 ---- Calls that a plan never makes
@@ -46,7 +47,9 @@ abbrev any_call : (Call → Bool) → List Entry → Bool
 any_call test entries = list_any (λ e. test e.call) entries
 
 mutual
-  never-called : (test : Call → Bool) (text : List ℕ) (t : Tree) (pattern : Pattern) (p : Progress) → NeverCalls test t → any_call test (run_with text t pattern p).entries ≡ false
+  never-called :
+      (test : Call → Bool) (text : List ℕ) (t : Tree) (pattern : Pattern) (p : Progress) → NeverCalls test t →
+      any_call test (run_with text t pattern p).entries ≡ false
   never-called test text (Ends end) pattern p h = refl
   never-called test text (Does by (Make call) set bs) pattern p h =
       let moment = pattern (p.calls + 1) in
@@ -57,12 +60,15 @@ mutual
   never-called test text (Does by (AwaitLacking g) set bs) pattern p h = absurd h
   never-called test text (Does by (KillLacking g) set bs) pattern p h = absurd h
 
-  never-behind : (test : Call → Bool) (text : List ℕ) (bs : Branches) (r : Reply) (pattern : Pattern) (p : Progress) → NeverBehind test bs → any_call test (goes_with text bs r pattern p).entries ≡ false
+  never-behind :
+      (test : Call → Bool) (text : List ℕ) (bs : Branches) (r : Reply) (pattern : Pattern) (p : Progress) →
+      NeverBehind test bs → any_call test (goes_with text bs r pattern p).entries ≡ false
   never-behind test text Nothing r pattern p h = refl
   never-behind test text (Branch replies said rest more) r pattern p h =
       let here = never-called test text rest pattern (noted said p) h.0 in
       let there = never-behind test text more r pattern p h.1 in
-      elim (among replies r) as (λ b. let ran : Ran = elim b as (λ c. Ran) [ true ↦ run_with text rest pattern (noted said p) | false ↦ goes_with text more r pattern p ] in any_call test ran.entries ≡ false) [
+      elim (among replies r) as
+      (λ b. let ran : Ran = elim b as (λ c. Ran) [ true ↦ run_with text rest pattern (noted said p) | false ↦ goes_with text more r pattern p ] in any_call test ran.entries ≡ false) [
         | true ↦ here
         | false ↦ there
       ]
@@ -71,7 +77,9 @@ never-kills : (by : ℕ) (g : Generation) (ks : List ℕ) (rest : Tree) → Neve
 never-kills by g [] rest h = h
 never-kills by g (x ∷ ks) rest h = (refl, (never-kills by g ks rest h, tt))
 
-never-removes : (by : ℕ) (path : Option FilePath) (note : PidNote) (rest : Tree) → NeverCalls is_quit_call rest → NeverCalls is_quit_call (removes by path note rest)
+never-removes :
+    (by : ℕ) (path : Option FilePath) (note : PidNote) (rest : Tree) → NeverCalls is_quit_call rest →
+    NeverCalls is_quit_call (removes by path note rest)
 never-removes by None note rest h = h
 never-removes by (Some path) note rest h =
     let more = too (has_oldbin note) in
@@ -127,8 +135,12 @@ module _ (r : Record) (pattern : Pattern) where
       let e = entry_of by Leave st.answer in
       (waited, all-good due anyway Anyhow (course_after order co) not-lost Any (AllWaited g r.ready) (then_edge (Ends Done)) ((λ past p k h. tt), tt) (past ++ e ∷ []) (reply_of [] st.answer) (after_call by order [] st middle) (all-waited-on g r.ready past e waited) tt)
 
-  removal-good : (path : FilePath) (bs : Branches) → AllGood due anyway Anyhow co not-lost Any (AllWaited g r.ready) bs → IsGood (Does by (Make (RemovePid path)) [] bs)
-  removal-good path bs all = good-call due anyway Anyhow co not-lost Any (AllWaited g r.ready) by (RemovePid path) [] bs refl exits-any (all-waited-on g r.ready) (λ past t k h. tt) (λ text fate t h. tt) all
+  removal-good :
+      (path : FilePath) (bs : Branches) → AllGood due anyway Anyhow co not-lost Any (AllWaited g r.ready) bs →
+      IsGood (Does by (Make (RemovePid path)) [] bs)
+  removal-good path bs all =
+      good-call due anyway Anyhow co not-lost Any (AllWaited g r.ready) by (RemovePid path) [] bs refl exits-any
+      (all-waited-on g r.ready) (λ past t k h. tt) (λ text fate t h. tt) all
 
   removes-good : (path : Option FilePath) (note : PidNote) → IsGood (removes by path note (stopped by))
   removes-good None note = leave-good
@@ -144,17 +156,22 @@ module _ (r : Record) (pattern : Pattern) where
   stop-traced q =
       let rest = removes by r.pid_path r.note (stopped by) in
       let L = reverse r.ready in
-      quits-told by g due anyway Anyhow co not-lost Any exits-any (λ past x t h. tt) (λ text x fate t h. tt) L (awaits_gone by g L rest) (λ past. ⊤) (λ past e h. tt)
+      quits-told by g due anyway Anyhow co not-lost Any exits-any (λ past x t h. tt) (λ text x fate t h. tt) L
+      (awaits_gone by g L rest) (λ past. ⊤) (λ past e h. tt)
       (λ past1 q1 k1 told h1. waits-told by g due anyway Anyhow co not-lost Any exits-any (λ past x t h. tt) (λ text x fate t h. tt) (λ past x t late h. late) (λ text x fate t h. tt) L rest (λ l. (x : ℕ) → is_in L x ≡ true → Told g x l) (λ l e h x on. told-on g x l e (h x on)) (λ l h. h)
       (λ past2 q2 k2 waited h2. removes-good r.pid_path r.note past2 q2 (λ x on. waited x (in-reverse r.ready x ∙ on)) tt) past1 q1 told tt) [] q tt tt
 
 ---- The manner
 
-kill-due : (g : Generation) (ready : List ℕ) (first : Table) (past : List Entry) (call : Call) (t : Table) → InOrder g ready past call t → IsKillDue first past call t
+kill-due :
+    (g : Generation) (ready : List ℕ) (first : Table) (past : List Entry) (call : Call) (t : Table) →
+    InOrder g ready past call t → IsKillDue first past call t
 kill-due g ready first past (Kill h x) t late = λ p j on taken. late
 kill-due g ready first past _ t late = tt
 
-leave-due : (g : Generation) (ready : List ℕ) (past : List Entry) (call : Call) (t : Table) → is_leave_call call ≡ true → InOrder g ready past call t → AllWaited g ready past
+leave-due :
+    (g : Generation) (ready : List ℕ) (past : List Entry) (call : Call) (t : Table) → is_leave_call call ≡ true →
+    InOrder g ready past call t → AllWaited g ready past
 leave-due g ready past Leave t e h = h
 leave-due g ready past _ t e h = absurd (cc e)
 

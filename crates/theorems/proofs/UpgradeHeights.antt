@@ -17,9 +17,12 @@ use Rattle.definitions.specs.Tree.{Tree, Ends, Done, Split, JoinReady, JoinBack,
 use Rattle.definitions.specs.Record.{Listener, addresses_of, crew_of}
 use Rattle.definitions.specs.Target.{only_in}
 use Rattle.definitions.specs.After.{crew_wanted}
-use Rattle.definitions.specs.Plans.{does, tries, tries_all, pid_calls, quits, awaits_gone, forks_any, awaits_any, starts_any, asks, retire, relieve, hand_over, remove_oldbin, back_serving, back_late, back_from, back_alone, move_back, move_aside, settle, spawn_edges, new_calls, old_part, upgrade_length}
+use Rattle.definitions.specs.Plans.{does, tries, tries_all, pid_calls, quits, awaits_gone, forks_any, awaits_any}
+use Rattle.definitions.specs.Plans.{starts_any, asks, retire, relieve, hand_over, remove_oldbin, back_serving}
+use Rattle.definitions.specs.Plans.{back_late, back_from, back_alone, move_back, move_aside, settle, spawn_edges}
+use Rattle.definitions.specs.Plans.{new_calls, old_part, upgrade_length}
 use Rattle.definitions.specs.Claims.{UpgradesAreShort}
-use Rattle.theorems.proofs.Sets.{below-length}
+use Rattle.table_laws.proofs.Sets.{below-length}
 use Rattle.std.proofs.lemmas.List.{length-append, length-map, length-reverse}
 
 settle-height : (by : ℕ) (crew : Crew) (set : List ℕ) (s : Side) (rounds : ℕ) → height (settle by crew set s rounds) ≤ 4 * rounds + 1
@@ -53,7 +56,9 @@ waits-height by g (k ∷ ks) rest = omega (arith, waits-height by g ks rest)
 any-height : (by : ℕ) (crew : Crew) (ks : List ℕ) (rest : Tree) → height (starts_any by crew ks rest) ≤ 3 * length ks + height rest
 any-height by crew ks rest = omega (arith, forks-height by crew ks (awaits_any by crew.generation ks rest), waits-height by crew.generation ks rest)
 
-asks-height : (attended : Bool) (by question : ℕ) (on_go on_back : Tree) → height (asks attended by question on_go on_back) ≤ 1 + max (height on_go) (height on_back)
+asks-height :
+    (attended : Bool) (by question : ℕ) (on_go on_back : Tree) →
+    height (asks attended by question on_go on_back) ≤ 1 + max (height on_go) (height on_back)
 asks-height true by question on_go on_back = omega arith
 asks-height false by question on_go on_back = omega arith
 
@@ -69,7 +74,9 @@ pid-length : (path : Option FilePath) → length (pid_calls path WritePid) ≤ 1
 pid-length None = omega arith
 pid-length (Some path) = omega arith
 
-before-height : (by image : ℕ) (path : Option FilePath) (note : PidNote) → height (move_aside by path note (does by (SpawnMaster image) (spawn_edges (Ends Split) (Ends Done))) (Ends Done)) ≤ 2
+before-height :
+    (by image : ℕ) (path : Option FilePath) (note : PidNote) → height
+    (move_aside by path note (does by (SpawnMaster image) (spawn_edges (Ends Split) (Ends Done))) (Ends Done)) ≤ 2
 before-height by image None note = omega arith
 before-height by image (Some path) AtOldbin = omega arith
 before-height by image (Some path) InPlace = omega arith
@@ -88,7 +95,9 @@ few test (a ∷ l) = go (test a) (few test l)
 few-only : (l others : List Address) → length (only_in l others) ≤ length l
 few-only l others = few (λ a. not (has others a)) l
 
-short : (attended : Bool) (by : ℕ) (old new : Crew) (ready : List ℕ) (retries : ℕ) (path : Option FilePath) (note : PidNote) (held wanted : List Address) (n : ℕ) →
+short :
+    (attended : Bool) (by : ℕ) (old new : Crew) (ready : List ℕ) (retries : ℕ) (path : Option FilePath) (note : PidNote)
+    (held wanted : List Address) (n : ℕ) →
     upgrade_length attended by old new ready retries path note held wanted n ≤ 9 * (length ready + n) + 3 * (length held + length wanted) + 16 * retries + 48
 short attended by old new ready retries path note held wanted n =
     let heir = new.generation.image in
@@ -118,7 +127,8 @@ short attended by old new ready retries path note held wanted n =
     let e11 = tries-height heir (pid_calls path WritePid) counted back in
     let len = length-reverse ready in
     let first = tries-height heir (new_calls new held wanted n) (Ends JoinReady) (Ends JoinBack) in
-    omega (arith, before-height by heir path note, mending-height by old ready retries, calls new held wanted n, first, pid-length path, e1, e2, e3, e4, e5, e6, e7, e8, e9, e10, e11, len)
+    omega
+    (arith, before-height by heir path note, mending-height by old ready retries, calls new held wanted n, first, pid-length path, e1, e2, e3, e4, e5, e6, e7, e8, e9, e10, e11, len)
   where
     calls : (new : Crew) (held wanted : List Address) (n : ℕ) → length (new_calls new held wanted n) ≤ 1 + length held + length wanted + 2 * n
     calls new held wanted n =
@@ -127,12 +137,15 @@ short attended by old new ready retries path note held wanted n =
         let b = map OpenAt (only_in wanted held) in
         let f = map (fork_of new) S in
         let w = map (AwaitReady new.generation) S in
-        omega (arith, few-only held wanted, few-only wanted held, below-length n, length-append (Adopt ∷ a ++ b ++ f) w, length-append (Adopt ∷ a ++ b) f, length-append (Adopt ∷ a) b, length-map (only_in held wanted) CloseAt, length-map (only_in wanted held) OpenAt, length-map S (fork_of new), length-map S (AwaitReady new.generation))
+        omega
+        (arith, few-only held wanted, few-only wanted held, below-length n, length-append (Adopt ∷ a ++ b ++ f) w, length-append (Adopt ∷ a ++ b) f, length-append (Adopt ∷ a) b, length-map (only_in held wanted) CloseAt, length-map (only_in wanted held) OpenAt, length-map S (fork_of new), length-map S (AwaitReady new.generation))
 
 pub upgrades-short : UpgradesAreShort
 upgrades-short r s =
     let same : length (addresses_of r) ≡ length r.listeners = length-map r.listeners (λ (l : Listener). l.address) in
     let n = below-length s.workers in (
-      omega (arith, same, n, short false r.generation.image (crew_of r) (crew_wanted r (Upgrade s)) r.ready r.retries r.pid_path r.note (addresses_of r) s.listeners s.workers),
-      omega (arith, same, n, short true r.generation.image (crew_of r) (crew_wanted r (Attended s)) r.ready r.retries r.pid_path r.note (addresses_of r) s.listeners s.workers),
+      omega
+          (arith, same, n, short false r.generation.image (crew_of r) (crew_wanted r (Upgrade s)) r.ready r.retries r.pid_path r.note (addresses_of r) s.listeners s.workers),
+      omega
+          (arith, same, n, short true r.generation.image (crew_of r) (crew_wanted r (Attended s)) r.ready r.retries r.pid_path r.note (addresses_of r) s.listeners s.workers),
     )

@@ -19,23 +19,25 @@ use Rattle.definitions.specs.After.{crew_wanted, posts_wanted, Setup, setup_afte
 use Rattle.definitions.specs.Tree.{Tree}
 use Rattle.definitions.specs.Run.{Pattern, Progress, Return, faults_since, Ending, At, outcome_of}
 use Rattle.definitions.specs.Claims.{AgreesAfter, IsStart, has_socket, Says, IsPaid, Kept, IsCommon, IsBlamed, HasCause, HasDescriptors, ready_with}
-use Rattle.theorems.proofs.Rows.{weigh, both-true}
-use Rattle.theorems.proofs.Views.{Names, named, View, Looks, ready_in}
-use Rattle.theorems.proofs.Effects.{none}
-use Rattle.theorems.proofs.Exits.{falls-all}
-use Rattle.theorems.proofs.Counts.{Distinct, Counted, counted-all}
-use Rattle.theorems.proofs.Sets.{filter-le, in-here, below-of, below-distinct, below-length}
-use Rattle.theorems.proofs.Services.{live-with, live-with-on, fewer-same}
-use Rattle.theorems.proofs.Begins.{first_view, begin, rising-distinct}
-use Rattle.theorems.proofs.Small.{every-is_in}
-use Rattle.theorems.proofs.Listeners.{fds, some-held}
-use Rattle.theorems.proofs.Shares.{shortfalls-sum}
-use Rattle.theorems.proofs.Layouts.{told, share-listens}
-use Rattle.theorems.proofs.After.{agrees-after}
-use Rattle.theorems.proofs.Ends.{ListensBy, first-few, first-listens, next-image-is, moved-after, resized, report_at, service-of, service-short, first-keys, first-service, first-held, census-within, files-still, kept-after}
-use Rattle.theorems.proofs.Logic.{Unasked, Course, Along, Anyhow}
-use Rattle.theorems.proofs.Rules.{Scene, Still, Marks, Only, Enough, covers-part, level-by, view, any, ready_of, floor-by}
-use Rattle.theorems.proofs.Duo.{Lives, beside-change, beside-drop, beside-grow, lives-exits, dead-weigh, new_view, sole}
+use Rattle.table_laws.proofs.Rows.{weigh, both-true}
+use Rattle.table_laws.proofs.Views.{Names, named, View, Looks, ready_in}
+use Rattle.table_laws.proofs.Effects.{none}
+use Rattle.table_laws.proofs.Exits.{falls-all}
+use Rattle.table_laws.proofs.Counts.{Distinct, Counted, counted-all}
+use Rattle.table_laws.proofs.Sets.{filter-le, in-here, below-of, below-distinct, below-length}
+use Rattle.table_laws.proofs.Services.{live-with, live-with-on, fewer-same}
+use Rattle.table_laws.proofs.Begins.{first_view, begin, rising-distinct}
+use Rattle.table_laws.proofs.Small.{every-is_in}
+use Rattle.table_laws.proofs.Listeners.{fds, some-held}
+use Rattle.table_laws.proofs.Shares.{shortfalls-sum}
+use Rattle.table_laws.proofs.Layouts.{told, share-listens}
+use Rattle.table_laws.proofs.After.{agrees-after}
+use Rattle.theorems.proofs.Ends.{ListensBy, first-few, first-listens, next-image-is, moved-after, resized, report_at}
+use Rattle.theorems.proofs.Ends.{service-of, service-short, first-keys, first-service, first-held, census-within}
+use Rattle.theorems.proofs.Ends.{files-still, kept-after}
+use Rattle.run_laws.proofs.Logic.{Unasked, Course, Along, Anyhow}
+use Rattle.run_laws.proofs.Rules.{Scene, Still, Marks, Only, Enough, covers-part, level-by, view, any, ready_of, floor-by}
+use Rattle.table_laws.proofs.Duo.{Lives, beside-change, beside-drop, beside-grow, lives-exits, dead-weigh, new_view, sole}
 
 -- What an upgrade is given.
 pub record Given : Type 0 where
@@ -143,7 +145,8 @@ module _ (c : Given) where
 
   abbrev pub post : Ending → Progress → Type 0
   post e q =
-      Says c.rec (Upgrade c.st) (outcome_of sides e q.lacking) c.t q.table × IsPaid c.rec.retries (outcome_of sides e q.lacking) q × HasCause (outcome_of sides e q.lacking) q.cause
+      Says c.rec (Upgrade c.st) (outcome_of sides e q.lacking) c.t q.table
+      × IsPaid c.rec.retries (outcome_of sides e q.lacking) q × HasCause (outcome_of sides e q.lacking) q.cause
       × AgreesAfter c.rec (Upgrade c.st) (report_at sides e q) q.table
 
   abbrev pub Goes : Course → Tree → Progress → Type 0
@@ -174,7 +177,10 @@ module _ (c : Given) where
   pub wanted-of : (a : Address) → is_some (target a) ≡ true → has wanted a ≡ true
   wanted-of a e = go (has wanted a) e
     where
-      go : (b : Bool) → is_some {T = Generation → ℕ} (if b then Some (λ h. if same_generation h new then wanted_at c.rec (Upgrade c.st) a else 0) else None) ≡ true → b ≡ true
+      go :
+          (b : Bool) → is_some {T = Generation → ℕ}
+          (if b then Some (λ h. if same_generation h new then wanted_at c.rec (Upgrade c.st) a else 0) else None) ≡ true
+          → b ≡ true
       go true e = refl
       go false e = e
 
@@ -186,7 +192,9 @@ module _ (c : Given) where
   common0 a h = (held-of a h.0, λ k e. e)
 
   kept-by : (v : View) (hs : List Hold) → v.holds ≡ hs → Common hs → (q : Progress) → Looks v q.table.rows → Kept old target c.t q.table
-  kept-by v hs is common q looks = λ a k h on. live-with-on v (has_socket a k) q.table.rows looks (ap (has_socket a k) is ∙ (common a h).1 k (sym (live-with u (λ n. refl) (has_socket a k) c.t.rows looks0) ∙ on))
+  kept-by v hs is common q looks =
+      λ a k h on. live-with-on v (has_socket a k) q.table.rows looks
+      (ap (has_socket a k) is ∙ (common a h).1 k (sym (live-with u (λ n. refl) (has_socket a k) c.t.rows looks0) ∙ on))
 
   -- each new worker holds an address that is wanted and held, where its group listens
   abbrev pub Laid : List Hold → Type 0
@@ -202,17 +210,26 @@ module _ (c : Given) where
   pub hold-new : (m : ℕ) (hs : List Hold) (s r : Names) → Laid hs → Common hs → HoldAll (w m hs s r) serves_new
   hold-new m hs s r laid common a h j k on = laid k a (wanted-of a h.1) ∙ both-true (has_address a hs) (new_at a k) (common a h).0 on
 
-  pub level-some : (v : View) (floor : Address → ℕ) (serves : Address → Names) → HoldAll v serves → (names : Names) (count excused : ℕ) (q : Progress) → ((a : Address) → f a ≤ floor a) → Enough v.number floor serves names count → Looks v q.table.rows → ((a : Address) → 1 ≤ floor a → count ≤ ready_of v names q + q.losses + excused) → excused ≤ faults_since 2 q.returns q.faults → Level q
-  level-some v floor serves hold names count excused q most enough looks secured within = λ a h. floor-by (f a) (ready_with a q.table + q.losses + faults_since 2 q.returns q.faults) (at a h)
+  pub level-some :
+      (v : View) (floor : Address → ℕ) (serves : Address → Names) → HoldAll v serves →
+      (names : Names) (count excused : ℕ) (q : Progress) → ((a : Address) → f a ≤ floor a) →
+      Enough v.number floor serves names count → Looks v q.table.rows →
+      ((a : Address) → 1 ≤ floor a → count ≤ ready_of v names q + q.losses + excused) →
+      excused ≤ faults_since 2 q.returns q.faults → Level q
+  level-some v floor serves hold names count excused q most enough looks secured within =
+      λ a h. floor-by (f a) (ready_with a q.table + q.losses + faults_since 2 q.returns q.faults) (at a h)
     where
       at : (a : Address) → IsCommon old target a → 1 ≤ f a → f a ≤ ready_with a q.table + q.losses + faults_since 2 q.returns q.faults
       at a h e =
           let some : 1 ≤ floor a = omega (arith, e, most a) in
-          omega (arith, most a, within, level-by v (floor a) (serves a) names count a q.table.rows (q.losses + excused) (hold a h) (enough a some) looks (omega (arith, secured a some)))
+          omega
+          (arith, most a, within, level-by v (floor a) (serves a) names count a q.table.rows (q.losses + excused) (hold a h) (enough a some) looks (omega (arith, secured a some)))
 
   -- The old workers are enough.
   pub enough-old : Enough c.rec.pid f serves_old (named g (is_in R)) (length R)
-  enough-old a e = covers-part c.rec.pid (f a) (serves_old a) g R (old_at a) dR (λ k on. on) (omega (arith, first-few c.t c.rec c.start a, length-filter (old_at a) R))
+  enough-old a e =
+      covers-part c.rec.pid (f a) (serves_old a) g R (old_at a) dR (λ k on. on)
+      (omega (arith, first-few c.t c.rec c.start a, length-filter (old_at a) R))
 
   -- and so are the new ones
   pub enough-new : (m : ℕ) → Enough m f serves_new (named new (is_in S)) (length S)
@@ -229,7 +246,10 @@ module _ (c : Given) where
   since-more [] faults e le = le
   since-more (b ∷ returns) faults e le = go (b.question == 2) le (λ h. since-more returns faults e h)
     where
-      go : (x : Bool) → e ≤ (if x then faults - b.faults else faults_since 2 returns faults) → (e ≤ faults_since 2 returns faults → e ≤ faults_since 2 returns (faults + 1)) → e ≤ (if x then faults + 1 - b.faults else faults_since 2 returns (faults + 1))
+      go :
+          (x : Bool) → e ≤ (if x then faults - b.faults else faults_since 2 returns faults) →
+          (e ≤ faults_since 2 returns faults → e ≤ faults_since 2 returns (faults + 1)) →
+          e ≤ (if x then faults + 1 - b.faults else faults_since 2 returns (faults + 1))
       go true le ih = omega (arith, le)
       go false le ih = ih le
 
@@ -256,10 +276,19 @@ module _ (c : Given) where
   abbrev pub Fits : List Return → Type 0
   Fits returns = c.attended ≡ false → returns ≡ []
 
-  pub good-alone : (v : View) (serves : Address → Names) (floor : Address → ℕ) (need excused : ℕ) (returns : List Return) → Fits returns → (hs : List Hold) → ((a : Address) → f a ≤ floor a) ⊎ ((a : Address) → f a ≤ need) → v.holds ≡ hs → HoldAll v serves → Common hs → (names : Names) (count : ℕ) (b : Bool) (q : Progress) → Enough v.number floor serves names count → Looks (view v any any) q.table.rows → ((a : Address) → 1 ≤ floor a → count ≤ ready_of v names q + q.losses + excused) → Marks b returns q.faults q.losses q.returns q.cause → (need ≤ q.losses) × (excused ≤ faults_since 2 returns q.faults) → inv q
+  pub good-alone :
+      (v : View) (serves : Address → Names) (floor : Address → ℕ) (need excused : ℕ) (returns : List Return) →
+      Fits returns → (hs : List Hold) → ((a : Address) → f a ≤ floor a) ⊎ ((a : Address) → f a ≤ need) → v.holds ≡ hs →
+      HoldAll v serves → Common hs → (names : Names) (count : ℕ) (b : Bool) (q : Progress) →
+      Enough v.number floor serves names count → Looks (view v any any) q.table.rows →
+      ((a : Address) → 1 ≤ floor a → count ≤ ready_of v names q + q.losses + excused) →
+      Marks b returns q.faults q.losses q.returns q.cause →
+      (need ≤ q.losses) × (excused ≤ faults_since 2 returns q.faults) → inv q
   good-alone v serves floor need excused returns fits hs kind is hold common names count b q enough looks secured marks beside = (
     kept-by (view v any any) hs is common q looks,
-    ⊎_elim (λ most. level-some (view v any any) floor serves hold names count excused q most enough looks secured (omega (arith, beside.1, ap (λ l. faults_since 2 l q.faults) marks.returned))) (λ le a h. omega (arith, le a, beside.0)) kind,
+    ⊎_elim
+        (λ most. level-some (view v any any) floor serves hold names count excused q most enough looks secured (omega (arith, beside.1, ap (λ l. faults_since 2 l q.faults) marks.returned)))
+        (λ le a h. omega (arith, le a, beside.0)) kind,
     (marks.clean, marks.blamed),
     λ e. marks.returned ∙ fits e,
   )
@@ -268,7 +297,9 @@ module _ (c : Given) where
   abbrev pub Second : View → Names → ℕ → List Process → ℕ → Type 0
   Second v names d rows losses = Lives v rows × (d ≤ weigh (ready_in v.number names) rows + losses)
 
-  abbrev pub pair_scene : (v : View) → v.number ≢ c.rec.pid → v.others c.rec.pid ≡ true → (names : Names) (d : ℕ) (floor : Address → ℕ) → List Return → List File → PidNote → Scene c.rec.pid g.image
+  abbrev pub pair_scene :
+      (v : View) → v.number ≢ c.rec.pid → v.others c.rec.pid ≡ true → (names : Names) (d : ℕ) (floor : Address → ℕ) →
+      List Return → List File → PidNote → Scene c.rec.pid g.image
   pair_scene v ne on names d floor returns files note = record {
     floor = floor;
     serves = serves_old;
@@ -280,7 +311,9 @@ module _ (c : Given) where
     Mild = Anyhow;
     Holds = λ rows losses faults. Second v names d rows losses;
     exits = λ es rows losses more faults sp mild e h. (lives-exits v es rows h.0, omega (arith, h.1, falls-all v.number names es rows, e));
-    changes = λ test f rows losses faults mine stays h. let b = beside-change v c.rec.pid test f rows ne mine stays h.0 in (b.lives, omega (arith, h.1, b.same names));
+    changes =
+        λ test f rows losses faults mine stays h. let b = beside-change v c.rec.pid test f rows ne mine stays h.0 in
+        (b.lives, omega (arith, h.1, b.same names));
     drops = λ test rows losses faults mine h. let b = beside-drop v c.rec.pid test rows ne mine h.0 in (b.lives, omega (arith, h.1, b.same names));
     grows = λ k g x hs rows losses faults h. let b = beside-grow v c.rec.pid k g x hs rows ne on h.0 in (b.lives, omega (arith, h.1, b.same names));
     fails = λ rows losses faults h. h;
@@ -291,7 +324,12 @@ module _ (c : Given) where
   Serve x names d = ((a : Address) → f a ≤ d) × ((q : Progress) → Looks x q.table.rows → d ≤ ready_of x names q + q.losses → Level q)
 
   -- The floor is the old one's workers', or the other one's.
-  pub good-pair : (v x : View) (names : Names) (d : ℕ) (floor : Address → ℕ) (returns : List Return) → Fits returns → ((a : Address) → f a ≤ floor a) ⊎ Serve x names d → v.holds ≡ H0 → HoldAll v serves_old → (names' : Names) (count : ℕ) (b : Bool) (q : Progress) → Enough v.number floor serves_old names' count → Looks (view v any any) q.table.rows → ((a : Address) → 1 ≤ floor a → count ≤ ready_of v names' q + q.losses + 0) → Marks b returns q.faults q.losses q.returns q.cause → Second x names d q.table.rows q.losses → inv q
+  pub good-pair :
+      (v x : View) (names : Names) (d : ℕ) (floor : Address → ℕ) (returns : List Return) → Fits returns →
+      ((a : Address) → f a ≤ floor a) ⊎ Serve x names d → v.holds ≡ H0 → HoldAll v serves_old →
+      (names' : Names) (count : ℕ) (b : Bool) (q : Progress) → Enough v.number floor serves_old names' count →
+      Looks (view v any any) q.table.rows → ((a : Address) → 1 ≤ floor a → count ≤ ready_of v names' q + q.losses + 0) →
+      Marks b returns q.faults q.losses q.returns q.cause → Second x names d q.table.rows q.losses → inv q
   good-pair v x names d floor returns fits kind is hold names' count b q enough looks secured marks second = (
     kept-by (view v any any) H0 is common0 q looks,
     ⊎_elim (λ most. level-some (view v any any) floor serves_old hold names' count 0 q most enough looks secured (omega arith))
@@ -312,28 +350,53 @@ module _ (c : Given) where
   listens-old k a on = first-listens c.t c.rec c.start k a
 
   module _ (files : List File) (note : PidNote) (are : FilesAre note c.rec.pid_path c.rec.pid files) where
-    agrees-old : (r : Names) (q : Progress) → Only g R r → Looks (view u none r) q.table.rows → Exactly c.rec.pid g q → Still files note c.t.limits q.table.files q.note q.table.limits → (e : Ending) → Agrees q.table (recorded (resized c.rec c.rec.wanted) c.rec.pid_path (report_at sides e q) c.rec.pid)
-    agrees-old r q only looks exact still e = agrees-after (view u none r) old_crew q.table _ (λ n. refl) (λ k. refl) (λ h k on. (only h k on).0) looks exact refl refl refl c.start.agrees.listeners (files-still note q.note c.rec.pid_path c.rec.pid files q.table.files c.t.limits q.table.limits are still)
+    agrees-old :
+        (r : Names) (q : Progress) → Only g R r → Looks (view u none r) q.table.rows → Exactly c.rec.pid g q →
+        Still files note c.t.limits q.table.files q.note q.table.limits → (e : Ending) →
+        Agrees q.table (recorded (resized c.rec c.rec.wanted) c.rec.pid_path (report_at sides e q) c.rec.pid)
+    agrees-old r q only looks exact still e =
+        agrees-after (view u none r) old_crew q.table _ (λ n. refl) (λ k. refl) (λ h k on. (only h k on).0) looks exact
+        refl refl refl c.start.agrees.listeners
+        (files-still note q.note c.rec.pid_path c.rec.pid files q.table.files c.t.limits q.table.limits are still)
 
-    within-old : (r : Names) (q : Progress) → Only g R r → Looks (view u none r) q.table.rows → Exactly c.rec.pid g q → (k : ℕ) → is_in q.ready k ≡ true → k < c.rec.wanted
-    within-old r q only looks exact k e = every-is_in (λ j. j < c.rec.wanted) R c.start.record_in_range.ready k (census-within u (λ n. refl) g R r q.table.rows q.ready only looks exact k e)
+    within-old :
+        (r : Names) (q : Progress) → Only g R r → Looks (view u none r) q.table.rows → Exactly c.rec.pid g q → (k : ℕ) →
+        is_in q.ready k ≡ true → k < c.rec.wanted
+    within-old r q only looks exact k e =
+        every-is_in (λ j. j < c.rec.wanted) R c.start.record_in_range.ready k
+        (census-within u (λ n. refl) g R r q.table.rows q.ready only looks exact k e)
 
-    pub old-full : (r : Names) (q : Progress) → Only g R r → Looks (view u none r) q.table.rows → q.lacking ≡ [] → is_some q.cause ≡ true → Still files note c.t.limits q.table.files q.note q.table.limits → Saw c.rec.pid g R q → Exactly c.rec.pid g q → post (At RolledBack) q
+    pub old-full :
+        (r : Names) (q : Progress) → Only g R r → Looks (view u none r) q.table.rows → q.lacking ≡ [] →
+        is_some q.cause ≡ true → Still files note c.t.limits q.table.files q.note q.table.limits → Saw c.rec.pid g R q →
+        Exactly c.rec.pid g q → post (At RolledBack) q
     old-full r q only looks full caused still saw exact = (
-      λ a. service-of u (λ n. refl) g R (addresses_of c.rec) (layout_of c.rec) listens-old (first-keys c.t c.rec c.start) r q.table q.lacking only looks full saw a ∙ sym (first-service c.t c.rec c.start a),
+      λ a. service-of u (λ n. refl) g R (addresses_of c.rec) (layout_of c.rec) listens-old
+          (first-keys c.t c.rec c.start) r q.table q.lacking only looks full saw a ∙ sym
+          (first-service c.t c.rec c.start a),
       tt,
       caused,
-      kept-after c.rec (Upgrade c.st) (report_at sides (At RolledBack) q) q.table c.rec.wanted refl c.start.record_in_range c.start.record_in_range.wanted (within-old r q only looks exact) (agrees-old r q only looks exact still (At RolledBack)),
+      kept-after c.rec (Upgrade c.st) (report_at sides (At RolledBack) q) q.table c.rec.wanted refl
+          c.start.record_in_range c.start.record_in_range.wanted (within-old r q only looks exact)
+          (agrees-old r q only looks exact still (At RolledBack)),
     )
 
-    pub old-short : (r : Names) (q : Progress) (x : ℕ) (xs : List ℕ) → Only g R r → Looks (view u none r) q.table.rows → q.lacking ≡ x ∷ xs → is_some q.cause ≡ true → Still files note c.t.limits q.table.files q.note q.table.limits → length R + c.rec.retries ≤ weigh (ready_in c.rec.pid (named g (is_in R))) q.table.rows + q.losses + q.faults → Saw c.rec.pid g R q → Exactly c.rec.pid g q → post (At ShortOld) q
+    pub old-short :
+        (r : Names) (q : Progress) (x : ℕ) (xs : List ℕ) → Only g R r → Looks (view u none r) q.table.rows →
+        q.lacking ≡ x ∷ xs → is_some q.cause ≡ true → Still files note c.t.limits q.table.files q.note q.table.limits →
+        length R + c.rec.retries ≤ weigh (ready_in c.rec.pid (named g (is_in R))) q.table.rows + q.losses + q.faults →
+        Saw c.rec.pid g R q → Exactly c.rec.pid g q → post (At ShortOld) q
     old-short r q x xs only looks short caused still budget saw exact =
         let some = c.start.record_in_range.groups.some in
-        let less = service-short u (λ n. refl) g R (addresses_of c.rec) (layout_of c.rec) listens-old (first-keys c.t c.rec c.start) r q.table q.lacking only looks some (omega (arith, ap length short)) saw in (
+        let less =
+        service-short u (λ n. refl) g R (addresses_of c.rec) (layout_of c.rec) listens-old
+        (first-keys c.t c.rec c.start) r q.table q.lacking only looks some (omega (arith, ap length short)) saw in (
           (less.0, less.1, fewer-same (short_at (layout_of c.rec) (shortfalls_of c.rec.posts.groups q.lacking)) _ _ _ _ (λ a. sym (first-service c.t c.rec c.start a)) (λ a. refl) less.2),
           omega (arith, budget, counted-all c.rec.pid g R q.lacking q.table.rows saw, shortfalls-sum c.rec.posts.groups q.lacking some),
           caused,
-          kept-after c.rec (Upgrade c.st) (report_at sides (At ShortOld) q) q.table c.rec.wanted refl c.start.record_in_range c.start.record_in_range.wanted (within-old r q only looks exact) (agrees-old r q only looks exact still (At ShortOld)),
+          kept-after c.rec (Upgrade c.st) (report_at sides (At ShortOld) q) q.table c.rec.wanted refl
+              c.start.record_in_range c.start.record_in_range.wanted (within-old r q only looks exact)
+              (agrees-old r q only looks exact still (At ShortOld)),
         )
 
   ---- The ends on the target's side
@@ -351,25 +414,40 @@ module _ (c : Given) where
   Lists hs = upgraded c.st.listeners c.rec.listeners ≡ Some (map listener_of hs)
 
   moved-is : (hs : List Hold) → Lists hs → renewed c.st posts (upgraded c.st.listeners c.rec.listeners) (next_image c.rec.generation) ≡ Some (moved hs)
-  moved-is hs lists = ap (λ ls. renewed c.st posts ls (next_image c.rec.generation)) lists ∙ ap (λ o. renewed c.st posts (Some (map listener_of hs)) o) (next-image-is c.rec.generation c.numbered)
+  moved-is hs lists =
+      ap (λ ls. renewed c.st posts ls (next_image c.rec.generation)) lists ∙ ap
+      (λ o. renewed c.st posts (Some (map listener_of hs)) o) (next-image-is c.rec.generation c.numbered)
 
   -- Its workers' descriptors were told from what it holds when all is closed and opened.
   pub laid-first : (hs : List Hold) → Lists hs → RisesFrom 3 (fds hs) → Laid hs
   laid-first hs lists rises k a on =
-      let told_from : posts ≡ posts_of c.st.groups c.st.listeners (map listener_of hs) = ap (λ o. posts_of c.st.groups c.st.listeners (unwrap_or o c.rec.listeners)) lists in
-      ap (λ p. has_address a (share p k hs)) told_from ∙ share-listens c.st.groups c.st.listeners c.range.addresses_add_up (map listener_of hs) hs (told 3 hs rises) k a on
+      let told_from : posts ≡ posts_of c.st.groups c.st.listeners (map listener_of hs) =
+      ap (λ o. posts_of c.st.groups c.st.listeners (unwrap_or o c.rec.listeners)) lists in
+      ap (λ p. has_address a (share p k hs)) told_from ∙ share-listens c.st.groups c.st.listeners
+      c.range.addresses_add_up (map listener_of hs) hs (told 3 hs rises) k a on
 
-  module _ (m : ℕ) (some : 1 ≤ m) (hs : List Hold) (lists : Lists hs) (keys : (a : Address) → has_address a hs ≡ has wanted a) (laid : Laid hs) (files : List File) (note : PidNote) (are : FilesAre note c.rec.pid_path m files) where
+  module _ (m : ℕ) (some : 1 ≤ m) (hs : List Hold) (lists : Lists hs)
+      (keys : (a : Address) → has_address a hs ≡ has wanted a) (laid : Laid hs) (files : List File) (note : PidNote)
+      (are : FilesAre note c.rec.pid_path m files) where
     listens-new : (r : Names) → ListensBy (x m hs r) new layout
     listens-new r k a on = laid k a (sym (keys a) ∙ on) ∙ ap (λ b. b && new_at a k) on
 
-    moved-left : (r : Names) (q : Progress) → Only new S r → Looks (view (x m hs r) none r) q.table.rows → Exactly m new q → Still files note c.t.limits q.table.files q.note q.table.limits → (e : Ending) → setup_after (outcome_of sides e q.lacking) c.rec (Upgrade c.st) ≡ Some (moved hs) → AgreesAfter c.rec (Upgrade c.st) (report_at sides e q) q.table
+    moved-left :
+        (r : Names) (q : Progress) → Only new S r → Looks (view (x m hs r) none r) q.table.rows → Exactly m new q →
+        Still files note c.t.limits q.table.files q.note q.table.limits → (e : Ending) →
+        setup_after (outcome_of sides e q.lacking) c.rec (Upgrade c.st) ≡ Some (moved hs) →
+        AgreesAfter c.rec (Upgrade c.st) (report_at sides e q) q.table
     moved-left r q only looks exact still e is =
-        moved-after c.rec (Upgrade c.st) (report_at sides e q) q.table (moved hs) m is (some-held hs wanted keys c.range.listens) c.range.groups low c.range.retries c.range.timeout_least c.range.timeout_most c.start.record_in_range some (λ e. absurd (omega (arith, e)))
+        moved-after c.rec (Upgrade c.st) (report_at sides e q) q.table (moved hs) m is
+        (some-held hs wanted keys c.range.listens) c.range.groups low c.range.retries c.range.timeout_least
+        c.range.timeout_most c.start.record_in_range some (λ e. absurd (omega (arith, e)))
         (λ k on. below-of n k (census-within (x m hs r) (λ n. refl) new S r q.table.rows q.ready only looks exact k on))
         (agrees-after (view (x m hs r) none r) new_crew q.table _ (λ n. refl) (λ k. refl) (λ h k on. (only h k on).0) looks exact refl refl refl refl (files-still note q.note c.rec.pid_path m files q.table.files c.t.limits q.table.limits are still))
 
-    pub new-full : (r : Names) (q : Progress) → Only new S r → Looks (view (x m hs r) none r) q.table.rows → q.lacking ≡ [] → Still files note c.t.limits q.table.files q.note q.table.limits → Saw m new S q → Exactly m new q → post (At Done) q
+    pub new-full :
+        (r : Names) (q : Progress) → Only new S r → Looks (view (x m hs r) none r) q.table.rows → q.lacking ≡ [] →
+        Still files note c.t.limits q.table.files q.note q.table.limits → Saw m new S q → Exactly m new q →
+        post (At Done) q
     new-full r q only looks full still saw exact = (
       service-of (x m hs r) (λ n. refl) new S wanted layout (listens-new r) keys r q.table q.lacking only looks full saw,
       tt,
@@ -377,9 +455,14 @@ module _ (c : Given) where
       moved-left r q only looks exact still (At Done) (moved-is hs lists),
     )
 
-    pub new-short : (r : Names) (q : Progress) (y : ℕ) (ys : List ℕ) → Only new S r → Looks (view (x m hs r) none r) q.table.rows → q.lacking ≡ y ∷ ys → is_some q.cause ≡ true → Still files note c.t.limits q.table.files q.note q.table.limits → length S + c.rec.retries ≤ weigh (ready_in m (named new (is_in S))) q.table.rows + q.losses + q.faults → Saw m new S q → Exactly m new q → post (At ShortTarget) q
+    pub new-short :
+        (r : Names) (q : Progress) (y : ℕ) (ys : List ℕ) → Only new S r → Looks (view (x m hs r) none r) q.table.rows →
+        q.lacking ≡ y ∷ ys → is_some q.cause ≡ true → Still files note c.t.limits q.table.files q.note q.table.limits →
+        length S + c.rec.retries ≤ weigh (ready_in m (named new (is_in S))) q.table.rows + q.losses + q.faults →
+        Saw m new S q → Exactly m new q → post (At ShortTarget) q
     new-short r q y ys only looks short caused still budget saw exact = (
-      service-short (x m hs r) (λ n. refl) new S wanted layout (listens-new r) keys r q.table q.lacking only looks c.range.groups.some (omega (arith, ap length short)) saw,
+      service-short (x m hs r) (λ n. refl) new S wanted layout (listens-new r) keys r q.table q.lacking only looks
+          c.range.groups.some (omega (arith, ap length short)) saw,
       omega (arith, budget, counted-all m new S q.lacking q.table.rows saw, shortfalls-sum c.st.groups q.lacking c.range.groups.some),
       caused,
       moved-left r q only looks exact still (At ShortTarget) (moved-is hs lists),

@@ -5,7 +5,9 @@ use Rattle.definitions.specs.Calls.{census_of}
 use Rattle.definitions.specs.Target.{text_handed}
 use Rattle.theorems.specs.Examples.{two_ready}
 use Rattle.theorems.proofs.GroupRuns.{hundred, group_runs}
-use Rattle.theorems.specs.WorkedRuns.{handed, same_upgrade, WorkedRuns, Upgrades, CountsFirst, MendsBeside, NoImage, GoneAtLast, Refused, GoneEarly, RepairedAtLast, OldFileLeft, Attends, BackAtFirst, BackAtLast, BackIsShort, BackAfterMending}
+use Rattle.theorems.specs.WorkedRuns.{handed, same_upgrade, WorkedRuns, Upgrades, CountsFirst, MendsBeside, NoImage}
+use Rattle.theorems.specs.WorkedRuns.{GoneAtLast, Refused, GoneEarly, RepairedAtLast, OldFileLeft, Attends, BackAtFirst}
+use Rattle.theorems.specs.WorkedRuns.{BackAtLast, BackIsShort, BackAfterMending}
 
 spelled : text_handed (two_ready 3) same_upgrade ≡ handed
 spelled = rw (hundred, decimal_digit 2 (omega arith), decimal_digit 3 (omega arith)) refl

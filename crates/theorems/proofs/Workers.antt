@@ -14,17 +14,20 @@ use Rattle.definitions.specs.Target.{want, wanted_at}
 use Rattle.definitions.specs.Crew.{Crew, served}
 use Rattle.definitions.specs.Run.{Pattern, Progress, start_at}
 use Rattle.definitions.specs.Plans.{plan_tree}
-use Rattle.definitions.specs.Claims.{run_of, IsStart, Floor, WorkersHeadline}
+use Rattle.definitions.specs.Claims.{run_of, IsStart, Floor}
+use Rattle.theorems.proofs.Headlines.{WorkersHeadline}
 use Rattle.definitions.specs.Record.{Record, crew_of, layout_of}
 use Rattle.definitions.specs.Service.{service}
-use Rattle.theorems.proofs.Rows.{weigh, both-true, every-more, and-left, and-right}
-use Rattle.theorems.proofs.Views.{ready_in, Names, named, View, Looks}
-use Rattle.theorems.proofs.Effects.{none, same-is, bears-is}
-use Rattle.theorems.proofs.Counts.{Distinct, filter-distinct, in-earlier, in-later}
-use Rattle.theorems.proofs.Sets.{weigh-part, Within, in-here, in-there, in-cases, in-filter-on, in-filter-of, below-of, below-on, below-distinct}
-use Rattle.theorems.proofs.Begins.{rising-distinct}
-use Rattle.theorems.proofs.Small.{in-reverse, every-is_in, not-is, off-from, or-elim, true-false}
-use Rattle.theorems.proofs.Rules.{Enough, Ground, Scene, view, plus, also, Band, Only, weigh-sub, band-part, band-anew, band-still, rule-quits, rule-starts, rule-settle}
+use Rattle.table_laws.proofs.Rows.{weigh, both-true, every-more}
+use Rattle.call_laws.proofs.Choices.{and-left, and-right}
+use Rattle.table_laws.proofs.Views.{ready_in, Names, named, View, Looks}
+use Rattle.table_laws.proofs.Effects.{none, same-is, bears-is}
+use Rattle.table_laws.proofs.Counts.{Distinct, filter-distinct, in-earlier, in-later}
+use Rattle.table_laws.proofs.Sets.{weigh-part, Within, in-here, in-there, in-cases, in-filter-on, in-filter-of, below-of, below-on, below-distinct}
+use Rattle.table_laws.proofs.Begins.{rising-distinct}
+use Rattle.table_laws.proofs.Small.{in-reverse, every-is_in, not-is, off-from, or-elim, true-false}
+use Rattle.run_laws.proofs.Rules.{Enough, Ground, Scene, view, plus, also, Band, Only, weigh-sub, band-part, band-anew}
+use Rattle.run_laws.proofs.Rules.{band-still, rule-quits, rule-starts, rule-settle}
 
 -- what is known before the rest of the starts
 pub record Started (g : Generation) (R : List ℕ) (n : ℕ) (ks done : List ℕ) (r t : Names) (count : ℕ) : Type 0 where
@@ -43,30 +46,50 @@ not-in-of r g k h = go (r g k) h
     go true h = absurd (h refl)
     go false h = refl
 
-pub one-more : (g : Generation) (R : List ℕ) (n x : ℕ) (ks done : List ℕ) (r t : Names) (count : ℕ) → Started g R n (x ∷ ks) done r t count → (r g x ≡ false) × Started g R n ks (x ∷ done) (plus r g x) (also g x t) (count + 1)
+pub one-more :
+    (g : Generation) (R : List ℕ) (n x : ℕ) (ks done : List ℕ) (r t : Names) (count : ℕ) →
+    Started g R n (x ∷ ks) done r t count →
+    (r g x ≡ false) × Started g R n ks (x ∷ done) (plus r g x) (also g x t) (count + 1)
 one-more g R n x ks done r t count s =
     let f = s.fresh x (in-here x x ks refl) in (
       not-in-of r g x (λ on. ⊎_elim (λ a. true-false (is_in R x) a f.0) (λ a. true-false (is_in done x) a f.1) (s.only g x on).1),
       record {
-        only = λ h k e. ⊎_elim (λ a. let o = s.only h k a in (o.0, ⊎_elim (λ b. inl b) (λ b. inr (in-there x k done b)) o.1)) (λ a. let is = bears-is g x h k a in (is.0, inr (in-here x k done (sym is.1)))) (or-elim (r h k) (bears g x h k) e);
+        only =
+            λ h k e. ⊎_elim
+            (λ a. let o = s.only h k a in (o.0, ⊎_elim (λ b. inl b) (λ b. inr (in-there x k done b)) o.1))
+            (λ a. let is = bears-is g x h k a in (is.0, inr (in-here x k done (sym is.1))))
+            (or-elim (r h k) (bears g x h k) e);
         fresh = λ k e.
             let o = s.fresh k (in-there x k ks e) in
             (o.0, off-from (x ∷ done) k (λ on. ⊎_elim (λ same. true-false (is_in ks x) (subst (λ y. is_in ks y ≡ true) (sym same) e) s.apart.0) (λ a. true-false (is_in done k) a o.1) (in-cases x k done on)), o.2);
         apart = s.apart.1;
         started = λ k e. ⊎_elim (λ same. (subst (λ y. is_in R y ≡ false) same f.0, subst (λ y. y < n) same f.2)) (λ a. s.started k a) (in-cases x k done e);
-        all = λ k lt. ⊎_elim (λ a. inl a) (λ a. ⊎_elim (λ b. inr (inl (in-there x k done b))) (λ b. ⊎_elim (λ same. inr (inl (in-here x k done same))) (λ c. inr (inr c)) (in-cases x k ks b)) a) (s.all k lt);
-        names = λ h k e. ⊎_elim (λ a. let o = s.names h k a in both-true (same_generation h g) (is_in (x ∷ (done ++ R)) k) (and-left _ _ o) (in-there x k (done ++ R) (and-right (same_generation h g) _ o))) (λ a. let is = bears-is g x h k a in both-true (same_generation h g) (is_in (x ∷ (done ++ R)) k) (and-left _ _ a) (in-here x k (done ++ R) (sym is.1))) (or-elim (t h k) (bears g x h k) e);
+        all =
+            λ k lt. ⊎_elim (λ a. inl a)
+            (λ a. ⊎_elim (λ b. inr (inl (in-there x k done b))) (λ b. ⊎_elim (λ same. inr (inl (in-here x k done same))) (λ c. inr (inr c)) (in-cases x k ks b)) a)
+            (s.all k lt);
+        names =
+            λ h k e. ⊎_elim
+            (λ a. let o = s.names h k a in both-true (same_generation h g) (is_in (x ∷ (done ++ R)) k) (and-left _ _ o) (in-there x k (done ++ R) (and-right (same_generation h g) _ o)))
+            (λ a. let is = bears-is g x h k a in both-true (same_generation h g) (is_in (x ∷ (done ++ R)) k) (and-left _ _ a) (in-here x k (done ++ R) (sym is.1)))
+            (or-elim (t h k) (bears g x h k) e);
         counted = omega (arith, s.counted);
       },
     )
 
 -- The names of those that are done or were there from the start are no more than those of a set of them, but for what is counted.
-pub started-part : (v : View) (g : Generation) (R : List ℕ) (n : ℕ) (done : List ℕ) (r names : Names) (count : ℕ) (ks T : List ℕ) → Started g R n ks done r names count → Distinct T → Within T (done ++ R) → (rows : List Process) → Looks v rows → weigh (ready_in v.number names) rows + length T ≤ weigh (ready_in v.number (named g (is_in T))) rows + count
+pub started-part :
+    (v : View) (g : Generation) (R : List ℕ) (n : ℕ) (done : List ℕ) (r names : Names) (count : ℕ) (ks T : List ℕ) →
+    Started g R n ks done r names count → Distinct T → Within T (done ++ R) → (rows : List Process) → Looks v rows →
+    weigh (ready_in v.number names) rows + length T ≤ weigh (ready_in v.number (named g (is_in T))) rows + count
 started-part v g R n done r names count ks T st dT within rows looks =
-    omega (arith, weigh-sub v.number names (named g (is_in (done ++ R))) st.names rows, weigh-part v.number g rows looks.once (done ++ R) T dT within, st.counted)
+    omega
+    (arith, weigh-sub v.number names (named g (is_in (done ++ R))) st.names rows, weigh-part v.number g rows looks.once (done ++ R) T dT within, st.counted)
 
 -- the numbers below n are among those that are done or were there, once none is left
-pub all-within : (g : Generation) (R : List ℕ) (n : ℕ) (done : List ℕ) (r names : Names) (count : ℕ) → Started g R n [] done r names count → Within (numbers_below n) (done ++ R)
+pub all-within :
+    (g : Generation) (R : List ℕ) (n : ℕ) (done : List ℕ) (r names : Names) (count : ℕ) →
+    Started g R n [] done r names count → Within (numbers_below n) (done ++ R)
 all-within g R n done r names count st k e =
     ⊎_elim (λ a. in-later done R k a) (λ a. ⊎_elim (λ x. in-earlier done R k x) (λ x. absurd (cc)) a) (st.all k (below-of n k e))
 
@@ -131,9 +154,18 @@ module _ (t : Table) (rec : Record) (n : ℕ) (pattern : Pattern) (s : IsStart t
   surplus = reverse (filter (λ k. not (nat_lt k n)) R)
 
   -- the way back of the numbers that were forked, of which some became Ready
-  back : (forked ks done : List ℕ) (ss r names : Names) (count c : ℕ) (q : Progress) → ((k : ℕ) → is_in forked k ≡ true → is_in fresh_numbers k ≡ true) → Only g forked ss → Started g R n ks done r names count → ((ks ≡ fresh_numbers) × (done ≡ [])) ⊎ ((k : ℕ) → is_in fresh_numbers k ≡ true → is_in forked k ≡ true) → Band u sc ss r names count c true [] q → Goes t rec (Workers n) pattern s like (quits g.image g forked (settle g.image crew R Old rec.retries)) q
+  back :
+      (forked ks done : List ℕ) (ss r names : Names) (count c : ℕ) (q : Progress) →
+      ((k : ℕ) → is_in forked k ≡ true → is_in fresh_numbers k ≡ true) → Only g forked ss →
+      Started g R n ks done r names count →
+      ((ks ≡ fresh_numbers) × (done ≡ [])) ⊎ ((k : ℕ) → is_in fresh_numbers k ≡ true → is_in forked k ≡ true) →
+      Band u sc ss r names count c true [] q →
+      Goes t rec (Workers n) pattern s like (quits g.image g forked (settle g.image crew R Old rec.retries)) q
   back forked ks done ss r names count c q within only st covers b =
-      let b1 = band-part u sc G ss r names (named g (is_in R)) count (length R) c true [] q (λ rows looks. started-part (view u ss r) g R n done r names count ks R st dR (in-later done R) rows looks) enough-old b in
+      let b1 =
+      band-part u sc G ss r names (named g (is_in R)) count (length R) c true [] q
+      (λ rows looks. started-part (view u ss r) g R n done r names count ks R st dR (in-later done R) rows looks)
+      enough-old b in
       rule-quits u sc G (settle g.image crew R Old rec.retries) g forked ss r (named g (is_in R)) (length R) c true [] q
       (λ k e. off (same_generation g g) (is_in R k) (not-is (is_in R k) (in-filter-of (λ j. not (is_in R j)) (numbers_below n) k (within k e)).1))
       (λ s' r' q' less_s less b'. rule-settle u sc G Old crew R (λ k. refl) dR low-R rec.retries true (old-full t rec (Workers n) pattern s like) (old-short t rec (Workers n) pattern s like) rec.retries 0 (omega arith) true (λ e. refl) r' [] q'
@@ -147,15 +179,26 @@ module _ (t : Table) (rec : Record) (n : ℕ) (pattern : Pattern) (s : IsStart t
       off false b e = refl
 
       was : (k : ℕ) → is_in done k ≡ true → is_in forked k ≡ true
-      was k a = ⊎_elim (λ z. absurd (cc (a, ap (λ l. is_in l k) z.1))) (λ all. all k (let o = st.started k a in in-filter-on (λ j. not (is_in R j)) (numbers_below n) k (below-on n k o.1) (ap not o.0))) covers
+      was k a =
+          ⊎_elim (λ z. absurd (cc (a, ap (λ l. is_in l k) z.1)))
+          (λ all. all k (let o = st.started k a in in-filter-on (λ j. not (is_in R j)) (numbers_below n) k (below-on n k o.1) (ap not o.0)))
+          covers
 
-  on : (done : List ℕ) (r names : Names) (count c : ℕ) (q : Progress) → Started g R n [] done r names count → Band u sc none r names count c false [] q → Goes t rec (Workers n) pattern s like (quits g.image g surplus (settle g.image crew (numbers_below n) Target rec.retries)) q
+  on :
+      (done : List ℕ) (r names : Names) (count c : ℕ) (q : Progress) → Started g R n [] done r names count → Band u sc
+      none r names count c false [] q → Goes t rec (Workers n) pattern s like
+      (quits g.image g surplus (settle g.image crew (numbers_below n) Target rec.retries)) q
   on done r names count c q st b =
       let within = all-within g R n done r names count st in
-      let b1 = band-part u sc G none r names (named g (is_in (numbers_below n))) count (length (numbers_below n)) c false [] q (started-part (view u none r) g R n done r names count [] (numbers_below n) st (below-distinct n) within) enough-new b in
-      rule-quits u sc G (settle g.image crew (numbers_below n) Target rec.retries) g surplus none r (named g (is_in (numbers_below n))) (length (numbers_below n)) c false [] q
+      let b1 =
+      band-part u sc G none r names (named g (is_in (numbers_below n))) count (length (numbers_below n)) c false []
+      q (started-part (view u none r) g R n done r names count [] (numbers_below n) st (below-distinct n) within)
+      enough-new b in
+      rule-quits u sc G (settle g.image crew (numbers_below n) Target rec.retries) g surplus none r
+      (named g (is_in (numbers_below n))) (length (numbers_below n)) c false [] q
       (λ k e. let o = in-filter-of (λ j. not (nat_lt j n)) R k (sym (in-reverse (filter (λ j. not (nat_lt j n)) R) k) ∙ e) in
-      off (same_generation g g) (is_in (numbers_below n) k) (off-from (numbers_below n) k (λ in_it. let lt = below-of n k in_it in let no_lt = not-is (nat_lt k n) o.1 in let yes_lt : nat_lt k n ≡ true = grind (arith, nat_tests) in true-false (nat_lt k n) yes_lt no_lt)))
+      off (same_generation g g) (is_in (numbers_below n) k)
+      (off-from (numbers_below n) k (λ in_it. let lt = below-of n k in_it in let no_lt = not-is (nat_lt k n) o.1 in let yes_lt : nat_lt k n ≡ true = grind (arith, nat_tests) in true-false (nat_lt k n) yes_lt no_lt)))
       (λ s' r' q' less_s less b'. rule-settle u sc G Target crew (numbers_below n) (λ k. refl) (below-distinct n) (λ k e. omega (arith, below-of n k e)) rec.retries false (new-full t rec (Workers n) pattern s like false) (new-short t rec (Workers n) pattern s like) rec.retries 0 (omega arith) false (λ e. e) r' [] q'
       (λ h k e.
       let l = less h k e in
@@ -194,7 +237,10 @@ module _ (t : Table) (rec : Record) (n : ℕ) (pattern : Pattern) (s : IsStart t
 
   goes : Goes t rec (Workers n) pattern s like (workers_tree g.image crew R rec.retries n) (start_at t rec.note)
   goes =
-      rule-starts u sc G (Started g R n) (quits g.image g surplus (settle g.image crew (numbers_below n) Target rec.retries)) (λ forked. quits g.image g forked (settle g.image crew R Old rec.retries)) crew (λ k. refl) (one-more g R n) [] false 0 fresh_numbers u.ready (named g (is_in R)) (length R)
+      rule-starts u sc G (Started g R n)
+      (quits g.image g surplus (settle g.image crew (numbers_below n) Target rec.retries))
+      (λ forked. quits g.image g forked (settle g.image crew R Old rec.retries)) crew (λ k. refl) (one-more g R n) []
+      false 0 fresh_numbers u.ready (named g (is_in R)) (length R)
       (λ done r names count q st b. on done r names count 0 q st b)
       (λ forked ks done ss r names count q within only st covers b. back forked ks done ss r names count 1 q within only st covers b)
       (start_at t rec.note) begun

@@ -14,17 +14,18 @@ use Rattle.definitions.specs.Tree.{Tree}
 use Rattle.definitions.specs.Plans.{plan_tree, workers_tree, quits, settle}
 use Rattle.definitions.specs.Run.{Pattern, Progress, Ending, At, start_at, outcome_of}
 use Rattle.definitions.specs.Manner.{has_ready, stays_below}
-use Rattle.definitions.specs.Claims.{IsStart, InManner}
-use Rattle.theorems.proofs.Views.{eqb-off}
-use Rattle.theorems.proofs.Sets.{in-here, in-filter-of, below-of}
-use Rattle.theorems.proofs.Small.{in-reverse, not-is, true-false}
-use Rattle.theorems.proofs.Logic.{Course, Along, Anyhow, Unasked}
-use Rattle.theorems.proofs.Lights.{Light, no_claim, any_end, calm-along}
-use Rattle.theorems.proofs.Staying.{Unlost, Stands, standing}
-use Rattle.theorems.proofs.Taken.{NotTaken, untouched, loose, loosens}
-use Rattle.theorems.proofs.Firsts.{first-in, first-low, first-stands, first-untouched}
-use Rattle.theorems.proofs.Calms.{IsCalm, by-itself, calm-settle, calm-quits, calm-starts, free-along, ends-settle, ends-quits}
-use Rattle.theorems.proofs.Manners.{stays-from, kills-from}
+use Rattle.definitions.specs.Claims.{IsStart}
+use Rattle.theorems.proofs.Headlines.{InManner}
+use Rattle.table_laws.proofs.Views.{eqb-off}
+use Rattle.table_laws.proofs.Sets.{in-here, in-filter-of, below-of}
+use Rattle.table_laws.proofs.Small.{in-reverse, not-is, true-false}
+use Rattle.run_laws.proofs.Logic.{Course, Along, Anyhow, Unasked}
+use Rattle.run_laws.proofs.Lights.{Light, no_claim, any_end, calm-along}
+use Rattle.run_laws.proofs.Staying.{Unlost, Stands, standing}
+use Rattle.run_laws.proofs.Taken.{NotTaken, untouched, loose, loosens}
+use Rattle.run_laws.proofs.Firsts.{first-in, first-low, first-stands, first-untouched}
+use Rattle.run_laws.proofs.Calms.{IsCalm, by-itself, calm-settle, calm-quits, calm-starts, free-along, ends-settle, ends-quits}
+use Rattle.run_laws.proofs.Manners.{stays-from, kills-from}
 
 -- Of one generation, another number is another name.
 pub free-number : (g : Generation) (x k : ℕ) → k ≢ x → bears g x g k ≡ false
@@ -120,7 +121,8 @@ module _ (t : Table) (r : Record) (n : ℕ) (pattern : Pattern) (s : IsStart t r
 
   on-untaken : (b : Bool) → nat_lt k n ≡ b → IsCalm g.image Anyhow (NotTaken p) closely any_end (λ e q h. tt) co (own-acts r pattern) way_on
   on-untaken true e =
-      calm-quits g.image Anyhow (NotTaken p) closely any_end (λ e q h. tt) co (own-acts r pattern) g surplus (settle g.image crew (numbers_below n) Target r.retries)
+      calm-quits g.image Anyhow (NotTaken p) closely any_end (λ e q h. tt) co (own-acts r pattern) g surplus
+      (settle g.image crew (numbers_below n) Target r.retries)
       (λ x in_it. let le = at-least x in_it in (free-number g x k (λ same. let lt : k < n = grind (arith, nat_tests) in absurd (omega arith)), tt))
       (calm-settle g.image Anyhow (NotTaken p) closely any_end (λ e q h. tt) co (own-acts r pattern) Target crew (numbers_below n) r.retries tt)
   on-untaken false e =
@@ -142,6 +144,7 @@ module _ (t : Table) (r : Record) (n : ℕ) (pattern : Pattern) (s : IsStart t r
 
 pub workers_manner : (n : ℕ) → InManner (Workers n)
 workers_manner n t r turns pattern a = (
-  λ p k on need. stays-from t r a.start p k on (own_course r pattern) (plan_tree r (Workers n) []) (Need t r n pattern a.start p k on) (stays-along t r n pattern a.start p k on) a.spared need,
+  λ p k on need. stays-from t r a.start p k on (own_course r pattern) (plan_tree r (Workers n) [])
+      (Need t r n pattern a.start p k on) (stays-along t r n pattern a.start p k on) a.spared need,
   kills-from t r (own_course r pattern) (plan_tree r (Workers n) []) (λ e q. ⊤) a.spared (λ p k on. untaken-along t r n pattern a.start p k on),
 )

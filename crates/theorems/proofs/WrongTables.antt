@@ -13,7 +13,7 @@ use Rattle.definitions.specs.Claims.{IsFewerAt}
 use Rattle.theorems.specs.Examples.{first, port, other_port, holds, two_workers, count_if}
 use Rattle.theorems.specs.GroupRuns.{both_holds, grouped_with, three_workers, three_ready}
 use Rattle.theorems.specs.WrongTables.{none_left, other_unserved, heir, WrongTables}
-use Rattle.theorems.proofs.Effects.{same-is}
+use Rattle.table_laws.proofs.Effects.{same-is}
 
 no : true ≡ false → ⊥
 no e = cc
@@ -27,7 +27,8 @@ two_less h = go (same_generation first h.0) refl
   where
     go : (b : Bool) → same_generation first h.0 ≡ b → ⊥
     go true e =
-        let less : counts two_workers first ≡ counts none_left first + 1 = subst (λ g. counts two_workers g ≡ counts none_left g + 1) (sym (same-is first h.0 e)) h.1 in
+        let less : counts two_workers first ≡ counts none_left first + 1 =
+        subst (λ g. counts two_workers g ≡ counts none_left g + 1) (sym (same-is first h.0 e)) h.1 in
         absurd (cc (less))
     go false e = absurd (cc (h.2 first e))
 
@@ -68,7 +69,8 @@ wrong_tables = record {
   aside = λ h. let e = ap length (h.rows heir refl) in absurd (cc e);
   aside_files = λ h. absurd (cc (h.files));
   aside_gone = λ h. let e = ap (λ (t : Table). length t.rows) (h.gone refl) in absurd (cc e);
-  turn_ignored = ((refl, refl, (None, tries 2 Adopt [] (Ends end.Done) (Ends end.RolledBack)), refl, (refl, refl, (None, Ends end.Done), refl, refl)), λ h. absurd (cc (h.0)));
+  turn_ignored =
+      ((refl, refl, (None, tries 2 Adopt [] (Ends end.Done) (Ends end.RolledBack)), refl, (refl, refl, (None, Ends end.Done), refl, refl)), λ h. absurd (cc (h.0)));
   agrees = λ h. h.running.1.1.1.0 refl;
   orphan = (
     record {

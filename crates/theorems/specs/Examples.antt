@@ -14,7 +14,7 @@ use Rattle.vocabulary.specs.declared.reports.Outcome.{Outcome}
 use Rattle.definitions.specs.Table.{Address, FilePath, Hold, Process, Master, Worker, Foreign, File, Table}
 use Rattle.vocabulary.specs.Settings.{Settings}
 use Rattle.definitions.specs.Formed.{IsFormed}
-use Rattle.definitions.specs.Settling.{HasSide}
+use Rattle.theorems.specs.Settling.{HasSide}
 use Rattle.definitions.specs.Service.{service}
 use Rattle.definitions.specs.Crew.{Posts}
 use Rattle.definitions.specs.Record.{Record, oldbin, crew_of}
@@ -49,7 +49,13 @@ abbrev pub own_rows : List Process
 own_rows = Master 100 1 1 true holds ∷ Worker 101 100 first 0 Ready holds ∷ Worker 102 100 first 1 Ready holds ∷ []
 
 abbrev pub table_with : List Process → List File → ℕ → Table
-table_with rows files processes = record { rows = rows; files = files; next_process = 103; next_socket = 2; limits = record { processes = processes; descriptors = 64 } }
+table_with rows files processes = record {
+  rows = rows;
+  files = files;
+  next_process = 103;
+  next_socket = 2;
+  limits = record { processes = processes; descriptors = 64 };
+}
 
 abbrev pub pid_files : List File
 pid_files = record { path = pid_file; owner = 100 } ∷ []

@@ -14,7 +14,8 @@ use Rattle.definitions.specs.Record.{Record}
 use Rattle.definitions.specs.Target.{Workers, Reload, Upgrade}
 use Rattle.definitions.specs.Run.{Pattern, Ran}
 use Rattle.definitions.specs.Claims.{run_of, IsStart}
-use Rattle.theorems.specs.Examples.{first, reloaded, upgraded, port, other_port, pid_file, pid_files, two_workers, two_ready, no_fault, exits, m1, m2, report, Gives, serving}
+use Rattle.theorems.specs.Examples.{first, reloaded, upgraded, port, other_port, pid_file, pid_files, two_workers}
+use Rattle.theorems.specs.Examples.{two_ready, no_fault, exits, m1, m2, report, Gives, serving}
 
 ---- A master with two groups
 
@@ -37,7 +38,9 @@ both_holds = first_hold ∷ other_hold ∷ []
 -- The third worker is the other group's, and holds these.
 abbrev pub grouped_with : List Hold → Table
 grouped_with holds = record {
-  rows = Master 100 1 1 true both_holds ∷ Worker 101 100 first 0 Ready (first_hold ∷ []) ∷ Worker 102 100 first 1 Ready (first_hold ∷ []) ∷ Worker 103 100 first 2 Ready holds ∷ [];
+  rows =
+      Master 100 1 1 true both_holds ∷ Worker 101 100 first 0 Ready (first_hold ∷ [])
+      ∷ Worker 102 100 first 1 Ready (first_hold ∷ []) ∷ Worker 103 100 first 2 Ready holds ∷ [];
   files = pid_files;
   next_process = 104;
   next_socket = 3;
@@ -90,15 +93,29 @@ pub record GroupRuns : Type 0 where
   pub start : IsStart three_workers three_ready
   -- A reload to two groups: each worker gets its group's descriptor.
   pub splits_in_two :
-      Gives (two_ready 0) (Reload grouped) no_fault two_workers (m1 (OpenAt other_port) (answer.Opened 4) ∷ m1 (Fork reloaded 0 (Some (3 ∷ []))) answer.Forked ∷ m1 (Fork reloaded 1 (Some (3 ∷ []))) answer.Forked ∷ m1 (Fork reloaded 2 (Some (4 ∷ []))) answer.Forked ∷ m1 (AwaitReady reloaded 0) answer.IsReady ∷ m1 (AwaitReady reloaded 1) answer.IsReady ∷ m1 (AwaitReady reloaded 2) answer.IsReady ∷ m1 (Census reloaded) (answer.Counted (0 ∷ 1 ∷ 2 ∷ [])) ∷ m1 (Quit first 1) answer.Fine ∷ m1 (Quit first 0) answer.Fine ∷ m1 (Census reloaded) (answer.Counted (0 ∷ 1 ∷ 2 ∷ [])) ∷ []) (report Done None InPlace (0 ∷ 1 ∷ 2 ∷ [])) × (serving (splits no_fault) port reloaded ≡ Some 2) × (serving (splits no_fault) other_port reloaded ≡ Some 1)
+      Gives (two_ready 0) (Reload grouped) no_fault two_workers
+      (m1 (OpenAt other_port) (answer.Opened 4) ∷ m1 (Fork reloaded 0 (Some (3 ∷ []))) answer.Forked ∷ m1 (Fork reloaded 1 (Some (3 ∷ []))) answer.Forked ∷ m1 (Fork reloaded 2 (Some (4 ∷ []))) answer.Forked ∷ m1 (AwaitReady reloaded 0) answer.IsReady ∷ m1 (AwaitReady reloaded 1) answer.IsReady ∷ m1 (AwaitReady reloaded 2) answer.IsReady ∷ m1 (Census reloaded) (answer.Counted (0 ∷ 1 ∷ 2 ∷ [])) ∷ m1 (Quit first 1) answer.Fine ∷ m1 (Quit first 0) answer.Fine ∷ m1 (Census reloaded) (answer.Counted (0 ∷ 1 ∷ 2 ∷ [])) ∷ [])
+      (report Done None InPlace (0 ∷ 1 ∷ 2 ∷ [])) × (serving (splits no_fault) port reloaded ≡ Some 2) ×
+      (serving (splits no_fault) other_port reloaded ≡ Some 1)
   -- One group falls short, and its address is served by none.
   pub one_group_short :
-      Gives (two_ready 0) (Reload grouped) one_lost two_workers (m1 (OpenAt other_port) (answer.Opened 4) ∷ m1 (Fork reloaded 0 (Some (3 ∷ []))) answer.Forked ∷ m1 (Fork reloaded 1 (Some (3 ∷ []))) answer.Forked ∷ m1 (Fork reloaded 2 (Some (4 ∷ []))) answer.Forked ∷ m1 (AwaitReady reloaded 0) answer.IsReady ∷ m1 (AwaitReady reloaded 1) answer.IsReady ∷ m1 (AwaitReady reloaded 2) answer.IsReady ∷ m1 (Census reloaded) (answer.Counted (0 ∷ 1 ∷ 2 ∷ [])) ∷ m1 (Quit first 1) answer.Fine ∷ m1 (Quit first 0) answer.Fine ∷ m1 (Census reloaded) (answer.Counted (0 ∷ 1 ∷ [])) ∷ []) (report (Degraded side.Target (0 ∷ 1 ∷ [])) (Some 11) InPlace (0 ∷ 1 ∷ [])) × (serving (splits one_lost) port reloaded ≡ Some 2) × (serving (splits one_lost) other_port reloaded ≡ Some 0)
+      Gives (two_ready 0) (Reload grouped) one_lost two_workers
+      (m1 (OpenAt other_port) (answer.Opened 4) ∷ m1 (Fork reloaded 0 (Some (3 ∷ []))) answer.Forked ∷ m1 (Fork reloaded 1 (Some (3 ∷ []))) answer.Forked ∷ m1 (Fork reloaded 2 (Some (4 ∷ []))) answer.Forked ∷ m1 (AwaitReady reloaded 0) answer.IsReady ∷ m1 (AwaitReady reloaded 1) answer.IsReady ∷ m1 (AwaitReady reloaded 2) answer.IsReady ∷ m1 (Census reloaded) (answer.Counted (0 ∷ 1 ∷ 2 ∷ [])) ∷ m1 (Quit first 1) answer.Fine ∷ m1 (Quit first 0) answer.Fine ∷ m1 (Census reloaded) (answer.Counted (0 ∷ 1 ∷ [])) ∷ [])
+      (report (Degraded side.Target (0 ∷ 1 ∷ [])) (Some 11) InPlace (0 ∷ 1 ∷ [])) ×
+      (serving (splits one_lost) port reloaded ≡ Some 2) × (serving (splits one_lost) other_port reloaded ≡ Some 0)
   -- One worker less, and one more again: it is of the other group.
   pub one_less :
-      Gives three_ready (Workers 2) no_fault three_workers (m1 (Quit first 2) answer.Fine ∷ m1 (Census first) (answer.Counted (0 ∷ 1 ∷ [])) ∷ []) (report Done None InPlace (0 ∷ 1 ∷ []))
+      Gives three_ready (Workers 2) no_fault three_workers
+      (m1 (Quit first 2) answer.Fine ∷ m1 (Census first) (answer.Counted (0 ∷ 1 ∷ [])) ∷ [])
+      (report Done None InPlace (0 ∷ 1 ∷ []))
   pub one_more :
-      Gives (grouped_record (0 ∷ 1 ∷ []) 2) (Workers 3) no_fault (run_of three_ready (Workers 2) [] no_fault three_workers).last.table (m1 (Fork first 2 (Some (4 ∷ []))) answer.Forked ∷ m1 (AwaitReady first 2) answer.IsReady ∷ m1 (Census first) (answer.Counted (0 ∷ 1 ∷ 2 ∷ [])) ∷ []) (report Done None InPlace (0 ∷ 1 ∷ 2 ∷ []))
+      Gives (grouped_record (0 ∷ 1 ∷ []) 2) (Workers 3) no_fault
+      (run_of three_ready (Workers 2) [] no_fault three_workers).last.table
+      (m1 (Fork first 2 (Some (4 ∷ []))) answer.Forked ∷ m1 (AwaitReady first 2) answer.IsReady ∷ m1 (Census first) (answer.Counted (0 ∷ 1 ∷ 2 ∷ [])) ∷ [])
+      (report Done None InPlace (0 ∷ 1 ∷ 2 ∷ []))
   -- An upgrade: the new master has both addresses, and each of its workers gets its group's descriptor.
   pub upgrades :
-      Gives three_ready_without_file (Upgrade grouped) no_fault three_without_file (m1 (SpawnMaster 2) answer.Spawned ∷ m2 Adopt answer.Adopted ∷ m2 (Fork upgraded 0 (Some (3 ∷ []))) answer.Forked ∷ m2 (Fork upgraded 1 (Some (3 ∷ []))) answer.Forked ∷ m2 (Fork upgraded 2 (Some (4 ∷ []))) answer.Forked ∷ m2 (AwaitReady upgraded 0) answer.IsReady ∷ m2 (AwaitReady upgraded 1) answer.IsReady ∷ m2 (AwaitReady upgraded 2) answer.IsReady ∷ m1 (Census first) (answer.Counted (0 ∷ 1 ∷ 2 ∷ [])) ∷ m2 (Census upgraded) (answer.Counted (0 ∷ 1 ∷ 2 ∷ [])) ∷ m1 (Quit first 2) answer.Fine ∷ m1 (Quit first 1) answer.Fine ∷ m1 (Quit first 0) answer.Fine ∷ m1 (AwaitGone first 2) answer.Gone ∷ m1 (AwaitGone first 1) answer.Gone ∷ m1 (AwaitGone first 0) answer.Gone ∷ m1 (Alive 2) answer.IsAlive ∷ m1 Leave answer.Fine ∷ m2 (Census upgraded) (answer.Counted (0 ∷ 1 ∷ 2 ∷ [])) ∷ []) (report Done None NoFile (0 ∷ 1 ∷ 2 ∷ [])) × (serving handed_on port upgraded ≡ Some 2) × (serving handed_on other_port upgraded ≡ Some 1)
+      Gives three_ready_without_file (Upgrade grouped) no_fault three_without_file
+      (m1 (SpawnMaster 2) answer.Spawned ∷ m2 Adopt answer.Adopted ∷ m2 (Fork upgraded 0 (Some (3 ∷ []))) answer.Forked ∷ m2 (Fork upgraded 1 (Some (3 ∷ []))) answer.Forked ∷ m2 (Fork upgraded 2 (Some (4 ∷ []))) answer.Forked ∷ m2 (AwaitReady upgraded 0) answer.IsReady ∷ m2 (AwaitReady upgraded 1) answer.IsReady ∷ m2 (AwaitReady upgraded 2) answer.IsReady ∷ m1 (Census first) (answer.Counted (0 ∷ 1 ∷ 2 ∷ [])) ∷ m2 (Census upgraded) (answer.Counted (0 ∷ 1 ∷ 2 ∷ [])) ∷ m1 (Quit first 2) answer.Fine ∷ m1 (Quit first 1) answer.Fine ∷ m1 (Quit first 0) answer.Fine ∷ m1 (AwaitGone first 2) answer.Gone ∷ m1 (AwaitGone first 1) answer.Gone ∷ m1 (AwaitGone first 0) answer.Gone ∷ m1 (Alive 2) answer.IsAlive ∷ m1 Leave answer.Fine ∷ m2 (Census upgraded) (answer.Counted (0 ∷ 1 ∷ 2 ∷ [])) ∷ [])
+      (report Done None NoFile (0 ∷ 1 ∷ 2 ∷ [])) × (serving handed_on port upgraded ≡ Some 2) ×
+      (serving handed_on other_port upgraded ≡ Some 1)

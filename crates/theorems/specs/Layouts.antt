@@ -22,7 +22,9 @@ TakeAll s = addresses_in s.groups ≡ length s.listeners
 
 -- A master that starts listens as its configuration lays out.
 abbrev pub StartsLaidOut : Type 0
-StartsLaidOut = (s : Settings) (wanted : ℕ) (ready : List ℕ) (pid : ℕ) → TakeAll s → IsSameLayout (layout_of (started s wanted ready pid)) (layout_in s.groups s.listeners)
+StartsLaidOut =
+    (s : Settings) (wanted : ℕ) (ready : List ℕ) (pid : ℕ) → TakeAll s →
+    IsSameLayout (layout_of (started s wanted ready pid)) (layout_in s.groups s.listeners)
 
 ---- After a plan
 
@@ -46,4 +48,6 @@ CanBeLaidOut r (Stop quick) = ⊤
 
 -- The record that a plan leaves listens as the side that its outcome names is laid out.
 abbrev pub RecordsLaidOut : Type 0
-RecordsLaidOut = (r : Record) (target : Target) (report : Report) (pid : ℕ) (left : Record) → CanBeLaidOut r target → record_after r target report pid ≡ Some left → IsSameLayout (layout_of left) (layout_told r target report.outcome)
+RecordsLaidOut =
+    (r : Record) (target : Target) (report : Report) (pid : ℕ) (left : Record) → CanBeLaidOut r target →
+    record_after r target report pid ≡ Some left → IsSameLayout (layout_of left) (layout_told r target report.outcome)

@@ -3,3 +3,5 @@ pub mod GroupRuns
 pub mod Layouts
 pub mod WorkedRuns
 pub mod WrongTables
+pub mod Apart
+pub mod Settling

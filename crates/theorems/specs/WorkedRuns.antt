@@ -1,7 +1,9 @@
 -- Worked examples: plans that are run on a small table, call by call.
 use Rattle.std.specs.Prelude.{ℕ, true, false, ◌≡◌, List, [], ◌∷◌, ◌++◌, Option, Some, None, codes, Ok}
 use Rattle.vocabulary.specs.declared.names.Name.TheVariants as name
-use Rattle.vocabulary.specs.declared.calls.Call.TheVariants.{OpenAt, CloseAt, Fork, AwaitReady, Quit, Kill, Census, AwaitGone, SpawnMaster, Adopt, WritePid, MovePid, RemovePid, Alive, Leave, Usr1, TermMaster, Ask}
+use Rattle.vocabulary.specs.declared.calls.Call.TheVariants.{OpenAt, CloseAt, Fork, AwaitReady, Quit, Kill, Census}
+use Rattle.vocabulary.specs.declared.calls.Call.TheVariants.{AwaitGone, SpawnMaster, Adopt, WritePid, MovePid}
+use Rattle.vocabulary.specs.declared.calls.Call.TheVariants.{RemovePid, Alive, Leave, Usr1, TermMaster, Ask}
 use Rattle.vocabulary.specs.declared.calls.Answer.TheVariants as answer
 use Rattle.vocabulary.specs.declared.calls.Fate.TheVariants as fate
 use Rattle.vocabulary.specs.declared.plans.PidNote.TheVariants.{InPlace, AtOldbin, OldbinLeft, Left, NoFile}
@@ -11,7 +13,7 @@ use Rattle.vocabulary.specs.declared.reports.Entry.{Entry}
 use Rattle.vocabulary.specs.declared.targets.Target.{Target}
 use Rattle.vocabulary.specs.declared.targets.Target.TheVariants.{Workers, Mend, Reopen, Reload, Upgrade, Attended, Stop}
 use Rattle.definitions.specs.Record.{Record, oldbin}
-use Rattle.definitions.specs.Handover.{reading}
+use Rattle.definitions.specs.Reading.{reading}
 use Rattle.definitions.specs.Target.{Sides, sides_of, handover_of, text_handed}
 use Rattle.listener_set.specs.Numbers.{numbers_below}
 use Rattle.definitions.specs.Tree.{height}
@@ -21,7 +23,10 @@ use Rattle.definitions.specs.Run.{Pattern, Ran, faults_since, run_with, start_at
 use Rattle.definitions.specs.After.{record_after}
 use Rattle.definitions.specs.Claims.{run_of, refused_among}
 use Rattle.theorems.specs.GroupRuns.{GroupRuns}
-use Rattle.theorems.specs.Examples.{first, reloaded, upgraded, port, other_port, pid_file, two_workers, two_without_file, full_table, other_held, record_with, two_ready, two_ready_without_file, settings_of, no_fault, fails, exits, m1, m2, one_group, report, GivesIn, Gives, serving}
+use Rattle.theorems.specs.Examples.{first, reloaded, upgraded, port, other_port, pid_file, two_workers}
+use Rattle.theorems.specs.Examples.{two_without_file, full_table, other_held, record_with, two_ready}
+use Rattle.theorems.specs.Examples.{two_ready_without_file, settings_of, no_fault, fails, exits, m1, m2, one_group}
+use Rattle.theorems.specs.Examples.{report, GivesIn, Gives, serving}
 
 -- the record after a reload to no workers
 abbrev pub empty_record : Record
@@ -63,45 +68,71 @@ refused_with text pattern = refused_among (1 ∷ []) (2 ∷ []) pattern 0 (upgra
 -- The whole of an upgrade.
 abbrev pub Upgrades : List ℕ → Type 0
 Upgrades text =
-    GivesIn upgrade_sides (upgrade_run text no_fault) (m1 (MovePid pid_file (oldbin pid_file)) answer.Fine ∷ m1 (SpawnMaster 2) answer.Spawned ∷ m2 Adopt answer.Adopted ∷ m2 (Fork upgraded 0 None) answer.Forked ∷ m2 (Fork upgraded 1 None) answer.Forked ∷ m2 (AwaitReady upgraded 0) answer.IsReady ∷ m2 (AwaitReady upgraded 1) answer.IsReady ∷ m1 (Census first) (answer.Counted (0 ∷ 1 ∷ [])) ∷ m2 (WritePid pid_file) answer.Fine ∷ m2 (Census upgraded) (answer.Counted (0 ∷ 1 ∷ [])) ∷ m1 (Quit first 1) answer.Fine ∷ m1 (Quit first 0) answer.Fine ∷ m1 (AwaitGone first 1) answer.Gone ∷ m1 (AwaitGone first 0) answer.Gone ∷ m1 (Alive 2) answer.IsAlive ∷ m1 Leave answer.Fine ∷ m2 (RemovePid (oldbin pid_file)) answer.Fine ∷ m2 (Census upgraded) (answer.Counted (0 ∷ 1 ∷ [])) ∷ []) (report Done None InPlace (0 ∷ 1 ∷ [])) × (serving (upgrade_run text no_fault) port upgraded ≡ Some 2)
+    GivesIn upgrade_sides (upgrade_run text no_fault)
+    (m1 (MovePid pid_file (oldbin pid_file)) answer.Fine ∷ m1 (SpawnMaster 2) answer.Spawned ∷ m2 Adopt answer.Adopted ∷ m2 (Fork upgraded 0 None) answer.Forked ∷ m2 (Fork upgraded 1 None) answer.Forked ∷ m2 (AwaitReady upgraded 0) answer.IsReady ∷ m2 (AwaitReady upgraded 1) answer.IsReady ∷ m1 (Census first) (answer.Counted (0 ∷ 1 ∷ [])) ∷ m2 (WritePid pid_file) answer.Fine ∷ m2 (Census upgraded) (answer.Counted (0 ∷ 1 ∷ [])) ∷ m1 (Quit first 1) answer.Fine ∷ m1 (Quit first 0) answer.Fine ∷ m1 (AwaitGone first 1) answer.Gone ∷ m1 (AwaitGone first 0) answer.Gone ∷ m1 (Alive 2) answer.IsAlive ∷ m1 Leave answer.Fine ∷ m2 (RemovePid (oldbin pid_file)) answer.Fine ∷ m2 (Census upgraded) (answer.Counted (0 ∷ 1 ∷ [])) ∷ [])
+    (report Done None InPlace (0 ∷ 1 ∷ [])) × (serving (upgrade_run text no_fault) port upgraded ≡ Some 2)
 
 -- The old master counts its workers first.
 abbrev pub CountsFirst : List ℕ → Type 0
-CountsFirst text = GivesIn upgrade_sides (upgrade_run_by (Old ∷ []) text no_fault) (m1 (MovePid pid_file (oldbin pid_file)) answer.Fine ∷ m1 (SpawnMaster 2) answer.Spawned ∷ m1 (Census first) (answer.Counted (0 ∷ 1 ∷ [])) ∷ m2 Adopt answer.Adopted ∷ m2 (Fork upgraded 0 None) answer.Forked ∷ m2 (Fork upgraded 1 None) answer.Forked ∷ m2 (AwaitReady upgraded 0) answer.IsReady ∷ m2 (AwaitReady upgraded 1) answer.IsReady ∷ m2 (WritePid pid_file) answer.Fine ∷ m2 (Census upgraded) (answer.Counted (0 ∷ 1 ∷ [])) ∷ m1 (Quit first 1) answer.Fine ∷ m1 (Quit first 0) answer.Fine ∷ m1 (AwaitGone first 1) answer.Gone ∷ m1 (AwaitGone first 0) answer.Gone ∷ m1 (Alive 2) answer.IsAlive ∷ m1 Leave answer.Fine ∷ m2 (RemovePid (oldbin pid_file)) answer.Fine ∷ m2 (Census upgraded) (answer.Counted (0 ∷ 1 ∷ [])) ∷ []) (report Done None InPlace (0 ∷ 1 ∷ []))
+CountsFirst text =
+    GivesIn upgrade_sides (upgrade_run_by (Old ∷ []) text no_fault)
+    (m1 (MovePid pid_file (oldbin pid_file)) answer.Fine ∷ m1 (SpawnMaster 2) answer.Spawned ∷ m1 (Census first) (answer.Counted (0 ∷ 1 ∷ [])) ∷ m2 Adopt answer.Adopted ∷ m2 (Fork upgraded 0 None) answer.Forked ∷ m2 (Fork upgraded 1 None) answer.Forked ∷ m2 (AwaitReady upgraded 0) answer.IsReady ∷ m2 (AwaitReady upgraded 1) answer.IsReady ∷ m2 (WritePid pid_file) answer.Fine ∷ m2 (Census upgraded) (answer.Counted (0 ∷ 1 ∷ [])) ∷ m1 (Quit first 1) answer.Fine ∷ m1 (Quit first 0) answer.Fine ∷ m1 (AwaitGone first 1) answer.Gone ∷ m1 (AwaitGone first 0) answer.Gone ∷ m1 (Alive 2) answer.IsAlive ∷ m1 Leave answer.Fine ∷ m2 (RemovePid (oldbin pid_file)) answer.Fine ∷ m2 (Census upgraded) (answer.Counted (0 ∷ 1 ∷ [])) ∷ [])
+    (report Done None InPlace (0 ∷ 1 ∷ []))
 
 -- The old master starts one that is gone, beside the new master's first step.
 abbrev pub MendsBeside : List ℕ → Type 0
-MendsBeside text = GivesIn upgrade_sides (upgrade_run_by (New ∷ Old ∷ Old ∷ Old ∷ Old ∷ []) text (exits 4 (name.Worker first 1) no_fault)) (m1 (MovePid pid_file (oldbin pid_file)) answer.Fine ∷ m1 (SpawnMaster 2) answer.Spawned ∷ m2 Adopt answer.Adopted ∷ m1 (Census first) (answer.Counted (0 ∷ [])) ∷ m1 (Fork first 1 None) answer.Forked ∷ m1 (AwaitReady first 1) answer.IsReady ∷ m1 (Census first) (answer.Counted (0 ∷ 1 ∷ [])) ∷ m2 (Fork upgraded 0 None) answer.Forked ∷ m2 (Fork upgraded 1 None) answer.Forked ∷ m2 (AwaitReady upgraded 0) answer.IsReady ∷ m2 (AwaitReady upgraded 1) answer.IsReady ∷ m2 (WritePid pid_file) answer.Fine ∷ m2 (Census upgraded) (answer.Counted (0 ∷ 1 ∷ [])) ∷ m1 (Quit first 1) answer.Fine ∷ m1 (Quit first 0) answer.Fine ∷ m1 (AwaitGone first 1) answer.Gone ∷ m1 (AwaitGone first 0) answer.Gone ∷ m1 (Alive 2) answer.IsAlive ∷ m1 Leave answer.Fine ∷ m2 (RemovePid (oldbin pid_file)) answer.Fine ∷ m2 (Census upgraded) (answer.Counted (0 ∷ 1 ∷ [])) ∷ []) (report Done (Some 4) InPlace (0 ∷ 1 ∷ []))
+MendsBeside text =
+    GivesIn upgrade_sides
+    (upgrade_run_by (New ∷ Old ∷ Old ∷ Old ∷ Old ∷ []) text (exits 4 (name.Worker first 1) no_fault))
+    (m1 (MovePid pid_file (oldbin pid_file)) answer.Fine ∷ m1 (SpawnMaster 2) answer.Spawned ∷ m2 Adopt answer.Adopted ∷ m1 (Census first) (answer.Counted (0 ∷ [])) ∷ m1 (Fork first 1 None) answer.Forked ∷ m1 (AwaitReady first 1) answer.IsReady ∷ m1 (Census first) (answer.Counted (0 ∷ 1 ∷ [])) ∷ m2 (Fork upgraded 0 None) answer.Forked ∷ m2 (Fork upgraded 1 None) answer.Forked ∷ m2 (AwaitReady upgraded 0) answer.IsReady ∷ m2 (AwaitReady upgraded 1) answer.IsReady ∷ m2 (WritePid pid_file) answer.Fine ∷ m2 (Census upgraded) (answer.Counted (0 ∷ 1 ∷ [])) ∷ m1 (Quit first 1) answer.Fine ∷ m1 (Quit first 0) answer.Fine ∷ m1 (AwaitGone first 1) answer.Gone ∷ m1 (AwaitGone first 0) answer.Gone ∷ m1 (Alive 2) answer.IsAlive ∷ m1 Leave answer.Fine ∷ m2 (RemovePid (oldbin pid_file)) answer.Fine ∷ m2 (Census upgraded) (answer.Counted (0 ∷ 1 ∷ [])) ∷ [])
+    (report Done (Some 4) InPlace (0 ∷ 1 ∷ []))
 
 -- There is no program, and the pid file does not come back.
 abbrev pub NoImage : List ℕ → Type 0
 NoImage text =
-    GivesIn upgrade_sides (upgrade_run text (fails 2 fate.NoImage (fails 3 fate.IoFault no_fault))) (m1 (MovePid pid_file (oldbin pid_file)) answer.Fine ∷ m1 (SpawnMaster 2) answer.NoImage ∷ m1 (MovePid (oldbin pid_file) pid_file) answer.IoFault ∷ m1 (Census first) (answer.Counted (0 ∷ 1 ∷ [])) ∷ []) (report RolledBack (Some 2) AtOldbin (0 ∷ 1 ∷ []))
+    GivesIn upgrade_sides (upgrade_run text (fails 2 fate.NoImage (fails 3 fate.IoFault no_fault)))
+    (m1 (MovePid pid_file (oldbin pid_file)) answer.Fine ∷ m1 (SpawnMaster 2) answer.NoImage ∷ m1 (MovePid (oldbin pid_file) pid_file) answer.IoFault ∷ m1 (Census first) (answer.Counted (0 ∷ 1 ∷ [])) ∷ [])
+    (report RolledBack (Some 2) AtOldbin (0 ∷ 1 ∷ []))
 
 -- The new master is gone when it is asked for.
 abbrev pub GoneAtLast : List ℕ → Type 0
 GoneAtLast text =
-    GivesIn upgrade_sides (upgrade_run text (exits 15 (name.Master 2) no_fault)) (m1 (MovePid pid_file (oldbin pid_file)) answer.Fine ∷ m1 (SpawnMaster 2) answer.Spawned ∷ m2 Adopt answer.Adopted ∷ m2 (Fork upgraded 0 None) answer.Forked ∷ m2 (Fork upgraded 1 None) answer.Forked ∷ m2 (AwaitReady upgraded 0) answer.IsReady ∷ m2 (AwaitReady upgraded 1) answer.IsReady ∷ m1 (Census first) (answer.Counted (0 ∷ 1 ∷ [])) ∷ m2 (WritePid pid_file) answer.Fine ∷ m2 (Census upgraded) (answer.Counted (0 ∷ 1 ∷ [])) ∷ m1 (Quit first 1) answer.Fine ∷ m1 (Quit first 0) answer.Fine ∷ m1 (AwaitGone first 1) answer.Gone ∷ m1 (AwaitGone first 0) answer.Gone ∷ m1 (Alive 2) answer.Gone ∷ m1 (TermMaster 2) answer.Fine ∷ m1 (Fork first 0 None) answer.Forked ∷ m1 (Fork first 1 None) answer.Forked ∷ m1 (AwaitReady first 0) answer.IsReady ∷ m1 (AwaitReady first 1) answer.IsReady ∷ m1 (MovePid (oldbin pid_file) pid_file) answer.Fine ∷ m1 (Census first) (answer.Counted (0 ∷ 1 ∷ [])) ∷ []) (report RolledBack (Some 15) InPlace (0 ∷ 1 ∷ [])) × (serving (upgrade_run text (exits 15 (name.Master 2) no_fault)) port first ≡ Some 2) × ((upgrade_run text (exits 15 (name.Master 2) no_fault)).last.faults ≡ 1) × ((upgrade_run text (exits 15 (name.Master 2) no_fault)).last.losses ≡ 2)
+    GivesIn upgrade_sides (upgrade_run text (exits 15 (name.Master 2) no_fault))
+    (m1 (MovePid pid_file (oldbin pid_file)) answer.Fine ∷ m1 (SpawnMaster 2) answer.Spawned ∷ m2 Adopt answer.Adopted ∷ m2 (Fork upgraded 0 None) answer.Forked ∷ m2 (Fork upgraded 1 None) answer.Forked ∷ m2 (AwaitReady upgraded 0) answer.IsReady ∷ m2 (AwaitReady upgraded 1) answer.IsReady ∷ m1 (Census first) (answer.Counted (0 ∷ 1 ∷ [])) ∷ m2 (WritePid pid_file) answer.Fine ∷ m2 (Census upgraded) (answer.Counted (0 ∷ 1 ∷ [])) ∷ m1 (Quit first 1) answer.Fine ∷ m1 (Quit first 0) answer.Fine ∷ m1 (AwaitGone first 1) answer.Gone ∷ m1 (AwaitGone first 0) answer.Gone ∷ m1 (Alive 2) answer.Gone ∷ m1 (TermMaster 2) answer.Fine ∷ m1 (Fork first 0 None) answer.Forked ∷ m1 (Fork first 1 None) answer.Forked ∷ m1 (AwaitReady first 0) answer.IsReady ∷ m1 (AwaitReady first 1) answer.IsReady ∷ m1 (MovePid (oldbin pid_file) pid_file) answer.Fine ∷ m1 (Census first) (answer.Counted (0 ∷ 1 ∷ [])) ∷ [])
+    (report RolledBack (Some 15) InPlace (0 ∷ 1 ∷ [])) ×
+    (serving (upgrade_run text (exits 15 (name.Master 2) no_fault)) port first ≡ Some 2) ×
+    ((upgrade_run text (exits 15 (name.Master 2) no_fault)).last.faults ≡ 1) ×
+    ((upgrade_run text (exits 15 (name.Master 2) no_fault)).last.losses ≡ 2)
 
 -- The executing masters must not exit.
 abbrev pub Refused : List ℕ → Type 0
 Refused text =
-    (refused_with text (exits 16 (name.Master 2) no_fault) ≡ Some 16) × (refused_with text (exits 1 (name.Master 1) no_fault) ≡ Some 1) × (refused_with text (exits 15 (name.Master 2) no_fault) ≡ None)
+    (refused_with text (exits 16 (name.Master 2) no_fault) ≡ Some 16)
+    × (refused_with text (exits 1 (name.Master 1) no_fault) ≡ Some 1)
+    × (refused_with text (exits 15 (name.Master 2) no_fault) ≡ None)
 
 -- The new master is gone while it starts.
 abbrev pub GoneEarly : List ℕ → Type 0
 GoneEarly text =
-    GivesIn upgrade_sides (upgrade_run text (exits 6 (name.Master 2) no_fault)) (m1 (MovePid pid_file (oldbin pid_file)) answer.Fine ∷ m1 (SpawnMaster 2) answer.Spawned ∷ m2 Adopt answer.Adopted ∷ m2 (Fork upgraded 0 None) answer.Forked ∷ m2 (Fork upgraded 1 None) answer.Forked ∷ m2 (AwaitReady upgraded 0) answer.MasterGone ∷ m1 (Census first) (answer.Counted (0 ∷ 1 ∷ [])) ∷ m1 (TermMaster 2) answer.Fine ∷ m1 (MovePid (oldbin pid_file) pid_file) answer.Fine ∷ m1 (Census first) (answer.Counted (0 ∷ 1 ∷ [])) ∷ []) (report RolledBack (Some 6) InPlace (0 ∷ 1 ∷ [])) × ((upgrade_run text (exits 6 (name.Master 2) no_fault)).last.faults ≡ 1) × ((upgrade_run text (exits 6 (name.Master 2) no_fault)).last.losses ≡ 2)
+    GivesIn upgrade_sides (upgrade_run text (exits 6 (name.Master 2) no_fault))
+    (m1 (MovePid pid_file (oldbin pid_file)) answer.Fine ∷ m1 (SpawnMaster 2) answer.Spawned ∷ m2 Adopt answer.Adopted ∷ m2 (Fork upgraded 0 None) answer.Forked ∷ m2 (Fork upgraded 1 None) answer.Forked ∷ m2 (AwaitReady upgraded 0) answer.MasterGone ∷ m1 (Census first) (answer.Counted (0 ∷ 1 ∷ [])) ∷ m1 (TermMaster 2) answer.Fine ∷ m1 (MovePid (oldbin pid_file) pid_file) answer.Fine ∷ m1 (Census first) (answer.Counted (0 ∷ 1 ∷ [])) ∷ [])
+    (report RolledBack (Some 6) InPlace (0 ∷ 1 ∷ [])) ×
+    ((upgrade_run text (exits 6 (name.Master 2) no_fault)).last.faults ≡ 1) ×
+    ((upgrade_run text (exits 6 (name.Master 2) no_fault)).last.losses ≡ 2)
 
 -- A worker is gone at the last count.
 abbrev pub RepairedAtLast : List ℕ → Type 0
 RepairedAtLast text =
-    GivesIn upgrade_sides (upgrade_run text (exits 18 (name.Worker upgraded 1) no_fault)) (m1 (MovePid pid_file (oldbin pid_file)) answer.Fine ∷ m1 (SpawnMaster 2) answer.Spawned ∷ m2 Adopt answer.Adopted ∷ m2 (Fork upgraded 0 None) answer.Forked ∷ m2 (Fork upgraded 1 None) answer.Forked ∷ m2 (AwaitReady upgraded 0) answer.IsReady ∷ m2 (AwaitReady upgraded 1) answer.IsReady ∷ m1 (Census first) (answer.Counted (0 ∷ 1 ∷ [])) ∷ m2 (WritePid pid_file) answer.Fine ∷ m2 (Census upgraded) (answer.Counted (0 ∷ 1 ∷ [])) ∷ m1 (Quit first 1) answer.Fine ∷ m1 (Quit first 0) answer.Fine ∷ m1 (AwaitGone first 1) answer.Gone ∷ m1 (AwaitGone first 0) answer.Gone ∷ m1 (Alive 2) answer.IsAlive ∷ m1 Leave answer.Fine ∷ m2 (RemovePid (oldbin pid_file)) answer.Fine ∷ m2 (Census upgraded) (answer.Counted (0 ∷ [])) ∷ m2 (Fork upgraded 1 None) answer.Forked ∷ m2 (AwaitReady upgraded 1) answer.IsReady ∷ m2 (Census upgraded) (answer.Counted (0 ∷ 1 ∷ [])) ∷ []) (report Done (Some 18) InPlace (0 ∷ 1 ∷ []))
+    GivesIn upgrade_sides (upgrade_run text (exits 18 (name.Worker upgraded 1) no_fault))
+    (m1 (MovePid pid_file (oldbin pid_file)) answer.Fine ∷ m1 (SpawnMaster 2) answer.Spawned ∷ m2 Adopt answer.Adopted ∷ m2 (Fork upgraded 0 None) answer.Forked ∷ m2 (Fork upgraded 1 None) answer.Forked ∷ m2 (AwaitReady upgraded 0) answer.IsReady ∷ m2 (AwaitReady upgraded 1) answer.IsReady ∷ m1 (Census first) (answer.Counted (0 ∷ 1 ∷ [])) ∷ m2 (WritePid pid_file) answer.Fine ∷ m2 (Census upgraded) (answer.Counted (0 ∷ 1 ∷ [])) ∷ m1 (Quit first 1) answer.Fine ∷ m1 (Quit first 0) answer.Fine ∷ m1 (AwaitGone first 1) answer.Gone ∷ m1 (AwaitGone first 0) answer.Gone ∷ m1 (Alive 2) answer.IsAlive ∷ m1 Leave answer.Fine ∷ m2 (RemovePid (oldbin pid_file)) answer.Fine ∷ m2 (Census upgraded) (answer.Counted (0 ∷ [])) ∷ m2 (Fork upgraded 1 None) answer.Forked ∷ m2 (AwaitReady upgraded 1) answer.IsReady ∷ m2 (Census upgraded) (answer.Counted (0 ∷ 1 ∷ [])) ∷ [])
+    (report Done (Some 18) InPlace (0 ∷ 1 ∷ []))
 
 -- The old pid file cannot be removed.
 abbrev pub OldFileLeft : List ℕ → Type 0
 OldFileLeft text =
-    GivesIn upgrade_sides (upgrade_run text (fails 17 fate.IoFault no_fault)) (m1 (MovePid pid_file (oldbin pid_file)) answer.Fine ∷ m1 (SpawnMaster 2) answer.Spawned ∷ m2 Adopt answer.Adopted ∷ m2 (Fork upgraded 0 None) answer.Forked ∷ m2 (Fork upgraded 1 None) answer.Forked ∷ m2 (AwaitReady upgraded 0) answer.IsReady ∷ m2 (AwaitReady upgraded 1) answer.IsReady ∷ m1 (Census first) (answer.Counted (0 ∷ 1 ∷ [])) ∷ m2 (WritePid pid_file) answer.Fine ∷ m2 (Census upgraded) (answer.Counted (0 ∷ 1 ∷ [])) ∷ m1 (Quit first 1) answer.Fine ∷ m1 (Quit first 0) answer.Fine ∷ m1 (AwaitGone first 1) answer.Gone ∷ m1 (AwaitGone first 0) answer.Gone ∷ m1 (Alive 2) answer.IsAlive ∷ m1 Leave answer.Fine ∷ m2 (RemovePid (oldbin pid_file)) answer.IoFault ∷ m2 (Census upgraded) (answer.Counted (0 ∷ 1 ∷ [])) ∷ []) (report Done (Some 17) OldbinLeft (0 ∷ 1 ∷ []))
+    GivesIn upgrade_sides (upgrade_run text (fails 17 fate.IoFault no_fault))
+    (m1 (MovePid pid_file (oldbin pid_file)) answer.Fine ∷ m1 (SpawnMaster 2) answer.Spawned ∷ m2 Adopt answer.Adopted ∷ m2 (Fork upgraded 0 None) answer.Forked ∷ m2 (Fork upgraded 1 None) answer.Forked ∷ m2 (AwaitReady upgraded 0) answer.IsReady ∷ m2 (AwaitReady upgraded 1) answer.IsReady ∷ m1 (Census first) (answer.Counted (0 ∷ 1 ∷ [])) ∷ m2 (WritePid pid_file) answer.Fine ∷ m2 (Census upgraded) (answer.Counted (0 ∷ 1 ∷ [])) ∷ m1 (Quit first 1) answer.Fine ∷ m1 (Quit first 0) answer.Fine ∷ m1 (AwaitGone first 1) answer.Gone ∷ m1 (AwaitGone first 0) answer.Gone ∷ m1 (Alive 2) answer.IsAlive ∷ m1 Leave answer.Fine ∷ m2 (RemovePid (oldbin pid_file)) answer.IoFault ∷ m2 (Census upgraded) (answer.Counted (0 ∷ 1 ∷ [])) ∷ [])
+    (report Done (Some 17) OldbinLeft (0 ∷ 1 ∷ []))
 
 ---- An attended upgrade
 
@@ -173,8 +204,11 @@ late_then_back = exits 4 (name.Worker first 1) (fails 6 fate.Late (fails 23 fate
 
 abbrev pub BackAfterMending : List ℕ → Type 0
 BackAfterMending text =
-    GivesIn upgrade_sides (attended_run_by all_old_first text late_then_back) (m1 (MovePid pid_file (oldbin pid_file)) answer.Fine ∷ m1 (SpawnMaster 2) answer.Spawned ∷ m2 Adopt answer.Adopted ∷ m1 (Census first) (answer.Counted (0 ∷ [])) ∷ m1 (Fork first 1 None) answer.Forked ∷ m1 (AwaitReady first 1) answer.Late ∷ m1 (Kill first 1) answer.Fine ∷ m1 (Census first) (answer.Counted (0 ∷ [])) ∷ m1 (Fork first 1 None) answer.Forked ∷ m1 (AwaitReady first 1) answer.IsReady ∷ m1 (Census first) (answer.Counted (0 ∷ 1 ∷ [])) ∷ m2 (Fork upgraded 0 None) answer.Forked ∷ m2 (Fork upgraded 1 None) answer.Forked ∷ m2 (AwaitReady upgraded 0) answer.IsReady ∷ m2 (AwaitReady upgraded 1) answer.IsReady ∷ m2 (WritePid pid_file) answer.Fine ∷ m2 (Census upgraded) (answer.Counted (0 ∷ 1 ∷ [])) ∷ m1 (Ask 1) answer.Go ∷ m1 (Quit first 1) answer.Fine ∷ m1 (Quit first 0) answer.Fine ∷ m1 (AwaitGone first 1) answer.Gone ∷ m1 (AwaitGone first 0) answer.Gone ∷ m1 (Ask 2) answer.Back ∷ m1 (Fork first 0 None) answer.Forked ∷ m1 (Fork first 1 None) answer.Forked ∷ m1 (AwaitReady first 0) answer.IsReady ∷ m1 (AwaitReady first 1) answer.IsReady ∷ m1 (TermMaster 2) answer.Fine ∷ m1 (MovePid (oldbin pid_file) pid_file) answer.Fine ∷ m1 (Census first) (answer.Counted (0 ∷ 1 ∷ [])) ∷ []) (report RolledBack (Some 4) InPlace (0 ∷ 1 ∷ []))
-    × (let ran = attended_run_by all_old_first text late_then_back in (ran.last.faults ≡ 1) × (ran.last.losses ≡ 1) × (faults_since 2 ran.last.returns ran.last.faults ≡ 0))
+    GivesIn upgrade_sides (attended_run_by all_old_first text late_then_back)
+    (m1 (MovePid pid_file (oldbin pid_file)) answer.Fine ∷ m1 (SpawnMaster 2) answer.Spawned ∷ m2 Adopt answer.Adopted ∷ m1 (Census first) (answer.Counted (0 ∷ [])) ∷ m1 (Fork first 1 None) answer.Forked ∷ m1 (AwaitReady first 1) answer.Late ∷ m1 (Kill first 1) answer.Fine ∷ m1 (Census first) (answer.Counted (0 ∷ [])) ∷ m1 (Fork first 1 None) answer.Forked ∷ m1 (AwaitReady first 1) answer.IsReady ∷ m1 (Census first) (answer.Counted (0 ∷ 1 ∷ [])) ∷ m2 (Fork upgraded 0 None) answer.Forked ∷ m2 (Fork upgraded 1 None) answer.Forked ∷ m2 (AwaitReady upgraded 0) answer.IsReady ∷ m2 (AwaitReady upgraded 1) answer.IsReady ∷ m2 (WritePid pid_file) answer.Fine ∷ m2 (Census upgraded) (answer.Counted (0 ∷ 1 ∷ [])) ∷ m1 (Ask 1) answer.Go ∷ m1 (Quit first 1) answer.Fine ∷ m1 (Quit first 0) answer.Fine ∷ m1 (AwaitGone first 1) answer.Gone ∷ m1 (AwaitGone first 0) answer.Gone ∷ m1 (Ask 2) answer.Back ∷ m1 (Fork first 0 None) answer.Forked ∷ m1 (Fork first 1 None) answer.Forked ∷ m1 (AwaitReady first 0) answer.IsReady ∷ m1 (AwaitReady first 1) answer.IsReady ∷ m1 (TermMaster 2) answer.Fine ∷ m1 (MovePid (oldbin pid_file) pid_file) answer.Fine ∷ m1 (Census first) (answer.Counted (0 ∷ 1 ∷ [])) ∷ [])
+    (report RolledBack (Some 4) InPlace (0 ∷ 1 ∷ []))
+    ×
+    (let ran = attended_run_by all_old_first text late_then_back in (ran.last.faults ≡ 1) × (ran.last.losses ≡ 1) × (faults_since 2 ran.last.returns ran.last.faults ≡ 0))
 
 pub record WorkedRuns : Type 0 where
   -- The text of the upgrade's handover, which is read again.
@@ -195,68 +229,123 @@ pub record WorkedRuns : Type 0 where
   pub back_after_mending : BackAfterMending (text_handed (two_ready 3) same_attended)
   -- One worker more.
   pub one_more :
-      Gives two_ready_without_file (Workers 3) no_fault two_without_file (m1 (Fork first 2 None) answer.Forked ∷ m1 (AwaitReady first 2) answer.IsReady ∷ m1 (Census first) (answer.Counted (0 ∷ 1 ∷ 2 ∷ [])) ∷ []) (report Done None NoFile (0 ∷ 1 ∷ 2 ∷ []))
+      Gives two_ready_without_file (Workers 3) no_fault two_without_file
+      (m1 (Fork first 2 None) answer.Forked ∷ m1 (AwaitReady first 2) answer.IsReady ∷ m1 (Census first) (answer.Counted (0 ∷ 1 ∷ 2 ∷ [])) ∷ [])
+      (report Done None NoFile (0 ∷ 1 ∷ 2 ∷ []))
   -- No process can be started.
   pub one_more_refused :
-      Gives (two_ready 3) (Workers 3) (fails 1 fate.Again no_fault) two_workers (m1 (Fork first 2 None) answer.Again ∷ m1 (Census first) (answer.Counted (0 ∷ 1 ∷ [])) ∷ []) (report RolledBack (Some 1) InPlace (0 ∷ 1 ∷ []))
+      Gives (two_ready 3) (Workers 3) (fails 1 fate.Again no_fault) two_workers
+      (m1 (Fork first 2 None) answer.Again ∷ m1 (Census first) (answer.Counted (0 ∷ 1 ∷ [])) ∷ [])
+      (report RolledBack (Some 1) InPlace (0 ∷ 1 ∷ []))
   -- And a worker exits: without retries one is lacking.
   pub one_more_short :
-      Gives (two_ready 0) (Workers 3) (fails 1 fate.Again (exits 2 (name.Worker first 0) no_fault)) two_workers (m1 (Fork first 2 None) answer.Again ∷ m1 (Census first) (answer.Counted (1 ∷ [])) ∷ []) (report (Degraded side.Old (1 ∷ [])) (Some 1) InPlace (1 ∷ []))
+      Gives (two_ready 0) (Workers 3) (fails 1 fate.Again (exits 2 (name.Worker first 0) no_fault)) two_workers
+      (m1 (Fork first 2 None) answer.Again ∷ m1 (Census first) (answer.Counted (1 ∷ [])) ∷ [])
+      (report (Degraded side.Old (1 ∷ [])) (Some 1) InPlace (1 ∷ []))
   -- With retries it is started again.
   pub one_more_repaired :
-      Gives (two_ready 3) (Workers 3) (fails 1 fate.Again (exits 2 (name.Worker first 0) no_fault)) two_workers (m1 (Fork first 2 None) answer.Again ∷ m1 (Census first) (answer.Counted (1 ∷ [])) ∷ m1 (Fork first 0 None) answer.Forked ∷ m1 (AwaitReady first 0) answer.IsReady ∷ m1 (Census first) (answer.Counted (0 ∷ 1 ∷ [])) ∷ []) (report RolledBack (Some 1) InPlace (0 ∷ 1 ∷ []))
+      Gives (two_ready 3) (Workers 3) (fails 1 fate.Again (exits 2 (name.Worker first 0) no_fault)) two_workers
+      (m1 (Fork first 2 None) answer.Again ∷ m1 (Census first) (answer.Counted (1 ∷ [])) ∷ m1 (Fork first 0 None) answer.Forked ∷ m1 (AwaitReady first 0) answer.IsReady ∷ m1 (Census first) (answer.Counted (0 ∷ 1 ∷ [])) ∷ [])
+      (report RolledBack (Some 1) InPlace (0 ∷ 1 ∷ []))
   -- One worker less, twice.
   pub one_less :
-      Gives (two_ready 3) (Workers 1) no_fault two_workers (m1 (Quit first 1) answer.Fine ∷ m1 (Census first) (answer.Counted (0 ∷ [])) ∷ []) (report Done None InPlace (0 ∷ []))
+      Gives (two_ready 3) (Workers 1) no_fault two_workers
+      (m1 (Quit first 1) answer.Fine ∷ m1 (Census first) (answer.Counted (0 ∷ [])) ∷ [])
+      (report Done None InPlace (0 ∷ []))
   pub none_left :
-      Gives (record_with (0 ∷ []) 1 3 (Some pid_file) InPlace) (Workers 0) no_fault (run_of (two_ready 3) (Workers 1) [] no_fault two_workers).last.table (m1 (Quit first 0) answer.Fine ∷ m1 (Census first) (answer.Counted []) ∷ []) (report Done None InPlace [])
+      Gives (record_with (0 ∷ []) 1 3 (Some pid_file) InPlace) (Workers 0) no_fault
+      (run_of (two_ready 3) (Workers 1) [] no_fault two_workers).last.table
+      (m1 (Quit first 0) answer.Fine ∷ m1 (Census first) (answer.Counted []) ∷ []) (report Done None InPlace [])
   -- All workers quit, and then there is one again.
   pub all_quit :
-      Gives (two_ready 3) (Workers 0) no_fault two_workers (m1 (Quit first 1) answer.Fine ∷ m1 (Quit first 0) answer.Fine ∷ m1 (Census first) (answer.Counted []) ∷ []) (report Done None InPlace [])
+      Gives (two_ready 3) (Workers 0) no_fault two_workers
+      (m1 (Quit first 1) answer.Fine ∷ m1 (Quit first 0) answer.Fine ∷ m1 (Census first) (answer.Counted []) ∷ [])
+      (report Done None InPlace [])
   pub one_again :
-      Gives (record_with [] 0 3 (Some pid_file) InPlace) (Workers 1) no_fault (run_of (two_ready 3) (Workers 0) [] no_fault two_workers).last.table (m1 (Fork first 0 None) answer.Forked ∷ m1 (AwaitReady first 0) answer.IsReady ∷ m1 (Census first) (answer.Counted (0 ∷ [])) ∷ []) (report Done None InPlace (0 ∷ []))
+      Gives (record_with [] 0 3 (Some pid_file) InPlace) (Workers 1) no_fault
+      (run_of (two_ready 3) (Workers 0) [] no_fault two_workers).last.table
+      (m1 (Fork first 0 None) answer.Forked ∷ m1 (AwaitReady first 0) answer.IsReady ∷ m1 (Census first) (answer.Counted (0 ∷ [])) ∷ [])
+      (report Done None InPlace (0 ∷ []))
   -- The same settings again.
   pub reloads :
-      Gives (two_ready 3) (Reload (settings_of (port ∷ []) 2)) no_fault two_workers (m1 (Fork reloaded 0 None) answer.Forked ∷ m1 (Fork reloaded 1 None) answer.Forked ∷ m1 (AwaitReady reloaded 0) answer.IsReady ∷ m1 (AwaitReady reloaded 1) answer.IsReady ∷ m1 (Census reloaded) (answer.Counted (0 ∷ 1 ∷ [])) ∷ m1 (Quit first 1) answer.Fine ∷ m1 (Quit first 0) answer.Fine ∷ m1 (Census reloaded) (answer.Counted (0 ∷ 1 ∷ [])) ∷ []) (report Done None InPlace (0 ∷ 1 ∷ []))
+      Gives (two_ready 3) (Reload (settings_of (port ∷ []) 2)) no_fault two_workers
+      (m1 (Fork reloaded 0 None) answer.Forked ∷ m1 (Fork reloaded 1 None) answer.Forked ∷ m1 (AwaitReady reloaded 0) answer.IsReady ∷ m1 (AwaitReady reloaded 1) answer.IsReady ∷ m1 (Census reloaded) (answer.Counted (0 ∷ 1 ∷ [])) ∷ m1 (Quit first 1) answer.Fine ∷ m1 (Quit first 0) answer.Fine ∷ m1 (Census reloaded) (answer.Counted (0 ∷ 1 ∷ [])) ∷ [])
+      (report Done None InPlace (0 ∷ 1 ∷ []))
   -- An address more: both are served.
   pub reloads_with_an_address :
-      Gives (two_ready 3) (Reload (settings_of (port ∷ other_port ∷ []) 2)) no_fault two_workers (m1 (OpenAt other_port) (answer.Opened 4) ∷ m1 (Fork reloaded 0 None) answer.Forked ∷ m1 (Fork reloaded 1 None) answer.Forked ∷ m1 (AwaitReady reloaded 0) answer.IsReady ∷ m1 (AwaitReady reloaded 1) answer.IsReady ∷ m1 (Census reloaded) (answer.Counted (0 ∷ 1 ∷ [])) ∷ m1 (Quit first 1) answer.Fine ∷ m1 (Quit first 0) answer.Fine ∷ m1 (Census reloaded) (answer.Counted (0 ∷ 1 ∷ [])) ∷ []) (report Done None InPlace (0 ∷ 1 ∷ [])) × (serving (run_of (two_ready 3) (Reload (settings_of (port ∷ other_port ∷ []) 2)) [] no_fault two_workers) port reloaded ≡ Some 2) × (serving (run_of (two_ready 3) (Reload (settings_of (port ∷ other_port ∷ []) 2)) [] no_fault two_workers) other_port reloaded ≡ Some 2)
+      Gives (two_ready 3) (Reload (settings_of (port ∷ other_port ∷ []) 2)) no_fault two_workers
+      (m1 (OpenAt other_port) (answer.Opened 4) ∷ m1 (Fork reloaded 0 None) answer.Forked ∷ m1 (Fork reloaded 1 None) answer.Forked ∷ m1 (AwaitReady reloaded 0) answer.IsReady ∷ m1 (AwaitReady reloaded 1) answer.IsReady ∷ m1 (Census reloaded) (answer.Counted (0 ∷ 1 ∷ [])) ∷ m1 (Quit first 1) answer.Fine ∷ m1 (Quit first 0) answer.Fine ∷ m1 (Census reloaded) (answer.Counted (0 ∷ 1 ∷ [])) ∷ [])
+      (report Done None InPlace (0 ∷ 1 ∷ [])) ×
+      (serving (run_of (two_ready 3) (Reload (settings_of (port ∷ other_port ∷ []) 2)) [] no_fault two_workers) port reloaded ≡ Some 2)
+      ×
+      (serving (run_of (two_ready 3) (Reload (settings_of (port ∷ other_port ∷ []) 2)) [] no_fault two_workers) other_port reloaded ≡ Some 2)
   -- Somebody else holds it.
   pub address_is_held :
-      Gives (two_ready 3) (Reload (settings_of (port ∷ other_port ∷ []) 2)) no_fault other_held (m1 (OpenAt other_port) answer.InUse ∷ m1 (Census first) (answer.Counted (0 ∷ 1 ∷ [])) ∷ []) (report RolledBack (Some 1) InPlace (0 ∷ 1 ∷ []))
+      Gives (two_ready 3) (Reload (settings_of (port ∷ other_port ∷ []) 2)) no_fault other_held
+      (m1 (OpenAt other_port) answer.InUse ∷ m1 (Census first) (answer.Counted (0 ∷ 1 ∷ [])) ∷ [])
+      (report RolledBack (Some 1) InPlace (0 ∷ 1 ∷ []))
   -- A worker is late: what was opened is closed.
   pub comes_back :
-      Gives (two_ready 3) (Reload (settings_of (port ∷ other_port ∷ []) 2)) (fails 5 fate.Late no_fault) two_workers (m1 (OpenAt other_port) (answer.Opened 4) ∷ m1 (Fork reloaded 0 None) answer.Forked ∷ m1 (Fork reloaded 1 None) answer.Forked ∷ m1 (AwaitReady reloaded 0) answer.IsReady ∷ m1 (AwaitReady reloaded 1) answer.Late ∷ m1 (Kill reloaded 1) answer.Fine ∷ m1 (Quit reloaded 1) answer.Fine ∷ m1 (Quit reloaded 0) answer.Fine ∷ m1 (CloseAt other_port) answer.Fine ∷ m1 (Census first) (answer.Counted (0 ∷ 1 ∷ [])) ∷ []) (report RolledBack (Some 5) InPlace (0 ∷ 1 ∷ [])) × (serving (run_of (two_ready 3) (Reload (settings_of (port ∷ other_port ∷ []) 2)) [] (fails 5 fate.Late no_fault) two_workers) port first ≡ Some 2) × (serving (run_of (two_ready 3) (Reload (settings_of (port ∷ other_port ∷ []) 2)) [] (fails 5 fate.Late no_fault) two_workers) other_port reloaded ≡ None)
+      Gives (two_ready 3) (Reload (settings_of (port ∷ other_port ∷ []) 2)) (fails 5 fate.Late no_fault) two_workers
+      (m1 (OpenAt other_port) (answer.Opened 4) ∷ m1 (Fork reloaded 0 None) answer.Forked ∷ m1 (Fork reloaded 1 None) answer.Forked ∷ m1 (AwaitReady reloaded 0) answer.IsReady ∷ m1 (AwaitReady reloaded 1) answer.Late ∷ m1 (Kill reloaded 1) answer.Fine ∷ m1 (Quit reloaded 1) answer.Fine ∷ m1 (Quit reloaded 0) answer.Fine ∷ m1 (CloseAt other_port) answer.Fine ∷ m1 (Census first) (answer.Counted (0 ∷ 1 ∷ [])) ∷ [])
+      (report RolledBack (Some 5) InPlace (0 ∷ 1 ∷ [])) ×
+      (serving (run_of (two_ready 3) (Reload (settings_of (port ∷ other_port ∷ []) 2)) [] (fails 5 fate.Late no_fault) two_workers) port first ≡ Some 2)
+      ×
+      (serving (run_of (two_ready 3) (Reload (settings_of (port ∷ other_port ∷ []) 2)) [] (fails 5 fate.Late no_fault) two_workers) other_port reloaded ≡ None)
   -- Another address in the place of the first.
   pub changes_its_address :
-      Gives (two_ready 3) (Reload (settings_of (other_port ∷ []) 2)) no_fault two_workers (m1 (OpenAt other_port) (answer.Opened 4) ∷ m1 (Fork reloaded 0 None) answer.Forked ∷ m1 (Fork reloaded 1 None) answer.Forked ∷ m1 (AwaitReady reloaded 0) answer.IsReady ∷ m1 (AwaitReady reloaded 1) answer.IsReady ∷ m1 (Census reloaded) (answer.Counted (0 ∷ 1 ∷ [])) ∷ m1 (Quit first 1) answer.Fine ∷ m1 (Quit first 0) answer.Fine ∷ m1 (CloseAt port) answer.Fine ∷ m1 (Census reloaded) (answer.Counted (0 ∷ 1 ∷ [])) ∷ []) (report Done None InPlace (0 ∷ 1 ∷ [])) × (serving (run_of (two_ready 3) (Reload (settings_of (other_port ∷ []) 2)) [] no_fault two_workers) port reloaded ≡ None) × (serving (run_of (two_ready 3) (Reload (settings_of (other_port ∷ []) 2)) [] no_fault two_workers) other_port reloaded ≡ Some 2)
+      Gives (two_ready 3) (Reload (settings_of (other_port ∷ []) 2)) no_fault two_workers
+      (m1 (OpenAt other_port) (answer.Opened 4) ∷ m1 (Fork reloaded 0 None) answer.Forked ∷ m1 (Fork reloaded 1 None) answer.Forked ∷ m1 (AwaitReady reloaded 0) answer.IsReady ∷ m1 (AwaitReady reloaded 1) answer.IsReady ∷ m1 (Census reloaded) (answer.Counted (0 ∷ 1 ∷ [])) ∷ m1 (Quit first 1) answer.Fine ∷ m1 (Quit first 0) answer.Fine ∷ m1 (CloseAt port) answer.Fine ∷ m1 (Census reloaded) (answer.Counted (0 ∷ 1 ∷ [])) ∷ [])
+      (report Done None InPlace (0 ∷ 1 ∷ [])) ×
+      (serving (run_of (two_ready 3) (Reload (settings_of (other_port ∷ []) 2)) [] no_fault two_workers) port reloaded ≡ None)
+      ×
+      (serving (run_of (two_ready 3) (Reload (settings_of (other_port ∷ []) 2)) [] no_fault two_workers) other_port reloaded ≡ Some 2)
   -- No workers: the address stays.
   pub reloads_to_none :
-      Gives (two_ready 3) (Reload (settings_of (port ∷ []) 0)) no_fault two_workers (m1 (Census reloaded) (answer.Counted []) ∷ m1 (Quit first 1) answer.Fine ∷ m1 (Quit first 0) answer.Fine ∷ m1 (Census reloaded) (answer.Counted []) ∷ []) (report Done None InPlace []) × (serving (run_of (two_ready 3) (Reload (settings_of (port ∷ []) 0)) [] no_fault two_workers) port reloaded ≡ Some 0)
+      Gives (two_ready 3) (Reload (settings_of (port ∷ []) 0)) no_fault two_workers
+      (m1 (Census reloaded) (answer.Counted []) ∷ m1 (Quit first 1) answer.Fine ∷ m1 (Quit first 0) answer.Fine ∷ m1 (Census reloaded) (answer.Counted []) ∷ [])
+      (report Done None InPlace []) ×
+      (serving (run_of (two_ready 3) (Reload (settings_of (port ∷ []) 0)) [] no_fault two_workers) port reloaded ≡ Some 0)
   -- And one more, by the record that is left.
   pub one_after_none :
-      (record_after (two_ready 3) (Reload (settings_of (port ∷ []) 0)) (report_of (sides_of (two_ready 3) (Reload (settings_of (port ∷ []) 0))) (run_of (two_ready 3) (Reload (settings_of (port ∷ []) 0)) [] no_fault two_workers)) 100 ≡ Some empty_record) × Gives empty_record (Workers 1) no_fault (run_of (two_ready 3) (Reload (settings_of (port ∷ []) 0)) [] no_fault two_workers).last.table (m1 (Fork reloaded 0 None) answer.Forked ∷ m1 (AwaitReady reloaded 0) answer.IsReady ∷ m1 (Census reloaded) (answer.Counted (0 ∷ [])) ∷ []) (report Done None InPlace (0 ∷ []))
+      (record_after (two_ready 3) (Reload (settings_of (port ∷ []) 0)) (report_of (sides_of (two_ready 3) (Reload (settings_of (port ∷ []) 0))) (run_of (two_ready 3) (Reload (settings_of (port ∷ []) 0)) [] no_fault two_workers)) 100 ≡ Some empty_record)
+      × Gives empty_record (Workers 1) no_fault
+      (run_of (two_ready 3) (Reload (settings_of (port ∷ []) 0)) [] no_fault two_workers).last.table
+      (m1 (Fork reloaded 0 None) answer.Forked ∷ m1 (AwaitReady reloaded 0) answer.IsReady ∷ m1 (Census reloaded) (answer.Counted (0 ∷ [])) ∷ [])
+      (report Done None InPlace (0 ∷ []))
   -- No worker is overdue.
   pub mends_nothing :
       Gives (two_ready 3) (Mend []) no_fault two_workers (m1 (Census first) (answer.Counted (0 ∷ 1 ∷ [])) ∷ []) (report Done None InPlace (0 ∷ 1 ∷ []))
   -- One worker is overdue.
   pub mends :
-      Gives (two_ready 3) (Mend (0 ∷ [])) no_fault two_workers (m1 (Kill first 0) answer.Fine ∷ m1 (Fork first 0 None) answer.Forked ∷ m1 (AwaitReady first 0) answer.IsReady ∷ m1 (Census first) (answer.Counted (0 ∷ 1 ∷ [])) ∷ []) (report Done None InPlace (0 ∷ 1 ∷ []))
+      Gives (two_ready 3) (Mend (0 ∷ [])) no_fault two_workers
+      (m1 (Kill first 0) answer.Fine ∷ m1 (Fork first 0 None) answer.Forked ∷ m1 (AwaitReady first 0) answer.IsReady ∷ m1 (Census first) (answer.Counted (0 ∷ 1 ∷ [])) ∷ [])
+      (report Done None InPlace (0 ∷ 1 ∷ []))
   -- A worker does not end in time.
   pub stops :
-      Gives (two_ready 3) (Stop false) (fails 3 fate.Late no_fault) two_workers (m1 (Quit first 1) answer.Fine ∷ m1 (Quit first 0) answer.Fine ∷ m1 (AwaitGone first 1) answer.Late ∷ m1 (Kill first 1) answer.Fine ∷ m1 (AwaitGone first 0) answer.Gone ∷ m1 (RemovePid pid_file) answer.Fine ∷ m1 Leave answer.Fine ∷ []) (report Done (Some 3) NoFile [])
+      Gives (two_ready 3) (Stop false) (fails 3 fate.Late no_fault) two_workers
+      (m1 (Quit first 1) answer.Fine ∷ m1 (Quit first 0) answer.Fine ∷ m1 (AwaitGone first 1) answer.Late ∷ m1 (Kill first 1) answer.Fine ∷ m1 (AwaitGone first 0) answer.Gone ∷ m1 (RemovePid pid_file) answer.Fine ∷ m1 Leave answer.Fine ∷ [])
+      (report Done (Some 3) NoFile [])
   -- A quick stop.
   pub stops_at_once :
-      Gives (two_ready 3) (Stop true) no_fault two_workers (m1 (Kill first 0) answer.Fine ∷ m1 (Kill first 1) answer.Fine ∷ m1 (RemovePid pid_file) answer.Fine ∷ m1 Leave answer.Fine ∷ []) (report Done None NoFile [])
+      Gives (two_ready 3) (Stop true) no_fault two_workers
+      (m1 (Kill first 0) answer.Fine ∷ m1 (Kill first 1) answer.Fine ∷ m1 (RemovePid pid_file) answer.Fine ∷ m1 Leave answer.Fine ∷ [])
+      (report Done None NoFile [])
   -- The pid file cannot be removed.
   pub file_left :
-      Gives (two_ready 3) (Stop false) (fails 5 fate.IoFault no_fault) two_workers (m1 (Quit first 1) answer.Fine ∷ m1 (Quit first 0) answer.Fine ∷ m1 (AwaitGone first 1) answer.Gone ∷ m1 (AwaitGone first 0) answer.Gone ∷ m1 (RemovePid pid_file) answer.IoFault ∷ m1 Leave answer.Fine ∷ []) (report Done (Some 5) Left [])
+      Gives (two_ready 3) (Stop false) (fails 5 fate.IoFault no_fault) two_workers
+      (m1 (Quit first 1) answer.Fine ∷ m1 (Quit first 0) answer.Fine ∷ m1 (AwaitGone first 1) answer.Gone ∷ m1 (AwaitGone first 0) answer.Gone ∷ m1 (RemovePid pid_file) answer.IoFault ∷ m1 Leave answer.Fine ∷ [])
+      (report Done (Some 5) Left [])
   -- Each worker is told to open its logs anew.
   pub reopens :
-      Gives (two_ready 3) Reopen no_fault two_workers (m1 (Usr1 first 0) answer.Fine ∷ m1 (Usr1 first 1) answer.Fine ∷ m1 (Census first) (answer.Counted (0 ∷ 1 ∷ [])) ∷ []) (report Done None InPlace (0 ∷ 1 ∷ []))
+      Gives (two_ready 3) Reopen no_fault two_workers
+      (m1 (Usr1 first 0) answer.Fine ∷ m1 (Usr1 first 1) answer.Fine ∷ m1 (Census first) (answer.Counted (0 ∷ 1 ∷ [])) ∷ [])
+      (report Done None InPlace (0 ∷ 1 ∷ []))
   -- There may be no process more.
   pub no_process_left :
-      Gives two_ready_without_file (Workers 3) no_fault full_table (m1 (Fork first 2 None) answer.Again ∷ m1 (Census first) (answer.Counted (0 ∷ 1 ∷ [])) ∷ []) (report RolledBack (Some 1) NoFile (0 ∷ 1 ∷ []))
+      Gives two_ready_without_file (Workers 3) no_fault full_table
+      (m1 (Fork first 2 None) answer.Again ∷ m1 (Census first) (answer.Counted (0 ∷ 1 ∷ [])) ∷ [])
+      (report RolledBack (Some 1) NoFile (0 ∷ 1 ∷ []))
   -- The longest paths of some plans.
   pub longest :
       (height (plan_tree (two_ready 0) (Workers 3) []) ≡ 5) × (height (plan_tree (two_ready 3) (Workers 3) []) ≡ 17)

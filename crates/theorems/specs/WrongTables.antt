@@ -16,18 +16,19 @@ use Rattle.definitions.specs.Aside.{LeavesAlone}
 use Rattle.definitions.specs.Tree.{Tree, Ends}
 use Rattle.definitions.specs.Parts.{Turn, Old, weave, joined}
 use Rattle.definitions.specs.Plans.{tries, old_part}
-use Rattle.definitions.specs.Apart.{WalksAll}
+use Rattle.theorems.specs.Apart.{WalksAll}
 use Rattle.definitions.specs.Formed.{IsFormed}
 use Rattle.definitions.specs.Crew.{layout_in}
 use Rattle.definitions.specs.Record.{Agrees, FilesAre, crew_of, layout_of}
 use Rattle.definitions.specs.Target.{want, wanted_at}
 use Rattle.definitions.specs.Run.{Progress, Ran, At, start_at}
-use Rattle.definitions.specs.Settling.{IsSettled, HasSide}
+use Rattle.theorems.specs.Settling.{IsSettled, HasSide}
 use Rattle.definitions.specs.Manner.{Stays, Goes, KillsOnlyLate, LeavesLast}
 use Rattle.definitions.specs.Claims.{Says, Kept, Floor, AttendedFloor, IsBlamed, HasCause, IsPaid, StopNote, IsSucceeded}
 use Rattle.theorems.specs.GroupRuns.{both_holds, first_hold, grouped, grouped_with, three_workers, three_ready, two_groups}
 use Rattle.theorems.specs.Layouts.{IsSameLayout}
-use Rattle.theorems.specs.Examples.{first, port, other_port, pid_file, holds, two_workers, two_without_file, two_ready, table_with, pid_files, own_rows, two_masters, m1, m2}
+use Rattle.theorems.specs.Examples.{first, port, other_port, pid_file, holds, two_workers, two_without_file, two_ready}
+use Rattle.theorems.specs.Examples.{table_with, pid_files, own_rows, two_masters, m1, m2}
 
 ---- Tables
 
@@ -42,7 +43,10 @@ one_starts = table_with (own_rows ++ Worker 103 100 first 2 Starting holds ∷ [
 
 -- an address more than there was
 abbrev pub left_open : Table
-left_open = table_with (Master 100 1 1 true (record { fd = 3; socket = 1; address = port } ∷ record { fd = 4; socket = 2; address = other_port } ∷ []) ∷ []) pid_files 65535
+left_open =
+    table_with
+    (Master 100 1 1 true (record { fd = 3; socket = 1; address = port } ∷ record { fd = 4; socket = 2; address = other_port } ∷ []) ∷ [])
+    pid_files 65535
 
 -- the address on another socket
 abbrev pub opened_anew : Table
@@ -60,7 +64,13 @@ orphaned = record {
 
 -- the other group's worker is gone
 abbrev pub other_unserved : Table
-other_unserved = record { rows = Master 100 1 1 true both_holds ∷ Worker 101 100 first 0 Ready (first_hold ∷ []) ∷ Worker 102 100 first 1 Ready (first_hold ∷ []) ∷ []; files = pid_files; next_process = 104; next_socket = 3; limits = record { processes = 65535; descriptors = 64 } }
+other_unserved = record {
+  rows = Master 100 1 1 true both_holds ∷ Worker 101 100 first 0 Ready (first_hold ∷ []) ∷ Worker 102 100 first 1 Ready (first_hold ∷ []) ∷ [];
+  files = pid_files;
+  next_process = 104;
+  next_socket = 3;
+  limits = record { processes = 65535; descriptors = 64 };
+}
 
 -- of the old master's workers one is gone, beside the new master
 abbrev pub one_taken : Table
@@ -72,7 +82,9 @@ heir = record { number = 103; holds = holds }
 ---- Two parts of a step each
 
 abbrev pub both_steps : List Turn → Tree
-both_steps turns = weave (joined (Ends end.Done) (Ends end.RolledBack)) (tries 2 Adopt [] (Ends end.JoinReady) (Ends end.JoinBack)) turns (old_part 1 (crew_of (two_ready 3)) (0 ∷ 1 ∷ []) 0)
+both_steps turns =
+    weave (joined (Ends end.Done) (Ends end.RolledBack)) (tries 2 Adopt [] (Ends end.JoinReady) (Ends end.JoinBack))
+    turns (old_part 1 (crew_of (two_ready 3)) (0 ∷ 1 ∷ []) 0)
 
 -- the old master comes first
 abbrev pub old_first : List Entry
@@ -84,7 +96,18 @@ WalkUnder turns = WalksAll (both_steps turns) [] old_first (Ends end.Done)
 ---- Runs
 
 abbrev pub progress : Table → ℕ → ℕ → Option ℕ → Progress
-progress t faults losses cause = record { table = t; calls = 1; ready = []; lacking = []; lacked = []; faults = faults; losses = losses; returns = []; cause = cause; note = InPlace }
+progress t faults losses cause = record {
+  table = t;
+  calls = 1;
+  ready = [];
+  lacking = [];
+  lacked = [];
+  faults = faults;
+  losses = losses;
+  returns = [];
+  cause = cause;
+  note = InPlace;
+}
 
 -- The operator went back at a question, after a number of faults.
 abbrev pub went_back : Progress → ℕ → ℕ → Progress
@@ -104,7 +127,18 @@ ran_from t e t' = record {
 
 -- the last count lacked one
 abbrev pub lacks_one : Table → ℕ → Progress
-lacks_one t faults = record { table = t; calls = 1; ready = []; lacking = 1 ∷ []; lacked = []; faults = faults; losses = 0; returns = []; cause = Some 1; note = InPlace }
+lacks_one t faults = record {
+  table = t;
+  calls = 1;
+  ready = [];
+  lacking = 1 ∷ [];
+  lacked = [];
+  faults = faults;
+  losses = 0;
+  returns = [];
+  cause = Some 1;
+  note = InPlace;
+}
 
 abbrev pub Refuted : Type 0 → Type 0
 Refuted claim = claim → ⊥
@@ -120,7 +154,9 @@ pub record WrongTables : Type 0 where
   -- An address that both services name was closed and opened anew.
   pub kept : Refuted (Kept (service two_workers) (want (two_ready 3) (Workers 2)) two_workers opened_anew)
   -- The old workers went before new ones were ready.
-  pub floor : Refuted (Floor (service two_workers) (want (two_ready 3) (Workers 2)) two_workers (wanted_at (two_ready 3) (Workers 2)) (progress one_left 0 0 None))
+  pub floor :
+      Refuted
+      (Floor (service two_workers) (want (two_ready 3) (Workers 2)) two_workers (wanted_at (two_ready 3) (Workers 2)) (progress one_left 0 0 None))
   -- The operator went back at the second question, and the new master ended before the old workers were started again. A fault
   -- before that question does not count, and none counts where the operator went back at the first.
   pub ended_first : Refuted (FloorThen (went_back (progress none_left 0 0 (Some 15)) 2 0))
@@ -172,4 +208,6 @@ pub record WrongTables : Type 0 where
   -- A worker of the other group is lacking, and the first one is named.
   pub named_wrongly : Refuted (Says three_ready (Workers 3) (Degraded side.Old (1 ∷ 0 ∷ [])) three_workers other_unserved)
   -- Each of two groups listens where the other should.
-  pub swapped : Refuted (IsSameLayout (layout_of (record three_ready { posts = record { groups = two_groups; descriptors = (4 ∷ []) ∷ (3 ∷ []) ∷ [] } })) (layout_in grouped.groups grouped.listeners))
+  pub swapped :
+      Refuted
+      (IsSameLayout (layout_of (record three_ready { posts = record { groups = two_groups; descriptors = (4 ∷ []) ∷ (3 ∷ []) ∷ [] } })) (layout_in grouped.groups grouped.listeners))

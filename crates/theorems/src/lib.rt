@@ -2,61 +2,20 @@
 //! body: its contract is the theorem.
 #![tactic(auto)]
 
-ghost use Rattle.std.specs.Prelude.{ℕ, List, Bool};
-ghost use Rattle.vocabulary.specs.Settings.{Settings};
-ghost use Rattle.vocabulary.specs.declared.targets.Target.TheVariants.{Workers, Mend, Reopen, Reload, Upgrade, Attended, Stop};
 ghost use Rattle.definitions.specs.Start.{StartsAgree};
-ghost use Rattle.definitions.specs.Aside.{CallsLeaveAlone};
-ghost use Rattle.definitions.specs.Apart.{LastNewIsNone, MergesAreWoven, WalksApart};
-ghost use Rattle.definitions.specs.Claims.{AttendedHeadline, InManner, MendHeadline, PlansFit, ReloadHeadline, ReopenFloor, ReopenHeadline, RunsWithin, StopHeadline, UpgradeHeadline, UpgradesAreShort, WorkersHeadline};
-ghost use Rattle.definitions.specs.Settling.{PlansGoBack, ReturnsAlways, SettlesAlways};
+ghost use Rattle.theorems.specs.Apart.{LastNewIsNone, MergesAreWoven, WalksApart};
+ghost use Rattle.definitions.specs.Claims.{Headline, PlansFit, RunsWithin, UpgradesAreShort};
+ghost use Rattle.theorems.specs.Settling.{PlansGoBack, ReturnsAlways, SettlesAlways};
 ghost use Rattle.theorems.specs.Examples.{HasStart};
 ghost use Rattle.theorems.specs.Layouts.{RecordsLaidOut, StartsLaidOut};
 ghost use Rattle.theorems.specs.WorkedRuns.{WorkedRuns};
 ghost use Rattle.theorems.specs.WrongTables.{WrongTables};
 
-/// Whatever fails and whoever exits, a change of the number of workers ends as it reports.
-pub fn workers_end_as_reported()
-    ensures headline { WorkersHeadline }
-    ensures manner { (n : ℕ) → InManner (Workers n) }
-{}
-
-/// Whatever fails and whoever exits, a reload of the configuration ends as it reports.
-pub fn reloads_end_as_reported()
-    ensures headline { ReloadHeadline }
-    ensures manner { (s : Settings) → InManner (Reload s) }
-{}
-
-/// Whatever fails and whoever exits, a mend of overdue workers ends as it reports.
-pub fn mends_end_as_reported()
-    ensures headline { MendHeadline }
-    ensures manner { (overdue : List ℕ) → InManner (Mend overdue) }
-{}
-
-/// Whatever fails and whoever exits, a reopening of the logs ends as it reports.
-pub fn reopenings_end_as_reported()
-    ensures headline { ReopenHeadline }
-    ensures floor { ReopenFloor }
-    ensures manner { InManner Reopen }
-{}
-
-/// Whatever fails and whoever exits, a stop ends as it reports.
-pub fn stops_end_as_reported()
-    ensures headline { StopHeadline }
-    ensures manner { (quick : Bool) → InManner (Stop quick) }
-{}
-
-/// Whatever fails and whoever exits but an executing master, the new one before it takes over too,
-/// an upgrade ends as it reports.
-pub fn upgrades_end_as_reported()
-    ensures headline { UpgradeHeadline }
-    ensures manner { (s : Settings) → InManner (Upgrade s) }
-{}
-
-/// The same of an upgrade that asks the operator twice whether to go on or back.
-pub fn attended_upgrades_end_as_reported()
-    ensures headline { AttendedHeadline }
-    ensures manner { (s : Settings) → InManner (Attended s) }
+/// The headline: whatever fails and whoever exits but an executing master, and in whatever order two
+/// masters act, the run of a target's plan ends as it reports, keeps what it has to, and has the
+/// manner of its target.
+pub fn plans_end_as_reported()
+    ensures { Headline }
 {}
 
 /// A settle ends full with all its numbers Ready, or short by just those that are missing, which
@@ -65,12 +24,6 @@ pub fn settles_end_as_counted()
     ensures settle { SettlesAlways }
     ensures back { ReturnsAlways }
     ensures plans { PlansGoBack }
-{}
-
-/// Apart from the exits before it, a call by which a master builds or mends changes no process,
-/// hold or file of another master or of its workers.
-pub fn calls_leave_others_alone()
-    ensures { CallsLeaveAlone }
 {}
 
 /// A run makes no more calls than the longest path of its plan has steps; nor has the plan of a

@@ -16,8 +16,22 @@ IDLE_SECONDS = 2.0
 class Page:
     def __init__(self) -> None:
         self.finishing = asyncio.Event()
+        self.open: set[asyncio.Task] = set()
 
-    async def converse(self, reader: asyncio.StreamReader, writer: asyncio.StreamWriter) -> None:
+    def accept(self, listener: socket.socket) -> None:
+        """Takes a connection. Its task begins here and now: a server of asyncio that is closed at this moment would lose
+        it."""
+        try:
+            connection, _ = listener.accept()
+        except BlockingIOError:
+            return
+        task = asyncio.get_running_loop().create_task(self.converse(connection))
+        self.open.add(task)
+        task.add_done_callback(self.open.discard)
+
+    async def converse(self, connection: socket.socket) -> None:
+        connection.setblocking(False)
+        reader, writer = await asyncio.open_connection(sock=connection)
         try:
             while await self.answer_next(reader, writer):
                 pass
@@ -74,15 +88,17 @@ async def main() -> None:
     page = Page()
     assert int(os.environ["LISTEN_PID"]) == os.getpid()
     given = [socket.socket(fileno=FIRST + at) for at in range(int(os.environ["LISTEN_FDS"]))]
-    servers = [await asyncio.start_server(page.converse, sock=one, backlog=1024) for one in given]
-    asyncio.get_running_loop().add_signal_handler(signal.SIGTERM, page.finishing.set)
+    loop = asyncio.get_running_loop()
+    for listener in given:
+        loop.add_reader(listener, page.accept, listener)
+    loop.add_signal_handler(signal.SIGTERM, page.finishing.set)
     notify("STATUS=serves\nREADY=1")
     await page.finishing.wait()
-    for server in servers:
-        server.close()
-    # A connection that was accepted just before has a task, and is not among the open ones yet.
-    while len(asyncio.all_tasks()) > 1:
-        await asyncio.sleep(0.02)
+    for listener in given:
+        loop.remove_reader(listener)
+        listener.close()
+    while page.open:
+        await asyncio.wait(page.open)
 
 
 if __name__ == "__main__":

@@ -1,4 +1,4 @@
-"""wrong_adapter.py FAULT COMMAND..: stands between a master and an adapter, and makes the adapter wrong.
+"""wrong_adapter.py FAULT COMMAND..: is between a master and an adapter, and makes the adapter wrong.
 
 FAULT is `early`: it says `ready` as soon as it hears `go`; or `hurries`: at `quit` it kills the adapter and says `gone`.
 For tests: each scenario of ci/adapters must fail on either.

@@ -1,7 +1,8 @@
-use Rattle.std.proofs.Common.{rules, ◌≡◌, ◌⊎◌, inl, [], ◌∷◌, Err, refl, sym, ◌∙◌, ap, subst, IfOk, IfErr}
+use Rattle.std.proofs.Common.{rules, ◌≡◌, ◌⊎◌, inl, [], ◌∷◌, Result, Ok, Err, refl, sym, ◌∙◌, ap, subst}
 use Rattle.std.proofs.lemmas.Result.{err_from_is_err_and}
 use mathlib.Core.Bool.{true≢false}
 use Rattle.definitions.specs.Record.{Record, Agrees}
+use Rattle.definitions.specs.Target.{text_handed, sides_of}
 use Rattle.definitions.specs.Plans.{plan_length}
 use Rattle.definitions.specs.Path.{begin}
 use Rattle.definitions.specs.Claims.{heirs_of}
@@ -9,10 +10,13 @@ use Rattle.kernel_model.specs.Room.{LacksNumbers}
 use Rattle.plan_executor.specs.Naming.{listed}
 use Rattle.plan_executor.specs.declared.enactment.EnactRefusal.TheVariants.{Memory, NoNumbers}
 use Rattle.plan_executor.proofs.Exact.{no_plan}
-use Rattle.certifier.specs.Places.{planned_start, Shows, StopsBy}
+use Rattle.kernel_pattern.specs.declared.section.Section.{Section}
+use Rattle.certifier.specs.declared.mismatch.Mismatch.{Mismatch}
+use Rattle.certifier.specs.Places.{planned_start, HasTaken, StopsBy}
 use Rattle.certifier.specs.Explained.{IsReady, IsNoBeginning, mismatch_of}
 use Rattle.certifier.proofs.Explaining.{starts}
-use Rattle.certifier.proofs.Matching.{plain-beginnings, exact-unready, exact-planless, exact-short, answered-beginning, complete-beginning}
+use Rattle.certifier.proofs.Holding.{shows-all}
+use Rattle.certifier.proofs.Matching.{IsExactly, plain-beginnings, exact-unready, exact-planless, exact-short, answered-beginning, complete-beginning}
 use Rattle.certifier.proofs.beginning.certify_beginning.Goals as goal
 
 pub returns-then-not-agrees-clause-exact : goal.returns-then-not-agrees-clause-exact
@@ -63,6 +67,31 @@ returns-in_err-copy-clause-complete c section is =
 
 ---- A target that could be carried out
 
+pub returns-in_err-replay-clause-exact : goal.returns-in_err-replay-clause-exact
+returns-in_err-replay-clause-exact c =
+    let t = c.args.kernel.now.table in
+    let r = c.args.state.now in
+    let target = c.args.target.now in
+    let es = c.args.log.now.entries in
+    let agrees : Agrees t r = c.agrees.ensures.agrees.0 (search rules) in
+    let plan = c.in_ok-plan.ensures.planned in
+    let longest : c.longest.result ≡ plan_length r target = c.longest.ensures ∙ (c.in_ok-plan.ensures.longest) in
+    let ready : IsReady t r target = record { agrees = agrees; has_plan = plan; numbers = subst (λ n. LacksNumbers t n → ⊥) longest c.in_ok-copy.ensures.numbers } in
+    let image : c.state.inside.generation.image ≡ r.generation.image = ap (λ (x : Record). x.generation.image) c.state.view_is in
+    let same : listed c.heir_of-heir.result ≡ heirs_of r target = c.heir_of-heir.ensures in
+    let start : planned_start c.in_ok-plan.plan c.in_ok-copy.copy.table c.state.inside.generation.image ≡ starts t r target =
+    λ i. record { trail = λ turns. begin (c.in_ok-plan.ensures.tree turns i) (c.in_ok-plan.ensures.note i); table = (c.in_ok-copy.ensures.same i).table; executing = image i ∷ [] } in
+    let p = err_from_is_err_and c.from_residual-in_err-replay.result c.from_residual-in_err-replay.ensures.1 in
+    let why = c.in_err-replay.field-0.0 in
+    let alike : p.0 ≡ why = cc in
+    let stops = subst (λ (X : Type 0). X) (λ i. StopsBy (c.in_ok-plan.ensures.text i) (same i) (start i) es why) c.in_err-replay.ensures.err in
+    let failed : Result Section Mismatch = Err why in
+    subst (IsExactly (IsNoBeginning t r target es)) (sym (p.1 ∙ ap Err alike)) (answered-beginning t r target es ready failed tt stops).1
+
+pub returns-in_err-replay-clause-complete : goal.returns-in_err-replay-clause-complete
+returns-in_err-replay-clause-complete c section is =
+    complete-beginning c.args.kernel.now.table c.args.state.now c.args.target.now c.args.log.now.entries section c.from_residual-in_err-replay.result (returns-in_err-replay-clause-exact c) is
+
 pub returns : goal.returns
 returns c =
     let t = c.args.kernel.now.table in
@@ -77,7 +106,13 @@ returns c =
     let same : listed c.heir_of-heir.result ≡ heirs_of r target = c.heir_of-heir.ensures in
     let start : planned_start c.in_ok-plan.plan c.in_ok-copy.copy.table c.state.inside.generation.image ≡ starts t r target =
     λ i. record { trail = λ turns. begin (c.in_ok-plan.ensures.tree turns i) (c.in_ok-plan.ensures.note i); table = (c.in_ok-copy.ensures.same i).table; executing = image i ∷ [] } in
-    let all = answered-beginning t r target es ready c.show_all.result
-    (subst (λ (X : Type 0). X) (λ i. IfOk c.show_all.result (Shows (c.in_ok-plan.ensures.text i) (same i) (start i) es)) c.show_all.ensures.ok)
-    (subst (λ (X : Type 0). X) (λ i. IfErr c.show_all.result (StopsBy (c.in_ok-plan.ensures.text i) (same i) (start i) es)) c.show_all.ensures.err) in
-    record { ok = all.0; exact = all.1; complete = λ section is. complete-beginning t r target es section c.show_all.result all.1 is; memory = λ _. record { agrees = agrees; spared = λ p none. no_plan r target p none plan } }
+    let text = text_handed r target in
+    let heirs = heirs_of r target in
+    let sides = sides_of r target in
+    let from = starts t r target in
+    let x = c.in_ok-replay.replay in
+    let taken : HasTaken text heirs sides from es x =
+    subst (λ (X : Type 0). X) (λ i. HasTaken (c.in_ok-plan.ensures.text i) (same i) (c.in_ok-plan.ensures.sides i) (start i) es x) c.in_ok-replay.ensures.ok in
+    let found : Result Section Mismatch = Ok c.shown.result in
+    let all = answered-beginning t r target es ready found (shows-all text heirs sides from es x taken c.shown.result c.shown.ensures.pattern c.shown.ensures.turns) tt in
+    record { ok = all.0; exact = all.1; complete = λ section is. complete-beginning t r target es section found all.1 is; memory = λ _. record { agrees = agrees; spared = λ p none. no_plan r target p none plan } }

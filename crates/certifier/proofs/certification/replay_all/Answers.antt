@@ -3,16 +3,25 @@ use Rattle.std.proofs.lemmas.Bool.{false≢true}
 use Rattle.std.proofs.lemmas.List.{take_more}
 use Rattle.std.proofs.lemmas.Option.{get_or_from_slice_get}
 use Rattle.vocabulary.specs.declared.reports.Entry.{Entry}
-use Rattle.plan_walk.specs.Walk.{sides_in}
+use Rattle.rollback_plan.specs.Plans.{sides_told, text_of}
 use Rattle.plan_executor.specs.Naming.{listed}
 use Rattle.certifier.specs.Turns.{used_in}
-use Rattle.certifier.specs.Places.{start_of, HasTaken, AreNextUnder}
+use Rattle.certifier.specs.Places.{planned_start, HasTaken, AreNextUnder}
 use Rattle.certifier.proofs.Taking.{taken-on, next-then}
 use Rattle.certifier.proofs.certification.replay_all.Goals as goal
 
+pub loop-place-init : goal.loop-place-init
+loop-place-init c =
+    let before = c.new-replay.ensures in (
+      subst (λ (X : Type 0). X) (λ i. HasTaken (before.text i) (ap listed before.heir i) (before.sides i) (before.start i) [] c.new-replay.result) before.taken,
+      omega (arith, before.room, c.requires),
+    )
+
 pub loop-place-preserved : goal.loop-place-preserved
 loop-place-preserved c =
-    let old = c.args.replay.now in
+    let plan = c.args.plan.now in
+    let heirs = listed c.args.heir in
+    let from = planned_start plan c.args.kernel.table c.args.image in
     let entries = c.args.log.now.entries in
     let place = c.loop-place.place in
     let e = c.get.result in
@@ -20,14 +29,16 @@ loop-place-preserved c =
     let longer : take (place + 1) entries ≡ take place entries ++ e ∷ [] = take_more entries place e within ∙ ap (λ x. take place entries ++ x ∷ []) (((get_or_from_slice_get entries place e e c.get.ensures))) in
     let left = c.in_ok-take.ensures.left c.if-not-branch.false in
     let before = c.loop-place.invariant.1 in (
-      subst (λ (es : List Entry). HasTaken old.text.now (listed old.heir) (sides_in old.walk) (start_of old) es c.take.new.self) (sym longer)
-          (taken-on old.text.now (listed old.heir) (sides_in old.walk) (start_of old) (take place entries) e c.loop-place.replay c.loop-place.invariant.0 c.take.new.self (c.in_ok-take.ensures.taken c.if-not-branch.false)),
+      subst (λ (es : List Entry). HasTaken (text_of plan) heirs (sides_told plan) from es c.take.new.self) (sym longer)
+          (taken-on (text_of plan) heirs (sides_told plan) from (take place entries) e c.loop-place.replay c.loop-place.invariant.0 c.take.new.self (c.in_ok-take.ensures.taken c.if-not-branch.false)),
       omega (arith, left, before),
     )
 
 pub returns-then-not-branch-clause-err : goal.returns-then-not-branch-clause-err
 returns-then-not-branch-clause-err c =
-    let old = c.args.replay.now in
+    let plan = c.args.plan.now in
+    let heirs = listed c.args.heir in
+    let from = planned_start plan c.args.kernel.table c.args.image in
     let entries = c.args.log.now.entries in
     let place = c.loop-place.place in
     let e = c.get.result in
@@ -43,6 +54,6 @@ returns-then-not-branch-clause-err c =
           λ others all. false≢true
           (sym c.if-not-branch.true
           ∙ c.in_ok-take.ensures.next.1
-          (next-then old.text.now (listed old.heir) (sides_in old.walk) (start_of old) (take place entries) e c.loop-place.replay c.loop-place.invariant.0 others
-          (subst (λ (es : List Entry). AreNextUnder old.text.now (listed old.heir) (start_of old) others es) longer all)));
+          (next-then (text_of plan) heirs (sides_told plan) from (take place entries) e c.loop-place.replay c.loop-place.invariant.0 others
+          (subst (λ (es : List Entry). AreNextUnder (text_of plan) heirs from others es) longer all)));
     }

@@ -1,6 +1,6 @@
 use Rattle.std.proofs.Common.{List, ◌≤◌, ◌-◌, [], vec_len, vec_capacity, Bool, drop, take}
 use Rattle.child_edge.specs.Each.{awaits_each}
-use Rattle.child_edge.specs.Workers.{Worker}
+use Rattle.child_workers.specs.declared.worker.Worker.{Worker}
 use Rattle.child_edge.specs.Table.{Turn}
 use Rattle.child_edge.specs.Turns.{GoesOn}
 use Rattle.child_edge.proofs.each.await_each.Given as goal

@@ -1,6 +1,6 @@
 use Rattle.std.proofs.Common.{ℕ, List, [], drop, take}
 use Rattle.child_edge.specs.Each.{beats_each}
-use Rattle.child_edge.specs.Workers.{Worker}
+use Rattle.child_workers.specs.declared.worker.Worker.{Worker}
 use Rattle.child_edge.specs.Table.{Turn}
 use Rattle.child_edge.specs.Turns.{GoesOn}
 use Rattle.child_edge.proofs.each.beat_each.Given as goal

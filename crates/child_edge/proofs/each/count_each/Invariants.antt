@@ -1,6 +1,6 @@
 use Rattle.std.proofs.Common.{List, ◌≤◌, ◌-◌, [], vec_len, vec_capacity, drop, take}
 use Rattle.child_edge.specs.Each.{counts_each}
-use Rattle.child_edge.specs.Workers.{Worker}
+use Rattle.child_workers.specs.declared.worker.Worker.{Worker}
 use Rattle.child_edge.specs.Table.{Turn}
 use Rattle.child_edge.specs.Turns.{GoesOn}
 use Rattle.child_edge.proofs.each.count_each.Given as goal

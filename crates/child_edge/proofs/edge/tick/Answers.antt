@@ -2,7 +2,8 @@ use Rattle.std.proofs.Common.{ℕ, List, [], ◌∙◌, sym, ap, ◌≡◌, leng
 use Rattle.std.proofs.lemmas.List.{with_items_is}
 use Rattle.vocabulary.specs.declared.calls.Answer.TheVariants.{Counted}
 use Rattle.child_edge.specs.State.{state_of}
-use Rattle.child_edge.specs.Workers.{Worker, IsReady}
+use Rattle.child_workers.specs.declared.worker.Worker.{Worker}
+use Rattle.child_workers.specs.declared.who.Who.TheVariants.{IsReady}
 use Rattle.child_edge.specs.Each.{says_each, beats_each}
 use Rattle.child_edge.specs.Table.{answers, with_workers}
 use Rattle.child_edge.proofs.Turning.{goes-both, goes-from, goes-into}

@@ -1,6 +1,6 @@
 use Rattle.std.proofs.Common.{Bool, List}
 use Rattle.child_edge.specs.State.{state_of}
-use Rattle.child_edge.specs.Workers.{Worker}
+use Rattle.child_workers.specs.declared.worker.Worker.{Worker}
 use Rattle.child_edge.specs.Table.{answers, with_workers, gone_or_late}
 use Rattle.child_edge.proofs.workers.await_gone.Goals as goal
 

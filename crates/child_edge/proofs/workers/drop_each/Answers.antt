@@ -1,6 +1,7 @@
 use Rattle.std.proofs.Common.{not, rules, tests}
 use Rattle.std.proofs.lemmas.Fn.{filter_same}
-use Rattle.child_edge.specs.Workers.{Worker, means}
+use Rattle.child_workers.specs.declared.worker.Worker.{Worker}
+use Rattle.child_workers.specs.Workers.{means}
 use Rattle.child_edge.proofs.workers.drop_each.Goals as goal
 
 pub returns-clause-left : goal.returns-clause-left

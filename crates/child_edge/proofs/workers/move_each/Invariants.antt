@@ -1,5 +1,5 @@
 use Rattle.std.proofs.Common.{◌≡◌, ◌++◌, drop, take}
-use Rattle.child_edge.specs.Workers.{moved}
+use Rattle.child_workers.specs.Workers.{moved}
 use Rattle.child_edge.proofs.workers.move_each.Given as goal
 
 abbrev pub invariant-loop-worker : goal.invariant-loop-worker

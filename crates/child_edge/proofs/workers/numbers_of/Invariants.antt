@@ -1,5 +1,5 @@
 use Rattle.std.proofs.Common.{◌≡◌, [], drop}
-use Rattle.child_edge.specs.Workers.{add_numbers}
+use Rattle.child_workers.specs.Workers.{add_numbers}
 use Rattle.child_edge.proofs.workers.numbers_of.Given as goal
 
 abbrev pub invariant-loop-worker : goal.invariant-loop-worker

@@ -1,13 +1,13 @@
 use Rattle.std.proofs.Common.{ℕ, Option, List, refl, subst}
 use Rattle.child_processes.specs.NextLine.{unheard}
 use Rattle.child_programs.specs.Served.{IsObeyed}
-use Rattle.child_programs.specs.Adopting.{AnswersNothing, HearsBy}
+use Rattle.child_programs.specs.Adopting.{AnswersNothing, BeatsNobody, HearsBy}
 use Rattle.child_programs.proofs.Handing.{served-after, served-at}
 use Rattle.child_programs.proofs.serving.serve_broken.Goals as goal
 
 pub returns-in-Some : goal.returns-in-Some
 returns-in-Some g c = λ unread next.
-    let hears = HearsBy AnswersNothing in
+    let hears = HearsBy AnswersNothing BeatsNobody in
     let old = c.new-master.result in
     let new = c.obey.new.program in
     let before = g.O.Write.contents c.args.output.now in
@@ -27,7 +27,7 @@ returns-in-Some g c = λ unread next.
 
 pub returns : goal.returns
 returns g c = λ unread next.
-    let hears = HearsBy AnswersNothing in
+    let hears = HearsBy AnswersNothing BeatsNobody in
     let old = c.new-master.result in
     let mid = c.obey.new.program in
     let new = c.serve.new.program in

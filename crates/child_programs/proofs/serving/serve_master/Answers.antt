@@ -1,10 +1,10 @@
 use Rattle.std.proofs.Common.{◌≡◌, ℕ, List, Option, Some, Ok, inl, inr, refl, sym, ap, subst, ◌∙◌}
-use Rattle.definitions.specs.Handover.{reading}
+use Rattle.definitions.specs.Reading.{reading}
 use Rattle.child_processes.specs.NextLine.{unheard}
 use Rattle.child_programs.specs.declared.answering.Refusing.{Refusing}
 use Rattle.child_programs.specs.Served.{IsNextLine}
 use Rattle.child_programs.specs.declared.serving.Received.TheVariants as received
-use Rattle.child_programs.specs.Adopting.{AnswersNothing, IsReceived, IsServedBy}
+use Rattle.child_programs.specs.Adopting.{AnswersNothing, BeatsNobody, IsReceived, IsServedBy}
 use Rattle.child_programs.proofs.serving.serve_master.Goals as goal
 use Rattle.child_programs.proofs.serving.serve_master.Goals.{in-Ok-Whole+in-Err-read, in-Ok-Broken, in-Ok-Ended, in-Err}
 
@@ -43,9 +43,9 @@ returns g c =
     let status = c.match-receive.status in
     let after = g.O.Write.contents c.match-receive.output in
     let keeps = c.new-lines.ensures.unheard in
-    let moved : (from : Option (List ℕ)) (first last : Refusing) (s : ℕ) (o : Option (List ℕ)) → status ≡ s → after ≡ o → IsServedBy AnswersNothing first from before s last o → IsServedBy AnswersNothing first from before status last after =
+    let moved : (from : Option (List ℕ)) (first last : Refusing) (s : ℕ) (o : Option (List ℕ)) → status ≡ s → after ≡ o → IsServedBy AnswersNothing BeatsNobody first from before s last o → IsServedBy AnswersNothing BeatsNobody first from before status last after =
     λ from first last s o same written served.
-    subst (λ (n : ℕ). IsServedBy AnswersNothing first from before n last after) (sym same) (subst (λ (said : Option (List ℕ)). IsServedBy AnswersNothing first from before s last said) (sym written) served) in
+    subst (λ (n : ℕ). IsServedBy AnswersNothing BeatsNobody first from before n last after) (sym same) (subst (λ (said : Option (List ℕ)). IsServedBy AnswersNothing BeatsNobody first from before s last said) (sym written) served) in
     elim c.match-receive.branch [
       | in-Ok-Whole+in-Err-read w ↦
           let h = w.serve_refusing.ensures in

@@ -6,5 +6,5 @@ use Rattle.exploration_text.proofs.summary.write_degraded.Goals as goal
 pub returns : goal.returns
 unfolding degraded_text
 returns c =
-    rw (← append_assoc c.args.out.now.items (end_line (codes "degraded old") c.args.tally.now.degraded_old) (end_line (codes "degraded target") c.args.tally.now.degraded_target), ← c.in_ok-write_end.ensures)
+    rw (← append_assoc c.args.out.now.items (end_line c.args.orders.now (codes "degraded old") c.args.totals.now.degraded_old) (end_line c.args.orders.now (codes "degraded target") c.args.totals.now.degraded_target), ← c.in_ok-write_end.ensures)
     c.write_end-2.ensures

@@ -3,7 +3,7 @@ use Rattle.std.proofs.lemmas.List.{drop_all}
 use Rattle.plan_walk.specs.Course.{turns_of}
 use Rattle.explorer.specs.Events.{event_at}
 use Rattle.std.specs.List.{AllByRecursion}
-use Rattle.theorems.proofs.Rows.{every-append}
+use Rattle.table_laws.proofs.Rows.{every-append}
 use Rattle.explorer.specs.declared.events.Mishap.{Mishap}
 use Rattle.explorer.specs.declared.events.Tried.TheVariants.{One}
 use Rattle.explorer.specs.declared.known.RestOfRun.{RestOfRun}

@@ -1,7 +1,7 @@
 use Rattle.std.proofs.Common.{◌≡◌, ◌+◌, None, map, sym, ap, subst, ◌∙◌}
 use Rattle.std.specs.List.{AllByRecursion}
 use Rattle.definitions.specs.Run.{quiet}
-use Rattle.theorems.proofs.Rows.{every-more}
+use Rattle.table_laws.proofs.Rows.{every-more}
 use Rattle.plan_executor.specs.Naming.{listed}
 use Rattle.plan_walk.specs.Course.{turns_of}
 use Rattle.explorer.specs.Events.{event_at, mishaps_at, waiting}

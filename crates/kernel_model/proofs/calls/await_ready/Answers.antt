@@ -3,6 +3,12 @@ use Rattle.kernel_model.proofs.ExitLoop.{EditsRows-then}
 use Rattle.kernel_model.proofs.Room.{GrowsByOne-edits}
 use Rattle.kernel_model.proofs.calls.await_ready.Goals as goal
 
+pub returns-then-edit_active-clause-outcome : goal.returns-then-edit_active-clause-outcome
+returns-then-edit_active-clause-outcome c =
+    let found = rw c.worker-name.ensures at c.edit_active.ensures.found in
+    let table = rw c.worker-name.ensures at c.edit_active.ensures.table in
+    rw (sym found ∙ c.if-edit_active.true, table) refl
+
 pub returns-else-edit_active-clause-outcome : goal.returns-else-edit_active-clause-outcome
 returns-else-edit_active-clause-outcome c =
     let none = rw c.worker-name.ensures at c.edit_active.ensures.found in

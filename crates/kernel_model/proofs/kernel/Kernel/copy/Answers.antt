@@ -1,6 +1,6 @@
 use Rattle.std.proofs.Common.{rules, sym, subst}
 use Rattle.kernel_table.specs.Room.{IsKept}
-use Rattle.kernel_table.proofs.Free.{KnowsFree-same}
+use Rattle.kernel_table.proofs.Names.{KnowsNames-copied}
 use Rattle.kernel_model.proofs.kernel.Kernel.copy.Goals as goal
 
 pub invariant_of-result : goal.invariant_of-result
@@ -9,5 +9,5 @@ invariant_of-result c =
     record {
       room = search rules;
       kept = subst IsKept (sym c.in-Ok.ensures.same) before.kept;
-      free = KnowsFree-same c.self.inside.store c.in-Ok.store c.in-Ok.ensures.same c.in-Ok.ensures.free before.free;
+      names = KnowsNames-copied c.self.inside.store c.in-Ok.store c.in-Ok.ensures.same c.in-Ok.ensures.free before.names c.in-Ok.ensures.lone;
     }

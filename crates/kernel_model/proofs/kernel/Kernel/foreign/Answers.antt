@@ -7,7 +7,7 @@ use Rattle.kernel_model.proofs.Room.{sound-grown}
 use Rattle.kernel_model.proofs.kernel.Kernel.foreign.Goals as goal
 
 pub invariant_of-self : goal.invariant_of-self
-invariant_of-self c = sound-grown c.self.inside.store c.grow.new.self c.self.inside.room c.grow.ensures.same c.grow.ensures.free (c.grow.ensures.kept c.self.inside.room) c.self.invariant
+invariant_of-self c = sound-grown c.self.inside.store c.grow.new.self c.self.inside.room c.grow.ensures.same c.grow.ensures.free c.grow.ensures.lone (c.grow.ensures.kept c.self.inside.room) c.self.invariant
 
 pub invariant_of-self-2 : goal.invariant_of-self-2
 invariant_of-self-2 c =
@@ -15,7 +15,7 @@ invariant_of-self-2 c =
     let memory : HasMemoryFor c.in-Some.needed c.grow.new.self = search rules in
     sound-foreign c.self.inside.store c.grow.new.self c.add_foreign.new.self c.self.inside.room c.in-Some.needed c.args.address.now needed c.grow.ensures.same memory
     (λ lacks. false≢true (sym c.if-lacks_numbers.false ∙ c.lacks_numbers.ensures.1 lacks))
-    c.self.invariant.kept c.add_foreign.ensures.table c.add_foreign.ensures.grows c.grow.ensures.free c.self.invariant.free
+    c.self.invariant.kept c.add_foreign.ensures.table c.add_foreign.ensures.grows c.grow.ensures.free c.grow.ensures.lone c.self.invariant.names
 
 pub returns-clause-formed : goal.returns-clause-formed
 returns-clause-formed c =

@@ -25,4 +25,4 @@ pub returns-clause-grows : goal.returns-clause-grows
 returns-clause-grows c =
     let s = c.args.self.now in
     let pushed = rw c.unwrap-3.ensures at c.push-2.ensures.items in
-    record { sizes = search rules; free = λ known. AreFree-pushed s.free s.addresses.items c.push.new.self.items s.holders.items _ _ pushed (λ k. refl) known }
+    record { sizes = search rules; names = λ known. record { free = AreFree-pushed s.free s.addresses.items c.push.new.self.items s.holders.items _ _ pushed (λ k. refl) known.free; lone = tt } }

@@ -7,4 +7,4 @@ returns-clause-grows c =
     let s = c.args.self.now in
     let addresses = s.addresses.items in
     let pushed = rw c.unwrap.ensures at c.push.ensures.items in
-    record { sizes = search rules; free = λ known. AreFree-pushed s.free addresses addresses s.holders.items _ _ pushed (λ k. refl) known }
+    record { sizes = search rules; names = λ known. record { free = AreFree-pushed s.free addresses addresses s.holders.items _ _ pushed (λ k. refl) known.free; lone = tt } }

@@ -23,4 +23,4 @@ returns-clause-table c =
 pub returns-clause-grows : goal.returns-clause-grows
 returns-clause-grows c =
     let s = c.args.self.now in
-    record { sizes = search rules; free = λ known. c.edit.ensures.room.free (AreFree-addresses s.free s.addresses.items c.push.new.self.items s.holders.items known) }
+    record { sizes = search rules; names = λ known. c.edit.ensures.room.names (record { free = AreFree-addresses s.free s.addresses.items c.push.new.self.items s.holders.items known.free; lone = tt }) }

@@ -12,4 +12,4 @@ returns-clause-grows c =
     let addresses = s.addresses.items in
     let pushed = rw c.unwrap.ensures at c.push.ensures.items in
     let more = ap (λ (hs : List Holder). seen_rows addresses hs) pushed ∙ map-push (seen_holder addresses) s.holders.items _ in
-    record { sizes = search rules; free = λ known. subst (λ (hs : List Holder). AreFree c.without-self.result (seen_rows addresses hs)) c.deref.ensures.value (c.without-self.ensures.free addresses (seen s).rows s.next_process (seen_holds addresses c.args.holds) known (ap (λ (hs : List Holder). seen_rows addresses hs) c.deref.ensures.value ∙ more)) }
+    record { sizes = search rules; names = λ known. record { free = subst (λ (hs : List Holder). AreFree c.without-self.result (seen_rows addresses hs)) c.deref.ensures.value (c.without-self.ensures.free addresses (seen s).rows s.next_process (seen_holds addresses c.args.holds) known.free (ap (λ (hs : List Holder). seen_rows addresses hs) c.deref.ensures.value ∙ more)); lone = tt } }

@@ -12,5 +12,5 @@ returns-clause-room c =
       others = refl;
       len = c.edit_all.ensures.len;
       capacity = c.edit_all.ensures.capacity;
-      free = λ known. subst (AreFree s.free) (sym rows) (AreFree-edited s.free (seen s).rows known s.addresses.items c.args.edit.now);
+      names = λ known. record { free = subst (AreFree s.free) (sym rows) (AreFree-edited s.free (seen s).rows known.free s.addresses.items c.args.edit.now); lone = tt };
     }

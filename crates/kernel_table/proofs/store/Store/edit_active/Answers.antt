@@ -44,5 +44,5 @@ returns-clause-room c =
       others = refl;
       len = search rules;
       capacity = search rules;
-      free = λ known. subst (AreFree s.free) (sym (ap (λ hs. seen_rows s.addresses.items hs) items ∙ rows)) (AreFree-edited s.free (seen s).rows known s.addresses.items c.args.edit.now);
+      names = λ known. record { free = subst (AreFree s.free) (sym (ap (λ hs. seen_rows s.addresses.items hs) items ∙ rows)) (AreFree-edited s.free (seen s).rows known.free s.addresses.items c.args.edit.now); lone = tt };
     }

@@ -15,5 +15,5 @@ returns-clause-room c =
       others = refl;
       len = search rules;
       capacity = search rules;
-      free = λ known. subst (AreFree s.free) (sym (ap (λ hs. seen_rows s.addresses.items hs) items ∙ rows)) (AreFree-draining s.free (seen s).rows known c.args.generation c.args.nr);
+      names = λ known. record { free = subst (AreFree s.free) (sym (ap (λ hs. seen_rows s.addresses.items hs) items ∙ rows)) (AreFree-draining s.free (seen s).rows known.free c.args.generation c.args.nr); lone = tt };
     }

@@ -1,0 +1,15 @@
+pub mod Refusals
+pub mod Logic
+pub mod Heights
+pub mod PartHeights
+pub mod Rules
+pub mod Absent
+pub mod Traces
+pub mod Waits
+pub mod Lights
+pub mod Processes
+pub mod Taken
+pub mod Staying
+pub mod Firsts
+pub mod Calms
+pub mod Manners

@@ -1,0 +1,16 @@
+pub mod Rows
+pub mod Views
+pub mod Exits
+pub mod Effects
+pub mod Counts
+pub mod Sets
+pub mod Small
+pub mod Shares
+pub mod Services
+pub mod Begins
+pub mod After
+pub mod Duo
+pub mod Files
+pub mod Addresses
+pub mod Listeners
+pub mod Layouts

@@ -1,0 +1,58 @@
+-- What is shown of each target; together they are the headline.
+use Rattle.std.specs.Prelude.{ℕ, Bool, List}
+use Rattle.vocabulary.specs.Settings.{Settings}
+use Rattle.definitions.specs.Table.{Table}
+use Rattle.definitions.specs.Record.{Record}
+use Rattle.definitions.specs.Target.{Target, Workers, Mend, Reopen, Reload, Upgrade, Attended, Stop, sides_of}
+use Rattle.definitions.specs.Parts.{Turn}
+use Rattle.definitions.specs.Run.{Pattern, report_of}
+use Rattle.definitions.specs.Manner.{Manner}
+use Rattle.definitions.specs.Claims.{IsAccepted, EndsAsReported, KeepsFloor, KeepsAttendedFloor, run_of}
+
+-- Each headline: whatever fails and whoever exits but an executing master, the target's plan ends as it reports.
+abbrev pub WorkersHeadline : Type 0
+WorkersHeadline =
+    (t : Table) (r : Record) (n : ℕ) (turns : List Turn) (pattern : Pattern) → IsAccepted t r (Workers n) turns pattern →
+    EndsAsReported t r (Workers n) (run_of r (Workers n) turns pattern t) × KeepsFloor t r (Workers n) (run_of r (Workers n) turns pattern t)
+
+abbrev pub MendHeadline : Type 0
+MendHeadline =
+    (t : Table) (r : Record) (overdue : List ℕ) (turns : List Turn) (pattern : Pattern) → IsAccepted t r (Mend overdue) turns pattern →
+    EndsAsReported t r (Mend overdue) (run_of r (Mend overdue) turns pattern t)
+
+abbrev pub ReopenHeadline : Type 0
+ReopenHeadline =
+    (t : Table) (r : Record) (turns : List Turn) (pattern : Pattern) → IsAccepted t r Reopen turns pattern →
+    EndsAsReported t r Reopen (run_of r Reopen turns pattern t)
+
+-- And keeps the floor: it touches no worker, and starts what is lacking.
+abbrev pub ReopenFloor : Type 0
+ReopenFloor =
+    (t : Table) (r : Record) (turns : List Turn) (pattern : Pattern) → IsAccepted t r Reopen turns pattern →
+    KeepsFloor t r Reopen (run_of r Reopen turns pattern t)
+
+abbrev pub ReloadHeadline : Type 0
+ReloadHeadline =
+    (t : Table) (r : Record) (s : Settings) (turns : List Turn) (pattern : Pattern) → IsAccepted t r (Reload s) turns pattern →
+    EndsAsReported t r (Reload s) (run_of r (Reload s) turns pattern t) × KeepsFloor t r (Reload s) (run_of r (Reload s) turns pattern t)
+
+abbrev pub StopHeadline : Type 0
+StopHeadline =
+    (t : Table) (r : Record) (quick : Bool) (turns : List Turn) (pattern : Pattern) →
+    IsAccepted t r (Stop quick) turns pattern → EndsAsReported t r (Stop quick) (run_of r (Stop quick) turns pattern t)
+
+abbrev pub UpgradeHeadline : Type 0
+UpgradeHeadline =
+    (t : Table) (r : Record) (s : Settings) (turns : List Turn) (pattern : Pattern) → IsAccepted t r (Upgrade s) turns pattern →
+    EndsAsReported t r (Upgrade s) (run_of r (Upgrade s) turns pattern t) × KeepsFloor t r (Upgrade s) (run_of r (Upgrade s) turns pattern t)
+
+abbrev pub AttendedHeadline : Type 0
+AttendedHeadline =
+    (t : Table) (r : Record) (s : Settings) (turns : List Turn) (pattern : Pattern) → IsAccepted t r (Attended s) turns pattern →
+    EndsAsReported t r (Attended s) (run_of r (Attended s) turns pattern t) × KeepsAttendedFloor t r (Attended s) (run_of r (Attended s) turns pattern t)
+
+-- And its run has the target's manner.
+abbrev pub InManner : Target → Type 0
+InManner target =
+    (t : Table) (r : Record) (turns : List Turn) (pattern : Pattern) → IsAccepted t r target turns pattern →
+    Manner r target (report_of (sides_of r target) (run_of r target turns pattern t)).outcome t (run_of r target turns pattern t)

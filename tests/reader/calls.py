@@ -1,0 +1,405 @@
+"""Calls: what each is answered, and what it changes in the table (Calls.antt)."""
+from collections.abc import Callable
+from typing import NamedTuple
+
+from reader.addresses import Address, FilePath
+from reader.exits import change
+from reader.handover import Handover
+from reader.numbers import Numbers, is_in
+from reader.reading import reading
+from reader.table import (
+    Caller, File, Foreign, Hold, Holds, Master, Process, Rows, Table, Worker, has_worker, is_active, is_any, is_at,
+    is_draining, is_exited, is_held, is_own, is_ready, is_starting, is_worker, live_master, owner_at, with_rows,
+)
+from reader.vocabulary import (
+    Adopt, Alive, Answer, AnyAnswer, Ask, AwaitGone, AwaitReady, Call, Census, CloseAt, Counted, Fate, Fork,
+    Generation, Kill, Leave, Listener, MovePid, OpenAt, Opened, Quit, RemovePid, SpawnMaster, Stance, TermMaster, Usr1,
+    WritePid,
+)
+
+
+class Stepped(NamedTuple):
+    """What a call is answered, and the table then."""
+
+    answer: AnyAnswer
+    table: Table
+
+
+def each_row(f: Callable[[Process], Process | None], t: Table) -> Table:
+    """A table with what each row becomes."""
+    return with_rows(t, tuple(row for row in map(f, t.rows) if row is not None))
+
+
+def drop_where(test: Callable[[Process], bool], p: Process) -> Process | None:
+    return None if test(p) else p
+
+
+# OpenAt
+
+
+def lowest_free(hs: Holds) -> int:
+    """The lowest descriptor from 3 on that is free."""
+    fd = 3
+    while any(h.fd == fd for h in hs):
+        fd += 1
+    return fd
+
+
+def put_hold(h: Hold, hs: Holds) -> Holds:
+    """A hold at its place among ascending descriptors."""
+    place = next((i for i, x in enumerate(hs) if h.fd < x.fd), len(hs))
+    return (*hs[:place], h, *hs[place:])
+
+
+def with_holds(f: Callable[[Holds], Holds], p: Process) -> Process:
+    match p:
+        case Master(n, q, i, live, hs):
+            return Master(n, q, i, live, f(hs))
+        case Worker(n, q, g, k, s, hs):
+            return Worker(n, q, g, k, s, f(hs))
+        case Foreign(n, hs):
+            return Foreign(n, f(hs))
+
+
+def is_row(caller: int, p: Process) -> bool:
+    """The master's own row."""
+    return isinstance(p, Master) and p.number == caller
+
+
+def with_new_socket(t: Table, caller: int, h: Hold) -> Table:
+    taken = each_row(
+        lambda p: change(lambda row: is_row(caller, row), lambda row: with_holds(lambda hs: put_hold(h, hs), row), p), t
+    )
+    return taken._replace(next_socket=t.next_socket + 1)
+
+
+def opened(c: Caller, a: Address, t: Table) -> Stepped:
+    """A new socket of the address, unless somebody holds the address or the caller has as many descriptors as it
+    may."""
+    if is_held(a, t.rows):
+        return Stepped(Answer.InUse, t)
+    if len(c.holds) < t.limits.descriptors:
+        fd = lowest_free(c.holds)
+        return Stepped(Opened(fd), with_new_socket(t, c.number, Hold(fd, t.next_socket, a)))
+    return Stepped(Answer.TooMany, t)
+
+
+# CloseAt
+
+
+def is_of(caller: int, p: Process) -> bool:
+    """The caller or one of its workers."""
+    return (isinstance(p, Master) and p.number == caller) or (isinstance(p, Worker) and p.parent == caller)
+
+
+def lacks_address(a: Address, hs: Holds) -> Holds:
+    return tuple(h for h in hs if not is_at(a, h))
+
+
+def closed(c: Caller, a: Address, t: Table) -> Stepped:
+    """The caller and its workers lose their holds of the address."""
+
+    def without(p: Process) -> Process:
+        return with_holds(lambda hs: lacks_address(a, hs), p)
+
+    return Stepped(Answer.Fine, each_row(lambda p: change(lambda row: is_of(c.number, row), without, p), t))
+
+
+# Fork
+
+
+def has_process_room(t: Table) -> bool:
+    return sum(map(is_own, t.rows)) < t.limits.processes
+
+
+def with_new_row(t: Table, row: Callable[[int], Process]) -> Table:
+    return t._replace(rows=(*t.rows, row(t.next_process)), next_process=t.next_process + 1)
+
+
+def shared(fds: Numbers | None, hs: Holds) -> Holds:
+    """The holds that a worker is given: those of these descriptors, or all."""
+    return hs if fds is None else tuple(h for h in hs if is_in(fds, h.fd))
+
+
+def forked(c: Caller, g: Generation, k: int, fds: Numbers | None, t: Table) -> Stepped:
+    """A new Starting worker with the caller's holds under these descriptors, or all of them, unless an active worker
+    of the caller has the name or the process limit is reached."""
+    if has_worker(is_active, c.number, g, k, t.rows) or not has_process_room(t):
+        return Stepped(Answer.Again, t)
+    started = with_new_row(t, lambda n: Worker(n, c.number, g, k, Stance.Starting, shared(fds, c.holds)))
+    return Stepped(Answer.Forked, started)
+
+
+# AwaitReady
+
+
+def made_ready(p: Process) -> Process:
+    return Worker(p.number, p.parent, p.generation, p.nr, Stance.Ready, p.holds) if isinstance(p, Worker) else p
+
+
+def awaited(c: Caller, g: Generation, k: int, t: Table) -> Stepped:
+    """A Starting worker of the name becomes Ready; one that is Ready stays so; else the Exited ones of the name
+    leave."""
+    if has_worker(is_active, c.number, g, k, t.rows):
+        return Stepped(
+            Answer.IsReady,
+            each_row(lambda p: change(lambda row: is_worker(is_starting, c.number, g, k, row), made_ready, p), t),
+        )
+    return Stepped(
+        Answer.Gone, each_row(lambda p: drop_where(lambda row: is_worker(is_exited, c.number, g, k, row), p), t)
+    )
+
+
+# Quit and Kill
+
+
+def made_draining(p: Process) -> Process:
+    return Worker(p.number, p.parent, p.generation, p.nr, Stance.Draining, ()) if isinstance(p, Worker) else p
+
+
+def quitted(c: Caller, g: Generation, k: int, t: Table) -> Stepped:
+    """The active worker of the name drains and holds nothing."""
+    drained = each_row(lambda p: change(lambda row: is_worker(is_active, c.number, g, k, row), made_draining, p), t)
+    return Stepped(Answer.Fine, drained)
+
+
+def killed(c: Caller, g: Generation, k: int, t: Table) -> Stepped:
+    """All workers of the name leave, in any stance."""
+    left = each_row(lambda p: drop_where(lambda row: is_worker(is_any, c.number, g, k, row), p), t)
+    return Stepped(Answer.Fine, left)
+
+
+# Census
+
+
+def census_below(n: int, caller: int, g: Generation, rows: Rows) -> Numbers:
+    """The numbers below n that a Ready worker of the caller bears in the generation."""
+    # (the rows are looked through once, and not for each number)
+    borne = {p.nr for p in rows if isinstance(p, Worker) and is_worker(is_ready, caller, g, p.nr, p)}
+    return tuple(sorted(k for k in borne if k < n))
+
+
+def census_of(caller: int, g: Generation, rows: Rows) -> Numbers:
+    """Worker numbers are below 1024."""
+    return census_below(1024, caller, g, rows)
+
+
+def is_exited_of(caller: int, p: Process) -> bool:
+    return isinstance(p, Worker) and is_exited(p.stance) and p.parent == caller
+
+
+def counted(c: Caller, g: Generation, t: Table) -> Stepped:
+    """The numbers of the caller's Ready workers; its Exited ones of every generation leave."""
+    left = each_row(lambda p: drop_where(lambda row: is_exited_of(c.number, row), p), t)
+    return Stepped(Counted(census_of(c.number, g, t.rows)), left)
+
+
+# AwaitGone
+
+
+def awaited_gone(c: Caller, g: Generation, k: int, t: Table) -> Stepped:
+    """Late while an active worker has the name; else all of the name leave, and it is gone."""
+    if has_worker(is_active, c.number, g, k, t.rows):
+        return Stepped(Answer.Late, t)
+    left = each_row(lambda p: drop_where(lambda row: is_worker(is_any, c.number, g, k, row), p), t)
+    return Stepped(Answer.Gone, left)
+
+
+# SpawnMaster, Alive and TermMaster
+
+
+def is_image(image: int, p: Process) -> bool:
+    """A master of the image, live or exited."""
+    return isinstance(p, Master) and p.image == image
+
+
+def spawned(c: Caller, image: int, t: Table) -> Stepped:
+    """A new master with the caller's holds, unless a master of the image is there or the process limit is reached."""
+    if any(is_image(image, p) for p in t.rows) or not has_process_room(t):
+        return Stepped(Answer.Again, t)
+    return Stepped(Answer.Spawned, with_new_row(t, lambda n: Master(n, c.number, image, True, c.holds)))
+
+
+def asked_alive(c: Caller | None, image: int, t: Table) -> Stepped:
+    """Where no live master is of the image, an exited one leaves."""
+    if c is not None:
+        return Stepped(Answer.IsAlive, t)
+    return Stepped(Answer.Gone, each_row(lambda p: drop_where(lambda row: is_image(image, row), p), t))
+
+
+def is_image_row(image: int, m: int, p: Process) -> bool:
+    """A master of the image with the number."""
+    return isinstance(p, Master) and p.image == image and p.number == m
+
+
+def is_of_image(image: int, rows: Rows, p: Process) -> bool:
+    """A master of the image or one of its workers."""
+    if isinstance(p, Worker):
+        return any(is_image_row(image, p.parent, row) for row in rows)
+    return is_image(image, p)
+
+
+def terminated(image: int, t: Table) -> Stepped:
+    """The master of the image leaves, live or exited, and its workers do."""
+    return Stepped(Answer.Fine, each_row(lambda p: drop_where(lambda row: is_of_image(image, t.rows, row), p), t))
+
+
+# Adopt
+
+
+def are_listeners(ls: tuple[Listener, ...], hs: Holds) -> bool:
+    """The descriptors and addresses of these holds, and no other."""
+    return len(ls) == len(hs) and all(l.descriptor == h.fd and l.address == h.address for l, h in zip(ls, hs))
+
+
+def suits(h: Handover | None, image: int, holds: Holds) -> bool:
+    return h is not None and h.generation.image == image and are_listeners(h.listeners, holds)
+
+
+def adopted(text: str, image: int, c: Caller, t: Table) -> Stepped:
+    """The text reads as a handover to the caller's image, with exactly the caller's descriptors and addresses."""
+    return Stepped(Answer.Adopted if suits(reading(text), image, c.holds) else Answer.Refused, t)
+
+
+# Files
+
+
+def with_files(files: tuple[File, ...], t: Table) -> Table:
+    return t._replace(files=files)
+
+
+def with_file(path: FilePath, owner: int, files: tuple[File, ...]) -> tuple[File, ...]:
+    """A file's number in its place, or a file more."""
+    place = next((i for i, f in enumerate(files) if f.path == path), len(files))
+    return (*files[:place], File(path, owner), *files[place + 1:])
+
+
+def without_file(path: FilePath, files: tuple[File, ...]) -> tuple[File, ...]:
+    return tuple(f for f in files if f.path != path)
+
+
+def written(c: Caller, path: FilePath, t: Table) -> Stepped:
+    """The file has the caller's process number."""
+    return Stepped(Answer.Fine, with_files(with_file(path, c.number, t.files), t))
+
+
+def moved(source: FilePath, to: FilePath, t: Table) -> Stepped:
+    """The second path has the number of the first, which is gone; a fault where the first isn't there."""
+    owner = owner_at(source, t.files)
+    if owner is None:
+        return Stepped(Answer.IoFault, t)
+    return Stepped(Answer.Fine, with_files(with_file(to, owner, without_file(source, t.files)), t))
+
+
+def unlinked(path: FilePath, t: Table) -> Stepped:
+    """The file is gone, also where it wasn't there."""
+    return Stepped(Answer.Fine, with_files(without_file(path, t.files), t))
+
+
+# Leave
+
+
+def without_master(m: int, p: Process) -> Process | None:
+    """What becomes of a row where a master leaves: its own and its workers' leave, and a master whose parent it was
+    gets parent 1."""
+    if isinstance(p, Master):
+        return None if p.number == m else Master(p.number, 1 if p.parent == m else p.parent, p.image, p.live, p.holds)
+    if isinstance(p, Worker):
+        return None if p.parent == m else p
+    return p
+
+
+def departed(c: Caller, t: Table) -> Stepped:
+    """The caller leaves, with its workers."""
+    return Stepped(Answer.Fine, each_row(lambda p: without_master(c.number, p), t))
+
+
+# The order in a call
+
+
+def own_step(text: str, image: int, c: Caller, call: Call, t: Table) -> Stepped:
+    """The call's own answer, to a caller that lives, of that image, which is handed that text."""
+    match call:
+        case OpenAt(a):
+            return opened(c, a, t)
+        case CloseAt(a):
+            return closed(c, a, t)
+        case Fork(g, k, fds):
+            return forked(c, g, k, fds, t)
+        case AwaitReady(g, k):
+            return awaited(c, g, k, t)
+        case Quit(g, k):
+            return quitted(c, g, k, t)
+        case Kill(g, k):
+            return killed(c, g, k, t)
+        case Census(g):
+            return counted(c, g, t)
+        case AwaitGone(g, k):
+            return awaited_gone(c, g, k, t)
+        case Usr1():
+            return Stepped(Answer.Fine, t)
+        case Ask():
+            return Stepped(Answer.Go, t)
+        case _:
+            return own_step_of_masters(text, image, c, call, t)
+
+
+def own_step_of_masters(text: str, image: int, c: Caller, call: Call, t: Table) -> Stepped:
+    """The same of the calls about masters and files."""
+    match call:
+        case SpawnMaster(i):
+            return spawned(c, i, t)
+        case Adopt():
+            return adopted(text, image, c, t)
+        case WritePid(path):
+            return written(c, path, t)
+        case MovePid(source, to):
+            return moved(source, to, t)
+        case RemovePid(path):
+            return unlinked(path, t)
+        case Alive(i):
+            return asked_alive(live_master(i, t.rows), i, t)
+        case Leave():
+            return departed(c, t)
+        case TermMaster(i):
+            return terminated(i, t)
+        case _:
+            raise ValueError(call)
+
+
+def fault_if(holds: bool, a: Answer) -> Answer | None:
+    return a if holds else None
+
+
+def fault_of(c: Caller, call: Call, f: Fate, t: Table) -> Answer | None:
+    """The fault that a fate gives at a call; one that is not the call's, or whose condition does not hold, gives
+    none."""
+    match call, f:
+        case OpenAt(), Fate.InUse | Fate.TooMany | Fate.Denied | Fate.NoMemory:
+            return Answer(f.value)
+        case Fork(), Fate.Again | Fate.NoMemory:
+            return Answer(f.value)
+        case AwaitReady(g, k), Fate.Late:
+            return fault_if(has_worker(is_starting, c.number, g, k, t.rows), Answer.Late)
+        case AwaitGone(g, k), Fate.Late:
+            return fault_if(has_worker(is_draining, c.number, g, k, t.rows), Answer.Late)
+        case SpawnMaster(), Fate.Again | Fate.NoMemory | Fate.NoImage:
+            return Answer(f.value)
+        case Adopt(), Fate.Refused:
+            return Answer.Refused
+        case WritePid() | MovePid() | RemovePid(), Fate.IoFault:
+            return Answer.IoFault
+        case Ask(), Fate.Back:
+            return Answer.Back
+        case _:
+            return None
+
+
+def step_with(text: str, image: int, call: Call, f: Fate | None, t: Table) -> Stepped:
+    """A call by the master of an image, which is handed a text: master-gone where it is not live, without effect; then
+    the fate, without effect; then the call's own answer."""
+    c = live_master(image, t.rows)
+    if c is None:
+        return Stepped(Answer.MasterGone, t)
+    fault = None if f is None else fault_of(c, call, f, t)
+    return own_step(text, image, c, call, t) if fault is None else Stepped(fault, t)

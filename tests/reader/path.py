@@ -1,0 +1,173 @@
+"""Paths of a plan's tree, and what a report says of one (Path.antt)."""
+from typing import NamedTuple
+
+from reader.crews import shortfalls_of
+from reader.numbers import Numbers, lacks
+from reader.target import Sides
+from reader.tree import Branch, Does, Ends, Tree, branch, call_of, plain_reply, reply_of, same_reply, shown
+from reader.vocabulary import Answer, AnyAnswer, AnyOutcome, Call, Counted, Degraded, End, Outcome, PidNote, Reply, Side
+
+
+class Entry(NamedTuple):
+    by: int
+    call: Call
+    answer: AnyAnswer
+
+
+Entries = tuple[Entry, ...]
+
+
+class Report(NamedTuple):
+    outcome: AnyOutcome
+    cause: int | None
+    note: PidNote
+    ready: Numbers
+
+
+class Lack(NamedTuple):
+    """What the last count of a master lacked."""
+
+    by: int
+    numbers: Numbers
+
+
+Lacks = tuple[Lack, ...]
+
+
+class Trail(NamedTuple):
+    """How far a path has come: the rest of the tree, or nothing where the last answer had no edge; the last count and
+    what it lacked of its set; what the last count of each master lacked; the note; the first call that went wrong,
+    counted from 1; and how many calls were made."""
+
+    rest: Tree | None
+    ready: Numbers
+    lacking: Numbers
+    lacked: Lacks
+    note: PidNote
+    cause: int | None
+    made: int
+
+
+def begin(tree: Tree, note: PidNote) -> Trail:
+    return Trail(tree, (), (), (), note, None, 0)
+
+
+def ready_after(a: AnyAnswer, ready: Numbers) -> Numbers:
+    return a.numbers if isinstance(a, Counted) else ready
+
+
+def lacking_after(numbers: Numbers, a: AnyAnswer, lacking: Numbers) -> Numbers:
+    return lacks(numbers, a.numbers) if isinstance(a, Counted) else lacking
+
+
+def lacked_by(by: int, lacked: Lacks) -> Numbers:
+    """What the last count of a master lacked."""
+    return next((lack.numbers for lack in lacked if lack.by == by), ())
+
+
+def beside(by: int, lacked: Lacks) -> Lacks:
+    """The newest of another master."""
+    return tuple(lack for lack in lacked if lack.by != by)[:1]
+
+
+def lacked_after(by: int, numbers: Numbers, a: AnyAnswer, lacked: Lacks) -> Lacks:
+    """What the last counts lack, after an answer to a master. A plan has two masters at most: their last counts are
+    kept, the newest first."""
+    return (Lack(by, lacks(numbers, a.numbers)), *beside(by, lacked)) if isinstance(a, Counted) else lacked
+
+
+def went_wrong(call: Call, r: Reply) -> bool:
+    """A call that is not answered plainly, or a census that lacks a number of its set."""
+    return not same_reply(r, plain_reply(call))
+
+
+def first_cause(cause: int | None, wrong: bool, n: int) -> int | None:
+    return cause if cause is not None else n if wrong else None
+
+
+# One entry
+
+
+def next_step(rest: Tree | None) -> Does | None:
+    """The step that is next, where one is."""
+    at = None if rest is None else shown(rest)
+    return at if isinstance(at, Does) else None
+
+
+def follow(step: Does | None, a: AnyAnswer) -> Branch | None:
+    """What follows an answer: the note that is set, and the rest."""
+    return None if step is None else branch(step.branches, reply_of(step.set, a))
+
+
+def note_after(edge: Branch | None, note: PidNote) -> PidNote:
+    return note if edge is None or edge.said is None else edge.said
+
+
+def advance(t: Trail, e: Entry) -> Trail:
+    step = next_step(t.rest)
+    numbers = () if step is None else step.set
+    edge = follow(step, e.answer)
+    return Trail(
+        rest=None if edge is None else edge.rest,
+        ready=ready_after(e.answer, t.ready),
+        lacking=lacking_after(numbers, e.answer, t.lacking),
+        lacked=lacked_after(e.by, numbers, e.answer, t.lacked),
+        note=note_after(edge, t.note),
+        cause=first_cause(t.cause, went_wrong(e.call, reply_of(numbers, e.answer)), t.made + 1),
+        made=t.made + 1,
+    )
+
+
+# Paths
+
+
+def Asks(rest: Tree | None, lacked: Lacks, e: Entry) -> bool:
+    """The entry is a call of the step that is next, by its master, with the worker that it names."""
+    step = next_step(rest)
+    return step is not None and e.by == step.by and e.call == call_of(step.order, lacked_by(step.by, lacked))
+
+
+# Reports
+
+
+def outcome_at(sides: Sides, end: End, lacking: Numbers) -> AnyOutcome:
+    """What an end says, by the groups of its side and what the last census lacked."""
+    match end:
+        case End.RolledBack:
+            return Outcome.RolledBack
+        case End.ShortOld:
+            return Degraded(Side.Old, shortfalls_of(sides.old, lacking))
+        case End.ShortTarget:
+            return Degraded(Side.Target, shortfalls_of(sides.target, lacking))
+        case _:
+            # (no run ends at a mark)
+            return Outcome.Done
+
+
+def IsOutcome(sides: Sides, rest: Tree | None, lacking: Numbers, o: AnyOutcome) -> bool:
+    """The end that the path is at, or Lost where the last answer had no edge."""
+    if rest is None:
+        return o is Outcome.Lost
+    at = shown(rest)
+    return isinstance(at, Ends) and o == outcome_at(sides, at.end, lacking)
+
+
+def Reports(sides: Sides, t: Trail, report: Report) -> bool:
+    return (
+        IsOutcome(sides, t.rest, t.lacking, report.outcome)
+        and report.cause == t.cause
+        and report.note is t.note
+        and report.ready == t.ready
+    )
+
+
+def KeepsPathLaw(tree: Tree, note: PidNote, sides: Sides, entries: Entries, report: Report) -> bool:
+    """The entries are a whole path of the tree, or a path and one entry after it where a master is gone and the step
+    has no edge for that, and the report is theirs."""
+    t = begin(tree, note)
+    for e in entries:
+        if not Asks(t.rest, t.lacked, e):
+            return False
+        t = advance(t, e)
+    is_gone = bool(entries) and entries[-1].answer is Answer.MasterGone
+    return Reports(sides, t, report) and (report.outcome is not Outcome.Lost or is_gone)

@@ -1,0 +1,511 @@
+"""The tree of each target, from named pieces (Plans.antt)."""
+from collections.abc import Callable
+from functools import partial
+
+from reader.addresses import FilePath
+from reader.after import crew_wanted, lacks_generation
+from reader.crew import Addresses, fork_of
+from reader.crews import Crew
+from reader.numbers import Numbers, is_in, numbers_below
+from reader.parts import Turns, joined, weave
+from reader.record import Record, addresses_of, crew_of, oldbin
+from reader.target import Attended, Mend, Reload, Reopen, Stop, Target, Upgrade, Workers, only_in
+from reader.tree import (
+    AwaitLacking, Branch, Branches, Does, Ends, ForkLacking, KillLacking, Later, Make, Tree, height, plain_reply,
+    replies_to,
+)
+from reader.vocabulary import (
+    Adopt, Alive, Ask, AwaitGone, AwaitReady, Call, Census, CloseAt, End, Generation, Kill, Leave, MovePid, OpenAt,
+    PidNote, Quit, RemovePid, Reply, Side, SpawnMaster, TermMaster, Usr1, WritePid,
+)
+
+# Edges
+
+Replies = tuple[Reply, ...]
+UNFORKED = (Reply.Again, Reply.NoMemory)
+
+
+def on(replies: Replies, rest: Tree, more: Branches = ()) -> Branches:
+    """An edge that sets no note."""
+    return (Branch(replies, None, rest), *more)
+
+
+def fork_edges(ok: Tree, bad: Tree) -> Branches:
+    return on((Reply.Forked,), ok, on(UNFORKED, bad))
+
+
+def await_edges(ok: Tree, gone: Tree, late: Tree) -> Branches:
+    return on((Reply.IsReady,), ok, on((Reply.Gone,), gone, on((Reply.Late,), late)))
+
+
+def await_any_edges(rest: Tree, late: Tree) -> Branches:
+    """Whether the worker is ready or gone is no matter."""
+    return on((Reply.IsReady, Reply.Gone), rest, on((Reply.Late,), late))
+
+
+def then_edge(rest: Tree) -> Branches:
+    return on((Reply.Fine,), rest)
+
+
+def census_edges(full: Tree, short: Tree) -> Branches:
+    return on((Reply.Full,), full, on((Reply.Short,), short))
+
+
+def open_edges(ok: Tree, bad: Tree) -> Branches:
+    return on((Reply.Opened,), ok, on((Reply.InUse, Reply.TooMany, Reply.Denied, Reply.NoMemory), bad))
+
+
+def fork_any_edges(rest: Tree) -> Branches:
+    """Whatever is answered."""
+    return on((Reply.Forked, *UNFORKED), rest)
+
+
+def gone_edges(gone: Tree, late: Tree) -> Branches:
+    return on((Reply.Gone,), gone, on((Reply.Late,), late))
+
+
+def note_edges(fine: PidNote | None, fault: PidNote | None, rest: Tree) -> Branches:
+    """The rest is the same, and the note is another."""
+    return (Branch((Reply.Fine,), fine, rest), Branch((Reply.IoFault,), fault, rest))
+
+
+def does(by: int, call: Call, branches: Branches) -> Tree:
+    return Does(by, Make(call), (), branches)
+
+
+def census(by: int, g: Generation, numbers: Numbers, branches: Branches) -> Tree:
+    return Does(by, Make(Census(g)), numbers, branches)
+
+
+# Settle
+
+
+def full_end(side: Side) -> End:
+    return End.RolledBack if side is Side.Old else End.Done
+
+
+def short_end(side: Side) -> End:
+    return End.ShortOld if side is Side.Old else End.ShortTarget
+
+
+def round_of(by: int, crew: Crew, rest: Tree) -> Tree:
+    """(round) One round: start the lowest number that is lacking, and go on whatever was answered. A failed fork goes
+    straight on."""
+    kill = Does(by, KillLacking(crew.generation), (), then_edge(rest))
+    wait = Does(by, AwaitLacking(crew.generation), (), await_any_edges(rest, kill))
+    return Does(by, ForkLacking(crew), (), fork_edges(wait, rest))
+
+
+def settle(by: int, crew: Crew, numbers: Numbers, side: Side, rounds: int) -> Tree:
+    """A census of the set: full ends well; short makes a round and counts again, as long as rounds are left."""
+    if rounds == 0:
+        short: Tree = Ends(short_end(side))
+    else:
+        short = round_of(by, crew, settle(by, crew, numbers, side, rounds - 1))
+    return census(by, crew.generation, numbers, census_edges(Ends(full_end(side)), short))
+
+
+# Starts and quits
+
+
+def forks(
+    by: int, crew: Crew, ks: Numbers, done: Numbers, ok: Callable[[Numbers], Tree], bad: Callable[[Numbers], Tree]
+) -> Tree:
+    """Fork these numbers upwards. The first failed fork leads to `bad` of those that were forked, the last first."""
+    if not ks:
+        return ok(done)
+    rest = forks(by, crew, ks[1:], (ks[0], *done), ok, bad)
+    return does(by, fork_of(crew, ks[0]), fork_edges(rest, Later(lambda: bad(done))))
+
+
+def awaits(by: int, g: Generation, ks: Numbers, ok: Tree, bad: Tree) -> Tree:
+    """Wait for these numbers upwards. The first that fails, killed where it is late, leads to `bad`."""
+    if not ks:
+        return ok
+    late = does(by, Kill(g, ks[0]), then_edge(bad))
+    return does(by, AwaitReady(g, ks[0]), await_edges(awaits(by, g, ks[1:], ok, bad), bad, late))
+
+
+def starts(by: int, crew: Crew, ks: Numbers, ok: Tree, bad: Callable[[Numbers], Tree]) -> Tree:
+    """Fork all, then wait for all. A failure leads to `bad` of those that were forked, the last first."""
+    return forks(by, crew, ks, (), lambda forked: awaits(by, crew.generation, ks, ok, Later(lambda: bad(forked))), bad)
+
+
+def quits(by: int, g: Generation, ks: Numbers, rest: Tree) -> Tree:
+    """Quit these numbers in their order."""
+    for k in reversed(ks):
+        rest = does(by, Quit(g, k), then_edge(rest))
+    return rest
+
+
+def forks_any(by: int, crew: Crew, ks: Numbers, rest: Tree) -> Tree:
+    """Fork these numbers upwards, whatever is answered."""
+    for k in reversed(ks):
+        rest = does(by, fork_of(crew, k), fork_any_edges(rest))
+    return rest
+
+
+def awaits_any(by: int, g: Generation, ks: Numbers, rest: Tree) -> Tree:
+    """Wait for these numbers upwards, whatever is answered; one that is late is killed."""
+    for k in reversed(ks):
+        rest = does(by, AwaitReady(g, k), await_any_edges(rest, does(by, Kill(g, k), then_edge(rest))))
+    return rest
+
+
+def starts_any(by: int, crew: Crew, ks: Numbers, rest: Tree) -> Tree:
+    """Fork all, then wait for all, going on after a failure."""
+    return forks_any(by, crew, ks, awaits_any(by, crew.generation, ks, rest))
+
+
+def kills(by: int, g: Generation, ks: Numbers, rest: Tree) -> Tree:
+    for k in reversed(ks):
+        rest = does(by, Kill(g, k), then_edge(rest))
+    return rest
+
+
+def usr1s(by: int, g: Generation, ks: Numbers, rest: Tree) -> Tree:
+    for k in reversed(ks):
+        rest = does(by, Usr1(g, k), then_edge(rest))
+    return rest
+
+
+def awaits_gone(by: int, g: Generation, ks: Numbers, rest: Tree) -> Tree:
+    """Wait until these are gone, in their order; one that is late is killed."""
+    for k in reversed(ks):
+        rest = does(by, AwaitGone(g, k), gone_edges(rest, does(by, Kill(g, k), then_edge(rest))))
+    return rest
+
+
+# Opens and closes
+
+
+def opens(
+    by: int,
+    addresses: Addresses,
+    done: Addresses,
+    ok: Callable[[Addresses], Tree],
+    bad: Callable[[Addresses], Tree],
+) -> Tree:
+    """Open these in their order. The first that fails leads to `bad` of those that were opened, the last first."""
+    if not addresses:
+        return ok(done)
+    rest = opens(by, addresses[1:], (addresses[0], *done), ok, bad)
+    return does(by, OpenAt(addresses[0]), open_edges(rest, Later(lambda: bad(done))))
+
+
+def closes(by: int, addresses: Addresses, rest: Tree) -> Tree:
+    for a in reversed(addresses):
+        rest = does(by, CloseAt(a), then_edge(rest))
+    return rest
+
+
+# One master
+
+
+def workers_tree(by: int, crew: Crew, ready: Numbers, retries: int, n: int) -> Tree:
+    """The numbers below n that are lacking are started, those from n on quit downwards, and the target settles. A
+    failed start quits what was forked, downwards, and the old side settles."""
+    settled = settle(by, crew, numbers_below(n), Side.Target, retries)
+    too_many = tuple(k for k in ready if not k < n)
+    return starts(
+        by,
+        crew,
+        tuple(k for k in numbers_below(n) if not is_in(ready, k)),
+        quits(by, crew.generation, too_many[::-1], settled),
+        lambda forked: quits(by, crew.generation, forked, settle(by, crew, ready, Side.Old, retries)),
+    )
+
+
+def mend_tree(by: int, crew: Crew, ready: Numbers, retries: int, overdue: Numbers, wanted: int) -> Tree:
+    """Those that are overdue and ready are killed; each wanted number that isn't ready or is overdue is started, going
+    on after a failure; and the target settles."""
+    settled = settle(by, crew, numbers_below(wanted), Side.Target, retries)
+    missing = tuple(k for k in numbers_below(wanted) if not is_in(ready, k) or is_in(overdue, k))
+    late = tuple(k for k in overdue if is_in(ready, k))
+    return kills(by, crew.generation, late, starts_any(by, crew, missing, settled))
+
+
+def reopen_tree(by: int, crew: Crew, ready: Numbers, retries: int) -> Tree:
+    """Each ready worker is told, and the target settles."""
+    return usr1s(by, crew.generation, ready, settle(by, crew, ready, Side.Target, retries))
+
+
+def reload_back(
+    by: int, old: Crew, new: Crew, ready: Numbers, retries: int, opened: Addresses, forked: Numbers
+) -> Tree:
+    """Back from a reload: the new workers quit, what was opened is closed, the last first, and the old side
+    settles."""
+    return quits(by, new.generation, forked, closes(by, opened, settle(by, old, ready, Side.Old, retries)))
+
+
+def reload_on(by: int, old: Crew, new: Crew, ready: Numbers, retries: int, dropped: Addresses, n: int) -> Tree:
+    """On with a reload: the old workers quit, the dropped addresses are closed in the old order, and the target
+    settles."""
+    settled = settle(by, new, numbers_below(n), Side.Target, retries)
+    return quits(by, old.generation, ready[::-1], closes(by, dropped, settled))
+
+
+def reload_tree(
+    by: int, old: Crew, new: Crew, ready: Numbers, retries: int, held: Addresses, wanted: Addresses, n: int
+) -> Tree:
+    """The added addresses are opened, the new workers started and counted; if all is well, it goes on, and else
+    back."""
+
+    def start(opened: Addresses) -> Tree:
+        back = partial(reload_back, by, old, new, ready, retries, opened)
+        go_on = reload_on(by, old, new, ready, retries, only_in(held, wanted), n)
+        counted = census_edges(go_on, back(numbers_below(n)[::-1]))
+        return starts(by, new, numbers_below(n), census(by, new.generation, numbers_below(n), counted), back)
+
+    def close(opened: Addresses) -> Tree:
+        return closes(by, opened, settle(by, old, ready, Side.Old, retries))
+
+    return opens(by, only_in(wanted, held), (), start, close)
+
+
+# Stop
+
+
+def has_oldbin(note: PidNote) -> bool:
+    """Whether a file is at the path with the suffix."""
+    return note in (PidNote.AtOldbin, PidNote.OldbinLeft)
+
+
+def remove_oldbin_too(by: int, path: FilePath, has_one: bool, rest: Tree) -> Tree:
+    """The file with the suffix is removed, where there is one; a fault leaves it."""
+    return does(by, RemovePid(oldbin(path)), note_edges(None, PidNote.Left, rest)) if has_one else rest
+
+
+def removes(by: int, path: FilePath | None, note: PidNote, rest: Tree) -> Tree:
+    """The pid files are removed."""
+    if path is None:
+        return rest
+    more = remove_oldbin_too(by, path, has_oldbin(note), rest)
+    return does(by, RemovePid(path), note_edges(PidNote.NoFile, PidNote.Left, more))
+
+
+def stopped(by: int) -> Tree:
+    return does(by, Leave(), then_edge(Ends(End.Done)))
+
+
+def stop_tree(by: int, g: Generation, ready: Numbers, path: FilePath | None, note: PidNote, quick: bool) -> Tree:
+    """The workers quit and are waited for, or are killed at once; the files are removed, and the master leaves."""
+    removed = removes(by, path, note, stopped(by))
+    if quick:
+        return kills(by, g, ready, removed)
+    return quits(by, g, ready[::-1], awaits_gone(by, g, ready[::-1], removed))
+
+
+# Upgrade
+
+
+def tries(by: int, call: Call, numbers: Numbers, rest: Tree, back: Tree) -> Tree:
+    """A step of the new master: the plain reply goes on; any other, and that the master is gone, goes back."""
+    others = (*replies_to(call)[1:], Reply.MasterGone)
+    return Does(by, Make(call), numbers, on((plain_reply(call),), rest, on(others, back)))
+
+
+def tries_all(by: int, calls: tuple[Call, ...], rest: Tree, back: Tree) -> Tree:
+    for call in reversed(calls):
+        rest = tries(by, call, (), rest, back)
+    return rest
+
+
+def pid_calls(path: FilePath | None, call: Callable[[FilePath], Call]) -> tuple[Call, ...]:
+    return () if path is None else (call(path),)
+
+
+def new_calls(crew: Crew, held: Addresses, wanted: Addresses, n: int) -> tuple[Call, ...]:
+    """What the new master does on its own: it adopts, closes the dropped addresses and opens the added ones, forks its
+    workers and waits for them."""
+    return (
+        Adopt(),
+        *map(CloseAt, only_in(held, wanted)),
+        *map(OpenAt, only_in(wanted, held)),
+        *(fork_of(crew, k) for k in numbers_below(n)),
+        *(AwaitReady(crew.generation, k) for k in numbers_below(n)),
+    )
+
+
+def new_part(crew: Crew, held: Addresses, wanted: Addresses, n: int) -> Tree:
+    """The new master's part is ready after the last of these calls; any other answer than the plain one ends it."""
+    calls = new_calls(crew, held, wanted, n)
+    return tries_all(crew.generation.image, calls, Ends(End.JoinReady), Ends(End.JoinBack))
+
+
+def old_part(by: int, crew: Crew, ready: Numbers, rounds: int) -> Tree:
+    """The old master meanwhile mends its own workers: it counts those that were ready, and starts what is lacking, in
+    a number of rounds; what the last count says is no matter."""
+    if rounds == 0:
+        return census(by, crew.generation, ready, on((Reply.Full, Reply.Short), Ends(End.Join)))
+    again = round_of(by, crew, old_part(by, crew, ready, rounds - 1))
+    return census(by, crew.generation, ready, census_edges(Ends(End.Join), again))
+
+
+def move_aside(by: int, path: FilePath | None, note: PidNote, ok: Tree, bad: Tree) -> Tree:
+    """The pid file goes aside, where it isn't yet."""
+    if path is None or note is PidNote.AtOldbin:
+        return ok
+    return does(by, MovePid(path, oldbin(path)), on((Reply.Fine,), ok, on((Reply.IoFault,), bad)))
+
+
+def move_back(by: int, path: FilePath | None, rest: Tree) -> Tree:
+    """The pid file goes back to its path."""
+    if path is None:
+        return rest
+    return does(by, MovePid(oldbin(path), path), note_edges(PidNote.InPlace, PidNote.AtOldbin, rest))
+
+
+def remove_oldbin(by: int, path: FilePath | None, rest: Tree) -> Tree:
+    """The file with the suffix goes."""
+    if path is None:
+        return rest
+    return does(by, RemovePid(oldbin(path)), note_edges(PidNote.InPlace, PidNote.OldbinLeft, rest))
+
+
+def back_alone(by: int, crew: Crew, ready: Numbers, retries: int, path: FilePath | None) -> Tree:
+    """Back without a new master."""
+    return move_back(by, path, settle(by, crew, ready, Side.Old, retries))
+
+
+def back_from(by: int, heir: int, crew: Crew, ready: Numbers, retries: int, path: FilePath | None) -> Tree:
+    """And with one."""
+    return does(by, TermMaster(heir), then_edge(back_alone(by, crew, ready, retries, path)))
+
+
+def back_late(by: int, heir: int, crew: Crew, ready: Numbers, retries: int, path: FilePath | None) -> Tree:
+    """Back after the old workers are gone: they are started again."""
+    again = starts_any(by, crew, ready, back_alone(by, crew, ready, retries, path))
+    return does(by, TermMaster(heir), then_edge(again))
+
+
+def back_serving(by: int, heir: int, crew: Crew, ready: Numbers, retries: int, path: FilePath | None) -> Tree:
+    """Back once the old workers are gone: they are started again while the new master still serves, and only then is
+    it ended."""
+    return starts_any(by, crew, ready, back_from(by, heir, crew, ready, retries, path))
+
+
+def asks(attended: bool, by: int, question: int, on_go: Tree, on_back: Tree) -> Tree:
+    """An attended upgrade asks the operator whether to go on or back; any other goes on."""
+    if not attended:
+        return on_go
+    return does(by, Ask(question), on((Reply.Go,), on_go, on((Reply.Back,), on_back)))
+
+
+def hand_over(by: int, new: Crew, retries: int, path: FilePath | None, n: int) -> Tree:
+    """The old master leaves; the new one removes the old file and settles."""
+    heir = new.generation.image
+    settled = settle(heir, new, numbers_below(n), Side.Target, retries)
+    return does(by, Leave(), then_edge(remove_oldbin(heir, path, settled)))
+
+
+def retire(by: int, old: Crew, new: Crew, ready: Numbers, retries: int, path: FilePath | None, n: int) -> Tree:
+    """If the new master still lives, the old one leaves."""
+    heir = new.generation.image
+    handed = hand_over(by, new, retries, path, n)
+    late = back_late(by, heir, old, ready, retries, path)
+    return does(by, Alive(heir), on((Reply.IsAlive,), handed, on((Reply.Gone,), late)))
+
+
+def relieve(
+    attended: bool, by: int, old: Crew, new: Crew, ready: Numbers, retries: int, path: FilePath | None, n: int
+) -> Tree:
+    """The old workers quit and are waited for; then the old master retires. An attended upgrade asks before they quit
+    and once they are gone."""
+    heir = new.generation.image
+    retired = retire(by, old, new, ready, retries, path, n)
+    second = asks(attended, by, 2, retired, back_serving(by, heir, old, ready, retries, path))
+    gone = quits(by, old.generation, ready[::-1], awaits_gone(by, old.generation, ready[::-1], second))
+    return asks(attended, by, 1, gone, back_from(by, heir, old, ready, retries, path))
+
+
+def spawn_edges(ok: Tree, bad: Tree) -> Branches:
+    return on((Reply.Spawned,), ok, on((Reply.Again, Reply.NoMemory, Reply.NoImage), bad))
+
+
+def taken_over(
+    attended: bool,
+    by: int,
+    old: Crew,
+    new: Crew,
+    ready: Numbers,
+    retries: int,
+    path: FilePath | None,
+    n: int,
+    back: Tree,
+) -> Tree:
+    """Both parts have ended and the new master is ready: it writes its pid, and is counted."""
+    heir = new.generation.image
+    relieved = relieve(attended, by, old, new, ready, retries, path, n)
+    counted = tries(heir, Census(new.generation), numbers_below(n), relieved, back)
+    return tries_all(heir, pid_calls(path, WritePid), counted, back)
+
+
+def upgrade_tree(attended: bool, r: Record, new: Crew, wanted: Addresses, n: int, turns: Turns) -> Tree:
+    """(The values of the record are named one by one in the definitions.)"""
+    by, old, heir = r.generation.image, crew_of(r), new.generation.image
+    back = back_from(by, heir, old, r.ready, r.retries, r.pid_path)
+    ready = taken_over(attended, by, old, new, r.ready, r.retries, r.pid_path, n, back)
+    parts = weave(
+        partial(joined, ready, back),
+        new_part(new, addresses_of(r), wanted, n),
+        turns,
+        old_part(by, old, r.ready, r.retries),
+    )
+    spawn = does(by, SpawnMaster(heir), spawn_edges(parts, back_alone(by, old, r.ready, r.retries, r.pid_path)))
+    return move_aside(by, r.pid_path, r.note, spawn, settle(by, old, r.ready, Side.Old, r.retries))
+
+
+def upgrade_length(attended: bool, r: Record, new: Crew, wanted: Addresses, n: int) -> int:
+    """The steps on its longest path: those before the parts, both parts, and the longer of what follows them."""
+    by, old, heir = r.generation.image, crew_of(r), new.generation.image
+    back = back_from(by, heir, old, r.ready, r.retries, r.pid_path)
+    spawn = does(by, SpawnMaster(heir), spawn_edges(Ends(End.Split), Ends(End.Done)))
+    ready = taken_over(attended, by, old, new, r.ready, r.retries, r.pid_path, n, back)
+    return (
+        height(move_aside(by, r.pid_path, r.note, spawn, Ends(End.Done)))
+        + height(new_part(new, addresses_of(r), wanted, n))
+        + height(old_part(by, old, r.ready, r.retries))
+        + max(height(ready), height(back))
+    )
+
+
+# The plan of a target
+
+
+def plan_tree(r: Record, target: Target, turns: Turns) -> Tree:
+    """Turns are used in upgrades alone, attended or not."""
+    by, crew = r.generation.image, crew_of(r)
+    match target:
+        case Workers(n):
+            return workers_tree(by, crew, r.ready, r.retries, n)
+        case Mend(overdue):
+            return mend_tree(by, crew, r.ready, r.retries, overdue, r.wanted)
+        case Reopen():
+            return reopen_tree(by, crew, r.ready, r.retries)
+        case Reload(s):
+            new = crew_wanted(r, target)
+            return reload_tree(by, crew, new, r.ready, r.retries, addresses_of(r), s.listeners, s.workers)
+        case Upgrade(s):
+            return upgrade_tree(False, r, crew_wanted(r, target), s.listeners, s.workers, turns)
+        case Attended(s):
+            return upgrade_tree(True, r, crew_wanted(r, target), s.listeners, s.workers, turns)
+        case Stop(quick):
+            return stop_tree(by, r.generation, r.ready, r.pid_path, r.note, quick)
+
+
+def plan_length(r: Record, target: Target) -> int:
+    """The steps on the longest path of a target's plan."""
+    match target:
+        case Upgrade(s):
+            return upgrade_length(False, r, crew_wanted(r, target), s.listeners, s.workers)
+        case Attended(s):
+            return upgrade_length(True, r, crew_wanted(r, target), s.listeners, s.workers)
+        case _:
+            return height(plan_tree(r, target, ()))
+
+
+def planned(r: Record, target: Target) -> Callable[[Turns], Tree] | None:
+    """The plan of a target for a running master. There is none where a number of the target's generation would pass
+    its limit."""
+    return None if lacks_generation(r, target) else partial(plan_tree, r, target)

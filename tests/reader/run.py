@@ -1,0 +1,154 @@
+"""The run of a plan's tree on a table under a pattern (Run.antt)."""
+from collections.abc import Callable
+from typing import NamedTuple
+
+from reader.calls import Stepped, step_with
+from reader.exits import after_exits, losses_of
+from reader.names import Name
+from reader.numbers import Numbers
+from reader.path import (
+    Entry, Lacks, Report, first_cause, lacked_after, lacked_by, lacking_after, outcome_at, ready_after, went_wrong,
+)
+from reader.table import Table
+from reader.target import Sides
+from reader.tree import Does, Order, Tree, branch, call_of, plain_reply, reply_of, same_reply, shown
+from reader.vocabulary import Answer, AnyAnswer, AnyOutcome, Ask, Call, Counted, End, Fate, Outcome, PidNote
+
+
+class Moment(NamedTuple):
+    """What happens at one call: who exits before it, and how it is made to fail."""
+
+    exits: tuple[Name, ...]
+    fate: Fate | None
+
+
+quiet = Moment((), None)
+
+# A pattern gives each call, counted from 1, its moment.
+Pattern = Callable[[int], Moment]
+
+
+def is_plain(call: Call, a: AnyAnswer) -> bool:
+    """The answer that a call is meant to have; of a census, each count."""
+    return isinstance(a, Counted) or same_reply(reply_of((), a), plain_reply(call))
+
+
+def is_fault(call: Call, a: AnyAnswer) -> bool:
+    """Whether an answer counts as a fault: each one that is not plain, except that the operator goes back."""
+    if isinstance(call, Ask) and a is Answer.Back:
+        return False
+    return not is_plain(call, a)
+
+
+class Return(NamedTuple):
+    """The operator went back at a question: which one, and how many faults the run had before it."""
+
+    question: int
+    faults: int
+
+
+Returns = tuple[Return, ...]
+
+
+def returns_after(call: Call, a: AnyAnswer, faults: int, returns: Returns) -> Returns:
+    """The returns after one call more."""
+    if isinstance(call, Ask) and a is Answer.Back:
+        return (Return(call.question, faults), *returns)
+    return returns
+
+
+def faults_since(question: int, returns: Returns, faults: int) -> int:
+    """The number of faults since the operator went back at a question; 0 where the operator did not."""
+    return next((max(0, faults - b.faults) for b in returns if b.question == question), 0)
+
+
+class Progress(NamedTuple):
+    """How far a run has come: its table, the number of calls made, the last count and what it lacked of its set, the
+    faults and losses so far, where the operator went back, the first call that went wrong, and the note."""
+
+    table: Table
+    calls: int
+    ready: Numbers
+    lacking: Numbers
+    lacked: Lacks
+    faults: int
+    losses: int
+    returns: Returns
+    cause: int | None
+    note: PidNote
+
+
+def start_at(t: Table, note: PidNote) -> Progress:
+    return Progress(t, 0, (), (), (), 0, 0, (), None, note)
+
+
+def after_moment(es: tuple[Name, ...], p: Progress) -> Progress:
+    """The middle of a moment, after its exits."""
+    if not es:
+        return p
+    return p._replace(table=after_exits(es, p.table), losses=p.losses + losses_of(es, p.table))
+
+
+def after_call(by: int, order: Order, numbers: Numbers, s: Stepped, p: Progress) -> Progress:
+    call = call_of(order, lacked_by(by, p.lacked))
+    return Progress(
+        table=s.table,
+        calls=p.calls + 1,
+        ready=ready_after(s.answer, p.ready),
+        lacking=lacking_after(numbers, s.answer, p.lacking),
+        lacked=lacked_after(by, numbers, s.answer, p.lacked),
+        faults=p.faults + 1 if is_fault(call, s.answer) else p.faults,
+        losses=p.losses,
+        returns=returns_after(call, s.answer, p.faults, p.returns),
+        cause=first_cause(p.cause, went_wrong(call, reply_of(numbers, s.answer)), p.calls + 1),
+        note=p.note,
+    )
+
+
+def noted(said: PidNote | None, p: Progress) -> Progress:
+    return p if said is None else p._replace(note=said)
+
+
+def answered(text: str, by: int, order: Order, f: Fate | None, p: Progress) -> Stepped:
+    """What a step's call, which is handed a text, is answered after the exits of its moment."""
+    return step_with(text, by, call_of(order, lacked_by(by, p.lacked)), f, p.table)
+
+
+class Ran(NamedTuple):
+    """A whole run: its entries, each table that it passes with the counts up to it, middle tables too, and how it
+    ends: at an end of the plan, or Lost (None) where a step has no edge for the answer."""
+
+    entries: tuple[Entry, ...]
+    passed: tuple[Progress, ...]
+    ending: End | None
+    last: Progress
+
+
+def run_with(text: str, tree: Tree, pattern: Pattern, p: Progress) -> Ran:
+    """The run of a tree, each call of which is handed a text."""
+    entries: list[Entry] = []
+    passed: list[Progress] = []
+    at = shown(tree)
+    while isinstance(at, Does):
+        moment = pattern(p.calls + 1)
+        middle = after_moment(moment.exits, p)
+        s = answered(text, at.by, at.order, moment.fate, middle)
+        entries.append(Entry(at.by, call_of(at.order, lacked_by(at.by, middle.lacked)), s.answer))
+        passed += [p, middle]
+        p = after_call(at.by, at.order, at.set, s, middle)
+        edge = branch(at.branches, reply_of(at.set, s.answer))
+        if edge is None:
+            return Ran(tuple(entries), (*passed, p), None, p)
+        p = noted(edge.said, p)
+        at = shown(edge.rest)
+    return Ran(tuple(entries), (*passed, p), at.end, p)
+
+
+def outcome_of(sides: Sides, ending: End | None, lacking: Numbers) -> AnyOutcome:
+    """The outcome of a run that ends so, by what its last census lacked."""
+    return Outcome.Lost if ending is None else outcome_at(sides, ending, lacking)
+
+
+def report_of(sides: Sides, ran: Ran) -> Report:
+    """What the report of a run says, by the groups of both sides."""
+    return Report(outcome_of(sides, ran.ending, ran.last.lacking), ran.last.cause, ran.last.note, ran.last.ready)
