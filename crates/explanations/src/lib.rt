@@ -17,4 +17,4 @@ pub use codes::explain;
 use codes::meaning_of;
 pub use places::Evidence;
 pub use programs::tell_program;
-pub use why::{has_why, tell, tell_refusals, tell_usage};
+pub use why::{has_why, tell, tell_declined, tell_refusals, tell_usage};

@@ -183,7 +183,7 @@ fn tell_files<R: AllocGlobal + Files, E: Write>(rt: &R, request: &Request<'_>, e
 }
 
 /// Says of a file whether the fault is its; whether it was.
-fn tell_file<R: AllocGlobal + Files, E: Write>(
+pub fn tell_file<R: AllocGlobal + Files, E: Write>(
     rt: &R,
     option: &str,
     path: Option<&str>,

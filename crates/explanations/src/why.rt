@@ -1,6 +1,6 @@
 //! `--why`: what is said of a fault after its line, for people.
 use crate::meaning_of;
-use crate::places::{Evidence, tell_place};
+use crate::places::{Evidence, tell_file, tell_place};
 use code_explanations::Explanation;
 use command_line::{Request, complaint};
 use faults::Fault;
@@ -117,6 +117,9 @@ fn tell_codes<E: Write>(line: &str, errors: &mut E) {
 /// How a line of a block begins whose word was refused.
 const REFUSED: &[u8] = b"refused ";
 
+/// How a line of a block begins whose word was refused since its configuration is refused, or can't be read.
+const DECLINED: [&[u8]; 2] = [b"refused C", b"refused W4"];
+
 /// How the block of a line begins that is no word.
 const UNREAD: &[u8] = b"unread ";
 
@@ -131,6 +134,25 @@ pub fn tell_refusals<E: Write>(text: &[u8], errors: &mut E) {
             }
         }
     }
+}
+
+/// Says where the file of an option is refused, and what is wrong there, if a word of these blocks was refused for it. The
+/// file is read anew.
+#[inline(never)]
+pub fn tell_declined<R: AllocGlobal + Files, E: Write>(
+    rt: &R,
+    option: &str,
+    path: Option<&str>,
+    blocks: &[u8],
+    errors: &mut E,
+) {
+    if blocks.split(|byte| *byte == b'\n').any(is_declined) {
+        let _ = tell_file(rt, option, path, errors);
+    }
+}
+
+fn is_declined(line: &[u8]) -> bool {
+    DECLINED.iter().any(|start| line.starts_with(start))
 }
 
 fn is_refusal(line: &[u8]) -> bool {

@@ -5,7 +5,7 @@ ghost use Rattle.master_programs.specs.Limits.{limits_of};
 ghost use Rattle.master_programs.specs.Refusals.{IsDeclined, IsNext};
 
 use crate::pid_file::check_pid_file;
-use crate::sharing::{Explained, Shared};
+use crate::sharing::{Explained, NextName, Shared};
 use crate::surroundings::Surroundings;
 use child_processes::{ANSWER_WITHIN, ChildLimits, OsFamily, READY_WITHIN};
 use child_programs::{ServedMaster, serve_master, serve_worker};
@@ -106,11 +106,27 @@ where
     let for_codes = Shared::new(errors);
     let log = Logged::new((), level, Writer::new(for_log));
     let mut explained = Explained {
+        rt,
+        next: next_name(options),
         output,
         errors: for_codes,
         is_wanted: around.explains || options.why,
     };
     supervise_logged(rt, around.number, options, input, &mut explained, &log)
+}
+
+/// The file that a word reads: that of `--to`, or else that with which the master started.
+fn next_name<'a>(options: &SuperviseOptions<'a>) -> NextName<'a> {
+    match options.to {
+        Some(path) => NextName {
+            option: "--to",
+            path: Some(path),
+        },
+        None => NextName {
+            option: "--from",
+            path: options.from,
+        },
+    }
 }
 
 /// The same, with a log: its blocks and the children that it kills are lines of it. `number` is that of its own process;
@@ -134,7 +150,7 @@ where
     let family = family.limited(limits_of(&options.limits), log);
     let mut next = NextFile {
         rt,
-        path: options.to.or(options.from),
+        path: next_name(options).path,
     };
     let start = SupervisorStart {
         settings: config.settings,

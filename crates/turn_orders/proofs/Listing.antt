@@ -16,9 +16,9 @@ length-both : {X : Type 0} (xs ys : List X) → length (xs ++ ys) ≡ length xs 
 length-both [] ys = omega arith
 length-both (x ∷ xs) ys = let h = length-both xs ys in omega (arith, h)
 
-length-each : {X Y : Type 0} (f : X → Y) (xs : List X) → length (map f xs) ≡ length xs
-length-each f [] = refl
-length-each f (x ∷ xs) = let h = length-each f xs in omega (arith, h)
+pub length_each : {X Y : Type 0} (f : X → Y) (xs : List X) → length (map f xs) ≡ length xs
+length_each f [] = refl
+length_each f (x ∷ xs) = let h = length_each f xs in omega (arith, h)
 
 -- the orders of both, of the old master alone and of the new one alone
 split : (olds news : ℕ) → 0 < olds → 0 < news → orders olds news ≡ map (λ turns. New ∷ turns) (orders olds (news - 1)) ++ map (λ turns. Old ∷ turns) (orders (olds - 1) news)
@@ -50,14 +50,14 @@ pub old_alone : (begun : List Turn) (olds : ℕ) → 0 < olds →
     (begun_with (begun ++ Old ∷ []) (orders (olds - 1) 0) ≡ begun_with begun (orders olds 0)) × (length (orders (olds - 1) 0) ≡ length (orders olds 0))
 old_alone begun olds p = (
   begun-more begun Old (orders (olds - 1) 0) ∙ ap (begun_with begun) (sym (olds-only olds p)),
-  sym (length-each (λ turns. Old ∷ turns) (orders (olds - 1) 0)) ∙ ap (λ (xs : List (List Turn)). length xs) (sym (olds-only olds p)),
+  sym (length_each (λ turns. Old ∷ turns) (orders (olds - 1) 0)) ∙ ap (λ (xs : List (List Turn)). length xs) (sym (olds-only olds p)),
 )
 
 pub new_alone : (begun : List Turn) (news : ℕ) → 0 < news →
     (begun_with (begun ++ New ∷ []) (orders 0 (news - 1)) ≡ begun_with begun (orders 0 news)) × (length (orders 0 (news - 1)) ≡ length (orders 0 news))
 new_alone begun news p = (
   begun-more begun New (orders 0 (news - 1)) ∙ ap (begun_with begun) (sym (news-only news p)),
-  sym (length-each (λ turns. New ∷ turns) (orders 0 (news - 1))) ∙ ap (λ (xs : List (List Turn)). length xs) (sym (news-only news p)),
+  sym (length_each (λ turns. New ∷ turns) (orders 0 (news - 1))) ∙ ap (λ (xs : List (List Turn)). length xs) (sym (news-only news p)),
 )
 
 pub both_go_on : (list : List (List Turn)) (begun : List Turn) (olds news : ℕ) → 0 < olds → 0 < news →
@@ -69,8 +69,8 @@ both_go_on list begun olds news p q =
     let seconds = orders (olds - 1) news in
     let whole = split olds news p q in
     let counts : length firsts + length seconds ≡ length (orders olds news) =
-    (let a = length-each (λ (turns : List Turn). New ∷ turns) firsts in
-    let b = length-each (λ (turns : List Turn). Old ∷ turns) seconds in
+    (let a = length_each (λ (turns : List Turn). New ∷ turns) firsts in
+    let b = length_each (λ (turns : List Turn). Old ∷ turns) seconds in
     let c = length-both (map (λ (turns : List Turn). New ∷ turns) firsts) (map (λ (turns : List Turn). Old ∷ turns) seconds) in
     let d = ap (λ (xs : List (List Turn)). length xs) whole in
     omega (arith, a, b, c, d)) in (
@@ -80,7 +80,7 @@ both_go_on list begun olds news p q =
           ∙ sym (begun-append begun (map (λ turns. New ∷ turns) firsts) (map (λ turns. Old ∷ turns) seconds))
           ∙ ap (begun_with begun) (sym whole)),
       (let e = length-both list (begun_with (begun ++ New ∷ []) firsts) in
-          let f = length-each (λ (turns : List Turn). (begun ++ New ∷ []) ++ turns) firsts in
+          let f = length_each (λ (turns : List Turn). (begun ++ New ∷ []) ++ turns) firsts in
           omega (arith, e, f, counts)),
       counts,
     )

@@ -1,5 +1,5 @@
 //! All lists of so many turns of the old master and so many of the new one.
-ghost use Rattle.std.specs.Prelude.{◌≡◌, ◌≤◌, ◌<◌, ◌+◌, ◌++◌, ◌∷◌, [], length, IfOk, OnOk, IsErrOf};
+ghost use Rattle.std.specs.Prelude.{◌≡◌, ◌≤◌, ◌<◌, ◌+◌, ◌++◌, ◌∷◌, ◌↔◌, [], None, length, IfOk, IfSome, OnOk, IsErrOf};
 ghost use Rattle.turn_orders.specs.Orders.{orders, begun_with, AreAllOrders};
 
 use plan_turns::Turns;
@@ -56,18 +56,28 @@ fn longer(alloc: Global, turns: &[Turn], turn: Turn) -> Result<Vec<Turn>, AllocE
     Ok(list)
 }
 
-/// Adds one order, unless there are as many as are allowed.
-fn add_order(alloc: Global, turns: &[Turn], list: &mut Vec<Turns>) -> Result<(), OrdersRefusal>
-    ensures ok { OnOk result (list.new.items ≡ list.old.items ++ turns.now ∷ []) }
-    ensures few { OnOk result (length list.new.items ≤ 5000) }
-    ensures many { IsErrOf result OrdersRefusal.TooMany → 5000 ≤ length list.old.items }
+/// What is left of this number once all orders of so many turns of both masters are taken from it; none where they are more.
+#[tactic(auto, using(crate::proofs::Counting::no_olds, crate::proofs::Counting::no_news, crate::proofs::Counting::both_together))]
+fn left_after(olds: u32, news: u32, number: usize) -> Option<usize>
+    ensures some { IfSome result (λ left. left + length (orders olds news) ≡ number) }
+    ensures none { result ≡ None → number < length (orders olds news) }
 {
-    if list.len() >= MOST_ORDERS {
-        return Err(OrdersRefusal::TooMany);
+    if olds == 0 {
+        return number.checked_sub(1);
     }
+    if news == 0 {
+        return number.checked_sub(1);
+    }
+    let left = left_after(olds, news - 1, number)?;
+    left_after(olds - 1, news, left)
+}
+
+/// Adds one order.
+fn add_order(alloc: Global, turns: &[Turn], list: &mut Vec<Turns>) -> Result<(), AllocError>
+    ensures ok { OnOk result (list.new.items ≡ list.old.items ++ turns.now ∷ []) }
+{
     let order = turns_from(alloc, turns)?;
-    list.push(order).map_err(AllocError::from)?;
-    Ok(())
+    list.push(order).map_err(AllocError::from)
 }
 
 /// Adds each order that begins so, and goes on with so many turns of the old master and of the new one.
@@ -78,10 +88,8 @@ fn add_orders(
     olds: u32,
     news: u32,
     list: &mut Vec<Turns>,
-) -> Result<(), OrdersRefusal>
+) -> Result<(), AllocError>
     ensures ok { OnOk result (list.new.items ≡ list.old.items ++ begun_with begun.now (orders olds news)) }
-    ensures few { OnOk result (length list.new.items ≤ 5000) }
-    ensures many { IsErrOf result OrdersRefusal.TooMany → 5000 < length list.old.items + length (orders olds news) }
 {
     if olds == 0 && news == 0 {
         return add_order(alloc, begun, list);
@@ -100,14 +108,17 @@ fn add_orders(
 }
 
 /// All orders of so many turns of the old master and so many of the new one, each once; those first in which the new one goes
-/// on. They are refused where there are more than `MOST_ORDERS`.
+/// on. They are refused where there are more than `MOST_ORDERS`, which is counted before any is listed.
 #[tactic(auto, using(crate::proofs::All::all_orders, crate::proofs::Listing::none_begun))]
 pub fn orders_of(alloc: Global, olds: u32, news: u32) -> Result<Vec<Turns>, OrdersRefusal>
     ensures orders { IfOk result (λ list. list.items ≡ orders olds news) }
     ensures all { IfOk result (λ list. AreAllOrders olds news list.items) }
     ensures few { IfOk result (λ list. length list.items ≤ 5000) }
-    ensures many { IsErrOf result OrdersRefusal.TooMany → 5000 < length (orders olds news) }
+    ensures many { IsErrOf result OrdersRefusal.TooMany ↔ (5000 < length (orders olds news)) }
 {
+    if left_after(olds, news, MOST_ORDERS).is_none() {
+        return Err(OrdersRefusal::TooMany);
+    }
     let mut list = Vec::new(alloc);
     add_orders(alloc, &[], olds, news, &mut list)?;
     Ok(list)
