@@ -4,3 +4,4 @@ pub mod KeptTexts
 pub mod Prefixes
 pub mod LineTexts
 pub mod TextLines
+mod FirstBytes

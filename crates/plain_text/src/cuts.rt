@@ -3,11 +3,14 @@ ghost use Rattle.std.specs.Prelude.{◌≡◌, ◌==◌, None, Some, MatchOption
 ghost use Rattle.std.specs.List.{before_first, after_first};
 ghost use Rattle.plain_text.specs.Cuts.{cut, after_prefix};
 
+use memchr::memchr;
+
 /// Where the first such byte stands.
+#[tactic(auto, using(crate::proofs::FirstBytes::first_byte))]
 fn first(text: &[u8], byte: u8) -> Option<usize>
     ensures { result ≡ position (λ c. c == byte) text.now }
 {
-    text.iter().position(|b| *b == byte)
+    memchr(byte, text)
 }
 
 /// What stands before the first such byte, and what stands behind it; none where there is no such
