@@ -20,8 +20,8 @@ use faults::Fault;
 use json_text::{blocks_json, exploration_json, patterns_json, plan_json};
 use kernel_model::{Section, Turns};
 use master_on_kernel::{
-    Demands, Form, Rehearsal, Start, Trials, begin, certify_all, line_instead, look_ahead,
-    rehearse, show_state, summary,
+    Demands, Explored, Form, Outlook, Rehearsal, Start, Trials, begin, certify_all, line_instead,
+    look_ahead, rehearse, show_state, summary,
 };
 use master_programs::{Surroundings, adopt, child, supervise};
 use order_explorer::{ChosenOrders, Totals};
@@ -203,27 +203,67 @@ fn enact<R: AllocGlobal + Files, I: Read, O: Write, E: Write>(
     errors: &mut E,
 ) -> Result<u8, Fault> {
     let alloc = rt.alloc();
-    let words = read_words(alloc, &options.words)?;
-    let mut rehearsal = begin(rt, &setup_of(&options.start), options.held)?;
-    ask_for(around, "patterns, lines such as '3 fail again'", errors);
-    let sections = read_patterns(alloc, &mut *input.reader, &mut input.given)?;
+    let mut script = script_of(rt, around, options, input, errors)?;
     let mut text = Vec::new(alloc);
-    let done = rehearse(alloc, &mut rehearsal, &words, &sections, &mut text);
+    let Script {
+        rehearsal,
+        words,
+        sections,
+    } = &mut script;
+    let done = rehearse(alloc, rehearsal, words, sections, &mut text);
     let shown = match done {
-        Ok(_) => show_state(&rehearsal, options.state, &mut text),
+        Ok(_) => show_state(rehearsal, options.state, &mut text),
         Err(_) => Ok(()),
     };
-    if options.start.json {
-        write(output, blocks_json(alloc, text.as_slice())?.as_slice())?;
-    } else {
-        write(output, text.as_slice())?;
-    }
+    write_blocks(alloc, options.start.json, text.as_slice(), output)?;
     shown?;
     let status = done?;
     if around.explains || options.start.why {
         tell_refusals(text.as_slice(), errors);
     }
     Ok(status)
+}
+
+/// What `enact` carries out: a master that starts, and words with a section for each.
+#[derive(Drop)]
+struct Script {
+    rehearsal: Rehearsal,
+    words: Vec<Word>,
+    sections: Vec<Section>,
+}
+
+/// The words of the command line, the start of its master, and the sections of standard input, read in this order.
+fn script_of<R: AllocGlobal + Files, I: Read, E: Write>(
+    rt: &R,
+    around: &Surroundings,
+    options: &EnactOptions<'_>,
+    input: &mut Input<'_, I>,
+    errors: &mut E,
+) -> Result<Script, Fault> {
+    let alloc = rt.alloc();
+    let words = read_words(alloc, &options.words)?;
+    let rehearsal = begin(rt, &setup_of(&options.start), options.held)?;
+    ask_for(around, "patterns, lines such as '3 fail again'", errors);
+    let sections = read_patterns(alloc, &mut *input.reader, &mut input.given)?;
+    Ok(Script {
+        rehearsal,
+        words,
+        sections,
+    })
+}
+
+/// Writes blocks and a state as they are, or as JSON.
+fn write_blocks<O: Write>(
+    alloc: Global,
+    json: bool,
+    text: &[u8],
+    output: &mut O,
+) -> Result<(), Fault> {
+    if json {
+        write(output, blocks_json(alloc, text)?.as_slice())
+    } else {
+        write(output, text)
+    }
 }
 
 /// `certify`: compares the blocks of standard input with plans and kernel, and writes the patterns
@@ -305,14 +345,72 @@ fn explore<R: AllocGlobal + Files, O: Write, E: Write>(
     if options.list && options.start.json {
         return Err(Fault::Usage);
     }
+    let question = question_of(alloc, options)?;
+    let mut rehearsal = begin(rt, &setup_of(&options.start), options.held)?;
+    let findings = find(alloc, &mut rehearsal, question, options, output, errors)?;
+    let text = findings.outlook.text.as_slice();
+    if options.start.json {
+        write(output, exploration_json(alloc, text)?.as_slice())?;
+    } else {
+        write(output, text)?;
+    }
+    if around.explains || options.start.why {
+        tell_findings(&findings.explored, &findings.totals, errors);
+        tell_refusals(text, errors);
+    }
+    Ok(findings.outlook.status)
+}
+
+/// What `explore` is asked: a word, by which turns or by all orders of them, under which events, and what is demanded of
+/// the runs.
+#[derive(Drop)]
+struct Question {
+    word: Word,
+    turns: Option<Turns>,
+    pairs: bool,
+    demands: Demands,
+}
+
+/// The question of the command line. What is demanded comes before the events, these before the word, and the turns last.
+fn question_of(alloc: Global, options: &ExploreOptions<'_>) -> Result<Question, Fault> {
     let demands = demands_of(options)?;
     let pairs = asks_for_pairs(options.events)?;
     let word = control_words::read(options.word.as_bytes()).map_err(|refusal| Fault::Word(
         1, refusal,
     ))?;
     let turns = turns_given(alloc, options.turns)?;
-    let mut rehearsal = begin(rt, &setup_of(&options.start), options.held)?;
-    let chosen = orders_of(alloc, &rehearsal, turns, word, pairs, errors)?;
+    Ok(Question {
+        word,
+        turns,
+        pairs,
+        demands,
+    })
+}
+
+/// What was found: of the runs, in numbers, and as it is written.
+#[derive(Drop)]
+struct Answered {
+    explored: Explored,
+    totals: Totals,
+    outlook: Outlook,
+}
+
+/// Explores the word, lists its runs where that is asked for, and sums up.
+fn find<O: Write, E: Write>(
+    alloc: Global,
+    rehearsal: &mut Rehearsal,
+    question: Question,
+    options: &ExploreOptions<'_>,
+    output: &mut O,
+    errors: &mut E,
+) -> Result<Answered, Fault> {
+    let Question {
+        word,
+        turns,
+        pairs,
+        demands,
+    } = question;
+    let chosen = orders_of(alloc, rehearsal, turns, word, pairs, errors)?;
     let orders = chosen.lists.as_slice();
     let trials = Trials { orders, pairs };
     let mut totals = Totals::new();
@@ -320,19 +418,11 @@ fn explore<R: AllocGlobal + Files, O: Write, E: Write>(
     let explored = rehearsal.explore(alloc, word, &trials, &mut totals, &mut listing)?;
     listing.finish()?;
     let outlook = summary(alloc, &explored, orders, &totals, &demands)?;
-    if options.start.json {
-        write(
-            output,
-            exploration_json(alloc, outlook.text.as_slice())?.as_slice(),
-        )?;
-    } else {
-        write(output, outlook.text.as_slice())?;
-    }
-    if around.explains || options.start.why {
-        tell_findings(&explored, &totals, errors);
-        tell_refusals(outlook.text.as_slice(), errors);
-    }
-    Ok(outlook.status)
+    Ok(Answered {
+        explored,
+        totals,
+        outlook,
+    })
 }
 
 /// By which orders a word is explored: the one of these turns, or all, whose number is told.
