@@ -48,9 +48,13 @@ def fields_of(process: int) -> list[str]:
 
 
 def age_of(process: int) -> int:
-    """For how many seconds a process has run."""
+    """For how many whole seconds a process has run."""
+    return int(exact_age_of(process))
+
+
+def exact_age_of(process: int) -> float:
     fields = fields_of(process)
-    return max(0, int(time.clock_gettime(time.CLOCK_BOOTTIME) - int(fields[19]) / TICKS)) if fields else 0
+    return max(0.0, time.clock_gettime(time.CLOCK_BOOTTIME) - int(fields[19]) / TICKS) if fields else 0.0
 
 
 def descends(process: int, ancestor: int) -> bool:
@@ -107,13 +111,13 @@ def workers_of(record: Record, running: dict[tuple[str, int], int], beats: dict[
     found = []
     for number in record.workers:
         process = running.get((record.generation, number))
-        age = age_of(process) if process else 0
-        # A beat from before its start is that of another worker with this number.
-        beat = max(0, int(time.monotonic()) - beats[number]) if number in beats else None
+        age, now = exact_age_of(process) if process else 0.0, time.monotonic()
+        # A beat from before its start is that of another worker with this number. A beat has the whole second in which it
+        # was asked for, so one of the second of the start may be either's.
+        beat = max(0, int(now) - beats[number]) if number in beats and beats[number] >= now - age else None
         found.append({
             "generation": record.generation, "number": number, "process": process,
-            "seconds": age if process else None,
-            "last_beat_seconds": beat if beat is not None and beat <= age else None,
+            "seconds": int(age) if process else None, "last_beat_seconds": beat,
         })
     return found
 

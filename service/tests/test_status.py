@@ -77,6 +77,16 @@ class ProcessesTest(unittest.TestCase):
         self.assertEqual([worker["process"] for worker in found], [process.pid, None, None])
         self.assertIsNone(found[0]["last_beat_seconds"])
 
+    def test_a_beat_of_the_second_in_which_a_worker_started(self) -> None:
+        # (the system tells the start of a process by hundredths of a second)
+        while not 0.1 < time.monotonic() % 1 < 0.5:
+            time.sleep(0.05)
+        record, before, process = Record(), int(time.monotonic()), self.started("sleep", "1000")
+        record.note(BLOCK)
+        for moment, beat in ((before, None), (int(time.monotonic()) + 1, 0)):
+            found = workers_of(record, {("1.2", 0): process.pid}, {0: moment})
+            self.assertEqual(found[0]["last_beat_seconds"], beat)
+
 
 class ShownTest(unittest.TestCase):
     def test_a_status_in_words(self) -> None:
