@@ -47,7 +47,7 @@ class Leaving:
             return
         if not self.seconds or not text.isdigit():
             return
-        # (its start is read first: where it has ended by now there is none)
+        # (a process that has ended by now has no start)
         start = start_of(int(text))
         if start and self.is_own(int(text)):
             self.due.setdefault((int(text), start), (name, time.monotonic() + self.seconds))

@@ -198,7 +198,7 @@ def keeps_rules(r: Record) -> bool:
 
 def record_after(r: Record, t: Target, report: Report, pid: int) -> Record | None:
     """The record after a plan for a target: the service that the report names, with its ready numbers and its note.
-    There is none after a stop or where the run was lost, nor where the result would break the rules of a record."""
+    None after a stop, if the run was lost, or if the result would break the rules of a record."""
     setup = setup_after(report.outcome, r, t)
     record = None if setup is None else recorded(setup, r.pid_path, report, pid)
     return record if record is not None and keeps_rules(record) else None
