@@ -13,8 +13,8 @@ use Rattle.definitions.specs.Manner.{is_leave_call}
 use Rattle.definitions.specs.Run.{Moment, Pattern, quiet}
 use Rattle.kernel_pattern.specs.Pattern.{with_exit, with_fate}
 use Rattle.kernel_model.specs.Readers.{row_of}
-use Rattle.kernel_table.specs.declared.process.Row.{Row}
-use Rattle.kernel_table.specs.declared.process.Row.TheVariants as row
+use Rattle.kernel_rows.specs.declared.process.Row.{Row}
+use Rattle.kernel_rows.specs.declared.process.Row.TheVariants as row
 use Rattle.explorer.specs.declared.events.Mishap.{Mishap}
 use Rattle.explorer.specs.declared.events.Mishap.TheVariants.{Exit, Fail}
 use Rattle.explorer.specs.declared.events.Event.{Event}

@@ -12,7 +12,7 @@ use crate::events::Mishap;
 use call_replies::reply_to;
 use kernel_model::Kernel;
 use kernel_pattern::Moment;
-use kernel_table::Row;
+use kernel_rows::Row;
 use listener_set::{Numbers, WORKER_LIMIT};
 use plan_executor::reserved_copy;
 use plan_walk::Due;

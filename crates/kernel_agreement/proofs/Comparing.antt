@@ -1,5 +1,5 @@
 -- Numbers and sockets compared one by one.
-use Rattle.std.proofs.Common.{◌≡◌, ℕ, ◌+◌, ◌<◌, ◌≤◌, Bool, true, false, not, ◌&&◌, ◌||◌, nat_eq, nat_le, List, [], ◌∷◌, length, get_or, drop, Some, None, refl, sym, ap, ◌∙◌, inl, inr, arith}
+use Rattle.std.proofs.Common.{◌≡◌, ℕ, ◌+◌, ◌<◌, ◌≤◌, Bool, true, false, not, ◌&&◌, ◌||◌, nat_eq, nat_le, List, [], ◌∷◌, Some, None, refl, sym, ap, ◌∙◌, inl, inr, arith}
 use Rattle.std.specs.List.{list_any}
 use Rattle.std.specs.Option.{option_eq}
 use Rattle.std.proofs.lemmas.Bool.{cases_lt, cases_eq, true≢false}
@@ -9,11 +9,10 @@ use Rattle.listener_set.specs.Descriptors.{descriptors_of, socket_of}
 use Rattle.listener_set.proofs.Rising.{is_in-below}
 use Rattle.definitions.specs.Table.{Address, Hold, Process, Caller, Table, live_master}
 use Rattle.definitions.specs.Record.{Agrees}
-use Rattle.kernel_table.specs.declared.process.Holder.{Holder}
-use Rattle.kernel_table.specs.Holds.{seen_hold, seen_holds}
+use Rattle.kernel_rows.specs.declared.process.Holder.{Holder}
+use Rattle.kernel_rows.specs.Holds.{seen_hold, seen_holds}
 use Rattle.kernel_agreement.specs.declared.agreement.Running.{Running}
-use Rattle.kernel_table.specs.Seen.{seen_holder, seen_rows}
-use Rattle.kernel_model.proofs.HeldListeners.{drop-item}
+use Rattle.kernel_rows.specs.Seen.{seen_holder, seen_rows}
 use Rattle.kernel_agreement.specs.Agreement.{running, MasterAgrees, WorkersAgree}
 
 ---- Numbers
@@ -111,11 +110,14 @@ same_sockets addresses (p ∷ ps) (q ∷ qs) e =
     let others = same_sockets addresses ps qs rest in
     (λ i. (fd i, socket i) ∷ others i)
 
----- Lists from a place on
+---- Rows that are still to come
 
--- a test of the rows from a place on
-pub any_next : (test : Process → Bool) (addresses : List Address) (holders : List Holder) (i : ℕ) (h : Holder) → i < length holders → h ≡ get_or holders i h → list_any test (seen_rows addresses (drop i holders)) ≡ (test (seen_holder addresses h) || list_any test (seen_rows addresses (drop (i + 1) holders)))
-any_next test addresses holders i h lt item = ap (λ hs. list_any test (seen_rows addresses hs)) (drop-item holders i h lt item)
+-- a test of the rows, of which one is the first
+pub any_next : (test : Process → Bool) (addresses : List Address) (left rest : List Holder) (h : Holder) → left ≡ h ∷ rest → list_any test (seen_rows addresses left) ≡ (test (seen_holder addresses h) || list_any test (seen_rows addresses rest))
+any_next test addresses left rest h turn = ap (λ hs. list_any test (seen_rows addresses hs)) turn
+
+pub found_first : (test : Process → Bool) (addresses : List Address) (all left rest : List Holder) (h : Holder) (gone : Bool) → left ≡ h ∷ rest → list_any test (seen_rows addresses all) ≡ (list_any test (seen_rows addresses left) || gone) → list_any test (seen_rows addresses all) ≡ ((test (seen_holder addresses h) || list_any test (seen_rows addresses rest)) || gone)
+found_first test addresses all left rest h gone turn found = found ∙ ap (λ b. b || gone) (any_next test addresses left rest h turn)
 
 ---- Numbers that are missing
 

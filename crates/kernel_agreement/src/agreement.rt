@@ -5,13 +5,15 @@ ghost use Rattle.listener_set.specs.Numbers.{is_in};
 ghost use Rattle.vocabulary.specs.Settings.{HasSuffixRoom};
 ghost use Rattle.definitions.specs.Table.{is_master};
 ghost use Rattle.definitions.specs.Record.{Agrees, FilesAre, IsRunning};
-ghost use Rattle.kernel_table.specs.Holds.{seen_holds};
-ghost use Rattle.kernel_table.specs.Seen.{seen, seen_caller, seen_file, seen_holder, seen_rows};
+ghost use Rattle.kernel_rows.specs.Holds.{seen_holds};
+ghost use Rattle.kernel_rows.specs.Seen.{seen_caller, seen_holder, seen_rows};
+ghost use Rattle.kernel_table.specs.Seen.{seen, seen_file};
 ghost use Rattle.kernel_agreement.specs.Agreement.{running, AreRunning, AreReady, MasterAgrees, WorkersAgree};
 
 use kernel_model::{Kernel, are_listeners};
+use kernel_rows::{Caller, Holder, Holders, Row, Stances, holds};
 use kernel_table::files::owner_at;
-use kernel_table::{Caller, FileRow, Holder, Row, Stances, Store, holds};
+use kernel_table::{FileRow, Store};
 use listener_set::{
     DescriptorTable, FIRST_DESCRIPTOR, FilePath, Generation, MOST_DESCRIPTORS, Numbers,
     WORKER_LIMIT,
@@ -36,8 +38,8 @@ pub struct Running<'a> {
 }
 
 /// How many masters there are, live or exited.
-fn master_count(holders: &[Holder]) -> usize
-    ensures { (addresses : List (List ℕ)) → result ≡ count_by is_master (seen_rows addresses holders.now) }
+fn master_count(holders: &Holders) -> usize
+    ensures { (addresses : List (List ℕ)) → result ≡ count_by is_master (seen_rows addresses holders.now.items) }
 {
     holders
         .iter()
@@ -86,10 +88,10 @@ fn is_running(holder: &Holder, master: &Caller, crew: &Crew) -> bool
 }
 
 /// Whether each process is so.
-fn are_running(holders: &[Holder], master: &Caller, crew: &Crew) -> bool
-    ensures { (addresses : List (List ℕ)) → IsTrue result ↔ AreRunning master.now.number crew.now (seen_holds addresses master.now.holds) (seen_rows addresses holders.now) }
+fn are_running(holders: &Holders, master: &Caller, crew: &Crew) -> bool
+    ensures { (addresses : List (List ℕ)) → IsTrue result ↔ AreRunning master.now.number crew.now (seen_holds addresses master.now.holds) (seen_rows addresses holders.now.items) }
 {
-    for holder in holders {
+    for holder in holders.iter() {
         if !is_running(holder, master, crew) {
             return false;
         }
@@ -106,11 +108,11 @@ fn has_number(numbers: &Numbers, nr: u32) -> bool
 }
 
 /// Whether these are the numbers of the master's Ready workers in the generation.
-fn are_ready(holders: &[Holder], pid: u32, generation: Generation, ready: &Numbers) -> bool
-    ensures { (addresses : List (List ℕ)) → IsTrue result ↔ AreReady pid generation (seen_rows addresses holders.now) ready.now }
+fn are_ready(holders: &Holders, pid: u32, generation: Generation, ready: &Numbers) -> bool
+    ensures { (addresses : List (List ℕ)) → IsTrue result ↔ AreReady pid generation (seen_rows addresses holders.now.items) ready.now }
 {
     let mut missing = *ready;
-    for holder in holders {
+    for holder in holders.iter() {
         if let Some(nr) = holder.row.worker_number(Stances::Ready, pid, generation) {
             if !has_number(ready, nr) {
                 return false;

@@ -16,14 +16,15 @@ use Rattle.definitions.specs.Crew.{Posts, Group, fds_of}
 use Rattle.definitions.specs.Record.{first_generation}
 use Rattle.definitions.specs.Calls.{is_image}
 use Rattle.definitions.specs.Formed.{IsQuiet, HasParent, IsAscending}
-use Rattle.kernel_table.specs.Holds.{address_of, seen_hold, seen_holds}
+use Rattle.kernel_rows.specs.Holds.{address_of, seen_hold, seen_holds}
 use Rattle.kernel_table.specs.declared.store.Store.{Store}
-use Rattle.kernel_table.specs.Seen.{seen_rows, seen_file, seen}
+use Rattle.kernel_rows.specs.Seen.{seen_rows}
+use Rattle.kernel_table.specs.Seen.{seen_file, seen}
 use Rattle.kernel_table.specs.Room.{HasSockets, IsKept, IsSound}
 use Rattle.kernel_table.specs.Names.{KnowsNames}
 use Rattle.definitions.specs.Start.{holds_from, first_worker, first_rows, first_files, booted}
 use Rattle.kernel_model.specs.Boot.{first_pairs}
-use Rattle.kernel_table.proofs.Lists.{list_any-map, map-push}
+use Rattle.kernel_rows.proofs.Lists.{list_any-map, map-push}
 use Rattle.kernel_model.proofs.CallSteps.{all-append, ascending-append, count-append, and-both, within-shared}
 
 -- ---- the first descriptors
@@ -223,10 +224,10 @@ module _ (s : Store) (listeners : List Address) (groups : List Group) (n : ℕ) 
       let count = ap (λ xs. length xs + 1) same in
       (λ i. record { rows = all i; files = files i; next_process = next i; next_socket = count i; limits = limit i })
 
-  pub sound-booted : n ≤ 1024 → limits.descriptors ≤ 64 → length listeners ≤ 64 → KnowsNames s → IsSound 0 s
-  sound-booted few most short names = record {
+  pub sound-booted : length s.holders.items ≤ s.holders.capacity → n ≤ 1024 → limits.descriptors ≤ 64 → length listeners ≤ 64 → KnowsNames s → IsSound 0 s
+  sound-booted room few most short names = record {
     room = record {
-      memory = record { holders = omega (arith, s.holders.ok.1); addresses = omega (arith, s.addresses.ok.1); files = omega (arith, s.files.ok.1) };
+      memory = record { holders = omega (arith, room); addresses = omega (arith, s.addresses.ok.1); files = omega (arith, s.files.ok.1) };
       process_numbers = omega (arith, next);
       socket_numbers = (let count = ap length same in omega arith);
     };

@@ -4,9 +4,9 @@ use Rattle.std.specs.List.{filter_map, list_any}
 use Rattle.std.proofs.lemmas.List.Sums.{sum_by-cons}
 use Rattle.definitions.specs.Table.{Process, Master, Worker, Foreign, owner_if}
 use Rattle.definitions.specs.Calls.{drop_where, is_image, is_image_row, is_of_image}
-use Rattle.kernel_table.specs.Seen.{is_number}
-use Rattle.kernel_table.specs.Edits.{is_of_either}
-use Rattle.kernel_table.specs.Rows.{master_number}
+use Rattle.kernel_rows.specs.Seen.{is_number}
+use Rattle.kernel_rows.specs.Edits.{is_of_either}
+use Rattle.kernel_rows.specs.Rows.{master_number}
 
 module _ (image q : ℕ) where
   counted-on : (p : Process) (rows : List Process) → count_by (is_image image) (p ∷ rows) ≡ cond (is_image image p) 1 0 + count_by (is_image image) rows

@@ -4,7 +4,7 @@ use Rattle.std.proofs.lemmas.List.{drop_more}
 use Rattle.definitions.specs.Table.{Address}
 use Rattle.vocabulary.specs.declared.table.Listener.{Listener}
 use Rattle.definitions.specs.Record.{listener_of}
-use Rattle.kernel_table.specs.Holds.{seen_hold, seen_holds}
+use Rattle.kernel_rows.specs.Holds.{seen_hold, seen_holds}
 
 pub drop-item : {X : Type 0} (xs : List X) (i : ℕ) (x : X) → i < length xs → x ≡ get_or xs i x → drop i xs ≡ x ∷ drop (i + 1) xs
 drop-item xs i x lt is = drop_more xs i x lt ∙ ap (λ y. y ∷ drop (i + 1) xs) (sym is)

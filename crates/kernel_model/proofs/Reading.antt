@@ -1,18 +1,19 @@
 -- Rows, holds and files, one at a time.
-use Rattle.std.proofs.Common.{◌≡◌, ℕ, suc, zero, ◌+◌, ◌-◌, ◌<◌, ◌≤◌, List, [], ◌∷◌, ◌++◌, map, length, drop, get_or, Option, Some, None, refl, sym, ap, subst, ◌∙◌, arith}
+use Rattle.std.proofs.Common.{◌≡◌, ℕ, suc, zero, ◌+◌, ◌-◌, ◌<◌, ◌≤◌, List, [], ◌∷◌, ◌++◌, map, length, get_or, Option, Some, None, refl, sym, ap, subst, ◌∙◌, arith}
 use Rattle.std.specs.Prelude.{slice_get}
 use Rattle.std.specs.List.{AllByRecursion}
 use Rattle.std.specs.Option.{option_map}
-use Rattle.std.proofs.lemmas.List.{length-map, drop_more}
+use Rattle.std.proofs.lemmas.List.{length-map}
 use Rattle.std.proofs.lemmas.Option.{slice_get-map}
 use Rattle.definitions.specs.Table.{Address, Hold, number_of}
-use Rattle.kernel_table.specs.declared.process.Row.{Row}
-use Rattle.kernel_table.specs.declared.process.Row.TheVariants as row
-use Rattle.kernel_table.specs.declared.process.Holder.{Holder}
+use Rattle.kernel_rows.specs.declared.process.Row.{Row}
+use Rattle.kernel_rows.specs.declared.process.Row.TheVariants as row
+use Rattle.kernel_rows.specs.declared.process.Holder.{Holder}
 use Rattle.kernel_model.specs.declared.readers.HoldRow.{HoldRow}
 use Rattle.kernel_table.specs.declared.file_row.FileRow.{FileRow}
-use Rattle.kernel_table.specs.Holds.{address_of, seen_hold, seen_holds}
-use Rattle.kernel_table.specs.Seen.{process_of, seen_holder, seen_rows, seen_file}
+use Rattle.kernel_rows.specs.Holds.{address_of, seen_hold, seen_holds}
+use Rattle.kernel_rows.specs.Seen.{process_of, seen_holder, seen_rows}
+use Rattle.kernel_table.specs.Seen.{seen_file}
 use Rattle.kernel_model.specs.Readers.{row_of, hold_row, holds_in, hold_rows, file_row}
 use Rattle.kernel_table.specs.Room.{HasSockets}
 use Rattle.kernel_table.proofs.Opening.{row-holds}
@@ -93,26 +94,24 @@ slice_get-right : (xs ys : List HoldRow) (n : ℕ) → slice_get (xs ++ ys) (len
 slice_get-right [] ys n = let e : 0 + n ≡ n = omega arith in ap (slice_get ys) e
 slice_get-right (x ∷ xs) ys n = let e : suc (length xs) + n ≡ suc (length xs + n) = omega arith in ap (slice_get (x ∷ xs ++ ys)) e ∙ slice_get-right xs ys n
 
-pub sockets-at : (addresses : List Address) (next : ℕ) (holders : List Holder) (k : ℕ) (d : Holder) → AllByRecursion (HasSockets next) (seen_rows addresses holders) → k < length holders → HasSockets next (seen_holder addresses (get_or holders k d))
-sockets-at addresses next [] k d w lt = absurd (omega arith)
-sockets-at addresses next (h ∷ holders) zero d w lt = w.0
-sockets-at addresses next (h ∷ holders) (suc k) d w lt = sockets-at addresses next holders k d w.1 (omega arith)
+module _ (addresses : List Address) (left rest : List Holder) (n : ℕ) (h : Holder) (turn : left ≡ h ∷ rest) where
+  pub sockets-first : (next : ℕ) → AllByRecursion (HasSockets next) (seen_rows addresses left) → HasSockets next (seen_holder addresses h) × AllByRecursion (HasSockets next) (seen_rows addresses rest)
+  sockets-first next w = subst (λ hs. AllByRecursion (HasSockets next) (seen_rows addresses hs)) turn w
 
-module _ (addresses : List Address) (holders : List Holder) (k rest : ℕ) (h : Holder) (lt : k < length holders) (is : h ≡ get_or holders k h) where
-  front : slice_get (hold_rows (seen_rows addresses (drop k holders))) rest ≡ slice_get (holds_in (seen_holder addresses h) ++ hold_rows (seen_rows addresses (drop (k + 1) holders))) rest
-  front = ap (λ hs. slice_get (hold_rows (seen_rows addresses hs)) rest) (drop_more holders k h lt ∙ ap (λ x. x ∷ drop (k + 1) holders) (sym is))
+  front : slice_get (hold_rows (seen_rows addresses left)) n ≡ slice_get (holds_in (seen_holder addresses h) ++ hold_rows (seen_rows addresses rest)) n
+  front = ap (λ hs. slice_get (hold_rows (seen_rows addresses hs)) n) turn
 
   -- the hold is the row's
-  pub hold-here : rest < length h.holds → slice_get (hold_rows (seen_rows addresses (drop k holders))) rest ≡ slice_get (holds_in (seen_holder addresses h)) rest
+  pub hold-here : n < length h.holds → slice_get (hold_rows (seen_rows addresses left)) n ≡ slice_get (holds_in (seen_holder addresses h)) n
   hold-here less =
       let count = length-holds_in addresses h in
-      front ∙ slice_get-left (holds_in (seen_holder addresses h)) (hold_rows (seen_rows addresses (drop (k + 1) holders))) rest (omega arith)
+      front ∙ slice_get-left (holds_in (seen_holder addresses h)) (hold_rows (seen_rows addresses rest)) n (omega arith)
 
   -- the hold is a later row's
-  pub hold-later : length h.holds ≤ rest → slice_get (hold_rows (seen_rows addresses (drop k holders))) rest ≡ slice_get (hold_rows (seen_rows addresses (drop (k + 1) holders))) (rest - length h.holds)
+  pub hold-later : length h.holds ≤ n → slice_get (hold_rows (seen_rows addresses left)) n ≡ slice_get (hold_rows (seen_rows addresses rest)) (n - length h.holds)
   hold-later le =
       let own = holds_in (seen_holder addresses h) in
       let count = length-holds_in addresses h in
-      let split : rest ≡ length own + (rest - length h.holds) = omega arith in
-      let after = hold_rows (seen_rows addresses (drop (k + 1) holders)) in
-      front ∙ ap (slice_get (own ++ after)) split ∙ slice_get-right own after (rest - length h.holds)
+      let split : n ≡ length own + (n - length h.holds) = omega arith in
+      let after = hold_rows (seen_rows addresses rest) in
+      front ∙ ap (slice_get (own ++ after)) split ∙ slice_get-right own after (n - length h.holds)

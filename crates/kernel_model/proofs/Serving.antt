@@ -1,23 +1,22 @@
 -- Who serves an address.
-use Rattle.std.proofs.Common.{◌≡◌, ℕ, zero, suc, ◌+◌, ◌-◌, ◌<◌, ◌≤◌, Bool, true, false, cond, ◌&&◌, ◌||◌, Option, Some, None, is_some, count_by, bytes_eq, List, [], ◌∷◌, length, get_or, drop, take, refl, sym, ap, subst, ◌∙◌, inl, inr, ◌⊎◌, ⊎_elim, arith}
+use Rattle.std.proofs.Common.{◌≡◌, ℕ, zero, suc, ◌+◌, ◌-◌, ◌<◌, ◌≤◌, Bool, true, false, cond, ◌&&◌, ◌||◌, Option, Some, None, is_some, count_by, bytes_eq, List, [], ◌∷◌, length, get_or, take, refl, sym, ap, subst, ◌∙◌, inl, inr, ◌⊎◌, ⊎_elim, arith}
 use Rattle.std.specs.Option.{option_map}
 use Rattle.std.specs.List.{list_any, AllByRecursion}
 use Rattle.std.specs.FinMap.{find, put}
 use Rattle.std.proofs.Math.Bool.{or-true, or-false}
 use Rattle.std.proofs.lemmas.Bool.{false≢true}
 use Rattle.std.proofs.lemmas.Bool.Decides.{nat_tests}
-use Rattle.std.proofs.lemmas.List.{at_drop_more}
 use Rattle.std.proofs.lemmas.List.Folds.{list_any_more}
 use Rattle.std.proofs.lemmas.List.Sums.{sum_by-cons, count_by-le-length}
 use Rattle.definitions.specs.Table.{Address, Generation, Hold, Process, Master, Worker, Foreign, same_generation, has_address, number_of, Table}
 use Rattle.definitions.specs.Service.{is_live_with, is_serving, service, IsSame}
 use Rattle.definitions.specs.Formed.{IsAscending}
-use Rattle.kernel_table.specs.declared.process.Holder.{Holder}
-use Rattle.kernel_table.specs.declared.process.Row.{Row}
-use Rattle.kernel_table.specs.declared.process.Row.TheVariants as row
-use Rattle.kernel_table.specs.Holds.{address_of, seen_holds}
+use Rattle.kernel_rows.specs.declared.process.Holder.{Holder}
+use Rattle.kernel_rows.specs.declared.process.Row.{Row}
+use Rattle.kernel_rows.specs.declared.process.Row.TheVariants as row
+use Rattle.kernel_rows.specs.Holds.{address_of, seen_holds}
 use Rattle.kernel_table.specs.Room.{HasSockets}
-use Rattle.kernel_table.specs.Seen.{process_of, seen_rows, seen_holder}
+use Rattle.kernel_rows.specs.Seen.{process_of, seen_rows, seen_holder}
 use Rattle.kernel_service.specs.Services.{Counts, Services, address_cmp, generation_cmp, count_at, at}
 use Rattle.kernel_service.proofs.Services.{tied-same, same-generation, count-put, same-address, at-put}
 
@@ -36,25 +35,24 @@ count-one g q counts = count-put g q (count_at counts g + 1) counts ∙ ap (λ b
 
 module _ (a : Address) (addresses : List Address) (holders : List Holder) where
   -- The workers that are counted, and those that are still to come, are all.
-  abbrev pub AreCounted : ℕ → Counts → Type 0
-  AreCounted i counts = (g : Generation) → count_at counts g + count_by (is_serving a g) (seen_rows addresses (drop i holders)) ≡ count_by (is_serving a g) (seen_rows addresses holders)
+  abbrev pub AreCounted : List Holder → Counts → Type 0
+  AreCounted left counts = (g : Generation) → count_at counts g + count_by (is_serving a g) (seen_rows addresses left) ≡ count_by (is_serving a g) (seen_rows addresses holders)
 
-  module _ (i : ℕ) (h : Holder) (lt : i < length holders) (there : h ≡ get_or holders i h) where
-    rows-more : (g : Generation) → count_by (is_serving a g) (seen_rows addresses (drop i holders)) ≡ cond (is_serving a g (seen_holder addresses h)) 1 0 + count_by (is_serving a g) (seen_rows addresses (drop (i + 1) holders))
+  module _ (left rest : List Holder) (h : Holder) (turn : left ≡ h ∷ rest) where
+    rows-more : (g : Generation) → count_by (is_serving a g) (seen_rows addresses left) ≡ cond (is_serving a g (seen_holder addresses h)) 1 0 + count_by (is_serving a g) (seen_rows addresses rest)
     rows-more g =
-        at_drop_more (λ (hs : List Holder). count_by (is_serving a g) (seen_rows addresses hs)) holders i h lt
-        ∙ ap (λ (x : Holder). count_by (is_serving a g) (seen_rows addresses (x ∷ drop (i + 1) holders))) (sym there)
-        ∙ sum_by-cons (λ (p : Process). cond (is_serving a g p) 1 0) (seen_holder addresses h) (seen_rows addresses (drop (i + 1) holders))
+        ap (λ (hs : List Holder). count_by (is_serving a g) (seen_rows addresses hs)) turn
+        ∙ sum_by-cons (λ (p : Process). cond (is_serving a g p) 1 0) (seen_holder addresses h) (seen_rows addresses rest)
 
-    pub counted-more : (old new : Counts) → ((g : Generation) → count_at new g ≡ cond (is_serving a g (seen_holder addresses h)) (count_at old g + 1) (count_at old g)) → AreCounted i old → AreCounted (i + 1) new
+    pub counted-more : (old new : Counts) → ((g : Generation) → count_at new g ≡ cond (is_serving a g (seen_holder addresses h)) (count_at old g + 1) (count_at old g)) → AreCounted left old → AreCounted rest new
     counted-more old new step counted g = at (is_serving a g (seen_holder addresses h)) (rows-more g) (step g) (counted g)
       where
-        at : (b : Bool) → count_by (is_serving a g) (seen_rows addresses (drop i holders)) ≡ cond b 1 0 + count_by (is_serving a g) (seen_rows addresses (drop (i + 1) holders)) → count_at new g ≡ cond b (count_at old g + 1) (count_at old g) → count_at old g + count_by (is_serving a g) (seen_rows addresses (drop i holders)) ≡ count_by (is_serving a g) (seen_rows addresses holders) → count_at new g + count_by (is_serving a g) (seen_rows addresses (drop (i + 1) holders)) ≡ count_by (is_serving a g) (seen_rows addresses holders)
+        at : (b : Bool) → count_by (is_serving a g) (seen_rows addresses left) ≡ cond b 1 0 + count_by (is_serving a g) (seen_rows addresses rest) → count_at new g ≡ cond b (count_at old g + 1) (count_at old g) → count_at old g + count_by (is_serving a g) (seen_rows addresses left) ≡ count_by (is_serving a g) (seen_rows addresses holders) → count_at new g + count_by (is_serving a g) (seen_rows addresses rest) ≡ count_by (is_serving a g) (seen_rows addresses holders)
         at true p q r = omega arith
         at false p q r = omega arith
 
     -- one more was not counted yet
-    pub counted-below : (counts : Counts) (g : Generation) → is_serving a g (seen_holder addresses h) ≡ true → AreCounted i counts → count_at counts g + 1 ≤ count_by (is_serving a g) (seen_rows addresses holders)
+    pub counted-below : (counts : Counts) (g : Generation) → is_serving a g (seen_holder addresses h) ≡ true → AreCounted left counts → count_at counts g + 1 ≤ count_by (is_serving a g) (seen_rows addresses holders)
     counted-below counts g serves counted =
         let more = rw serves at (rows-more g) in
         let sum = counted g in

@@ -2,8 +2,8 @@
 use Rattle.std.specs.Prelude.{ℕ, List, map}
 use Rattle.std.specs.List.{flat_map}
 use Rattle.definitions.specs.Table.{Hold, Process, Master, Worker, Foreign, File, number_of, holds_of}
-use Rattle.kernel_table.specs.declared.process.Row.{Row}
-use Rattle.kernel_table.specs.declared.process.Row.TheVariants as row
+use Rattle.kernel_rows.specs.declared.process.Row.{Row}
+use Rattle.kernel_rows.specs.declared.process.Row.TheVariants as row
 use Rattle.kernel_model.specs.declared.readers.HoldRow.{HoldRow}
 use Rattle.kernel_table.specs.declared.file_row.FileRow.{FileRow}
 

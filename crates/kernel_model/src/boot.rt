@@ -1,12 +1,14 @@
 //! How a kernel starts.
 ghost use Rattle.std.specs.Prelude.{◌≡◌, ◌<◌, ◌≤◌, ◌↔◌, ℕ, List, length, map, IfOk, IsTrue, IsErrOf};
-ghost use Rattle.kernel_table.specs.Holds.{seen_holds};
-ghost use Rattle.kernel_table.specs.Seen.{seen, seen_holder, seen_rows, seen_file};
+ghost use Rattle.kernel_rows.specs.Holds.{seen_holds};
+ghost use Rattle.kernel_rows.specs.Seen.{seen_holder, seen_rows};
+ghost use Rattle.kernel_table.specs.Seen.{seen, seen_file};
 ghost use Rattle.kernel_table.specs.Room.{IsSound};
 ghost use Rattle.definitions.specs.Start.{booted, first_worker, first_rows, first_files};
 ghost use Rattle.kernel_model.specs.Boot.{first_pairs, AreBadLimits};
 
-use kernel_table::{FileRow, FreeNames, Holder, Row, Store, holds};
+use kernel_rows::{Holder, Holders, Row, holds};
+use kernel_table::{FileRow, FreeNames, Store};
 use listener_set::{DescriptorTable, FilePath, Generation, MOST_DESCRIPTORS, WORKER_LIMIT};
 use std::alloc::{AllocError, Global};
 use std::error::Error;
@@ -152,7 +154,8 @@ fn allowed(
 {
     let listeners = &settings.listeners;
     let holds = first_holds(listeners.len() as u32);
-    let holders = holders(alloc, &Posts::first(&settings.groups), &holds, workers)?;
+    let slots = holders(alloc, &Posts::first(&settings.groups), &holds, workers)?;
+    let holders = Holders::of(slots);
     let free = FreeNames::among(
         &holders,
         100,
@@ -168,6 +171,7 @@ fn allowed(
         next_process: 101 + u64::from(workers),
         limits,
         last: 0,
+        newest: 0,
         free,
         lone: None,
     })

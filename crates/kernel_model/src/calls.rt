@@ -3,13 +3,15 @@ ghost use Rattle.std.specs.Prelude.{◌≡◌, ℕ, List};
 ghost use Rattle.std.specs.List.{list_any};
 ghost use Rattle.definitions.specs.Table.{Table, Caller as LiveMaster, is_worker};
 ghost use Rattle.definitions.specs.Calls.{opened, closed, forked, awaited, quitted, killed, counted, awaited_gone, written, moved, unlinked, own_step, fault_if, fault_of, step_with};
-ghost use Rattle.kernel_table.specs.Seen.{seen, seen_caller, has_stance};
+ghost use Rattle.kernel_rows.specs.Seen.{seen_caller, has_stance};
+ghost use Rattle.kernel_table.specs.Seen.{seen};
 ghost use Rattle.kernel_table.specs.Room.{GrowsByOne, HasRoomFor, IsKept};
 ghost use Rattle.kernel_table.specs.Rows.{IsOwn};
 ghost use Rattle.kernel_table.specs.Names.{KnowsNames};
 
 use crate::master_calls;
-use kernel_table::{Caller, Edit, Stances, Store, files, holds};
+use kernel_rows::{Caller, Edit, Stances, holds};
+use kernel_table::{Store, files};
 use listener_set::{Address, DescriptorSet, FilePath, Generation};
 use vocabulary::{Answer, Call, Fate};
 
@@ -296,7 +298,7 @@ pub fn answered(
     ensures outcome { record { answer = result; table = seen store.new } ≡ step_with text.now image call.now fate (seen store.old) }
     ensures grows { GrowsByOne store.old store.new }
 {
-    let Some(caller) = store.live_master(image) else {
+    let Some(caller) = store.caller(image) else {
         return Answer::MasterGone;
     };
     if let Some(fate) = fate {

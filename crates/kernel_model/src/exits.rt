@@ -5,7 +5,8 @@ ghost use Rattle.definitions.specs.Exits.{exited, after_exits, master_exits};
 ghost use Rattle.kernel_table.specs.Seen.{seen};
 ghost use Rattle.kernel_table.specs.Room.{EditsRows, IsKept};
 
-use kernel_table::{Edit, Store};
+use kernel_rows::Edit;
+use kernel_table::Store;
 use vocabulary::Name;
 
 /// The live master of the image exits, with its workers. Its row stays, exited, where its parent is a live master.

@@ -3,12 +3,14 @@ ghost use Rattle.std.specs.Prelude.{◌≡◌};
 ghost use Rattle.definitions.specs.Table.{live_master};
 ghost use Rattle.definitions.specs.Calls.{spawned, suits, adopted, asked_alive, departed, terminated};
 ghost use Rattle.definitions.specs.Reading.{reading};
-ghost use Rattle.kernel_table.specs.Holds.{seen_holds};
-ghost use Rattle.kernel_table.specs.Seen.{seen, seen_caller};
+ghost use Rattle.kernel_rows.specs.Holds.{seen_holds};
+ghost use Rattle.kernel_rows.specs.Seen.{seen_caller};
+ghost use Rattle.kernel_table.specs.Seen.{seen};
 ghost use Rattle.kernel_table.specs.Room.{GrowsByOne, HasRoomFor, IsKept};
 
 use crate::listening::are_listeners;
-use kernel_table::{Caller, Edit, Store};
+use kernel_rows::{Caller, Edit};
+use kernel_table::Store;
 use vocabulary::Answer;
 
 /// A new master with the caller's holds, unless a master of the image is there or the process limit is reached.

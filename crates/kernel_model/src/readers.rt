@@ -2,12 +2,13 @@
 ghost use Rattle.std.specs.Prelude.{◌≡◌, ◌+◌, ◌-◌, length, map, slice_get};
 ghost use Rattle.std.specs.Option.{option_map};
 ghost use Rattle.std.specs.List.{AllByRecursion};
-ghost use Rattle.kernel_table.specs.Seen.{seen_holder, seen_rows};
+ghost use Rattle.kernel_rows.specs.Seen.{seen_holder, seen_rows};
 ghost use Rattle.kernel_table.specs.Room.{HasSockets};
 ghost use Rattle.kernel_model.specs.Readers.{holds_in};
 
 use crate::Kernel;
-use kernel_table::{FileRow, Holder, Row};
+use kernel_rows::{Holder, Holders, Row};
+use kernel_table::FileRow;
 use listener_set::{Address, DescriptorTable};
 
 /// A socket that a process holds.
@@ -22,10 +23,10 @@ pub struct HoldRow {
     pub address: Address,
 }
 
-fn row_at(holders: &[Holder], i: usize) -> Option<Row>
-    ensures { result ≡ option_map (λ h. h.row) (slice_get holders.now i) }
+fn row_at(holders: &Holders, i: usize) -> Option<Row>
+    ensures { result ≡ option_map (λ h. h.row) (slice_get holders.now.items i) }
 {
-    let holder = holders.get(i).copied()?;
+    let holder = holders.get(i)?;
     Some(holder.row)
 }
 
@@ -69,12 +70,12 @@ impl HoldRow {
     ghost use Rattle.kernel_model.specs.Readers.{hold_rows};
 
     /// The i-th hold of all processes, counted from 0.
-    fn of_all(holders: &[Holder], addresses: &[Address], i: usize) -> Option<Self>
-        requires { AllByRecursion (HasSockets (length addresses.now + 1)) (seen_rows addresses.now holders.now) }
-        ensures { result ≡ slice_get (hold_rows (seen_rows addresses.now holders.now)) i }
+    fn of_all(holders: &Holders, addresses: &[Address], i: usize) -> Option<Self>
+        requires { AllByRecursion (HasSockets (length addresses.now + 1)) (seen_rows addresses.now holders.now.items) }
+        ensures { result ≡ slice_get (hold_rows (seen_rows addresses.now holders.now.items)) i }
     {
         let mut rest = i;
-        for holder in holders {
+        for holder in holders.iter() {
             let count = holder.holds.len();
             if rest < count {
                 return hold_at(holder, addresses, rest);

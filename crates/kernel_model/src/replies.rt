@@ -5,11 +5,13 @@ ghost use Rattle.std.specs.Option.{option_map};
 ghost use Rattle.definitions.specs.Table.{is_active, is_worker, live_master};
 ghost use Rattle.definitions.specs.Calls.{opened, forked, spawned, adopted, moved, asked_alive, census_of, own_step, step_with};
 ghost use Rattle.definitions.specs.Tree.{reply_of};
-ghost use Rattle.kernel_table.specs.Seen.{seen, seen_caller};
+ghost use Rattle.kernel_rows.specs.Seen.{seen_caller};
+ghost use Rattle.kernel_table.specs.Seen.{seen};
 ghost use Rattle.kernel_table.specs.Names.{KnowsNames};
 
 use crate::{Kernel, master_calls};
-use kernel_table::{Caller, Stances, Store, files};
+use kernel_rows::{Caller, Stances};
+use kernel_table::{Store, files};
 use listener_set::{Address, FilePath, Generation, Numbers};
 use vocabulary::{Actor, Answer, Call, Reply};
 

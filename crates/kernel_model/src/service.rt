@@ -3,14 +3,14 @@ ghost use Rattle.std.specs.Prelude.{◌≡◌, ◌≤◌, ◌<◌, ◌^◌, ◌&
 ghost use Rattle.std.specs.List.{list_any};
 ghost use Rattle.definitions.specs.Table.{Generation, Hold, has_address};
 ghost use Rattle.definitions.specs.Service.{is_live_with, is_serving};
-ghost use Rattle.kernel_table.specs.Seen.{process_of, seen_holder, seen_rows};
+ghost use Rattle.kernel_rows.specs.Seen.{process_of, seen_holder, seen_rows};
 ghost use Rattle.kernel_service.specs.Services.{count_at, at, AreCounts};
 ghost use Rattle.kernel_service.specs.Served.{seen_count};
 ghost use Rattle.kernel_model.specs.Serving.{is_generation};
 
 use crate::Kernel;
+use kernel_rows::{Holder, Holders, Row, holds};
 use kernel_service::{Count, Service, count_of, set_count};
-use kernel_table::{Holder, Row, holds};
 use listener_set::{Address, Generation};
 use std::alloc::{AllocError, Global};
 use vocabulary::Stance;
@@ -24,7 +24,11 @@ impl Kernel {
         ensures { IfOk result (λ s. IsSame (at s) (service self.now.table)) }
     {
         let store = &self.store;
-        service_of(&store.holders, &store.addresses, *store.holders.allocator())
+        service_of(
+            &store.holders,
+            &store.addresses,
+            *store.addresses.allocator(),
+        )
     }
 }
 
@@ -68,8 +72,8 @@ fn serving_generation(
 }
 
 /// Whether a live master holds the address.
-fn is_offered(holders: &[Holder], addresses: &[Address], address: &Address) -> bool
-    ensures { result ≡ list_any (is_live_with (has_address address.now)) (seen_rows addresses.now holders.now) }
+fn is_offered(holders: &Holders, addresses: &[Address], address: &Address) -> bool
+    ensures { result ≡ list_any (is_live_with (has_address address.now)) (seen_rows addresses.now holders.now.items) }
 {
     holders.iter().any(|holder| {
         is_live(&holder.row) && holds::has_address(addresses, &holder.holds, address)
@@ -78,17 +82,17 @@ fn is_offered(holders: &[Holder], addresses: &[Address], address: &Address) -> b
 
 /// The Ready workers that hold the address, by generation.
 fn ready_counts(
-    holders: &[Holder],
+    holders: &Holders,
     addresses: &[Address],
     address: &Address,
     alloc: Global,
 ) -> Result<Vec<Count>, AllocError>
-    requires { (g : Generation) → count_by (is_serving address.now g) (seen_rows addresses.now holders.now) < 2 ^ 32 }
-    ensures counts { IfOk result (λ counts. (g : Generation) → count_at (map seen_count counts.items) g ≡ count_by (is_serving address.now g) (seen_rows addresses.now holders.now)) }
+    requires { (g : Generation) → count_by (is_serving address.now g) (seen_rows addresses.now holders.now.items) < 2 ^ 32 }
+    ensures counts { IfOk result (λ counts. (g : Generation) → count_at (map seen_count counts.items) g ≡ count_by (is_serving address.now g) (seen_rows addresses.now holders.now.items)) }
     ensures sound { IfOk result (λ counts. AreCounts (map seen_count counts.items)) }
 {
     let mut counts = Vec::new(alloc);
-    for holder in holders {
+    for holder in holders.iter() {
         if let Some(generation) = serving_generation(holder, addresses, address) {
             let workers = count_of(&counts, generation) + 1;
             set_count(&mut counts, generation, workers)?;
@@ -99,12 +103,12 @@ fn ready_counts(
 
 /// The service of the rows, whose sockets are of these addresses.
 fn service_of(
-    holders: &[Holder],
+    holders: &Holders,
     addresses: &[Address],
     alloc: Global,
 ) -> Result<Service, AllocError>
-    requires { length holders.now ≤ 2 ^ 32 }
-    ensures { IfOk result (λ s. (a : List ℕ) → at s a ≡ (if list_any (λ b. bytes_eq b a) addresses.now && list_any (is_live_with (has_address a)) (seen_rows addresses.now holders.now) then Some (λ g. count_by (is_serving a g) (seen_rows addresses.now holders.now)) else None)) }
+    requires { length holders.now.items ≤ 2 ^ 32 }
+    ensures { IfOk result (λ s. (a : List ℕ) → at s a ≡ (if list_any (λ b. bytes_eq b a) addresses.now && list_any (is_live_with (has_address a)) (seen_rows addresses.now holders.now.items) then Some (λ g. count_by (is_serving a g) (seen_rows addresses.now holders.now.items)) else None)) }
 {
     let mut service = Service::new(alloc);
     for address in addresses {

@@ -1,36 +1,29 @@
 -- The numbers of the Ready workers, row by row.
-use Rattle.std.proofs.Common.{◌≡◌, ℕ, suc, zero, ◌+◌, ◌<◌, ◌≤◌, Bool, true, false, cond, ◌&&◌, ◌||◌, nat_eq, nat_lt, List, [], ◌∷◌, ◌++◌, filter, length, take, get_or, Option, Some, None, refl, sym, ap, subst, ◌∙◌, arith}
+use Rattle.std.proofs.Common.{◌≡◌, ℕ, suc, zero, ◌+◌, ◌<◌, ◌≤◌, Bool, true, false, cond, ◌&&◌, ◌||◌, nat_eq, nat_lt, List, [], ◌∷◌, ◌++◌, filter, Option, Some, None, refl, sym, ap, subst, ◌∙◌, arith}
 use Rattle.std.specs.Prelude.{IfSome}
 use Rattle.std.specs.List.{list_any}
 use Rattle.std.proofs.lemmas.Bool.{false≢true}
 use Rattle.std.proofs.lemmas.Bool.Decides.{nat_tests}
-use Rattle.std.proofs.lemmas.List.Folds.{list_any_more}
 use Rattle.listener_set.specs.Numbers.{numbers_below, is_in, with_number, RisesFrom, IsRising, AreBelow}
 use Rattle.listener_set.specs.NumberWordsLemmas.{is_in-filter_below}
 use Rattle.listener_set.proofs.Rising.{same_rising, is_in-with_number, RisesFrom-push}
 use Rattle.definitions.specs.Table.{Address, Generation, Process, is_ready, is_worker}
 use Rattle.definitions.specs.Calls.{census_below, census_of}
-use Rattle.kernel_table.specs.declared.process.Holder.{Holder}
-use Rattle.kernel_table.specs.Seen.{is_number, seen_holder, seen_rows}
-use Rattle.kernel_table.proofs.Lists.{list_any-map}
+use Rattle.kernel_rows.specs.declared.process.Holder.{Holder}
+use Rattle.kernel_rows.specs.Seen.{is_number, seen_holder, seen_rows}
+use Rattle.kernel_rows.proofs.Passing.{any-more}
 
 -- ---- one row more
-pub any-more : (test : Process → Bool) (addresses : List Address) (holders : List Holder) (i : ℕ) (d : Holder) → i < length holders → list_any test (seen_rows addresses (take (i + 1) holders)) ≡ (list_any test (seen_rows addresses (take i holders)) || test (seen_holder addresses (get_or holders i d)))
-any-more test addresses holders i d lt =
-    list_any-map test (seen_holder addresses) (take (i + 1) holders)
-    ∙ list_any_more (λ h. test (seen_holder addresses h)) holders i d lt
-    ∙ ap (λ b. b || test (seen_holder addresses (get_or holders i d))) (sym (list_any-map test (seen_holder addresses) (take i holders)))
+module _ (addresses : List Address) (q : ℕ) (g : Generation) (k : ℕ) (rows : List Holder) (h : Holder) where
+  ready-more : list_any (is_worker is_ready q g k) (seen_rows addresses (rows ++ h ∷ [])) ≡ (list_any (is_worker is_ready q g k) (seen_rows addresses rows) || is_worker is_ready q g k (seen_holder addresses h))
+  ready-more = any-more (is_worker is_ready q g k) addresses rows h
 
-module _ (addresses : List Address) (q : ℕ) (g : Generation) (k : ℕ) (holders : List Holder) (i : ℕ) (d : Holder) (lt : i < length holders) where
-  ready-more : list_any (is_worker is_ready q g k) (seen_rows addresses (take (i + 1) holders)) ≡ (list_any (is_worker is_ready q g k) (seen_rows addresses (take i holders)) || is_worker is_ready q g k (seen_holder addresses (get_or holders i d)))
-  ready-more = any-more (is_worker is_ready q g k) addresses holders i d lt
-
-  module _ (numbers : List ℕ) (before : is_in numbers k ≡ (list_any (is_worker is_ready q g k) (seen_rows addresses (take i holders)) && nat_lt k 1024)) where
-    pub one-more : (nr : ℕ) → nr < 1024 → is_worker is_ready q g k (seen_holder addresses (get_or holders i d)) ≡ nat_eq nr k → is_in (with_number numbers nr) k ≡ (list_any (is_worker is_ready q g k) (seen_rows addresses (take (i + 1) holders)) && nat_lt k 1024)
+  module _ (numbers : List ℕ) (before : is_in numbers k ≡ (list_any (is_worker is_ready q g k) (seen_rows addresses rows) && nat_lt k 1024)) where
+    pub one-more : (nr : ℕ) → nr < 1024 → is_worker is_ready q g k (seen_holder addresses h) ≡ nat_eq nr k → is_in (with_number numbers nr) k ≡ (list_any (is_worker is_ready q g k) (seen_rows addresses (rows ++ h ∷ [])) && nat_lt k 1024)
     one-more nr small here =
         is_in-with_number numbers nr k ∙ ap (λ b. nat_eq nr k || b) before
-        ∙ at (list_any (is_worker is_ready q g k) (seen_rows addresses (take i holders))) (nat_eq nr k) (nat_lt k 1024) (λ e. grind (arith, nat_tests))
-        ∙ sym (ap (λ b. b && nat_lt k 1024) (ready-more ∙ ap (λ b. list_any (is_worker is_ready q g k) (seen_rows addresses (take i holders)) || b) here))
+        ∙ at (list_any (is_worker is_ready q g k) (seen_rows addresses rows)) (nat_eq nr k) (nat_lt k 1024) (λ e. grind (arith, nat_tests))
+        ∙ sym (ap (λ b. b && nat_lt k 1024) (ready-more ∙ ap (λ b. list_any (is_worker is_ready q g k) (seen_rows addresses rows) || b) here))
       where
         at : (any same low : Bool) → (same ≡ true → low ≡ true) → (same || (any && low)) ≡ ((any || same) && low)
         at true true low h = sym (h refl)
@@ -38,10 +31,10 @@ module _ (addresses : List Address) (q : ℕ) (g : Generation) (k : ℕ) (holder
         at false true low h = sym (h refl)
         at false false low h = refl
 
-    pub none-more : (nr : Option ℕ) → is_worker is_ready q g k (seen_holder addresses (get_or holders i d)) ≡ is_number nr k → IfSome nr (λ n. 1024 ≤ n) → is_in numbers k ≡ (list_any (is_worker is_ready q g k) (seen_rows addresses (take (i + 1) holders)) && nat_lt k 1024)
+    pub none-more : (nr : Option ℕ) → is_worker is_ready q g k (seen_holder addresses h) ≡ is_number nr k → IfSome nr (λ n. 1024 ≤ n) → is_in numbers k ≡ (list_any (is_worker is_ready q g k) (seen_rows addresses (rows ++ h ∷ [])) && nat_lt k 1024)
     none-more nr here high =
-        before ∙ at (list_any (is_worker is_ready q g k) (seen_rows addresses (take i holders))) (is_number nr k) (nat_lt k 1024) (apart nr high)
-        ∙ sym (ap (λ b. b && nat_lt k 1024) (ready-more ∙ ap (λ b. list_any (is_worker is_ready q g k) (seen_rows addresses (take i holders)) || b) here))
+        before ∙ at (list_any (is_worker is_ready q g k) (seen_rows addresses rows)) (is_number nr k) (nat_lt k 1024) (apart nr high)
+        ∙ sym (ap (λ b. b && nat_lt k 1024) (ready-more ∙ ap (λ b. list_any (is_worker is_ready q g k) (seen_rows addresses rows) || b) here))
       where
         apart : (n : Option ℕ) → IfSome n (λ m. 1024 ≤ m) → is_number n k ≡ true → nat_lt k 1024 ≡ false
         apart None h e = absurd (false≢true e)

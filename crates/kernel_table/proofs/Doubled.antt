@@ -1,16 +1,15 @@
 -- Which names one worker bears at most, row by row.
-use Rattle.std.proofs.Common.{◌≡◌, ℕ, ◌+◌, ◌<◌, ◌≤◌, Bool, true, false, cond, ◌||◌, nat_eq, List, [], ◌∷◌, ◌++◌, length, take, get_or, count_by, Option, Some, None, refl, sym, ap, subst, ◌∙◌, arith}
+use Rattle.std.proofs.Common.{◌≡◌, ℕ, ◌+◌, ◌<◌, ◌≤◌, Bool, true, false, cond, ◌||◌, nat_eq, List, [], ◌∷◌, ◌++◌, count_by, Option, Some, None, refl, sym, ap, subst, ◌∙◌, arith}
 use Rattle.std.specs.Prelude.{IfSome}
 use Rattle.std.proofs.lemmas.Bool.{false≢true}
 use Rattle.std.proofs.lemmas.Bool.Decides.{nat_tests}
-use Rattle.std.proofs.lemmas.List.{take_more}
 use Rattle.listener_set.specs.Numbers.{is_in, with_number}
 use Rattle.listener_set.proofs.Rising.{is_in-with_number}
 use Rattle.definitions.specs.Table.{Address, Generation, Process, is_any, is_worker}
-use Rattle.kernel_table.specs.declared.process.Holder.{Holder}
-use Rattle.kernel_table.specs.Seen.{is_number, seen_holder, seen_rows}
-use Rattle.kernel_table.proofs.Lists.{map-push}
-use Rattle.kernel_table.proofs.Lone.{more}
+use Rattle.kernel_rows.specs.declared.process.Holder.{Holder}
+use Rattle.kernel_rows.specs.Seen.{is_number, seen_holder, seen_rows}
+use Rattle.kernel_rows.proofs.Lists.{map-push}
+use Rattle.kernel_rows.proofs.Lone.{more}
 
 -- Of the rows one at most bears a number that was met once, and none one that was not, unless it is doubled.
 abbrev pub AreMet : ℕ → Generation → List ℕ → List ℕ → List Process → Type 0
@@ -31,28 +30,27 @@ within true false once doubled n m grown known is off = (let le = known off in o
 within false true once doubled n m grown known is off = (let le = subst (λ b. n ≤ cond b 1 0) (is refl) (known off) in omega (arith, grown, le))
 within false false once doubled n m grown known is off = (let le = known off in omega (arith, grown, le))
 
-module _ (q : ℕ) (g : Generation) (addresses : List Address) (holders : List Holder) (i : ℕ) (d : Holder) (lt : i < length holders) (once doubled : List ℕ) (before : AreMet q g once doubled (seen_rows addresses (take i holders))) where
-  row-more : (k : ℕ) → count_by (is_worker is_any q g k) (seen_rows addresses (take (i + 1) holders)) ≡ count_by (is_worker is_any q g k) (seen_rows addresses (take i holders)) + cond (is_worker is_any q g k (seen_holder addresses (get_or holders i d))) 1 0
+module _ (q : ℕ) (g : Generation) (addresses : List Address) (rows : List Holder) (h : Holder) (once doubled : List ℕ) (before : AreMet q g once doubled (seen_rows addresses rows)) where
+  row-more : (k : ℕ) → count_by (is_worker is_any q g k) (seen_rows addresses (rows ++ h ∷ [])) ≡ count_by (is_worker is_any q g k) (seen_rows addresses rows) + cond (is_worker is_any q g k (seen_holder addresses h)) 1 0
   row-more k =
-      ap (λ hs. count_by (is_worker is_any q g k) (seen_rows addresses hs)) (take_more holders i d lt)
-      ∙ ap (count_by (is_worker is_any q g k)) (map-push (seen_holder addresses) (take i holders) (get_or holders i d))
-      ∙ count-push (is_worker is_any q g k) (seen_rows addresses (take i holders)) (seen_holder addresses (get_or holders i d))
+      ap (count_by (is_worker is_any q g k)) (map-push (seen_holder addresses) rows h)
+      ∙ count-push (is_worker is_any q g k) (seen_rows addresses rows) (seen_holder addresses h)
 
   doubled-in : (met : Bool) (nr k : ℕ) → is_in (cond met (with_number doubled nr) doubled) k ≡ cond met (nat_eq nr k || is_in doubled k) (is_in doubled k)
   doubled-in true nr k = is_in-with_number doubled nr k
   doubled-in false nr k = refl
 
-  pub met-one : (nr : ℕ) → ((k : ℕ) → is_worker is_any q g k (seen_holder addresses (get_or holders i d)) ≡ nat_eq nr k) → AreMet q g (with_number once nr) (cond (is_in once nr) (with_number doubled nr) doubled) (seen_rows addresses (take (i + 1) holders))
+  pub met-one : (nr : ℕ) → ((k : ℕ) → is_worker is_any q g k (seen_holder addresses h) ≡ nat_eq nr k) → AreMet q g (with_number once nr) (cond (is_in once nr) (with_number doubled nr) doubled) (seen_rows addresses (rows ++ h ∷ []))
   met-one nr here k small off =
       rw (is_in-with_number once nr k)
-      (within (is_in once nr) (nat_eq nr k) (is_in once k) (is_in doubled k) (count_by (is_worker is_any q g k) (seen_rows addresses (take i holders))) _ (row-more k ∙ ap (λ b. count_by (is_worker is_any q g k) (seen_rows addresses (take i holders)) + cond b 1 0) (here k)) (before k small) same (sym (doubled-in (is_in once nr) nr k) ∙ off))
+      (within (is_in once nr) (nat_eq nr k) (is_in once k) (is_in doubled k) (count_by (is_worker is_any q g k) (seen_rows addresses rows)) _ (row-more k ∙ ap (λ b. count_by (is_worker is_any q g k) (seen_rows addresses rows) + cond b 1 0) (here k)) (before k small) same (sym (doubled-in (is_in once nr) nr k) ∙ off))
     where
       same : nat_eq nr k ≡ true → is_in once k ≡ is_in once nr
       same e = (let is : nr ≡ k = grind (arith, nat_tests) in ap (is_in once) (sym is))
 
-  pub met-none : (nr : Option ℕ) → ((k : ℕ) → is_worker is_any q g k (seen_holder addresses (get_or holders i d)) ≡ is_number nr k) → IfSome nr (λ n. 1024 ≤ n) → AreMet q g once doubled (seen_rows addresses (take (i + 1) holders))
+  pub met-none : (nr : Option ℕ) → ((k : ℕ) → is_worker is_any q g k (seen_holder addresses h) ≡ is_number nr k) → IfSome nr (λ n. 1024 ≤ n) → AreMet q g once doubled (seen_rows addresses (rows ++ h ∷ []))
   met-none nr here high k small off =
-      let grown = row-more k ∙ ap (λ b. count_by (is_worker is_any q g k) (seen_rows addresses (take i holders)) + cond b 1 0) (here k ∙ other nr high) in
+      let grown = row-more k ∙ ap (λ b. count_by (is_worker is_any q g k) (seen_rows addresses rows) + cond b 1 0) (here k ∙ other nr high) in
       let le = before k small off in
       omega (arith, grown, le)
     where

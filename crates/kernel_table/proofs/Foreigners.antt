@@ -3,14 +3,15 @@ use Rattle.std.proofs.Common.{◌≡◌, ℕ, ◌+◌, ◌-◌, List, [], ◌∷
 use Rattle.std.proofs.lemmas.List.{length_push}
 use Rattle.std.proofs.Math.Seq.{get_or-append_seam}
 use Rattle.definitions.specs.Table.{Address, Hold, Foreign}
-use Rattle.kernel_table.specs.declared.process.Row.TheVariants as row
-use Rattle.kernel_table.specs.declared.process.Holder.{Holder}
+use Rattle.kernel_rows.specs.declared.process.Row.TheVariants as row
+use Rattle.kernel_rows.specs.declared.process.Holder.{Holder}
 use Rattle.kernel_table.specs.declared.store.Store.{Store}
-use Rattle.kernel_table.specs.Holds.{address_of}
-use Rattle.kernel_table.specs.Seen.{seen_holder, seen_rows, seen_file, seen}
+use Rattle.kernel_rows.specs.Holds.{address_of}
+use Rattle.kernel_rows.specs.Seen.{seen_holder, seen_rows}
+use Rattle.kernel_table.specs.Seen.{seen_file, seen}
 use Rattle.kernel_table.specs.Room.{IsKept}
 use Rattle.kernel_table.specs.Foreign.{with_foreign}
-use Rattle.kernel_table.proofs.Lists.{map-push}
+use Rattle.kernel_rows.proofs.Lists.{map-push}
 use Rattle.kernel_table.proofs.Opening.{rows-stay}
 
 -- the store with one more

@@ -1,5 +1,5 @@
 -- No exit and no call but a fork makes a worker Starting or Ready, so that names that are free stay so.
-use Rattle.std.proofs.Common.{◌≡◌, ℕ, ◌+◌, ◌<◌, ◌≤◌, Bool, true, false, cond, ◌&&◌, ◌||◌, not, nat_eq, List, [], ◌∷◌, ◌++◌, length, take, get_or, Option, Some, None, refl, sym, ap, subst, ◌∙◌, arith}
+use Rattle.std.proofs.Common.{◌≡◌, ℕ, ◌<◌, ◌≤◌, Bool, true, false, cond, ◌&&◌, ◌||◌, not, nat_eq, List, [], ◌∷◌, ◌++◌, Option, Some, None, refl, sym, ap, subst, ◌∙◌, arith}
 use Rattle.std.specs.Prelude.{IfSome}
 use Rattle.std.specs.List.{list_any, filter_map}
 use Rattle.std.proofs.lemmas.Bool.{false≢true}
@@ -9,19 +9,19 @@ use Rattle.vocabulary.specs.declared.table.Stance.TheVariants.{Starting, Ready, 
 use Rattle.definitions.specs.Table.{Address, Generation, Hold, Process, Master, Worker, Foreign, is_active, is_starting, is_exited, is_any, is_named, is_draining, is_worker, same_generation}
 use Rattle.definitions.specs.Exits.{made_exited, without_exited, kept_if, draining_exits}
 use Rattle.definitions.specs.Calls.{is_row, is_image, is_of, is_exited_of, lacks_address, made_ready, made_draining, with_holds}
-use Rattle.kernel_table.specs.declared.edits.Edit.{Edit}
-use Rattle.kernel_table.specs.declared.edits.Edit.TheVariants.{ExitWorker, ExitMaster, MakeReady, Drain, Reap, Kill, ReapAll, Hold as HoldAs, Close, ReapMaster, Terminate}
+use Rattle.kernel_rows.specs.declared.edits.Edit.{Edit}
+use Rattle.kernel_rows.specs.declared.edits.Edit.TheVariants.{ExitWorker, ExitMaster, MakeReady, Drain, Reap, Kill, ReapAll, Hold as HoldAs, Close, ReapMaster, Terminate}
 use Rattle.kernel_table.specs.declared.free_names.FreeNames.{FreeNames}
-use Rattle.kernel_table.specs.declared.process.Holder.{Holder}
-use Rattle.kernel_table.specs.declared.process.WorkerName.{WorkerName}
-use Rattle.kernel_table.specs.declared.process.Row.{Row}
-use Rattle.kernel_table.specs.declared.process.Row.TheVariants as row
-use Rattle.kernel_table.specs.Holds.{seen_holds}
-use Rattle.kernel_table.specs.Edits.{edited, is_of_either}
-use Rattle.kernel_table.specs.Seen.{is_number, process_of, seen_holder, seen_rows}
-use Rattle.kernel_table.proofs.Lists.{map-push}
+use Rattle.kernel_rows.specs.declared.process.Holder.{Holder}
+use Rattle.kernel_rows.specs.declared.process.WorkerName.{WorkerName}
+use Rattle.kernel_rows.specs.declared.process.Row.{Row}
+use Rattle.kernel_rows.specs.declared.process.Row.TheVariants as row
+use Rattle.kernel_rows.specs.Holds.{seen_holds}
+use Rattle.kernel_rows.specs.Edits.{edited, is_of_either}
+use Rattle.kernel_rows.specs.Seen.{is_number, process_of, seen_holder, seen_rows}
+use Rattle.kernel_rows.proofs.Lists.{map-push}
 use Rattle.kernel_table.specs.Free.{AreFree, IsAmong}
-use Rattle.kernel_table.proofs.Census.{any-more}
+use Rattle.kernel_rows.proofs.Passing.{any-more}
 use Rattle.kernel_table.proofs.Keeping.{Becomes, Becomes-filter_map, Becomes-first_changed, says-change, says-dropped}
 
 -- The worker is Starting or Ready after only where it was before.
@@ -124,12 +124,12 @@ unborne-among free name rows known is =
     ∙ known name.nr is.2
 
 -- ---- one row more of a table that is looked through
-module _ (q : ℕ) (g : Generation) (addresses : List Address) (holders : List Holder) (i : ℕ) (d : Holder) (lt : i < length holders) (before : ℕ) (known : (k : ℕ) → before ≤ k → list_any (is_worker is_active q g k) (seen_rows addresses (take i holders)) ≡ false) where
+module _ (q : ℕ) (g : Generation) (addresses : List Address) (rows : List Holder) (h : Holder) (before : ℕ) (known : (k : ℕ) → before ≤ k → list_any (is_worker is_active q g k) (seen_rows addresses rows) ≡ false) where
   -- the numbers above are free of a worker with that number, if there is one
-  pub free-after : (nr : Option ℕ) (first : ℕ) → ((k : ℕ) → is_worker is_active q g k (seen_holder addresses (get_or holders i d)) ≡ is_number nr k) → before ≤ first → IfSome nr (λ n. n < first) → (k : ℕ) → first ≤ k → list_any (is_worker is_active q g k) (seen_rows addresses (take (i + 1) holders)) ≡ false
+  pub free-after : (nr : Option ℕ) (first : ℕ) → ((k : ℕ) → is_worker is_active q g k (seen_holder addresses h) ≡ is_number nr k) → before ≤ first → IfSome nr (λ n. n < first) → (k : ℕ) → first ≤ k → list_any (is_worker is_active q g k) (seen_rows addresses (rows ++ h ∷ [])) ≡ false
   free-after nr first here le above k at =
-      any-more (is_worker is_active q g k) addresses holders i d lt
-      ∙ ap (λ b. b || is_worker is_active q g k (seen_holder addresses (get_or holders i d))) (known k (omega (arith, le, at)))
+      any-more (is_worker is_active q g k) addresses rows h
+      ∙ ap (λ b. b || is_worker is_active q g k (seen_holder addresses h)) (known k (omega (arith, le, at)))
       ∙ ap (λ b. false || b) (here k) ∙ other nr above
     where
       other : (n : Option ℕ) → IfSome n (λ m. m < first) → is_number n k ≡ false

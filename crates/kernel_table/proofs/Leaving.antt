@@ -1,11 +1,10 @@
 -- The only one that passes a test leaves.
-use Rattle.std.proofs.Common.{◌≡◌, ℕ, suc, zero, ◌+◌, ◌<◌, ◌≤◌, Bool, true, false, cond, ◌&&◌, ◌||◌, List, [], ◌∷◌, ◌++◌, Option, Some, None, map, length, take, drop, get_or, count_by, refl, sym, ap, ◌∙◌, arith}
+use Rattle.std.proofs.Common.{◌≡◌, ℕ, suc, zero, ◌<◌, ◌≤◌, Bool, true, false, cond, ◌&&◌, List, [], ◌∷◌, ◌++◌, Some, None, map, length, take, drop, get_or, count_by, refl, sym, ap, ◌∙◌, arith}
 use Rattle.std.specs.List.{list_any, filter_map, cons_option}
 use Rattle.std.proofs.lemmas.Bool.{false≢true}
-use Rattle.std.proofs.lemmas.List.Sums.{sum_by-cons}
-use Rattle.definitions.specs.Table.{Generation, Process, Master, Worker, Foreign, same_generation, is_active, is_any, is_worker}
+use Rattle.definitions.specs.Table.{Generation, Process, Master, Worker, Foreign, is_active, is_any, is_worker}
 use Rattle.definitions.specs.Calls.{drop_where}
-use Rattle.kernel_table.proofs.Lone.{more, passing, failing}
+use Rattle.kernel_rows.proofs.Lone.{more, passing, failing}
 
 module _ (any : Process → Bool) where
   untouched : (ps : List Process) → count_by any ps ≡ 0 → filter_map (drop_where any) ps ≡ ps

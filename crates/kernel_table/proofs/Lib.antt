@@ -1,10 +1,6 @@
-pub mod Lists
-pub mod Closing
-pub mod Masters
 pub mod Keeping
 pub mod Census
-pub mod First
-pub mod Lone
+pub mod Masters
 pub mod Free
 pub mod Leaving
 pub mod Doubled

@@ -1,11 +1,13 @@
 -- Live masters among the rows.
-use Rattle.std.proofs.Common.{◌≡◌, ℕ, suc, zero, ◌+◌, ◌<◌, ◌≤◌, Bool, true, false, cond, nat_eq, List, [], ◌∷◌, length, get_or, Option, Some, refl, sym, ap, ◌∙◌, arith}
+use Rattle.std.proofs.Common.{◌≡◌, ℕ, suc, zero, ◌+◌, ◌<◌, ◌≤◌, Bool, true, false, cond, nat_eq, List, [], ◌∷◌, length, get_or, count_by, Option, Some, None, ◌&&◌, refl, sym, ap, ◌∙◌, arith}
 use Rattle.std.specs.List.{AllByRecursion, filter_map}
+use Rattle.std.proofs.lemmas.Bool.{false≢true}
 use Rattle.std.proofs.lemmas.Bool.Decides.{nat_tests}
-use Rattle.definitions.specs.Table.{Hold, Process, Master, Worker, Foreign, number_of, holds_of}
+use Rattle.definitions.specs.Table.{Hold, Process, Master, Worker, Foreign, Caller, caller_if, live_master, number_of, holds_of}
 use Rattle.definitions.specs.Exits.{change, kept_if, without_exited}
-use Rattle.definitions.specs.Calls.{is_row, with_holds, put_hold}
+use Rattle.definitions.specs.Calls.{is_row, is_image, with_holds, put_hold}
 use Rattle.definitions.specs.Formed.{IsAscending}
+use Rattle.kernel_rows.proofs.Lone.{more, passing, failing}
 
 -- ---- a number is one row's
 above : (rows : List Process) (least next n : ℕ) (p : Process) → IsAscending least rows next → n < least → AllByRecursion (λ x. number_of x ≡ n → x ≡ p) rows
@@ -68,3 +70,54 @@ module _ (n q i : ℕ) (hs : List Hold) where
       each : (ps : List Process) → IsOnly (Master n q i true hs) ps → AllByRecursion (λ x. without_exited n (λ p. lives q) x ≡ without_exited n lives x) ps
       each [] o = tt
       each (p ∷ ps) o = (exited_alike lives p o.0, each ps o.1)
+
+-- ---- the only master of an image
+none_some : {X : Type 0} {x : X} → None ≡ Some x → ⊥
+none_some e = cc
+
+module _ (image : ℕ) where
+  first-found : (p : Process) (ps : List Process) (c : Caller) → live_master image (p ∷ []) ≡ Some c → live_master image (p ∷ ps) ≡ Some c
+  first-found (Master n q i live hs) ps c e = at (live && nat_eq i image) e
+    where
+      at : (b : Bool) → caller_if b n hs None ≡ Some c → caller_if b n hs (live_master image ps) ≡ Some c
+      at true e = e
+      at false e = absurd (none_some e)
+  first-found (Worker n q g k s hs) ps c e = absurd (none_some e)
+  first-found (Foreign n hs) ps c e = absurd (none_some e)
+
+  of-image : (p : Process) (c : Caller) → live_master image (p ∷ []) ≡ Some c → is_image image p ≡ true
+  of-image (Master n q i live hs) c e = at live (nat_eq i image) e
+    where
+      at : (a b : Bool) → caller_if (a && b) n hs None ≡ Some c → b ≡ true
+      at a true e = refl
+      at true false e = absurd (none_some e)
+      at false false e = absurd (none_some e)
+  of-image (Worker n q g k s hs) c e = absurd (none_some e)
+  of-image (Foreign n hs) c e = absurd (none_some e)
+
+  passed-over : (p : Process) (ps : List Process) → is_image image p ≡ false → live_master image (p ∷ ps) ≡ live_master image ps
+  passed-over (Master n q i live hs) ps e = at live (nat_eq i image) e
+    where
+      at : (a b : Bool) → b ≡ false → caller_if (a && b) n hs (live_master image ps) ≡ live_master image ps
+      at true true e = absurd (false≢true (sym e))
+      at false true e = refl
+      at true false e = refl
+      at false false e = refl
+  passed-over (Worker n q g k s hs) ps e = refl
+  passed-over (Foreign n hs) ps e = refl
+
+  counted : (ps : List Process) (k : ℕ) (d : Process) → k < length ps → is_image image (get_or ps k d) ≡ true → 1 ≤ count_by (is_image image) ps
+  counted [] k d lt e = absurd (omega arith)
+  counted (p ∷ ps) zero d lt e = (let m = passing (is_image image p) e (more (is_image image) p ps) in omega (arith, m))
+  counted (p ∷ ps) (suc k) d lt e =
+      let m = more (is_image image) p ps in
+      let rest = counted ps k d (omega arith) e in
+      omega (arith, m, rest)
+
+  pub only-master : (ps : List Process) (k : ℕ) (d : Process) (c : Caller) → k < length ps → count_by (is_image image) ps ≤ 1 → live_master image (get_or ps k d ∷ []) ≡ Some c → live_master image ps ≡ Some c
+  only-master [] k d c lt le e = absurd (omega arith)
+  only-master (p ∷ ps) zero d c lt le e = first-found p ps c e
+  only-master (p ∷ ps) (suc k) d c lt le e =
+      let m = more (is_image image) p ps in
+      let one = counted ps k d (omega arith) (of-image (get_or ps k d) c e) in
+      passed-over p ps (failing (is_image image p) m (omega (arith, one, le))) ∙ only-master ps k d c (omega arith) (omega (arith, m, le)) e

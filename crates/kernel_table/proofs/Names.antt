@@ -1,21 +1,23 @@
 -- What is known of names stays true of the same table, and where one row leaves.
-use Rattle.std.proofs.Common.{◌≡◌, ℕ, ◌≤◌, Bool, true, false, List, [], get_or, Option, Some, None, count_by, sym, ap, subst, ◌∙◌, arith}
+use Rattle.std.proofs.Common.{◌≡◌, ℕ, Bool, true, false, List, [], get_or, Option, Some, None, sym, ap, subst, ◌∙◌, arith}
 use Rattle.std.specs.Prelude.{IfSome}
-use Rattle.std.specs.List.{filter_map, list_any, remove}
-use Rattle.definitions.specs.Table.{Hold, Process, Table, is_active, is_any, is_worker}
+use Rattle.std.specs.List.{filter_map, list_any, remove, slice_get}
+use Rattle.definitions.specs.Table.{Process, Table, is_active, is_any, is_worker}
 use Rattle.definitions.specs.Calls.{drop_where}
 use Rattle.kernel_table.specs.declared.lone_names.LoneNames.{LoneNames}
-use Rattle.kernel_table.specs.declared.process.Holder.{Holder}
-use Rattle.kernel_table.specs.declared.process.Row.TheVariants.{Foreign}
-use Rattle.kernel_table.specs.declared.process.WorkerName.{WorkerName}
+use Rattle.kernel_rows.specs.declared.process.Holder.{Holder}
+use Rattle.kernel_rows.specs.declared.process.Row.TheVariants.{Foreign}
+use Rattle.kernel_rows.specs.declared.process.WorkerName.{WorkerName}
 use Rattle.kernel_table.specs.declared.store.Store.{Store}
 use Rattle.kernel_table.specs.Free.{AreFree}
 use Rattle.kernel_table.specs.Lone.{AreLone}
 use Rattle.kernel_table.specs.Names.{KnowsNames, IsLoneAt}
-use Rattle.kernel_table.specs.Seen.{process_of, seen, seen_holder, seen_rows}
-use Rattle.kernel_table.specs.Holds.{seen_holds}
-use Rattle.kernel_table.proofs.Lists.{list_any-map}
-use Rattle.kernel_table.proofs.Lone.{any-at}
+use Rattle.kernel_rows.specs.Places.{bears}
+use Rattle.kernel_rows.specs.Seen.{seen_holder, seen_rows}
+use Rattle.kernel_table.specs.Seen.{seen}
+use Rattle.kernel_rows.proofs.Bearing.{borne-at}
+use Rattle.kernel_rows.proofs.Lists.{list_any-map}
+use Rattle.kernel_rows.proofs.Lone.{any-at}
 use Rattle.kernel_table.proofs.Leaving.{dropped-count, removed-one, lone-inactive, active-any}
 
 module _ (s s' : Store) (table : seen s' ≡ seen s) (free : s'.free ≡ s.free) (known : KnowsNames s) where
@@ -49,12 +51,12 @@ row-out s name place items taken lone =
     ∙ removed-one (is_worker is_any name.parent name.generation name.nr) (seen_holder s.addresses.items) s.holders.items place d lone.found.there (lone.found.named s.addresses.items d) lone.alone
 
 -- whether a worker of the name is Starting or Ready, where the only one of the name is known
-pub lone-stance : (s : Store) (name : WorkerName) (place : ℕ) (h : Holder) → h ≡ get_or s.holders.items place h → IsLoneAt s name place → (b : Bool) → ((hs : List Hold) → b ≡ is_worker is_active name.parent name.generation name.nr (process_of h.row hs)) → list_any (is_worker is_active name.parent name.generation name.nr) (seen s).rows ≡ b
-lone-stance s name place h there lone b is =
-    let addresses = s.addresses.items in
-    let active = is_worker is_active name.parent name.generation name.nr in
-    at b (subst (λ (x : Holder). active (seen_holder addresses x) ≡ b) there (sym (is (seen_holds addresses h.holds))))
+pub lone-stance : (s : Store) (name : WorkerName) (place : ℕ) → IsLoneAt s name place → (b : Bool) → b ≡ bears is_active name (slice_get (seen s).rows place) → list_any (is_worker is_active name.parent name.generation name.nr) (seen s).rows ≡ b
+lone-stance s name place lone b is = at b (sym (is ∙ borne-at is_active name (seen_holder s.addresses.items) s.holders.items place h lone.found.there))
   where
+    h : Holder
+    h = record { row = Foreign 0; holds = [] }
+
     at : (b : Bool) → is_worker is_active name.parent name.generation name.nr (seen_holder s.addresses.items (get_or s.holders.items place h)) ≡ b → list_any (is_worker is_active name.parent name.generation name.nr) (seen s).rows ≡ b
     at true here =
         let active = is_worker is_active name.parent name.generation name.nr in

@@ -9,18 +9,19 @@ use Rattle.listener_set.specs.Descriptors as pairs
 use Rattle.definitions.specs.Table.{Address, Hold, Process, Table, holds_of}
 use Rattle.definitions.specs.Exits.{change}
 use Rattle.definitions.specs.Calls.{free_from, lowest_free, put_hold, with_holds, is_row, each_row, with_new_socket}
-use Rattle.kernel_table.specs.declared.process.Row.{Row}
-use Rattle.kernel_table.specs.declared.process.Row.TheVariants as row
-use Rattle.kernel_table.specs.declared.process.Holder.{Holder}
-use Rattle.kernel_table.specs.declared.process.Caller.{Caller}
-use Rattle.kernel_table.specs.Holds.{address_of, seen_hold, seen_holds}
-use Rattle.kernel_table.specs.declared.edits.Edit.TheVariants as edit
+use Rattle.kernel_rows.specs.declared.process.Row.{Row}
+use Rattle.kernel_rows.specs.declared.process.Row.TheVariants as row
+use Rattle.kernel_rows.specs.declared.process.Holder.{Holder}
+use Rattle.kernel_rows.specs.declared.process.Caller.{Caller}
+use Rattle.kernel_rows.specs.Holds.{address_of, seen_hold, seen_holds}
+use Rattle.kernel_rows.specs.declared.edits.Edit.TheVariants as edit
 use Rattle.kernel_table.specs.declared.store.Store.{Store}
-use Rattle.kernel_table.specs.Seen.{process_of, seen_rows, caller_row, seen_file, seen}
-use Rattle.kernel_table.specs.Edits.{edited}
+use Rattle.kernel_rows.specs.Seen.{process_of, seen_rows, caller_row}
+use Rattle.kernel_table.specs.Seen.{seen_file, seen}
+use Rattle.kernel_rows.specs.Edits.{edited}
 use Rattle.kernel_table.specs.Room.{HasSockets, IsKept}
 use Rattle.kernel_table.specs.Rows.{IsOwn}
-use Rattle.kernel_table.proofs.Lists.{list_any-map}
+use Rattle.kernel_rows.proofs.Lists.{list_any-map}
 use Rattle.kernel_table.proofs.Masters.{IsOnly, IsOnly-from, held-all}
 
 -- ---- the lowest free descriptor

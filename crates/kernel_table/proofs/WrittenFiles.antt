@@ -10,7 +10,7 @@ use Rattle.definitions.specs.Calls.{with_file, without_file}
 use Rattle.kernel_table.specs.declared.file_row.FileRow.{FileRow}
 use Rattle.kernel_table.specs.Seen.{seen_file}
 use Rattle.kernel_table.specs.Files.{rewritten}
-use Rattle.kernel_table.proofs.First.{past}
+use Rattle.kernel_rows.proofs.First.{past}
 
 -- where the file is there it is written in its place
 pub written-there : (path : FilePath) (owner : ℕ) (files : List File) → is_some (owner_at path files) ≡ true → rewritten path owner files ≡ with_file path owner files

@@ -3,7 +3,7 @@ use Rattle.std.specs.Prelude.{ℕ, ◌≡◌, ◌≤◌, false, List}
 use Rattle.std.specs.List.{list_any}
 use Rattle.definitions.specs.Table.{Process, is_active, is_worker}
 use Rattle.kernel_table.specs.declared.free_names.FreeNames.{FreeNames}
-use Rattle.kernel_table.specs.declared.process.WorkerName.{WorkerName}
+use Rattle.kernel_rows.specs.declared.process.WorkerName.{WorkerName}
 
 -- From the first number on no worker of the master and generation is Starting or Ready.
 abbrev pub AreFree : FreeNames → List Process → Type 0

@@ -1,7 +1,4 @@
-pub mod Holds
 pub mod Seen
-pub mod Edits
-pub mod Places
 pub mod Free
 pub mod Lone
 pub mod Names

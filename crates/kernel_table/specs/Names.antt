@@ -1,10 +1,10 @@
 -- What a store knows of names.
 use Rattle.std.specs.Prelude.{ℕ, ◌≤◌, count_by, IfSome}
 use Rattle.definitions.specs.Table.{is_any, is_worker}
-use Rattle.kernel_table.specs.declared.process.WorkerName.{WorkerName}
+use Rattle.kernel_rows.specs.declared.process.WorkerName.{WorkerName}
 use Rattle.kernel_table.specs.declared.store.Store.{Store}
 use Rattle.kernel_table.specs.Seen.{seen}
-use Rattle.kernel_table.specs.Places.{IsWorkerAt}
+use Rattle.kernel_rows.specs.Places.{IsWorkerAt}
 use Rattle.kernel_table.specs.Free.{AreFree}
 use Rattle.kernel_table.specs.Lone.{AreLone}
 

@@ -12,14 +12,14 @@ use Rattle.kernel_table.specs.Names.{KnowsNames}
 -- known of names stays true
 pub record EditsRows (old new : Store) : Type 0 where
   pub others : new ≡ record old { holders = new.holders; last = new.last; lone = new.lone }
-  pub len : vec_len new.holders ≤ vec_len old.holders
-  pub capacity : vec_capacity new.holders ≡ vec_capacity old.holders
+  pub len : length new.holders.items ≤ length old.holders.items
+  pub capacity : new.holders.capacity ≡ old.holders.capacity
   pub names : KnowsNames old → KnowsNames new
 
 -- at most one row, one socket, one file and one number more, and no less memory
 pub record GrowsInSize (old new : Store) : Type 0 where
-  pub holders : vec_len new.holders ≤ vec_len old.holders + 1
-  pub holder_room : vec_capacity old.holders ≤ vec_capacity new.holders
+  pub holders : length new.holders.items ≤ length old.holders.items + 1
+  pub holder_room : old.holders.capacity ≤ new.holders.capacity
   pub addresses : vec_len new.addresses ≤ vec_len old.addresses + 1
   pub address_room : vec_capacity old.addresses ≤ vec_capacity new.addresses
   pub process_numbers : new.next_process ≤ old.next_process + 1
@@ -34,7 +34,7 @@ pub record GrowsByOne (old new : Store) : Type 0 where
 
 -- Memory for that many rows, sockets and files more.
 pub record HasMemoryFor (calls : ℕ) (s : Store) : Type 0 where
-  pub holders : vec_len s.holders + calls ≤ vec_capacity s.holders
+  pub holders : length s.holders.items + calls ≤ s.holders.capacity
   pub addresses : vec_len s.addresses + calls ≤ vec_capacity s.addresses
   pub files : vec_len s.files + calls ≤ vec_capacity s.files
 

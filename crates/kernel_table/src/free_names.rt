@@ -1,10 +1,10 @@
 //! Names that no worker bears: of one master and generation all from a number on.
 ghost use Rattle.std.specs.Prelude.{◌≡◌, ◌↔◌, ℕ, List, [], ◌∷◌, ◌++◌, IsTrue};
 ghost use Rattle.definitions.specs.Table.{Hold, Process, Worker};
-ghost use Rattle.kernel_table.specs.Seen.{seen_rows};
+ghost use Rattle.kernel_rows.specs.Seen.{seen_rows};
 ghost use Rattle.kernel_table.specs.Free.{AreFree, IsAmong};
 
-use crate::process::{Holder, Stances, WorkerName};
+use kernel_rows::{Holders, Stances, WorkerName};
 use listener_set::Generation;
 use vocabulary::Stance;
 
@@ -18,13 +18,13 @@ pub struct FreeNames {
 
 impl FreeNames {
     /// The names above each Starting and Ready worker of the master's generation.
-    pub fn among(holders: &[Holder], parent: u32, generation: Generation) -> Self
+    pub fn among(holders: &Holders, parent: u32, generation: Generation) -> Self
         ensures parent { result.parent ≡ parent }
         ensures generation { result.generation ≡ generation }
-        ensures free { (addresses : List (List ℕ)) → AreFree result (seen_rows addresses holders.now) }
+        ensures free { (addresses : List (List ℕ)) → AreFree result (seen_rows addresses holders.now.items) }
     {
         let mut first = 0;
-        for holder in holders {
+        for holder in holders.iter() {
             if let Some(nr) = holder
                 .row
                 .worker_number(Stances::Active, parent, generation)
@@ -55,10 +55,10 @@ impl FreeNames {
 
     /// Those that are free once the last of the rows, a Starting worker, bears the name: of these what is left, where the
     /// name is of their master and generation, and otherwise those of its own.
-    pub fn without(self, holders: &[Holder], name: WorkerName) -> Self
+    pub fn without(self, holders: &Holders, name: WorkerName) -> Self
         ensures parent { result.parent ≡ name.parent }
         ensures generation { result.generation ≡ name.generation }
-        ensures free { (addresses : List (List ℕ)) (before : List Process) (n : ℕ) (hs : List Hold) → AreFree self before → seen_rows addresses holders.now ≡ before ++ Worker n name.parent name.generation name.nr Stance.Starting hs ∷ [] → AreFree result (seen_rows addresses holders.now) }
+        ensures free { (addresses : List (List ℕ)) (before : List Process) (n : ℕ) (hs : List Hold) → AreFree self before → seen_rows addresses holders.now.items ≡ before ++ Worker n name.parent name.generation name.nr Stance.Starting hs ∷ [] → AreFree result (seen_rows addresses holders.now.items) }
     {
         if !self.are_of(name) {
             return FreeNames::among(holders, name.parent, name.generation);

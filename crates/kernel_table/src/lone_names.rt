@@ -1,10 +1,10 @@
 //! Names that one worker bears at most: those of a master's generation, but for some numbers.
 ghost use Rattle.std.specs.Prelude.{false, ◌≡◌, ◌<◌, ◌↔◌, List, ℕ, IsTrue, if◌then◌else◌};
 ghost use Rattle.listener_set.specs.Numbers.{is_in, with_number};
-ghost use Rattle.kernel_table.specs.Seen.{seen_rows};
+ghost use Rattle.kernel_rows.specs.Seen.{seen_rows};
 ghost use Rattle.kernel_table.specs.Lone.{AreLone};
 
-use crate::process::{Holder, Stances, WorkerName};
+use kernel_rows::{Holders, Stances, WorkerName};
 use listener_set::{Generation, Numbers, WORKER_LIMIT};
 
 /// The names of a master's generation, of which one worker at most bears each, in any stance. Of the doubled numbers
@@ -30,14 +30,14 @@ fn meet(once: &mut Numbers, doubled: &mut Numbers, nr: u32)
 
 impl LoneNames {
     /// The names of the master's generation; the numbers that two workers bear are doubled.
-    pub fn among(holders: &[Holder], parent: u32, generation: Generation) -> Self
+    pub fn among(holders: &Holders, parent: u32, generation: Generation) -> Self
         ensures parent { result.parent ≡ parent }
         ensures generation { result.generation ≡ generation }
-        ensures lone { (addresses : List (List ℕ)) → AreLone result (seen_rows addresses holders.now) }
+        ensures lone { (addresses : List (List ℕ)) → AreLone result (seen_rows addresses holders.now.items) }
     {
         let mut once = Numbers::none();
         let mut doubled = Numbers::none();
-        for holder in holders {
+        for holder in holders.iter() {
             if let Some(nr) = holder.row.worker_number(Stances::Any, parent, generation) {
                 if nr < WORKER_LIMIT {
                     meet(&mut once, &mut doubled, nr);

@@ -1,20 +1,18 @@
 //! The rows of the table, and the few ways to read and change them.
 ghost use Rattle.std.specs.Prelude.{true, false, not, if◌then◌else◌, ◌≡◌, ◌<◌, ◌≤◌, ◌+◌, ◌^◌, ◌↔◌, ℕ, List, length, count_by, Contains, IsTrue, IsFalse, IfOk, IfSome, Some, None, OnOk, vec_len, vec_capacity};
-ghost use Rattle.std.specs.List.{list_any, filter_map};
+ghost use Rattle.std.specs.List.{list_any, filter_map, slice_get};
 ghost use Rattle.std.specs.Option.{option_map};
 ghost use Rattle.definitions.specs.Table.{Master, Worker, is_active, is_any, is_worker, is_own, is_live_master, is_held, live_master, with_rows};
 ghost use Rattle.definitions.specs.Calls.{is_image, has_process_room, lowest_free, with_new_row, with_new_socket, each_row, drop_where, census_of};
 ghost use Rattle.definitions.specs.Exits.{kept_if, draining_exits};
-ghost use Rattle.kernel_table.specs.Seen.{seen_rows, seen_holder};
-ghost use Rattle.kernel_table.specs.Edits.{edited, ChangesActive};
-ghost use Rattle.kernel_table.specs.Places.{IsActiveAt, IsWorkerAt};
+ghost use Rattle.kernel_rows.specs.Seen.{seen_rows, has_stance};
+ghost use Rattle.kernel_rows.specs.Edits.{edited, ChangesActive};
+ghost use Rattle.kernel_rows.specs.Places.{bears, IsActiveAt, IsWorkerAt};
 
-use crate::edits::Edit;
 use crate::file_row::FileRow;
 use crate::free_names::FreeNames;
-use crate::holds;
 use crate::lone_names::LoneNames;
-use crate::process::{Caller, Holder, Row, Stances, WorkerName};
+use kernel_rows::{Caller, Edit, Holder, Holders, Row, Stances, WorkerName, holds};
 use listener_set::{Address, DescriptorTable, Generation, Numbers, WORKER_LIMIT};
 use std::alloc::AllocError;
 use vocabulary::{Limits, Stance};
@@ -22,13 +20,15 @@ use vocabulary::{Limits, Stance};
 /// The rows in ascending process numbers, the addresses of sockets 1, 2 and so on, the files, and the next process number.
 #[derive(Drop)]
 pub struct Store {
-    pub holders: Vec<Holder>,
+    pub holders: Holders,
     pub addresses: Vec<Address>,
     pub files: Vec<FileRow>,
     pub next_process: u64,
     pub limits: Limits,
     /// Where a worker was found by its name last. Calls tend to go on with the row beside it.
     pub last: usize,
+    /// Where the newest master was put. It is looked for there first, since many workers may stand before it.
+    pub newest: usize,
     /// Names that no Starting or Ready worker bears. A fork of one of them looks at no row.
     pub free: FreeNames,
     /// Names that one worker bears at most, where workers are taken out one after another.
@@ -46,41 +46,28 @@ fn copy_with_room<T: Copy>(items: &Vec<T>, more: usize) -> Result<Vec<T>, AllocE
     Ok(copy)
 }
 
-fn edit_all(holders: &mut Vec<Holder>, addresses: &[Address], edit: &Edit)
-    ensures rows { seen_rows addresses.now holders.new.items ≡ filter_map (edited addresses.now edit.now) (seen_rows addresses.now holders.old.items) }
-    ensures len { vec_len holders.new ≤ vec_len holders.old }
-    ensures capacity { vec_capacity holders.new ≡ vec_capacity holders.old }
+/// Whether the process at the place is the worker of the name, in one of the stances.
+fn bears(holders: &Holders, stances: Stances, name: WorkerName, place: usize) -> bool
+    ensures { (addresses : List (List ℕ)) → result ≡ bears (has_stance stances) name (slice_get (seen_rows addresses holders.now.items) place) }
 {
-    let stays = |holder: &mut Holder| -> bool
-        ensures { kept_if result (seen_holder addresses.entry.now holder.exit.now) ≡ edited addresses.entry.now edit.entry.now (seen_holder addresses.entry.now holder.entry.now) }
-    { holder.edit(addresses, edit) };
-    holders.retain_mut(stays);
-}
-
-fn exit_first_draining(holders: &mut [Holder], generation: Generation, nr: u32)
-    ensures { (addresses : List (List ℕ)) → seen_rows addresses holders.new ≡ draining_exits generation nr (seen_rows addresses holders.old) }
-{
-    let first = holders.iter().position(|holder| holder
-        .row
-        .is_named(Stances::Draining, generation, nr));
-    if let Some(place) = first {
-        let holder = &mut holders[place];
-        holder.exit();
+    match holders.get(place) {
+        Some(holder) => holder.row.is_worker(stances, name),
+        None => false,
     }
 }
 
 /// Whether the worker of the name is at the place, Starting or Ready.
-fn is_active_at(holders: &[Holder], name: WorkerName, place: usize) -> bool
-    ensures { IsTrue result → IsActiveAt holders.now name place }
+fn is_active_at(holders: &Holders, name: WorkerName, place: usize) -> bool
+    ensures { IsTrue result → IsActiveAt holders.now.items name place }
 {
-    place < holders.len() && holders[place].row.is_worker(Stances::Active, name)
+    bears(holders, Stances::Active, name, place)
 }
 
 /// The place of the Starting or Ready worker of the name. It is looked for beside the one that was found last, and then
 /// everywhere.
-fn active_place(holders: &[Holder], name: WorkerName, last: usize) -> Option<usize>
-    ensures found { IfSome result (IsActiveAt holders.now name) }
-    ensures none { result ≡ None → (addresses : List (List ℕ)) → list_any (is_worker is_active name.parent name.generation name.nr) (seen_rows addresses holders.now) ≡ false }
+fn active_place(holders: &Holders, name: WorkerName, last: usize) -> Option<usize>
+    ensures found { IfSome result (IsActiveAt holders.now.items name) }
+    ensures none { result ≡ None → (addresses : List (List ℕ)) → list_any (is_worker is_active name.parent name.generation name.nr) (seen_rows addresses holders.now.items) ≡ false }
 {
     let next = last.saturating_add(1);
     if is_active_at(holders, name, next) {
@@ -96,16 +83,16 @@ fn active_place(holders: &[Holder], name: WorkerName, last: usize) -> Option<usi
 }
 
 /// Whether a worker of the name is at the place.
-fn is_worker_at(holders: &[Holder], name: WorkerName, place: usize) -> bool
-    ensures { IsTrue result → IsWorkerAt holders.now name place }
+fn is_worker_at(holders: &Holders, name: WorkerName, place: usize) -> bool
+    ensures { IsTrue result → IsWorkerAt holders.now.items name place }
 {
-    place < holders.len() && holders[place].row.is_worker(Stances::Any, name)
+    bears(holders, Stances::Any, name, place)
 }
 
 /// The place of a worker of the name. It is looked for where one was found last and beside that, since of workers that
 /// leave in turn the next one is there; and then everywhere.
-fn worker_place(holders: &[Holder], name: WorkerName, last: usize) -> Option<usize>
-    ensures { IfSome result (IsWorkerAt holders.now name) }
+fn worker_place(holders: &Holders, name: WorkerName, last: usize) -> Option<usize>
+    ensures { IfSome result (IsWorkerAt holders.now.items name) }
 {
     let before = last.saturating_sub(1);
     if is_worker_at(holders, name, before) {
@@ -119,40 +106,23 @@ fn worker_place(holders: &[Holder], name: WorkerName, last: usize) -> Option<usi
         .position(|holder| holder.row.is_worker(Stances::Any, name))
 }
 
-/// Changes the only Starting or Ready worker of the name.
-fn change_at(
-    holders: &mut [Holder],
-    addresses: &[Address],
-    name: WorkerName,
-    place: usize,
-    edit: &Edit,
-)
-    requires there { IsActiveAt holders.old name place }
-    requires alone { count_by (is_worker is_active name.parent name.generation name.nr) (seen_rows addresses.now holders.old) ≤ 1 }
-    requires edit { ChangesActive name edit.now }
-    ensures { seen_rows addresses.now holders.new ≡ filter_map (edited addresses.now edit.now) (seen_rows addresses.now holders.old) }
-{
-    let holder = &mut holders[place];
-    let _ = holder.edit(addresses, edit);
-}
-
-fn own_count(holders: &[Holder]) -> usize
-    ensures { (addresses : List (List ℕ)) → result ≡ count_by is_own (seen_rows addresses holders.now) }
+fn own_count(holders: &Holders) -> usize
+    ensures { (addresses : List (List ℕ)) → result ≡ count_by is_own (seen_rows addresses holders.now.items) }
 {
     holders.iter().filter(|holder| holder.row.is_own()).count()
 }
 
-fn is_held(holders: &[Holder], addresses: &[Address], address: &Address) -> bool
-    ensures { result ≡ is_held address.now (seen_rows addresses.now holders.now) }
+fn is_held(holders: &Holders, addresses: &[Address], address: &Address) -> bool
+    ensures { result ≡ is_held address.now (seen_rows addresses.now holders.now.items) }
 {
     holders.iter().any(|holder| holds::has_address(addresses, &holder.holds, address))
 }
 
-fn ready_numbers(holders: &[Holder], caller: u32, generation: Generation) -> Numbers
-    ensures { (addresses : List (List ℕ)) → result ≡ census_of caller generation (seen_rows addresses holders.now) }
+fn ready_numbers(holders: &Holders, caller: u32, generation: Generation) -> Numbers
+    ensures { (addresses : List (List ℕ)) → result ≡ census_of caller generation (seen_rows addresses holders.now.items) }
 {
     let mut numbers = Numbers::none();
-    for holder in holders {
+    for holder in holders.iter() {
         if let Some(nr) = holder.row.worker_number(Stances::Ready, caller, generation) {
             if nr < WORKER_LIMIT {
                 numbers.add(nr);
@@ -163,10 +133,12 @@ fn ready_numbers(holders: &[Holder], caller: u32, generation: Generation) -> Num
 }
 
 impl Store {
-    ghost use Rattle.kernel_table.specs.Holds.{seen_holds};
-    ghost use Rattle.kernel_table.specs.Seen.{has_stance, seen_caller, caller_row, seen};
+    ghost use Rattle.kernel_rows.specs.Holds.{seen_holds};
+    ghost use Rattle.kernel_rows.specs.Seen.{has_stance, seen_caller, caller_row};
+    ghost use Rattle.kernel_table.specs.Seen.{seen};
     ghost use Rattle.kernel_table.specs.Room.{EditsRows, GrowsByOne, HasMemoryFor, LacksNumbers, IsKept};
-    ghost use Rattle.kernel_table.specs.Rows.{IsOwn, master_number};
+    ghost use Rattle.kernel_rows.specs.Rows.{master_number};
+    ghost use Rattle.kernel_table.specs.Rows.{IsOwn};
     ghost use Rattle.kernel_table.specs.Names.{KnowsNames, IsLoneAt};
     ghost use Rattle.kernel_table.specs.Foreign.{with_foreign};
 
@@ -175,12 +147,27 @@ impl Store {
         ensures caller { option_map (seen_caller self.now.addresses.items) result ≡ live_master image (seen self.now).rows }
         ensures row { IfSome result (λ c. Contains (seen self.now).rows (caller_row self.now.addresses.items c)) }
     {
-        for holder in &self.holders {
+        for holder in self.holders.iter() {
             if let Some(caller) = holder.live_master(image) {
                 return Some(caller);
             }
         }
         None
+    }
+
+    /// The live master of an image, of which there is one at most. It is looked for where the newest master was put, and
+    /// then everywhere.
+    pub fn caller(&self, image: u32) -> Option<Caller>
+        requires { IsKept (seen self.now) }
+        ensures caller { option_map (seen_caller self.now.addresses.items) result ≡ live_master image (seen self.now).rows }
+        ensures row { IfSome result (λ c. Contains (seen self.now).rows (caller_row self.now.addresses.items c)) }
+    {
+        if let Some(holder) = self.holders.get(self.newest) {
+            if let Some(caller) = holder.live_master(image) {
+                return Some(caller);
+            }
+        }
+        self.live_master(image)
     }
 
     /// Whether the number is a live master's.
@@ -203,7 +190,7 @@ impl Store {
     pub fn master_number(&self, image: u32) -> Option<u32>
         ensures { result ≡ master_number image (seen self.now).rows }
     {
-        for holder in &self.holders {
+        for holder in self.holders.iter() {
             if let Some(number) = holder.row.master_number(image) {
                 return Some(number);
             }
@@ -257,7 +244,7 @@ impl Store {
         ensures room { EditsRows self.old self.new }
     {
         self.lone = None;
-        edit_all(&mut self.holders, &self.addresses, edit);
+        self.holders.edit(&self.addresses, edit);
     }
 
     /// Whether it was looked up how many workers bear each name of the master's generation, and none came or changed since.
@@ -335,7 +322,7 @@ impl Store {
     {
         match self.lone_place(name) {
             Some(place) => {
-                if self.holders[place].row.is_worker(Stances::Active, name) {
+                if bears(&self.holders, Stances::Active, name, place) {
                     return false;
                 }
                 self.take_out(name, place);
@@ -363,7 +350,7 @@ impl Store {
         let Some(place) = active_place(&self.holders, name, self.last) else {
             return false;
         };
-        change_at(&mut self.holders, &self.addresses, name, place, edit);
+        self.holders.change_at(&self.addresses, name, place, edit);
         self.last = place;
         self.lone = None;
         true
@@ -376,12 +363,12 @@ impl Store {
         ensures room { EditsRows self.old self.new }
     {
         self.lone = None;
-        exit_first_draining(&mut self.holders, generation, nr);
+        self.holders.exit_draining(generation, nr);
     }
 
     /// Adds a Starting worker with these holds.
     pub fn add_worker(&mut self, name: WorkerName, holds: DescriptorTable)
-        requires room { vec_len self.old.holders < vec_capacity self.old.holders }
+        requires room { length self.old.holders.items < self.old.holders.capacity }
         requires number { self.old.next_process < 2 ^ 32 }
         ensures table { seen self.new ≡ with_new_row (seen self.old) (λ n. Worker n name.parent name.generation name.nr Stance.Starting (seen_holds self.old.addresses.items holds)) }
         ensures last { self.new.last ≡ self.old.last }
@@ -394,7 +381,7 @@ impl Store {
             nr: name.nr,
             stance: Stance::Starting,
         };
-        self.holders.push(Holder { row, holds }).unwrap();
+        self.holders.push(Holder { row, holds });
         self.next_process += 1;
         self.free = self.free.without(&self.holders, name);
         self.lone = None;
@@ -402,7 +389,7 @@ impl Store {
 
     /// Adds a live master of the image with these holds.
     pub fn add_master(&mut self, parent: u32, image: u32, holds: DescriptorTable)
-        requires room { vec_len self.old.holders < vec_capacity self.old.holders }
+        requires room { length self.old.holders.items < self.old.holders.capacity }
         requires number { self.old.next_process < 2 ^ 32 }
         ensures table { seen self.new ≡ with_new_row (seen self.old) (λ n. Master n parent image true (seen_holds self.old.addresses.items holds)) }
         ensures last { self.new.last ≡ self.old.last }
@@ -414,7 +401,8 @@ impl Store {
             image,
             live: true,
         };
-        self.holders.push(Holder { row, holds }).unwrap();
+        self.newest = self.holders.len();
+        self.holders.push(Holder { row, holds });
         self.next_process += 1;
         self.lone = None;
     }
@@ -442,7 +430,7 @@ impl Store {
 
     /// Adds a process of somebody else, which holds the address at descriptor 3 by a new socket.
     pub fn add_foreign(&mut self, address: &Address)
-        requires holder_room { vec_len self.old.holders < vec_capacity self.old.holders }
+        requires holder_room { length self.old.holders.items < self.old.holders.capacity }
         requires address_room { vec_len self.old.addresses < vec_capacity self.old.addresses }
         requires process_number { self.old.next_process < 2 ^ 32 }
         requires socket_number { length self.old.addresses.items + 1 < 2 ^ 32 }
@@ -458,7 +446,7 @@ impl Store {
             number: self.next_process as u32,
         };
         self.addresses.push(*address).unwrap();
-        self.holders.push(Holder { row, holds }).unwrap();
+        self.holders.push(Holder { row, holds });
         self.next_process += 1;
         self.lone = None;
     }
@@ -496,12 +484,13 @@ impl Store {
     {
         let more = calls as usize;
         Ok(Store {
-            holders: copy_with_room(&self.holders, more)?,
+            holders: self.holders.copy(more)?,
             addresses: copy_with_room(&self.addresses, more)?,
             files: copy_with_room(&self.files, more)?,
             next_process: self.next_process,
             limits: self.limits,
             last: self.last,
+            newest: self.newest,
             free: self.free,
             lone: None,
         })

@@ -3,7 +3,8 @@ use Rattle.std.proofs.lemmas.Bool.{true≢false}
 use Rattle.definitions.specs.Record.{Agrees}
 use Rattle.definitions.specs.Table.{live_master}
 use Rattle.kernel_agreement.specs.declared.agreement.Running.{Running}
-use Rattle.kernel_table.specs.Seen.{seen, seen_caller}
+use Rattle.kernel_rows.specs.Seen.{seen_caller}
+use Rattle.kernel_table.specs.Seen.{seen}
 use Rattle.kernel_agreement.specs.Agreement.{running}
 use Rattle.kernel_agreement.proofs.Comparing.{agreed}
 use Rattle.kernel_agreement.proofs.agreement.agrees_with.Goals as goal

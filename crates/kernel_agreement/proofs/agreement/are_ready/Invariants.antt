@@ -1,8 +1,8 @@
-use Rattle.std.proofs.Common.{◌≡◌, ℕ, List, true, not, ◌&&◌, ◌||◌, drop}
+use Rattle.std.proofs.Common.{◌≡◌, ℕ, List, true, not, ◌&&◌, ◌||◌}
 use Rattle.std.specs.List.{list_any}
 use Rattle.listener_set.specs.Numbers.{is_in}
 use Rattle.definitions.specs.Table.{is_ready, is_worker}
-use Rattle.kernel_table.specs.Seen.{seen_rows}
+use Rattle.kernel_rows.specs.Seen.{seen_rows}
 use Rattle.kernel_agreement.proofs.agreement.are_ready.Given as goal
 
 -- A Ready worker is still to come, or its number is no longer missing.
@@ -11,6 +11,6 @@ invariant-loop-holder l = record {
   within : (k : ℕ) → is_in l.missing k ≡ true → is_in l.ready k ≡ true;
   found :
       (addresses : List (List ℕ)) (k : ℕ)
-      → list_any (is_worker is_ready l.pid l.generation k) (seen_rows addresses l.holders)
-      ≡ (list_any (is_worker is_ready l.pid l.generation k) (seen_rows addresses (drop l.holder-index l.holders)) || (is_in l.ready k && not (is_in l.missing k)));
+      → list_any (is_worker is_ready l.pid l.generation k) (seen_rows addresses l.holders.items)
+      ≡ (list_any (is_worker is_ready l.pid l.generation k) (seen_rows addresses l.holder-iterator) || (is_in l.ready k && not (is_in l.missing k)));
 }

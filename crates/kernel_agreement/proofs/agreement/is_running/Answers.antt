@@ -4,7 +4,7 @@ use Rattle.worker_groups.specs.Crews.{Crew}
 use Rattle.definitions.specs.Calls.{shared}
 use Rattle.definitions.specs.Crew.{fds_of}
 use Rattle.definitions.specs.Table.{Generation}
-use Rattle.kernel_table.specs.Holds.{seen_holds}
+use Rattle.kernel_rows.specs.Holds.{seen_holds}
 use Rattle.kernel_agreement.proofs.Comparing.{same_sockets}
 use Rattle.kernel_agreement.proofs.agreement.is_running.Goals as goal
 

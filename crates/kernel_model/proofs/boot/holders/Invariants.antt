@@ -1,6 +1,6 @@
 use Rattle.std.proofs.Common.{◌≡◌, ℕ, List}
-use Rattle.kernel_table.specs.Holds.{seen_holds}
-use Rattle.kernel_table.specs.Seen.{seen_rows}
+use Rattle.kernel_rows.specs.Holds.{seen_holds}
+use Rattle.kernel_rows.specs.Seen.{seen_rows}
 use Rattle.definitions.specs.Start.{first_rows}
 use Rattle.kernel_model.proofs.boot.holders.Given as goal
 

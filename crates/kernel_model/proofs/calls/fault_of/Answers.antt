@@ -1,4 +1,5 @@
-use Rattle.kernel_table.specs.Seen.{seen, seen_caller}
+use Rattle.kernel_rows.specs.Seen.{seen_caller}
+use Rattle.kernel_table.specs.Seen.{seen}
 use Rattle.kernel_model.proofs.calls.fault_of.Goals as goal
 
 pub returns-in-OpenAt : goal.returns-in-OpenAt

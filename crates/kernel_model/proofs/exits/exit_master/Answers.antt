@@ -2,8 +2,9 @@ use Rattle.std.proofs.Common.{ℕ, ap, ◌∙◌}
 use Rattle.std.specs.List.{filter_map, list_any}
 use Rattle.definitions.specs.Table.{is_live_master, with_rows}
 use Rattle.definitions.specs.Exits.{without_exited, caller_exits}
-use Rattle.kernel_table.specs.Holds.{seen_holds}
-use Rattle.kernel_table.specs.Seen.{seen, caller_row}
+use Rattle.kernel_rows.specs.Holds.{seen_holds}
+use Rattle.kernel_rows.specs.Seen.{caller_row}
+use Rattle.kernel_table.specs.Seen.{seen}
 use Rattle.kernel_table.proofs.Masters.{IsOnly-from, exited_alike-all}
 use Rattle.kernel_model.proofs.exits.exit_master.Goals as goal
 

@@ -1,6 +1,6 @@
 use Rattle.std.proofs.Common.{◌≡◌, ◌↔◌, map, drop}
 use Rattle.definitions.specs.Record.{listener_of}
-use Rattle.kernel_table.specs.Holds.{seen_holds}
+use Rattle.kernel_rows.specs.Holds.{seen_holds}
 use Rattle.kernel_model.proofs.listening.are_listeners.Given as goal
 
 -- All are the same where what is left is.

@@ -1,7 +1,7 @@
 use Rattle.std.proofs.Common.{sym, ap, ◌∙◌}
 use Rattle.definitions.specs.Handover.{Handover}
 use Rattle.definitions.specs.Calls.{suits}
-use Rattle.kernel_table.specs.Holds.{seen_holds}
+use Rattle.kernel_rows.specs.Holds.{seen_holds}
 use Rattle.kernel_model.proofs.Adopted.{suits-image}
 use Rattle.kernel_model.proofs.master_calls.is_suitable.Goals as goal
 

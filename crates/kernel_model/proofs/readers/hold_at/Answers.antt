@@ -1,8 +1,8 @@
 use Rattle.std.proofs.Common.{ℕ, Some, sym, ap, ◌∙◌}
 use Rattle.std.specs.Option.{option_map}
 use Rattle.definitions.specs.Table.{number_of}
-use Rattle.kernel_table.specs.Holds.{seen_hold, seen_holds}
-use Rattle.kernel_table.specs.Seen.{seen_holder}
+use Rattle.kernel_rows.specs.Holds.{seen_hold, seen_holds}
+use Rattle.kernel_rows.specs.Seen.{seen_holder}
 use Rattle.kernel_model.specs.Readers.{hold_row}
 use Rattle.kernel_model.proofs.Reading.{hold-at, address-found, address-there}
 use Rattle.kernel_model.proofs.readers.hold_at.Goals as goal

@@ -1,7 +1,7 @@
 use Rattle.std.proofs.Common.{inl, inr, map, sym, arith}
 use Rattle.std.proofs.lemmas.List.{length-map}
 use Rattle.definitions.specs.Table.{has_address}
-use Rattle.kernel_table.specs.Seen.{seen_rows, seen_holder}
+use Rattle.kernel_rows.specs.Seen.{seen_rows, seen_holder}
 use Rattle.kernel_service.specs.Served.{seen_count}
 use Rattle.kernel_model.proofs.Serving.{serving-below, service-kept, service-added}
 use Rattle.kernel_model.proofs.service.service_of.Goals as goal
@@ -9,14 +9,14 @@ use Rattle.kernel_model.proofs.service.service_of.Goals.{then-not-has+then-is_of
 
 pub ready_counts-requires : goal.ready_counts-requires
 ready_counts-requires c = λ g.
-    let rows = seen_rows c.args.addresses.now c.args.holders.now in
+    let rows = seen_rows c.args.addresses.now c.args.holders.now.items in
     let below = serving-below (has_address c.address-item.result) c.address-item.result g rows (sym c.if-is_offered.ensures) in
-    omega (arith, length-map c.args.holders.now (seen_holder c.args.addresses.now), c.requires)
+    omega (arith, length-map c.args.holders.now.items (seen_holder c.args.addresses.now), c.requires)
 
 pub loop-address-preserved : goal.loop-address-preserved
 loop-address-preserved c =
     let addresses = c.args.addresses.now in
-    let rows = seen_rows addresses c.args.holders.now in
+    let rows = seen_rows addresses c.args.holders.now.items in
     let i = c.loop-address.address-index in
     let x = c.address-item.result in
     let s = c.loop-address.service in

@@ -2,9 +2,9 @@ use Rattle.std.proofs.Common.{◌≡◌, cond, ◌&&◌, Some, None, take, bytes
 use Rattle.std.specs.List.{list_any}
 use Rattle.definitions.specs.Table.{Address, has_address}
 use Rattle.definitions.specs.Service.{is_live_with, is_serving}
-use Rattle.kernel_table.specs.Seen.{seen_rows}
+use Rattle.kernel_rows.specs.Seen.{seen_rows}
 use Rattle.kernel_service.specs.Services.{at}
 use Rattle.kernel_model.proofs.service.service_of.Given as goal
 
 abbrev pub invariant-loop-address : goal.invariant-loop-address
-invariant-loop-address l = (a : Address) → at l.service a ≡ cond (list_any (λ b. bytes_eq b a) (take l.address-index l.addresses) && list_any (is_live_with (has_address a)) (seen_rows l.addresses l.holders)) (Some (λ g. count_by (is_serving a g) (seen_rows l.addresses l.holders))) None
+invariant-loop-address l = (a : Address) → at l.service a ≡ cond (list_any (λ b. bytes_eq b a) (take l.address-index l.addresses) && list_any (is_live_with (has_address a)) (seen_rows l.addresses l.holders.items)) (Some (λ g. count_by (is_serving a g) (seen_rows l.addresses l.holders.items))) None

@@ -3,7 +3,7 @@ use Rattle.definitions.specs.Table.{owner_at}
 use Rattle.kernel_table.specs.declared.file_row.FileRow.{FileRow}
 use Rattle.kernel_table.specs.Seen.{seen_file}
 use Rattle.kernel_table.specs.Files.{rewritten}
-use Rattle.kernel_table.proofs.Lists.{map-push}
+use Rattle.kernel_rows.proofs.Lists.{map-push}
 use Rattle.kernel_table.proofs.WrittenFiles.{refilled, written-there, written-new}
 use Rattle.kernel_table.proofs.files.write.Goals as goal
 

@@ -1,7 +1,7 @@
 use Rattle.std.proofs.Common.{◌≡◌, ℕ, ◌+◌, List, [], ◌∷◌, ◌++◌, length, refl, ap, ◌∙◌, arith, rules}
 use Rattle.listener_set.specs.Descriptors.{descriptors_of, lowest_free, put_pair}
-use Rattle.kernel_table.specs.declared.process.Row.TheVariants as row
-use Rattle.kernel_table.specs.declared.process.Holder.{Holder}
+use Rattle.kernel_rows.specs.declared.process.Row.TheVariants as row
+use Rattle.kernel_rows.specs.declared.process.Holder.{Holder}
 use Rattle.kernel_table.proofs.Foreigners.{foreign-table}
 use Rattle.kernel_table.proofs.Free.{AreFree-pushed}
 use Rattle.kernel_table.proofs.store.Store.add_foreign.Goals as goal
@@ -15,7 +15,7 @@ returns-clause-table c =
     let low = rw c.unwrap.ensures at c.put.ensures.lowest in
     let after = rw c.unwrap.ensures at c.put.ensures.after in
     let more = rw c.unwrap-2.ensures at c.push.ensures.items in
-    let pushed = rw c.unwrap-3.ensures at c.push-2.ensures.items in
+    let pushed = c.push-2.ensures.items in
     let holds : c.put.new.self ≡ (fd, socket) ∷ [] = after ∙ ap (λ (ps : List (ℕ × ℕ)). put_pair ps fd socket) c.new-holds.ensures in
     let all : c.push-2.new.self.items ≡ s.holders.items ++ (record { row = row.Foreign s.next_process; holds = (fd, socket) ∷ [] }) ∷ [] =
     pushed ∙ ap (λ (hs : List (ℕ × ℕ)). let h : Holder = record { row = row.Foreign s.next_process; holds = hs } in s.holders.items ++ h ∷ []) holds in
@@ -24,5 +24,5 @@ returns-clause-table c =
 pub returns-clause-grows : goal.returns-clause-grows
 returns-clause-grows c =
     let s = c.args.self.now in
-    let pushed = rw c.unwrap-3.ensures at c.push-2.ensures.items in
+    let pushed = c.push-2.ensures.items in
     record { sizes = search rules; names = λ known. record { free = AreFree-pushed s.free s.addresses.items c.push.new.self.items s.holders.items _ _ pushed (λ k. refl) known.free; lone = tt } }

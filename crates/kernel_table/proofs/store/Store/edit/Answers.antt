@@ -7,10 +7,10 @@ use Rattle.kernel_table.proofs.store.Store.edit.Goals as goal
 pub returns-clause-room : goal.returns-clause-room
 returns-clause-room c =
     let s = c.args.self.now in
-    let rows = rw c.deref.ensures.value at c.edit_all.ensures.rows in
+    let rows = rw c.deref.ensures.value at c.edit.ensures.rows in
     record {
       others = refl;
-      len = c.edit_all.ensures.len;
-      capacity = c.edit_all.ensures.capacity;
+      len = c.edit.ensures.len;
+      capacity = c.edit.ensures.capacity;
       names = λ known. record { free = subst (AreFree s.free) (sym rows) (AreFree-edited s.free (seen s).rows known.free s.addresses.items c.args.edit.now); lone = tt };
     }

@@ -1,9 +1,9 @@
 use Rattle.std.proofs.Common.{sym, ◌∙◌, rules, tests}
-use Rattle.std.proofs.lemmas.Iterator.{YieldsList-from_slice}
+use Rattle.std.proofs.lemmas.Iterator.Consumers.{YieldsList-from_first}
 use Rattle.std.proofs.lemmas.Iterator.Search.{any_from_yields_List}
 use Rattle.definitions.specs.Table.{is_worker}
-use Rattle.kernel_table.specs.Seen.{seen_holder, has_stance}
-use Rattle.kernel_table.proofs.Lists.{list_any-map}
+use Rattle.kernel_rows.specs.Seen.{seen_holder, has_stance}
+use Rattle.kernel_rows.proofs.Lists.{list_any-map}
 use Rattle.kernel_table.proofs.store.Store.has_worker.Goals as goal
 
 pub returns : goal.returns
@@ -11,5 +11,5 @@ returns c =
     let s = c.args.self.now in
     let name = c.args.name in
     let test = is_worker (has_stance c.args.stances) name.parent name.generation name.nr in
-    any_from_yields_List (λ h. test (seen_holder s.addresses.items h)) _ _ _ c.any.ensures.ran (YieldsList-from_slice s.holders.items cc) (λ x b q k. search (rules, tests))
+    any_from_yields_List (λ h. test (seen_holder s.addresses.items h)) _ _ _ c.any.ensures.ran (YieldsList-from_first (λ x. x.now) (λ s. s) s.holders.items c.iter.ensures) (λ x b q k. search (rules, tests))
     ∙ sym (list_any-map test (seen_holder s.addresses.items) s.holders.items)

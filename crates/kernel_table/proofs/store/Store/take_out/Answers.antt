@@ -1,7 +1,7 @@
-use Rattle.std.proofs.Common.{ap, subst, sym, refl, rules}
+use Rattle.std.proofs.Common.{ap, subst, sym, refl, arith}
 use Rattle.std.specs.Prelude.{IfSome}
 use Rattle.definitions.specs.Table.{is_any, is_worker, with_rows}
-use Rattle.kernel_table.specs.declared.edits.Edit.TheVariants.{Kill}
+use Rattle.kernel_rows.specs.declared.edits.Edit.TheVariants.{Kill}
 use Rattle.kernel_table.specs.Seen.{seen}
 use Rattle.kernel_table.specs.Free.{AreFree}
 use Rattle.kernel_table.specs.Lone.{AreLone}
@@ -22,8 +22,8 @@ returns-clause-room c =
     let any = is_worker is_any name.parent name.generation name.nr in
     record {
       others = refl;
-      len = search rules;
-      capacity = search rules;
+      len = omega (arith, c.remove.ensures.len);
+      capacity = c.remove.ensures.capacity;
       names = λ known. record {
         free = subst (AreFree s.free) (sym rows) (AreFree-edited s.free (seen s).rows known.free s.addresses.items (Kill name));
         lone = subst (λ ps. IfSome s.lone (λ l. AreLone l ps)) (sym rows) (lone-dropped s.lone any (seen s).rows known.lone);

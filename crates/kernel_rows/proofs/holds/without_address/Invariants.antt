@@ -1,6 +1,6 @@
 use Rattle.std.proofs.Common.{◌≡◌, ◌++◌, not, bytes_eq, filter}
-use Rattle.kernel_table.specs.Holds.{address_of}
-use Rattle.kernel_table.proofs.holds.without_address.Given as goal
+use Rattle.kernel_rows.specs.Holds.{address_of}
+use Rattle.kernel_rows.proofs.holds.without_address.Given as goal
 
 abbrev pub invariant-loop-descriptor : goal.invariant-loop-descriptor
 invariant-loop-descriptor l = record {

@@ -3,11 +3,11 @@ use Rattle.std.specs.Prelude.{ℕ, ◌≡◌, ◌⊎◌, Bool, false, ◌==◌, 
 use Rattle.definitions.specs.Table.{Address, Process, Master, Worker, Foreign, is_starting, is_active, is_exited, is_any, is_named, is_worker}
 use Rattle.definitions.specs.Exits.{change, made_exited, without_exited}
 use Rattle.definitions.specs.Calls.{drop_where, with_holds, is_row, is_image, is_of, lacks_address, made_ready, made_draining, is_exited_of}
-use Rattle.kernel_table.specs.declared.edits.Edit.{Edit}
-use Rattle.kernel_table.specs.declared.edits.Edit.TheVariants.{ExitWorker, ExitMaster, MakeReady, Drain, Reap, Kill, ReapAll, Hold, Close, ReapMaster, Terminate}
-use Rattle.kernel_table.specs.declared.process.WorkerName.{WorkerName}
-use Rattle.kernel_table.specs.Holds.{seen_holds}
-use Rattle.kernel_table.specs.Seen.{is_number}
+use Rattle.kernel_rows.specs.declared.edits.Edit.{Edit}
+use Rattle.kernel_rows.specs.declared.edits.Edit.TheVariants.{ExitWorker, ExitMaster, MakeReady, Drain, Reap, Kill, ReapAll, Hold, Close, ReapMaster, Terminate}
+use Rattle.kernel_rows.specs.declared.process.WorkerName.{WorkerName}
+use Rattle.kernel_rows.specs.Holds.{seen_holds}
+use Rattle.kernel_rows.specs.Seen.{is_number}
 
 -- a master of the image, or a worker of the master with the number
 abbrev pub is_of_either : ℕ → Option ℕ → Process → Bool

@@ -1,9 +1,15 @@
 -- Where a row is.
-use Rattle.std.specs.Prelude.{ℕ, ◌≡◌, ◌<◌, true, List, length, get_or}
-use Rattle.definitions.specs.Table.{Address, is_active, is_any, is_worker}
-use Rattle.kernel_table.specs.declared.process.Holder.{Holder}
-use Rattle.kernel_table.specs.declared.process.WorkerName.{WorkerName}
-use Rattle.kernel_table.specs.Seen.{seen_holder}
+use Rattle.std.specs.Prelude.{ℕ, ◌≡◌, ◌<◌, Bool, true, false, List, length, get_or, Option, Some, None}
+use Rattle.vocabulary.specs.declared.table.Stance.{Stance}
+use Rattle.definitions.specs.Table.{Address, Process, is_active, is_any, is_worker}
+use Rattle.kernel_rows.specs.declared.process.Holder.{Holder}
+use Rattle.kernel_rows.specs.declared.process.WorkerName.{WorkerName}
+use Rattle.kernel_rows.specs.Seen.{seen_holder}
+
+-- whether a process, if there is one, is the worker of the name in certain stances
+abbrev pub bears : (Stance → Bool) → WorkerName → Option Process → Bool
+bears stances name None = false
+bears stances name (Some p) = is_worker stances name.parent name.generation name.nr p
 
 -- At the place is the worker of the name, Starting or Ready.
 pub record IsActiveAt (holders : List Holder) (name : WorkerName) (place : ℕ) : Type 0 where

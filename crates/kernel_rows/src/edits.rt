@@ -36,8 +36,8 @@ pub enum Edit {
 }
 
 impl Holder {
-    ghost use Rattle.kernel_table.specs.Seen.{seen_holder};
-    ghost use Rattle.kernel_table.specs.Edits.{edited};
+    ghost use Rattle.kernel_rows.specs.Seen.{seen_holder};
+    ghost use Rattle.kernel_rows.specs.Edits.{edited};
 
     /// The worker exits.
     pub fn exit(&mut self)

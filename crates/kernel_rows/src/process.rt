@@ -125,7 +125,7 @@ fn is_exited(stance: Stance) -> bool
 }
 
 impl Stances {
-    ghost use Rattle.kernel_table.specs.Seen.{has_stance};
+    ghost use Rattle.kernel_rows.specs.Seen.{has_stance};
 
     fn has(self, stance: Stance) -> bool
         ensures { result ≡ has_stance self stance }
@@ -142,9 +142,9 @@ impl Stances {
 }
 
 impl Row {
-    ghost use Rattle.kernel_table.specs.Seen.{process_of, has_stance, is_number};
-    ghost use Rattle.kernel_table.specs.Edits.{is_of_either};
-    ghost use Rattle.kernel_table.specs.Rows.{master_number};
+    ghost use Rattle.kernel_rows.specs.Seen.{process_of, has_stance, is_number};
+    ghost use Rattle.kernel_rows.specs.Edits.{is_of_either};
+    ghost use Rattle.kernel_rows.specs.Rows.{master_number};
 
     /// The process number.
     pub fn number(&self) -> u32
@@ -309,7 +309,7 @@ impl Row {
 }
 
 impl Holder {
-    ghost use Rattle.kernel_table.specs.Seen.{seen_holder, seen_caller, caller_row};
+    ghost use Rattle.kernel_rows.specs.Seen.{seen_holder, seen_caller, caller_row};
 
     /// The live master of the image, where it is that.
     pub fn live_master(&self, with: u32) -> Option<Caller>

@@ -3,9 +3,9 @@ use Rattle.std.proofs.lemmas.List.Elements.{filter-append}
 use Rattle.listener_set.specs.Numbers.{RisesFrom}
 use Rattle.listener_set.specs.Descriptors.{descriptors_of}
 use Rattle.definitions.specs.Table.{Hold, is_at}
-use Rattle.kernel_table.specs.Holds.{address_of, seen_holds}
-use Rattle.kernel_table.proofs.Closing.{taken_out, seen-filter}
-use Rattle.kernel_table.proofs.holds.without_address.Goals as goal
+use Rattle.kernel_rows.specs.Holds.{address_of, seen_holds}
+use Rattle.kernel_rows.proofs.Closing.{taken_out, seen-filter}
+use Rattle.kernel_rows.proofs.holds.without_address.Goals as goal
 
 pub loop-descriptor-preserved-then-is_at : goal.loop-descriptor-preserved-then-is_at
 loop-descriptor-preserved-then-is_at c =

@@ -2,9 +2,9 @@ use Rattle.std.proofs.Common.{sym, ◌∙◌, rules, tests}
 use Rattle.std.proofs.lemmas.Iterator.Consumers.{YieldsList-from_first}
 use Rattle.std.proofs.lemmas.Iterator.Search.{any_from_yields_List}
 use Rattle.definitions.specs.Table.{is_at}
-use Rattle.kernel_table.specs.Holds.{seen_hold}
-use Rattle.kernel_table.proofs.Lists.{list_any-map}
-use Rattle.kernel_table.proofs.holds.has_address.Goals as goal
+use Rattle.kernel_rows.specs.Holds.{seen_hold}
+use Rattle.kernel_rows.proofs.Lists.{list_any-map}
+use Rattle.kernel_rows.proofs.holds.has_address.Goals as goal
 
 pub returns : goal.returns
 returns c =

@@ -2,7 +2,7 @@
 ghost use Rattle.std.specs.Prelude.{◌≡◌, List, bytes_eq};
 ghost use Rattle.definitions.specs.Table.{Address as Text, has_address};
 ghost use Rattle.definitions.specs.Calls.{lacks_address, shared};
-ghost use Rattle.kernel_table.specs.Holds.{address_of, seen_holds};
+ghost use Rattle.kernel_rows.specs.Holds.{address_of, seen_holds};
 
 use listener_set::{Address, DescriptorSet, DescriptorTable};
 

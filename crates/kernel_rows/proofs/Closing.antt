@@ -4,7 +4,7 @@ use Rattle.std.proofs.lemmas.Bool.Decides.{nat_tests}
 use Rattle.listener_set.specs.Numbers.{is_in, RisesFrom}
 use Rattle.listener_set.specs.Descriptors.{descriptors_of, only_of, without_descriptor}
 use Rattle.definitions.specs.Table.{Address, Hold}
-use Rattle.kernel_table.specs.Holds.{seen_hold, seen_holds}
+use Rattle.kernel_rows.specs.Holds.{seen_hold, seen_holds}
 
 without-low : (pairs : List (ℕ × ℕ)) (b d : ℕ) → RisesFrom b (descriptors_of pairs) → d < b → without_descriptor pairs d ≡ pairs
 without-low [] b d h lt = refl

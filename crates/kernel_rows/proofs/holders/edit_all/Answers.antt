@@ -1,9 +1,9 @@
 use Rattle.std.proofs.Common.{sym, ap, ◌∙◌, rules}
 use Rattle.definitions.specs.Exits.{kept_if}
-use Rattle.kernel_table.specs.Seen.{seen_holder}
-use Rattle.kernel_table.specs.Edits.{edited}
-use Rattle.kernel_table.proofs.Lists.{retained}
-use Rattle.kernel_table.proofs.store.edit_all.Goals as goal
+use Rattle.kernel_rows.specs.Seen.{seen_holder}
+use Rattle.kernel_rows.specs.Edits.{edited}
+use Rattle.kernel_rows.proofs.Lists.{retained}
+use Rattle.kernel_rows.proofs.holders.edit_all.Goals as goal
 
 pub returns-clause-rows : goal.returns-clause-rows
 returns-clause-rows c =

@@ -8,12 +8,12 @@ use Rattle.vocabulary.specs.declared.table.Stance.TheVariants.{Starting, Ready, 
 use Rattle.definitions.specs.Table.{Address, Generation, Process, Master, Worker, Foreign, is_active, is_starting, is_worker}
 use Rattle.definitions.specs.Exits.{change, kept_if}
 use Rattle.definitions.specs.Calls.{made_draining, made_ready}
-use Rattle.kernel_table.specs.declared.process.Holder.{Holder}
-use Rattle.kernel_table.specs.declared.process.WorkerName.{WorkerName}
-use Rattle.kernel_table.specs.declared.edits.Edit.{Edit}
-use Rattle.kernel_table.specs.Seen.{seen_holder}
-use Rattle.kernel_table.specs.Edits.{edited, ChangesActive}
-use Rattle.kernel_table.proofs.First.{past}
+use Rattle.kernel_rows.specs.declared.process.Holder.{Holder}
+use Rattle.kernel_rows.specs.declared.process.WorkerName.{WorkerName}
+use Rattle.kernel_rows.specs.declared.edits.Edit.{Edit}
+use Rattle.kernel_rows.specs.Seen.{seen_holder}
+use Rattle.kernel_rows.specs.Edits.{edited, ChangesActive}
+use Rattle.kernel_rows.proofs.First.{past}
 
 -- where no element is found, none passes
 module _ {X : Type 0} (test : X → Bool) where
