@@ -163,8 +163,8 @@ impl Store {
         ensures row { IfSome result (λ c. Contains (seen self.now).rows (caller_row self.now.addresses.items c)) }
     {
         if let Some(holder) = self.holders.get(self.newest) {
-            if let Some(caller) = holder.live_master(image) {
-                return Some(caller);
+            if let Some(newest) = holder.live_master(image) {
+                return Some(newest);
             }
         }
         self.live_master(image)

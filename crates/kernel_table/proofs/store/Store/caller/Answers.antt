@@ -28,5 +28,5 @@ pub returns-in-Some-live_master-clause-row : goal.returns-in-Some-live_master-cl
 returns-in-Some-live_master-clause-row c =
     let s = c.args.self.now in
     let rows = (seen s).rows in
-    let mine = caller_row s.addresses.items c.in-Some-live_master.caller in
+    let mine = caller_row s.addresses.items c.in-Some-live_master.newest in
     (s.newest, slice_get_within rows s.newest (row c) (there c), get_or_from_slice_get rows s.newest (row c) mine (there c) ∙ c.in-Some-live_master.ensures.row s.addresses.items)
