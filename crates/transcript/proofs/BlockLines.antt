@@ -1,6 +1,6 @@
 -- Lines of blocks are read as they are written.
 use Rattle.std.proofs.Common.{◌≡◌, ℕ, ◌<◌, ◌^◌, Bool, true, false, cond, List, [], ◌∷◌, ◌++◌, Option, Some, None, Result, Ok, Err, refl, sym, ap, subst, ◌∙◌}
-use Rattle.std.specs.Prelude.{codes, bytes_eq, option_map}
+use Rattle.std.specs.Prelude.{⊤, codes, bytes_eq, IfSome, option_map, option_and_then}
 use Rattle.std.specs.Fmt.{decimal}
 use Rattle.vocabulary.specs.declared.reports.Entry.{Entry}
 use Rattle.vocabulary.specs.declared.reports.Outcome.{Outcome}
@@ -12,20 +12,20 @@ use Rattle.control_words.specs.Words.{word_text, refusal_code, reading, IsWord}
 use Rattle.control_words.proofs.Lines.{reading-written, written-reading}
 use Rattle.plain_text.specs.NumberText.{number_of}
 use Rattle.plain_text.specs.Cuts.{cut}
-use Rattle.plain_text.proofs.NumberTextLemmas.{decimal-number_of, number_of-decimal}
-use Rattle.plain_text.proofs.CutTexts.{cut_found, cut_at}
+use Rattle.plain_text.proofs.CutTexts.{lacks, cut_found, cut_at}
 use Rattle.call_text.specs.Words.{side_text}
-use Rattle.call_text.specs.Reads.{Reads}
+use Rattle.call_text.specs.Ranges.{IsNumber}
 use Rattle.call_text.specs.Reading.{some_if}
 use Rattle.call_text.specs.ReportText.{shortfalls_text, outcome_text, ending_text}
 use Rattle.call_text.specs.ReportReading.{report_of}
-use Rattle.call_text.proofs.Readers.{IsReader, reads, mapped, chosen, same_bytes}
+use Rattle.call_text.proofs.Readers.{IsReader, mapped, chosen, same_bytes, joined_reads, number_reads}
 use Rattle.call_text.proofs.PartTexts.{number_lacks}
 use Rattle.call_text.proofs.ReportTexts.{report_reads}
 use Rattle.transcript.specs.Codes.{is_code}
 use Rattle.transcript.specs.EntryReading.{IsEntry, answered_text, entry_of}
-use Rattle.transcript.specs.BlockLine.{Line, Heard, Unread, Nothing, Refused, Made, Ended, line_text, IsUnread, IsLine}
-use Rattle.transcript.specs.LineReading.{accepted, word_of, unread_of, made_or_ended, line_about, line_from, line_of}
+use Rattle.transcript.specs.BlockLine.{Line, Heard, Unread, Nothing, Refused, Made, Ended, seen, line_text, IsUnread, IsLine}
+use Rattle.transcript.specs.declared.block_line.BlockLine.{BlockLine}
+use Rattle.transcript.specs.LineReading.{accepted, word_of, unread_of, plain_about, plain_from, plain_of, numbered, line_from, line_of}
 use Rattle.transcript.proofs.EntryTexts.{entry_reads}
 
 -- ---- words, and lines that are none
@@ -63,30 +63,31 @@ unread_reads = record { found = λ text r e. at text r (bytes_eq text (codes "W1
     only NoConfig h = absurd h
     only PidChanged h = absurd h
 
+-- ---- numbers of calls
+rest_reads : IsReader (λ (rest : List ℕ). ⊤) (λ rest. rest) (λ rest. Some rest)
+rest_reads = record { found = λ text rest e. let same : Some text ≡ Some rest = e in let is : text ≡ rest = cc in (tt, is); only = λ rest h. refl }
+
+numbered_reads : IsReader (λ (p : ℕ × List ℕ). IsNumber p.0 × ⊤) (λ (p : ℕ × List ℕ). decimal p.0 ++ 32 ∷ p.1) numbered
+numbered_reads = joined_reads IsNumber (λ rest. ⊤) decimal (λ rest. rest) number_of (λ rest. Some rest) 32 (λ n lt. number_lacks 32 n refl lt) number_reads rest_reads
+
+not_numbered : (first rest : List ℕ) → lacks 32 first ≡ true → number_of first ≡ None → numbered (first ++ 32 ∷ rest) ≡ None
+not_numbered first rest apart none =
+    ap (option_and_then (λ (parts : List ℕ × List ℕ). option_and_then (λ n. option_and_then (λ rest. Some (n, rest)) (Some parts.1)) (number_of parts.0))) (cut_at 32 first rest apart)
+    ∙ ap (option_and_then (λ n. option_and_then (λ rest. Some (n, rest)) (Some rest))) none
+
 -- ---- a line that was read
 module _ (text : List ℕ) (v : Line) where
   abbrev Is : Line → Type 0
   Is v = IsLine v × (text ≡ line_text v)
 
-  numbered : (first rest : List ℕ) → text ≡ first ++ 32 ∷ rest → (o : Option ℕ) → number_of first ≡ o → made_or_ended text o rest ≡ Some v → IsLine v × (text ≡ line_text v)
-  numbered first rest whole (Some n) k e =
-      let made = mapped (Made n) (entry_of rest) v e in
-      let number = decimal-number_of first n k in
-      let got = entry_reads.found rest made.0 made.1 in
-      subst Is made.2 ((number.1, got.0), whole ∙ ap (λ t. t ++ 32 ∷ rest) number.0 ∙ ap (λ t. decimal n ++ 32 ∷ t) got.1)
-  numbered first rest whole None k e =
-      let ended = mapped Ended (report_of [] text) v e in
-      let got = (report_reads []).found text ended.0 ended.1 in
-      subst Is ended.2 got
-
-  about_found : (first rest : List ℕ) → text ≡ first ++ 32 ∷ rest → line_about text first rest ≡ Some v → IsLine v × (text ≡ line_text v)
+  about_found : (first rest : List ℕ) → text ≡ first ++ 32 ∷ rest → plain_about text first rest ≡ Some v → IsLine v × (text ≡ line_text v)
   about_found first rest whole e = at (bytes_eq first (codes "word")) refl (bytes_eq first (codes "unread")) refl (bytes_eq first (codes "refused")) refl e
     where
       begins : (word : List ℕ) → bytes_eq first word ≡ true → text ≡ word ++ 32 ∷ rest
       begins word k = whole ∙ ap (λ t. t ++ 32 ∷ rest) (same_bytes first word k)
 
       at : (a : Bool) → bytes_eq first (codes "word") ≡ a → (b : Bool) → bytes_eq first (codes "unread") ≡ b → (c : Bool) → bytes_eq first (codes "refused") ≡ c →
-          cond a (option_map Heard (word_of rest)) (cond b (option_map Unread (unread_of rest)) (cond c (some_if (is_code rest) (Refused rest)) (made_or_ended text (number_of first) rest))) ≡ Some v →
+          cond a (option_map Heard (word_of rest)) (cond b (option_map Unread (unread_of rest)) (cond c (some_if (is_code rest) (Refused rest)) (option_map Ended (report_of [] text)))) ≡ Some v →
           IsLine v × (text ≡ line_text v)
       at true k b l c m e =
           let heard = mapped Heard (word_of rest) v e in
@@ -99,55 +100,59 @@ module _ (text : List ℕ) (v : Line) where
       at false k false l true m e =
           let is = chosen (is_code rest) (Refused rest) v e in
           subst Is is.1 (is.0, begins (codes "refused") m)
-      at false k false l false m e = numbered first rest whole (number_of first) refl e
+      at false k false l false m e =
+          let ended = mapped Ended (report_of [] text) v e in
+          let got = (report_reads []).found text ended.0 ended.1 in
+          subst Is ended.2 got
 
-  found : line_of text ≡ Some v → IsLine v × (text ≡ line_text v)
-  found e = at (cut 32 text) refl e
+  plain_found : plain_of text ≡ Some v → IsLine v × (text ≡ line_text v)
+  plain_found e = at (cut 32 text) refl e
     where
-      at : (o : Option (List ℕ × List ℕ)) → cut 32 text ≡ o → line_from text o ≡ Some v → IsLine v × (text ≡ line_text v)
+      at : (o : Option (List ℕ × List ℕ)) → cut 32 text ≡ o → plain_from text o ≡ Some v → IsLine v × (text ≡ line_text v)
       at None k e =
           let is = chosen (bytes_eq text (codes "nothing")) Nothing v e in
           subst Is is.1 (tt, same_bytes text (codes "nothing") is.0)
       at (Some p) k e = about_found p.0 p.1 (cut_found 32 text p k) e
 
+  found : line_of text ≡ Some v → IsLine v × (text ≡ line_text v)
+  found e = at (numbered text) refl e
+    where
+      at : (o : Option (ℕ × List ℕ)) → numbered text ≡ o → line_from text o ≡ Some v → IsLine v × (text ≡ line_text v)
+      at None k e = plain_found e
+      at (Some p) k e =
+          let made = mapped (Made p.0) (entry_of p.1) v e in
+          let whole = numbered_reads.found text p k in
+          let got = entry_reads.found p.1 made.0 made.1 in
+          subst Is made.2 ((whole.0.0, got.0), whole.1 ∙ ap (λ t. decimal p.0 ++ 32 ∷ t) got.1)
+
+pub plain_within : (text : List ℕ) (read : Option BlockLine) → option_map seen read ≡ plain_of text → IfSome read (λ line. IsLine (seen line))
+plain_within text None e = tt
+plain_within text (Some line) e = (plain_found text (seen line) (sym e)).0
+
 -- ---- a line that was written
-not_word : (w : List ℕ) (n : ℕ) → number_of w ≡ None → n < 2 ^ 32 → bytes_eq (decimal n) w ≡ false
-not_word w n none lt = at (bytes_eq (decimal n) w) refl
-  where
-    at : (b : Bool) → bytes_eq (decimal n) w ≡ b → b ≡ false
-    at true k =
-        let no : Some n ≡ None = sym (number_of-decimal n lt) ∙ ap number_of (same_bytes (decimal n) w k) ∙ none in
-        cc
-    at false k = refl
+plain_line : (first rest : List ℕ) → lacks 32 first ≡ true → number_of first ≡ None → line_of (first ++ 32 ∷ rest) ≡ plain_about (first ++ 32 ∷ rest) first rest
+plain_line first rest apart none =
+    let text : List ℕ = first ++ 32 ∷ rest in
+    ap (line_from text) (not_numbered first rest apart none) ∙ ap (plain_from text) (cut_at 32 first rest apart)
 
 made_only : (n : ℕ) (e : Entry) → n < 2 ^ 32 → IsEntry e → line_of (decimal n ++ 32 ∷ answered_text e) ≡ Some (Made n e)
 made_only n e lt h =
-    let text : List ℕ = decimal n ++ 32 ∷ answered_text e in
-    let rest : List ℕ = answered_text e in
-    ap (line_from text) (cut_at 32 (decimal n) rest (number_lacks 32 n refl lt))
-    ∙ ap (λ b. cond b (option_map Heard (word_of rest)) (cond (bytes_eq (decimal n) (codes "unread")) (option_map Unread (unread_of rest)) (cond (bytes_eq (decimal n) (codes "refused")) (some_if (is_code rest) (Refused rest)) (made_or_ended text (number_of (decimal n)) rest)))) (not_word (codes "word") n refl lt)
-    ∙ ap (λ b. cond b (option_map Unread (unread_of rest)) (cond (bytes_eq (decimal n) (codes "refused")) (some_if (is_code rest) (Refused rest)) (made_or_ended text (number_of (decimal n)) rest))) (not_word (codes "unread") n refl lt)
-    ∙ ap (λ b. cond b (some_if (is_code rest) (Refused rest)) (made_or_ended text (number_of (decimal n)) rest)) (not_word (codes "refused") n refl lt)
-    ∙ ap (λ o. made_or_ended text o rest) (number_of-decimal n lt)
+    ap (line_from (decimal n ++ 32 ∷ answered_text e)) (numbered_reads.only (n, answered_text e) (lt, tt))
     ∙ ap (option_map (Made n)) (entry_reads.only e h)
 
 ended_from : (o : Outcome) (rest : List ℕ) → line_of (outcome_text o ++ 32 ∷ rest) ≡ option_map Ended (report_of [] (outcome_text o ++ 32 ∷ rest))
-ended_from outcome.Done rest = ap (line_from (codes "done" ++ 32 ∷ rest)) (cut_at 32 (codes "done") rest refl)
-ended_from outcome.RolledBack rest = ap (line_from (codes "rolled-back" ++ 32 ∷ rest)) (cut_at 32 (codes "rolled-back") rest refl)
-ended_from outcome.Lost rest = ap (line_from (codes "lost" ++ 32 ∷ rest)) (cut_at 32 (codes "lost") rest refl)
-ended_from (outcome.Degraded s shortfalls) rest =
-    ap (line_from (outcome_text (outcome.Degraded s shortfalls) ++ 32 ∷ rest)) (cut_at 32 (codes "degraded") ((side_text s ++ 32 ∷ shortfalls_text shortfalls) ++ 32 ∷ rest) refl)
+ended_from outcome.Done rest = plain_line (codes "done") rest refl refl
+ended_from outcome.RolledBack rest = plain_line (codes "rolled-back") rest refl refl
+ended_from outcome.Lost rest = plain_line (codes "lost") rest refl refl
+ended_from (outcome.Degraded s shortfalls) rest = plain_line (codes "degraded") ((side_text s ++ 32 ∷ shortfalls_text shortfalls) ++ 32 ∷ rest) refl refl
 
 only : (v : Line) → IsLine v → line_of (line_text v) ≡ Some v
-only (Heard word) h = ap (line_from (codes "word " ++ word_text word)) (cut_at 32 (codes "word") (word_text word) refl) ∙ ap (option_map Heard) (word_reads.only word h)
-only (Unread refusal) h = ap (line_from (codes "unread " ++ refusal_code refusal)) (cut_at 32 (codes "unread") (refusal_code refusal) refl) ∙ ap (option_map Unread) (unread_reads.only refusal h)
+only (Heard word) h = plain_line (codes "word") (word_text word) refl refl ∙ ap (option_map Heard) (word_reads.only word h)
+only (Unread refusal) h = plain_line (codes "unread") (refusal_code refusal) refl refl ∙ ap (option_map Unread) (unread_reads.only refusal h)
 only Nothing h = refl
-only (Refused code) h = ap (line_from (codes "refused " ++ code)) (cut_at 32 (codes "refused") code refl) ∙ ap (λ b. some_if b (Refused code)) h
+only (Refused code) h = plain_line (codes "refused") code refl refl ∙ ap (λ b. some_if b (Refused code)) h
 only (Made n e) h = made_only n e h.0 h.1
 only (Ended report) h = ended_from report.outcome (ending_text report.cause report.note) ∙ ap (option_map Ended) ((report_reads []).only report h)
 
 pub block_line_reads : IsReader IsLine line_text line_of
 block_line_reads = record { found = found; only = only }
-
-pub Reads-block_line : (text : List ℕ) → Reads IsLine line_text text (line_of text)
-Reads-block_line text = reads IsLine line_text line_of block_line_reads text

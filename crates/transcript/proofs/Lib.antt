@@ -3,3 +3,4 @@ pub mod OneLine
 pub mod EntryTexts
 pub mod BlockLines
 pub mod Transcripts
+pub mod Counts

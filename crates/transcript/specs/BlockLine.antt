@@ -22,13 +22,12 @@ pub data Line : Type 0 where
   Made : ℕ → Entry → Line
   Ended : Report → Line
 
--- what the reader has of a line
+-- what the reader has of a line other than a call
 abbrev pub seen : BlockLine → Line
 seen (read.Heard word) = Heard word
 seen (read.Unread refusal) = Unread refusal
 seen read.Nothing = Nothing
 seen (read.Refused code) = Refused code.now
-seen (read.Made number entry) = Made number entry
 seen (read.Ended report) = Ended report
 
 -- a line without its newline

@@ -13,7 +13,7 @@ use Rattle.lines_text.specs.Reading.{unless_refused, reading_of}
 use Rattle.lines_text.specs.declared.refusal.TextRefusal.{TextRefusal}
 use Rattle.lines_text.specs.declared.refusal.TextRefusal.TheVariants as text
 use Rattle.transcript.specs.BlockLine.{Line, Heard, Unread, Nothing, Refused, Made, Ended}
-use Rattle.transcript.specs.LineReading.{line_of}
+use Rattle.transcript.specs.LineReading.{plain_of, call_of, line_of}
 
 ---- Who was ready
 
@@ -74,7 +74,15 @@ abbrev pub if_formed : ℕ → Option Opened → Option Line → Result Line Tex
 if_formed number current None = Err (text.Line number)
 if_formed number current (Some line) = if_fitting line (fault_of number line current)
 
--- the line of a text, with its number, or why it is refused
+-- a line other than a call, with its number, or why it is refused
+abbrev pub plain_here : ℕ → Reading → List ℕ → Result Line TextRefusal
+plain_here number r line = if_formed number r.current (plain_of line)
+
+-- a call that has the number n in its block, or why it is refused
+abbrev pub call_here : ℕ → Reading → ℕ → List ℕ → Result Line TextRefusal
+call_here number r n rest = if_formed number r.current (call_of n rest)
+
+-- any line
 abbrev pub line_here : ℕ → Reading → List ℕ → Result Line TextRefusal
 line_here number r line = if_formed number r.current (line_of line)
 
@@ -103,9 +111,13 @@ with_line (Refused code) r = with_block (λ _. body.Refused code) r
 with_line (Made n e) r = record { done = r.done; current = option_map (with_entry e) r.current }
 with_line (Ended report) r = with_block (ran report) r
 
+-- what is known after a line that was read, unless it was refused
+abbrev pub known_after : Reading → Result Line TextRefusal → Result Reading TextRefusal
+known_after r one = unless_refused one (λ line. Ok (with_line line r))
+
 -- what is known after a line, or why the line is refused
 abbrev pub taken : ℕ → Reading → List ℕ → Result Reading TextRefusal
-taken number r text = unless_refused (line_here number r text) (λ line. Ok (with_line line r))
+taken number r text = known_after r (line_here number r text)
 
 ---- All lines
 

@@ -1,9 +1,20 @@
 //! Calls with their answers, read.
 ghost use Rattle.std.specs.Prelude.{◌≡◌, option_map};
 ghost use Rattle.transcript.specs.EntryReading.{begins_answer, parted, entry_of};
+ghost use Rattle.transcript.specs.LineReading.{numbered};
 
 use call_text::{read_answer, read_call};
+use plain_text::{cut, read_number};
 use vocabulary::Entry;
+
+/// The number of a call, and what follows it; none where a line does not begin with a number.
+pub(crate) fn numbered(text: &[u8]) -> Option<(u32, &[u8])>
+    ensures { option_map (λ p. (p.0, p.1.now)) result ≡ numbered text.now }
+{
+    let (first, rest) = cut(text, b' ')?;
+    let number = read_number(first)?;
+    Some((number, rest))
+}
 
 fn begins_answer(text: &[u8]) -> bool
     ensures { result ≡ begins_answer text.now }

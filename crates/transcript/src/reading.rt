@@ -1,13 +1,13 @@
 //! Blocks, read.
-ghost use Rattle.std.specs.Prelude.{◌≡◌, ◌≢◌, List, map, Ok, Err, OnOk, IfOk, IfErr, option_map};
-ghost use Rattle.definitions.specs.Path.{ready_after};
+ghost use Rattle.std.specs.Prelude.{◌≡◌, ◌≢◌, List, [], map, Ok, Err, OnOk, IfOk, IfErr, IsErrOf, IsOk, option_map};
 ghost use Rattle.transcript.specs.BlockLine.{seen as seen_line, IsLine};
 ghost use Rattle.transcript.specs.Block.{AreBlocks, IsTextOf, block_read};
-ghost use Rattle.transcript.specs.Reading.{fault_within, fault_of, line_here, last_count, with_entry, with_block, with_line, ran, begun, blocks_of};
+ghost use Rattle.transcript.specs.Reading.{fault_within, fault_of, plain_here, call_here, known_after, last_count, with_entry, with_block, with_line, ran, begun, blocks_of};
 ghost use Rattle.word_runner.specs.declared.block.Block.{Block as Done};
 
 use crate::block_line::BlockLine;
 use crate::codes::code_of;
+use crate::entries::{numbered, read_entry};
 use control_words::Word;
 use lines_text::{TakesLines, TextRefusal, read_lines};
 use listener_set::Numbers;
@@ -16,50 +16,52 @@ use std::alloc::{AllocError, Global};
 use vocabulary::{Answer, Entry, Report};
 use word_runner::{Block, Body};
 
-/// A block that has begun: its word, and the calls so far.
+/// A block that has begun: its word, the calls so far, and the numbers of the last count among them.
 #[derive(Drop)]
 struct Current {
     word: Word,
     log: Transcript,
+    ready: Numbers,
     ghost full: { log.room ≡ 0 },
+    ghost counted: { ready ≡ last_count log.entries },
 }
 
 impl Current {
     ghost use Rattle.transcript.specs.Reader.{seen_current};
 
-    /// Why a line with this number can't stand here.
+    /// Before its first call. The only refusal is want of memory.
+    fn begin(alloc: Global, word: Word) -> Result<Self, AllocError>
+        ensures { IfOk result (λ current. seen_current current ≡ record { word = word; made = [] }) }
+    {
+        Ok(Current {
+            word,
+            log: Transcript::with_room(alloc, 0)?,
+            ready: Numbers::none(),
+        })
+    }
+
+    /// Why a line with this number, other than a call, can't stand here.
     fn fault_of(&self, number: usize, line: &BlockLine<'_>) -> Option<TextRefusal>
         ensures { result ≡ fault_within number (seen_line line.now) (seen_current self.now) }
     {
         match line {
-            BlockLine::Made(place, _) if *place as usize == self.log.len() + 1 => None,
-            BlockLine::Made(..) => Some(TextRefusal::Order(number)),
             BlockLine::Ended(_) => None,
             BlockLine::Nothing | BlockLine::Refused(_) if self.log.is_empty() => None,
             _ => Some(TextRefusal::Line(number)),
         }
     }
-}
 
-/// The numbers of a call that counts; those before it where it does not.
-fn ready_after(entry: &Entry, before: Numbers) -> Numbers
-    ensures { result ≡ ready_after entry.now.answer before }
-{
-    match entry.answer {
-        Answer::Counted(numbers) => numbers,
-        _ => before,
+    /// Adds a call. The only refusal is want of memory.
+    #[tactic(auto, using(crate::proofs::Counts::count_more))]
+    fn add(&mut self, entry: &Entry) -> Result<(), AllocError>
+        ensures { OnOk result (seen_current self.new ≡ with_entry entry.now (seen_current self.old)) }
+    {
+        self.log.add(entry)?;
+        if let Answer::Counted(numbers) = &entry.answer {
+            self.ready = *numbers;
+        }
+        Ok(())
     }
-}
-
-/// The numbers of the last count among calls; none where there is no count.
-fn last_count(log: &Transcript) -> Numbers
-    ensures { result ≡ last_count log.now.entries }
-{
-    let mut ready = Numbers::none();
-    for place in 0..log.len() {
-        ready = ready_after(&log.get(place), ready);
-    }
-    ready
 }
 
 /// What was read of a text: the blocks, and the one that has begun.
@@ -81,7 +83,7 @@ impl BlocksReader {
         }
     }
 
-    /// Why a line with this number can't stand here.
+    /// Why a line with this number, other than a call, can't stand here.
     fn fault_of(&self, number: usize, line: &BlockLine<'_>) -> Option<TextRefusal>
         ensures { result ≡ fault_of number (seen_line line.now) (seen self.now).current }
     {
@@ -94,10 +96,10 @@ impl BlocksReader {
         }
     }
 
-    /// Reads the line with this number, if it may stand here. It takes no memory, so it never wants any.
+    /// Reads the line with this number, other than a call, if it may stand here. It takes no memory, so it never wants any.
     fn read_here<'a>(&self, number: usize, text: &'a [u8]) -> Result<BlockLine<'a>, TextRefusal>
-        ensures ok { IfOk result (λ line. line_here number (seen self.now) text.now ≡ Ok (seen_line line)) }
-        ensures err { IfErr result (λ e. line_here number (seen self.now) text.now ≡ Err e) }
+        ensures ok { IfOk result (λ line. plain_here number (seen self.now) text.now ≡ Ok (seen_line line)) }
+        ensures err { IfErr result (λ e. plain_here number (seen self.now) text.now ≡ Err e) }
         ensures within { IfOk result (λ line. IsLine (seen_line line)) }
     {
         let Some(line) = BlockLine::read(text) else {
@@ -130,34 +132,41 @@ impl BlocksReader {
             outcome: report.outcome,
             cause: report.cause,
             note: report.note,
-            ready: last_count(&current.log),
+            ready: current.ready,
         };
         let body = Body::Ran(current.log, report);
         self.done.push(Block::Heard(current.word, body))?;
         Ok(())
     }
 
-    fn add(&mut self, entry: &Entry) -> Result<(), AllocError>
-        ensures done { OnOk result ((seen self.new).done ≡ (seen self.old).done) }
-        ensures entry { OnOk result ((seen self.new).current ≡ option_map (with_entry entry.now) (seen self.old).current) }
+    /// Takes in a call that has the number `count` in its block, if it may stand here.
+    fn take_call(&mut self, number: usize, count: u32, text: &[u8]) -> Result<(), TextRefusal>
+        ensures ok { OnOk result (known_after (seen self.old) (call_here number (seen self.old) count text.now) ≡ Ok (seen self.new)) }
+        ensures err { IfErr result (λ e. e ≢ TextRefusal.Memory → call_here number (seen self.old) count text.now ≡ Err e) }
+        ensures memory { IsErrOf result TextRefusal.Memory → IsOk (call_here number (seen self.old) count text.now) }
     {
+        let entry = read_entry(text);
+        let entry = entry.as_ref().ok_or(TextRefusal::Line(number))?;
         match &mut self.current {
-            Some(current) => current.log.add(entry),
-            None => Ok(()),
+            None => Err(TextRefusal::Line(number)),
+            Some(current) if count as usize != current.log.len() + 1 => {
+                Err(TextRefusal::Order(number))
+            }
+            Some(current) => {
+                current.add(entry)?;
+                Ok(())
+            }
         }
     }
 
-    /// Adds a line. The only refusal is want of memory.
+    /// Adds a line other than a call. The only refusal is want of memory.
     fn add_line(&mut self, alloc: Global, line: &BlockLine<'_>) -> Result<(), AllocError>
         requires { IsLine (seen_line line.now) }
         ensures { OnOk result (seen self.new ≡ with_line (seen_line line.now) (seen self.old)) }
     {
         match line {
             BlockLine::Heard(word) => {
-                self.current = Some(Current {
-                    word: *word,
-                    log: Transcript::with_room(alloc, 0)?,
-                });
+                self.current = Some(Current::begin(alloc, *word)?);
                 Ok(())
             }
             BlockLine::Unread(refusal) => {
@@ -169,7 +178,6 @@ impl BlocksReader {
                 let code = code_of(alloc, code)?;
                 self.close(Body::Refused(code))
             }
-            BlockLine::Made(_, entry) => self.add(entry),
             BlockLine::Ended(report) => self.report(report),
         }
     }
@@ -196,6 +204,9 @@ impl TakesLines for BlocksReader {
     ghost finished = { finished };
 
     fn take(&mut self, alloc: Global, number: usize, line: &[u8]) -> Result<(), TextRefusal> {
+        if let Some((count, call)) = numbered(line) {
+            return self.take_call(number, count, call);
+        }
         match self.read_here(number, line) {
             Ok(line) => self.add_line(alloc, &line)?,
             Err(refusal) => return Err(refusal),

@@ -1,8 +1,8 @@
-use Rattle.std.proofs.Common.{subst, sym}
-use Rattle.call_text.specs.Reads.{Reads}
-use Rattle.transcript.specs.BlockLine.{line_text, IsLine}
-use Rattle.transcript.proofs.BlockLines.{Reads-block_line}
+use Rattle.std.proofs.Common.{◌∙◌, ap}
+use Rattle.transcript.specs.LineReading.{plain_from}
+use Rattle.transcript.proofs.BlockLines.{plain_within}
 use Rattle.transcript.proofs.block_line.BlockLine.read.Goals as goal
 
-pub returns-clause-reads : goal.returns-clause-reads
-returns-clause-reads c = subst (Reads IsLine line_text c.args.text.now) (sym c.read_any.ensures) (Reads-block_line c.args.text.now)
+pub returns-in-Some-clause-within : goal.returns-in-Some-clause-within
+returns-in-Some-clause-within c =
+    plain_within c.args.text.now c.read_about.result (c.read_about.ensures ∙ ap (plain_from c.args.text.now) c.in-Some.ensures)
