@@ -10,8 +10,8 @@ ghost use Rattle.kernel_rows.specs.Edits.{edited, ChangesActive};
 ghost use Rattle.kernel_rows.specs.Places.{IsActiveAt};
 
 use crate::edits::Edit;
-use crate::process::{Holder, Stances, WorkerName};
-use listener_set::{Address, Generation};
+use crate::process::{Holder, Row, Stances, WorkerName};
+use listener_set::{Address, DescriptorTable, Generation};
 use std::alloc::AllocError;
 use std::marker::Model;
 
@@ -140,15 +140,15 @@ impl Holders {
         }
     }
 
-    /// Puts a process at the end.
-    pub fn push(&mut self, holder: Holder)
+    /// Puts a process with these holds at the end.
+    pub fn push(&mut self, row: Row, holds: &DescriptorTable)
         requires { length self.old.items < self.old.capacity }
-        ensures items { self.new.items ≡ self.old.items ++ holder ∷ [] }
+        ensures items { self.new.items ≡ self.old.items ++ (record { row = row; holds = holds.now }) ∷ [] }
         ensures len { length self.new.items ≡ length self.old.items + 1 }
         ensures capacity { self.old.capacity ≤ self.new.capacity }
     {
         close(&mut self.slots, &mut self.gap);
-        self.slots.push(holder).unwrap();
+        self.slots.push(Holder { row, holds: *holds }).unwrap();
     }
 
     /// The process at a place leaves.

@@ -1,5 +1,5 @@
 //! Processes: what each is, and what it holds.
-ghost use Rattle.std.specs.Prelude.{◌≡◌, ℕ, List, [], ◌∷◌, IfSome};
+ghost use Rattle.std.specs.Prelude.{◌≡◌, ℕ, List, [], ◌∷◌, is_some, IfSome};
 ghost use Rattle.std.specs.Option.{option_map};
 ghost use Rattle.definitions.specs.Table.{Hold, number_of, is_own, is_master, is_named, is_worker, is_live_master, live_master, is_starting, is_ready, is_active, is_draining, is_exited};
 ghost use Rattle.definitions.specs.Calls.{is_of, is_row, is_exited_of, is_image};
@@ -182,6 +182,16 @@ impl Row {
     {
         match *self {
             Row::Master { number, live, .. } => live && number == with,
+            Row::Worker { .. } | Row::Foreign { .. } => false,
+        }
+    }
+
+    /// Whether it is the live master of the image.
+    pub fn is_live_image(&self, with: u32) -> bool
+        ensures { (hs : List Hold) → result ≡ is_some (live_master with (process_of self.now hs ∷ [])) }
+    {
+        match *self {
+            Row::Master { image, live, .. } => live && image == with,
             Row::Worker { .. } | Row::Foreign { .. } => false,
         }
     }

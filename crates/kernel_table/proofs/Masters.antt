@@ -1,5 +1,5 @@
 -- Live masters among the rows.
-use Rattle.std.proofs.Common.{◌≡◌, ℕ, suc, zero, ◌+◌, ◌<◌, ◌≤◌, Bool, true, false, cond, nat_eq, List, [], ◌∷◌, length, get_or, count_by, Option, Some, None, ◌&&◌, refl, sym, ap, ◌∙◌, arith}
+use Rattle.std.proofs.Common.{◌≡◌, ℕ, suc, zero, ◌+◌, ◌<◌, ◌≤◌, Bool, true, false, cond, nat_eq, List, [], ◌∷◌, length, get_or, count_by, Option, Some, None, is_some, ◌&&◌, refl, sym, ap, ◌∙◌, arith}
 use Rattle.std.specs.List.{AllByRecursion, filter_map}
 use Rattle.std.proofs.lemmas.Bool.{false≢true}
 use Rattle.std.proofs.lemmas.Bool.Decides.{nat_tests}
@@ -121,3 +121,10 @@ module _ (image : ℕ) where
       let m = more (is_image image) p ps in
       let one = counted ps k d (omega arith) (of-image (get_or ps k d) c e) in
       passed-over p ps (failing (is_image image p) m (omega (arith, one, le))) ∙ only-master ps k d c (omega arith) (omega (arith, m, le)) e
+
+  pub only-found : (ps : List Process) (k : ℕ) (d : Process) → k < length ps → count_by (is_image image) ps ≤ 1 → is_some (live_master image (get_or ps k d ∷ [])) ≡ true → live_master image (get_or ps k d ∷ []) ≡ live_master image ps
+  only-found ps k d lt le found = at (live_master image (get_or ps k d ∷ [])) refl found
+    where
+      at : (o : Option Caller) → live_master image (get_or ps k d ∷ []) ≡ o → is_some o ≡ true → live_master image (get_or ps k d ∷ []) ≡ live_master image ps
+      at None e is = absurd (false≢true is)
+      at (Some c) e is = e ∙ sym (only-master ps k d c lt le e)

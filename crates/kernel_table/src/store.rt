@@ -12,7 +12,7 @@ ghost use Rattle.kernel_rows.specs.Places.{bears, IsActiveAt, IsWorkerAt};
 use crate::file_row::FileRow;
 use crate::free_names::FreeNames;
 use crate::lone_names::LoneNames;
-use kernel_rows::{Caller, Edit, Holder, Holders, Row, Stances, WorkerName, holds};
+use kernel_rows::{Caller, Edit, Holders, Row, Stances, WorkerName, holds};
 use listener_set::{Address, DescriptorTable, Generation, Numbers, WORKER_LIMIT};
 use std::alloc::AllocError;
 use vocabulary::{Limits, Stance};
@@ -162,12 +162,10 @@ impl Store {
         ensures caller { option_map (seen_caller self.now.addresses.items) result ≡ live_master image (seen self.now).rows }
         ensures row { IfSome result (λ c. Contains (seen self.now).rows (caller_row self.now.addresses.items c)) }
     {
-        if let Some(holder) = self.holders.get(self.newest) {
-            if let Some(newest) = holder.live_master(image) {
-                return Some(newest);
-            }
+        match self.holders.get(self.newest) {
+            Some(newest) if newest.row.is_live_image(image) => newest.live_master(image),
+            _ => self.live_master(image),
         }
-        self.live_master(image)
     }
 
     /// Whether the number is a live master's.
@@ -381,7 +379,7 @@ impl Store {
             nr: name.nr,
             stance: Stance::Starting,
         };
-        self.holders.push(Holder { row, holds });
+        self.holders.push(row, &holds);
         self.next_process += 1;
         self.free = self.free.without(&self.holders, name);
         self.lone = None;
@@ -402,7 +400,7 @@ impl Store {
             live: true,
         };
         self.newest = self.holders.len();
-        self.holders.push(Holder { row, holds });
+        self.holders.push(row, &holds);
         self.next_process += 1;
         self.lone = None;
     }
@@ -446,7 +444,7 @@ impl Store {
             number: self.next_process as u32,
         };
         self.addresses.push(*address).unwrap();
-        self.holders.push(Holder { row, holds });
+        self.holders.push(row, &holds);
         self.next_process += 1;
         self.lone = None;
     }
