@@ -1,5 +1,5 @@
 //! The processes of a table: a list out of which neighbours leave one after another, and none is moved for it.
-ghost use Rattle.std.specs.Prelude.{◌≡◌, ◌<◌, ◌≤◌, ◌+◌, ◌++◌, ℕ, List, [], ◌∷◌, length, count_by, vec_len, vec_capacity, OnOk, IfOk};
+ghost use Rattle.std.specs.Prelude.{◌≡◌, ◌<◌, ◌≤◌, ◌+◌, ◌++◌, ℕ, List, [], ◌∷◌, length, count_by, get_or, vec_len, vec_capacity, OnOk, IfOk};
 ghost use Rattle.std.specs.List.{filter_map, remove, slice_get};
 ghost use Rattle.std.specs.Option.{option_map};
 ghost use Rattle.definitions.specs.Table.{is_active, is_worker};
@@ -8,6 +8,7 @@ ghost use Rattle.kernel_rows.specs.Gaps.{outside, IsGap};
 ghost use Rattle.kernel_rows.specs.Seen.{seen_holder, seen_rows};
 ghost use Rattle.kernel_rows.specs.Edits.{edited, ChangesActive};
 ghost use Rattle.kernel_rows.specs.Places.{IsActiveAt};
+ghost use Rattle.kernel_rows.specs.declared.process.Holder.{Holder};
 
 use crate::edits::Edit;
 use crate::process::{Holder, Row, Stances, WorkerName};
@@ -128,6 +129,18 @@ impl Holders {
         }
         let behind = &self.slots[self.gap.end..];
         behind.get(place - self.gap.start)
+    }
+
+    /// The process at a place where one is.
+    pub fn at(&self, place: usize) -> &Holder
+        requires { place < length self.now.items }
+        ensures { (d : Holder) → result.now ≡ get_or self.now.items place d }
+    {
+        if place < self.gap.start {
+            return &self.slots[place];
+        }
+        let behind = &self.slots[self.gap.end..];
+        &behind[place - self.gap.start]
     }
 
     /// The processes in their order.

@@ -1,5 +1,5 @@
 //! Processes: what each is, and what it holds.
-ghost use Rattle.std.specs.Prelude.{◌≡◌, ℕ, List, [], ◌∷◌, is_some, IfSome};
+ghost use Rattle.std.specs.Prelude.{◌≡◌, ℕ, List, [], ◌∷◌, is_some, true, Some, IfSome};
 ghost use Rattle.std.specs.Option.{option_map};
 ghost use Rattle.definitions.specs.Table.{Hold, number_of, is_own, is_master, is_named, is_worker, is_live_master, live_master, is_starting, is_ready, is_active, is_draining, is_exited};
 ghost use Rattle.definitions.specs.Calls.{is_of, is_row, is_exited_of, is_image};
@@ -320,6 +320,30 @@ impl Row {
 
 impl Holder {
     ghost use Rattle.kernel_rows.specs.Seen.{seen_holder, seen_caller, caller_row};
+
+    /// The live master of the image, which it is.
+    pub fn caller(&self, with: u32) -> Caller
+        requires { (addresses : List (List ℕ)) → is_some (live_master with (seen_holder addresses self.now ∷ [])) ≡ true }
+        ensures caller { (addresses : List (List ℕ)) → Some (seen_caller addresses result) ≡ live_master with (seen_holder addresses self.now ∷ []) }
+        ensures row { (addresses : List (List ℕ)) → seen_holder addresses self.now ≡ caller_row addresses result }
+    {
+        let holds = self.holds;
+        match self.row {
+            Row::Master {
+                number,
+                parent,
+                image,
+                ..
+            } => Caller {
+                number,
+                parent,
+                image,
+                holds,
+            },
+            Row::Worker { .. } => unreachable!(),
+            Row::Foreign { .. } => unreachable!(),
+        }
+    }
 
     /// The live master of the image, where it is that.
     pub fn live_master(&self, with: u32) -> Option<Caller>

@@ -1,12 +1,14 @@
 -- Live masters among the rows.
-use Rattle.std.proofs.Common.{◌≡◌, ℕ, suc, zero, ◌+◌, ◌<◌, ◌≤◌, Bool, true, false, cond, nat_eq, List, [], ◌∷◌, length, get_or, count_by, Option, Some, None, is_some, ◌&&◌, refl, sym, ap, ◌∙◌, arith}
-use Rattle.std.specs.List.{AllByRecursion, filter_map}
+use Rattle.std.proofs.Common.{◌≡◌, ℕ, suc, zero, ◌+◌, ◌<◌, ◌≤◌, Bool, true, false, cond, nat_eq, List, [], ◌∷◌, length, get_or, count_by, Option, Some, None, is_some, ◌&&◌, ◌||◌, refl, sym, ap, ◌∙◌, arith}
+use Rattle.std.specs.List.{AllByRecursion, filter_map, list_any}
 use Rattle.std.proofs.lemmas.Bool.{false≢true}
 use Rattle.std.proofs.lemmas.Bool.Decides.{nat_tests}
-use Rattle.definitions.specs.Table.{Hold, Process, Master, Worker, Foreign, Caller, caller_if, live_master, number_of, holds_of}
+use Rattle.definitions.specs.Table.{Address, Hold, Process, Master, Worker, Foreign, Caller, caller_if, live_master, number_of, holds_of}
 use Rattle.definitions.specs.Exits.{change, kept_if, without_exited}
 use Rattle.definitions.specs.Calls.{is_row, is_image, with_holds, put_hold}
 use Rattle.definitions.specs.Formed.{IsAscending}
+use Rattle.kernel_rows.specs.declared.process.Holder.{Holder}
+use Rattle.kernel_rows.specs.Seen.{seen_holder, seen_rows}
 use Rattle.kernel_rows.proofs.Lone.{more, passing, failing}
 
 -- ---- a number is one row's
@@ -128,3 +130,22 @@ module _ (image : ℕ) where
       at : (o : Option Caller) → live_master image (get_or ps k d ∷ []) ≡ o → is_some o ≡ true → live_master image (get_or ps k d ∷ []) ≡ live_master image ps
       at None e is = absurd (false≢true is)
       at (Some c) e is = e ∙ sym (only-master ps k d c lt le e)
+
+  not-first : (p : Process) (ps : List Process) → is_some (live_master image (p ∷ [])) ≡ false → live_master image (p ∷ ps) ≡ live_master image ps
+  not-first (Master n q i live hs) ps e = at (live && nat_eq i image) e
+    where
+      at : (b : Bool) → is_some (caller_if b n hs None) ≡ false → caller_if b n hs (live_master image ps) ≡ live_master image ps
+      at true e = absurd (false≢true (sym e))
+      at false e = refl
+  not-first (Worker n q g k s hs) ps e = refl
+  not-first (Foreign n hs) ps e = refl
+
+  pub none-lives : (addresses : List Address) (holders : List Holder) → list_any (λ h. is_some (live_master image (seen_holder addresses h ∷ []))) holders ≡ false → live_master image (seen_rows addresses holders) ≡ None
+  none-lives addresses [] e = refl
+  none-lives addresses (h ∷ holders) e =
+      let parts = or_false (is_some (live_master image (seen_holder addresses h ∷ []))) (list_any (λ x. is_some (live_master image (seen_holder addresses x ∷ []))) holders) e in
+      not-first (seen_holder addresses h) (seen_rows addresses holders) parts.0 ∙ none-lives addresses holders parts.1
+    where
+      or_false : (a b : Bool) → (a || b) ≡ false → (a ≡ false) × (b ≡ false)
+      or_false true b z = absurd (false≢true (sym z))
+      or_false false b z = (refl, z)

@@ -7,7 +7,7 @@ ghost use Rattle.definitions.specs.Calls.{is_image, has_process_room, lowest_fre
 ghost use Rattle.definitions.specs.Exits.{kept_if, draining_exits};
 ghost use Rattle.kernel_rows.specs.Seen.{seen_rows, has_stance};
 ghost use Rattle.kernel_rows.specs.Edits.{edited, ChangesActive};
-ghost use Rattle.kernel_rows.specs.Places.{bears, IsActiveAt, IsWorkerAt};
+ghost use Rattle.kernel_rows.specs.Places.{bears, IsActiveAt, IsLiveAt, IsWorkerAt};
 
 use crate::file_row::FileRow;
 use crate::free_names::FreeNames;
@@ -155,17 +155,29 @@ impl Store {
         None
     }
 
-    /// The live master of an image, of which there is one at most. It is looked for where the newest master was put, and
-    /// then everywhere.
+    /// The place of the live master of an image. It is looked for where the newest master was put, and then everywhere.
+    fn caller_place(&self, image: u32) -> Option<usize>
+        ensures found { IfSome result (IsLiveAt self.now.holders.items image) }
+        ensures none { result ≡ None → live_master image (seen self.now).rows ≡ None }
+    {
+        if self.newest < self.holders.len()
+            && self.holders.at(self.newest).row.is_live_image(image)
+        {
+            return Some(self.newest);
+        }
+        self.holders
+            .iter()
+            .position(|holder| holder.row.is_live_image(image))
+    }
+
+    /// The live master of an image, of which there is one at most.
     pub fn caller(&self, image: u32) -> Option<Caller>
         requires { IsKept (seen self.now) }
         ensures caller { option_map (seen_caller self.now.addresses.items) result ≡ live_master image (seen self.now).rows }
         ensures row { IfSome result (λ c. Contains (seen self.now).rows (caller_row self.now.addresses.items c)) }
     {
-        match self.holders.get(self.newest) {
-            Some(newest) if newest.row.is_live_image(image) => newest.live_master(image),
-            _ => self.live_master(image),
-        }
+        let place = self.caller_place(image)?;
+        Some(self.holders.at(place).caller(image))
     }
 
     /// Whether the number is a live master's.
