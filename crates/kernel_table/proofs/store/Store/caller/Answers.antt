@@ -33,8 +33,7 @@ returns-clause-row c =
     let place = c.in_ok-place.place in
     let h = c.at.result.now in
     let mine = caller_row addresses c.caller.result in
-    let found = c.in_ok-place.ensures.found in
-    (
+    let found = c.in_ok-place.ensures.found in (
       place,
       omega (arith, found.there, length-map s.holders.items (seen_holder addresses)),
       get_or-map (seen_holder addresses) s.holders.items place h mine found.there ∙ ap (seen_holder addresses) (sym (c.at.ensures h)) ∙ c.caller.ensures.row addresses,
