@@ -86,6 +86,12 @@ fn a_start_has_a_master_and_ready_workers(rt: HostRuntime) -> Result<(), Fail> {
     assert_eq!(rt; kernel.row(1), worker(101, FIRST, 0, Stance::Ready));
     assert_eq!(rt; kernel.row(2), worker(102, FIRST, 1, Stance::Ready));
     assert_eq!(rt; kernel.row(3), None);
+    Ok(())
+}
+
+#[test]
+fn a_start_has_holds_and_a_pid_file(rt: HostRuntime) -> Result<(), Fail> {
+    let kernel = started(rt.alloc(), 2, 3)?;
     let hold = kernel.hold(2).ok_or("the last worker's hold")?;
     assert_eq!(rt; (hold.process, hold.descriptor, hold.socket), (102, 3, 1));
     assert_eq!(rt; hold.address.bytes(), b"0.0.0.0:8080".as_slice());
@@ -94,6 +100,11 @@ fn a_start_has_a_master_and_ready_workers(rt: HostRuntime) -> Result<(), Fail> {
     assert_eq!(rt; file.path.bytes(), b"/run/app.pid".as_slice());
     assert_eq!(rt; file.owner, 100);
     assert!(rt; kernel.file(1).is_none());
+    Ok(())
+}
+
+#[test]
+fn a_start_is_served_by_its_workers(rt: HostRuntime) -> Result<(), Fail> {
     for (workers, wanted) in [(0, None), (2, Some((FIRST, 2)))] {
         let service = started(rt.alloc(), workers, 3)?.service()?;
         assert_eq!(rt; service.address(0), Some(Address::plain()));
