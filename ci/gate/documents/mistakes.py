@@ -75,7 +75,7 @@ MISTAKES = (
     Mistake("screens", "tests/cases/help_of_enact/stdout", "Control words,", 80 * "word ", "more than 80"),
     Mistake("versions", "docs/prefork-plan.1", "prefork 0.", "prefork 9.", "docs/prefork-plan.1: the version is 9."),
     Mistake("versions", "service/man/prefork-wsgi.1", "prefork 0.", "prefork 9.", "prefork-wsgi.1: the version is 9."),
-    Mistake("versions", "docs/PROVED.md", "`rattle-kit-", "`rattle-kit-9", "the toolchain is rattle-kit-9"),
+    Mistake("versions", "docs/PROVED.md", " logic d", " logic 9d", "the toolchain has logic 9d"),
     Mistake("versions", "CHANGELOG.md", "## 0.2.0 (", "## 9.9.9 (", "not 9.9.9"),
     Mistake("words", "README.md", "Status 0: the new service runs.", "Status 0: what it came to.", "came to"),
     Mistake("words", "service/man/prefork-ctl.1", "prints who runs", "prints whoever runs", "whoever"),

@@ -11,22 +11,22 @@ SECONDS = 180
 NEWEST = re.compile(r"^## (\d+\.\d+\.\d+) \(\d{4}-\d\d-\d\d\)$", re.M)
 HEAD = re.compile(r'^\.TH \S+ [15] \d{4}-\d\d-\d\d "prefork ([^"]*)"', re.M)
 README = re.compile(r"\bPrefork (\d+\.\d+\.\d+)\b")
-# The toolchain with which all was proved and built.
-KIT = re.compile(r"`(rattle-kit-\S+ logic [0-9a-f]+)`")
+# The toolchain with which all was proved and built. Kits of one logic judge proofs alike.
+KIT = re.compile(r"`rattle-kit-\S+ (logic [0-9a-f]+)`")
 KIT_PAGES = ("README.md", "docs/PROVED.md")
 
 
 @functools.cache
-def kit() -> str | None:
-    """What `rt version` prints; None without that command."""
+def logic() -> str | None:
+    """The logic that `rt version` prints; None without that command."""
     if not shutil.which("rt"):
         return None
     ended = subprocess.run(["rt", "version"], stdin=subprocess.DEVNULL, capture_output=True, text=True, timeout=SECONDS)
-    return ended.stdout.strip()
+    return ended.stdout.strip().partition(" ")[2]
 
 
 def faults(tree: Tree) -> Iterator[str]:
-    """Pages of another version than the newest section of the changes, or of none, and of another toolchain."""
+    """Pages of another version than the newest section of the changes, or of none, and of another logic."""
     newest = NEWEST.search(tree.text("CHANGELOG.md"))
     if not newest:
         yield "CHANGELOG.md: no section of a version with its date"
@@ -39,5 +39,5 @@ def faults(tree: Tree) -> Iterator[str]:
             yield f"{path}: the version is {found[1] if found else 'missing'}, and not {newest[1]}"
     for path in KIT_PAGES:
         named = set(KIT.findall(tree.text(path)))
-        if len(named) != 1 or kit() not in (None, *named):
-            yield f"{path}: the toolchain is {', '.join(sorted(named)) or 'missing'}, and not {kit()}"
+        if len(named) != 1 or logic() not in (None, *named):
+            yield f"{path}: the toolchain has {', '.join(sorted(named)) or 'no logic'}, and not {logic()}"

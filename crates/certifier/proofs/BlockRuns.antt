@@ -8,8 +8,8 @@ use Rattle.kernel_model.specs.State.{State}
 use Rattle.word_runner.specs.declared.block.Block.{Block}
 use Rattle.word_runner.specs.declared.standing.Standing.{Standing}
 use Rattle.kernel_pattern.specs.declared.section.Section.{Section}
-use Rattle.certifier.specs.declared.mismatch.Mismatch.{Mismatch}
-use Rattle.certifier.specs.declared.mismatch.Mismatch.TheVariants as mismatch
+use Rattle.mismatches.specs.declared.Mismatch.{Mismatch}
+use Rattle.mismatches.specs.declared.Mismatch.TheVariants as mismatch
 use Rattle.certifier.specs.Blocks.{IsTaken, IsFault, AreTaken, StopsAtBlock, LeadsUpTo}
 
 pub taken-more : (settings : Option Settings) (bs : List Block) (old : Standing State) (ps : List Section) (middle : Standing State) (b : Block) (p : Section) (new : Standing State) →

@@ -12,7 +12,7 @@ use Rattle.kernel_model.specs.State.{State}
 use Rattle.kernel_model.specs.Pattern.{moment_at}
 use Rattle.plan_executor.specs.Lawful.{IsWholeRun}
 use Rattle.plan_executor.specs.Merged.{ActsApart}
-use Rattle.certifier.specs.declared.mismatch.Mismatch.{Mismatch}
+use Rattle.mismatches.specs.declared.Mismatch.{Mismatch}
 use Rattle.certifier.specs.declared.replay.Certificate.{Certificate}
 use Rattle.certifier.specs.Places.{Holds, IsLed}
 use Rattle.certifier.specs.Explained.{IsReady}

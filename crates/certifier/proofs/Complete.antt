@@ -22,11 +22,12 @@ use Rattle.plan_executor.specs.Refusals.{HasPlan}
 use Rattle.plan_executor.specs.declared.enactment.EnactRefusal.{EnactRefusal}
 use Rattle.plan_executor.specs.declared.enactment.EnactRefusal.TheVariants as refusal
 use Rattle.plan_executor.proofs.Running.{behind}
-use Rattle.certifier.specs.declared.mismatch.Mismatch.{Mismatch}
-use Rattle.certifier.specs.declared.mismatch.Mismatch.TheVariants as mismatch
+use Rattle.mismatches.specs.declared.Mismatch.{Mismatch}
+use Rattle.mismatches.specs.declared.Mismatch.TheVariants as mismatch
 use Rattle.certifier.specs.Shown.{moment_shown, stepped_at}
 use Rattle.certifier.specs.Places.{AreNext}
-use Rattle.certifier.specs.Explained.{trail_by, IsExplainedBy, IsMismatch, mismatch_of}
+use Rattle.certifier.specs.Explained.{trail_by, IsExplainedBy, IsMismatch}
+use Rattle.plan_executor.specs.Codes.{mismatch_of}
 use Rattle.certifier.specs.Certified.{faults_alone, IsFaultyRun}
 use Rattle.certifier.proofs.Faults.{shown-again}
 use Rattle.certifier.proofs.Explaining.{begins, is-explained}

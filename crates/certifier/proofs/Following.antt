@@ -22,8 +22,8 @@ use Rattle.certifier.specs.Certified.{HasEnacted}
 use Rattle.certifier.specs.Blocks.{IsFollowed, IsRunFault, IsRunFaultOf}
 use Rattle.certifier.specs.Explained.{IsMismatch}
 use Rattle.certifier.specs.declared.replay.Certificate.{Certificate}
-use Rattle.certifier.specs.declared.mismatch.Mismatch.{Mismatch}
-use Rattle.certifier.specs.declared.mismatch.Mismatch.TheVariants as mismatch
+use Rattle.mismatches.specs.declared.Mismatch.{Mismatch}
+use Rattle.mismatches.specs.declared.Mismatch.TheVariants as mismatch
 use Rattle.certifier.proofs.Matching.{IsExact}
 
 ---- What is certified is what is carried out

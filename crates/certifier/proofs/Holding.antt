@@ -10,8 +10,8 @@ use Rattle.kernel_model.specs.State.{State}
 use Rattle.kernel_pattern.specs.declared.section.Section.{Section}
 use Rattle.certifier.specs.declared.replay.Replay.{Replay}
 use Rattle.certifier.specs.declared.replay.Certificate.{Certificate}
-use Rattle.certifier.specs.declared.mismatch.Mismatch.{Mismatch}
-use Rattle.certifier.specs.declared.mismatch.Mismatch.TheVariants as mismatch
+use Rattle.mismatches.specs.declared.Mismatch.{Mismatch}
+use Rattle.mismatches.specs.declared.Mismatch.TheVariants as mismatch
 use Rattle.certifier.specs.Turns.{IsTrimmed, used_in}
 use Rattle.certifier.specs.Places.{Place, Start, place_at, place_under, place_after_all, trail_to, AreNext, AreNextUnder, IsPathUnder, HasTaken, EndsWell, EndsBadly, StopsBy, Shows, Holds, IsLed, FailsBy}
 use Rattle.certifier.proofs.Explaining.{next-trail}

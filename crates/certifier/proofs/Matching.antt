@@ -28,11 +28,12 @@ use Rattle.std.proofs.lemmas.Option.{none-some}
 use Rattle.plan_executor.proofs.Reporting.{whole-run}
 use Rattle.plan_executor.specs.Lawful.{IsWholeRun}
 use Rattle.plan_executor.specs.Merged.{ActsApart}
-use Rattle.certifier.specs.declared.mismatch.Mismatch.{Mismatch}
-use Rattle.certifier.specs.declared.mismatch.Mismatch.TheVariants as mismatch
+use Rattle.mismatches.specs.declared.Mismatch.{Mismatch}
+use Rattle.mismatches.specs.declared.Mismatch.TheVariants as mismatch
 use Rattle.certifier.specs.Shown.{moments_shown}
 use Rattle.certifier.specs.Places.{AreNext, place_after_all, place_under, AreShown, Shows, StopsBy, Holds, FailsBy}
-use Rattle.certifier.specs.Explained.{trail_by, IsExplainedBy, IsExplained, IsReady, IsUnready, IsStrange, IsNoBeginning, IsMismatch, mismatch_of}
+use Rattle.certifier.specs.Explained.{trail_by, IsExplainedBy, IsExplained, IsReady, IsUnready, IsStrange, IsNoBeginning, IsMismatch}
+use Rattle.plan_executor.specs.Codes.{mismatch_of}
 use Rattle.certifier.specs.Certified.{AreTurnsOf, IsBeginning, IsCertified, EnactsSo}
 use Rattle.certifier.proofs.Asking.{not-lost}
 use Rattle.certifier.proofs.Steps.{next-front}

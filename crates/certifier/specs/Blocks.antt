@@ -20,8 +20,8 @@ use Rattle.word_runner.specs.declared.standing.Standing.{Standing}
 use Rattle.word_runner.specs.Words.{HasRun}
 use Rattle.kernel_pattern.specs.declared.section.Section.{Section}
 use Rattle.plan_executor.specs.Words.{quiet_section, EnactsAt}
-use Rattle.certifier.specs.declared.mismatch.Mismatch.{Mismatch}
-use Rattle.certifier.specs.declared.mismatch.Mismatch.TheVariants as mismatch
+use Rattle.mismatches.specs.declared.Mismatch.{Mismatch}
+use Rattle.mismatches.specs.declared.Mismatch.TheVariants as mismatch
 use Rattle.certifier.specs.Certified.{IsCertified}
 use Rattle.certifier.specs.Explained.{IsMismatch}
 

@@ -12,11 +12,9 @@ use Rattle.definitions.specs.Run.{Pattern, Replays}
 use Rattle.definitions.specs.Claims.{heirs_of, refused_among}
 use Rattle.kernel_model.specs.Room.{LacksNumbers}
 use Rattle.plan_executor.specs.Refusals.{HasPlan}
-use Rattle.plan_executor.specs.declared.enactment.EnactRefusal.{EnactRefusal}
-use Rattle.plan_executor.specs.declared.enactment.EnactRefusal.TheVariants as refusal
 use Rattle.certifier.specs.Shown.{moments_shown, pattern_of}
-use Rattle.certifier.specs.declared.mismatch.Mismatch.{Mismatch}
-use Rattle.certifier.specs.declared.mismatch.Mismatch.TheVariants as mismatch
+use Rattle.mismatches.specs.declared.Mismatch.{Mismatch}
+use Rattle.mismatches.specs.declared.Mismatch.TheVariants as mismatch
 
 -- The pattern that the entries of a target show.
 abbrev pub pattern_shown : Table → Record → Target → List Entry → Pattern
@@ -44,11 +42,6 @@ abbrev pub IsExplained : Table → Record → Target → List Entry → Type 0
 IsExplained t r target entries = (turns : List Turn) × IsExplainedBy t r target turns entries
 
 ---- What is wrong
-
--- a refusal to enact, as a mismatch
-abbrev pub mismatch_of : EnactRefusal → Mismatch
-mismatch_of refusal.Memory = mismatch.Memory
-mismatch_of _ = mismatch.Refused
 
 -- The target could be carried out: the record agrees, there is a plan, and numbers suffice.
 pub record IsReady (t : Table) (r : Record) (target : Target) : Type 0 where

@@ -2,6 +2,5 @@ pub mod Shown
 pub mod Turns
 pub mod Places
 pub mod Explained
-pub mod Codes
 pub mod Certified
 pub mod Blocks

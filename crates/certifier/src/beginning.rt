@@ -5,11 +5,11 @@ ghost use Rattle.kernel_pattern.specs.declared.section.Section.{Section as Shown
 ghost use Rattle.plan_executor.specs.Refusals.{IsPlannable};
 ghost use Rattle.certifier.specs.Explained.{IsNoBeginning};
 ghost use Rattle.certifier.specs.Certified.{IsBeginning};
-ghost use Rattle.certifier.specs.declared.mismatch.Mismatch.{Mismatch as Why};
+ghost use Rattle.mismatches.specs.declared.Mismatch.{Mismatch as Why};
 
 use crate::certification::replay_all;
-use crate::mismatch::Mismatch;
 use kernel_model::{Kernel, Section};
+use mismatches::Mismatch;
 use plan_executor::{agrees, heir_of, plan_of, reserved_copy};
 use plan_walk::Transcript;
 use service_state::Record;

@@ -4,12 +4,12 @@ ghost use Rattle.std.specs.Option.{option_copied};
 ghost use Rattle.word_runner.specs.Asking.{IsPossible, IsActOn};
 ghost use Rattle.certifier.specs.Blocks.{asked_at, IsIdle, IsFollowed, IsTaken, IsRunFaultOf, IsFault, AreTaken, StopsAtBlock, LeadsUpTo};
 ghost use Rattle.plan_executor.specs.Words.{quiet_section};
-ghost use Rattle.certifier.specs.declared.mismatch.Mismatch.{Mismatch as Why};
+ghost use Rattle.mismatches.specs.declared.Mismatch.{Mismatch as Why};
 
 use crate::certification::certificate;
-use crate::mismatch::Mismatch;
 use control_words::Word;
 use kernel_model::{Kernel, Section};
+use mismatches::Mismatch;
 use plan_executor::record_left;
 use plan_walk::Transcript;
 use service_state::Record;

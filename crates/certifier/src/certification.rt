@@ -7,11 +7,11 @@ ghost use Rattle.plan_executor.specs.Refusals.{IsPlannable};
 ghost use Rattle.certifier.specs.Places.{planned_start, HasTaken, StopsBy};
 ghost use Rattle.certifier.specs.Explained.{IsMismatch};
 ghost use Rattle.certifier.specs.Certified.{IsCertified, HasEnacted, EnactsSo, IsFaultyRun};
-ghost use Rattle.certifier.specs.declared.mismatch.Mismatch.{Mismatch as Why};
+ghost use Rattle.mismatches.specs.declared.Mismatch.{Mismatch as Why};
 
-use crate::mismatch::Mismatch;
 use crate::replay::{Certificate, Replay};
 use kernel_model::{Kernel, Section};
+use mismatches::Mismatch;
 use plan_executor::{agrees, ends_as_reported, heir_of, plan_of, reserved_copy};
 use plan_walk::Transcript;
 use rollback_plan::Plan;

@@ -4,7 +4,6 @@
 mod beginning;
 mod blocks;
 mod certification;
-mod mismatch;
 mod replay;
 mod sameness;
 mod showing;
@@ -13,4 +12,4 @@ mod turns_used;
 pub use beginning::certify_beginning;
 pub use blocks::{BlockMismatch, certify_block, certify_blocks};
 pub use certification::certify;
-pub use mismatch::Mismatch;
+pub use mismatches::Mismatch;

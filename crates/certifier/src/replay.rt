@@ -7,11 +7,11 @@ ghost use Rattle.plan_walk.specs.Walk.{trail_under, sides_in, IsTurnOf};
 ghost use Rattle.plan_executor.specs.Naming.{listed};
 ghost use Rattle.certifier.specs.Places.{start_of, planned_start, EndsBadly, EndsWell, HasRoom, HasTaken, IsNextFor, IsTaken};
 
-use crate::mismatch::Mismatch;
 use crate::sameness::{is_same_answer, is_same_call, is_same_report};
 use crate::showing::show;
 use crate::turns_used::TurnsUsed;
 use kernel_model::{Kernel, Pattern, Section};
+use mismatches::Mismatch;
 use plan_executor::{executing_after, names_executing};
 use plan_walk::Walk;
 use rollback_plan::Plan;

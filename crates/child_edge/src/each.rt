@@ -8,7 +8,6 @@ ghost use Rattle.child_edge.specs.Table.{Turn};
 ghost use Rattle.child_workers.specs.declared.worker.Worker.{Worker as Listed};
 ghost use Rattle.child_edge.specs.Turns.{Begins, Finds, GoesOn};
 
-use crate::hearing::hears_line;
 use child_family::{Family, Heard, beat_start};
 use child_workers::{Who, Worker};
 use listener_set::Numbers;
@@ -41,11 +40,15 @@ fn is_there<F: Family>(family: &mut F, id: u32) -> bool
     ensures { (yes no : Turn)
         → GoesOn (F.told family.old) (F.told family.new) (hears id (λ h. if is_line (codes "pong") h then yes else stops id no)) (if result then yes else no) }
 {
-    if hears_line(family, id, b"pong") {
-        return true;
+    let mut line = Line::new();
+    let is_there = match family.hear(id, &mut line) {
+        Heard::Line => line.bytes() == b"pong".as_slice(),
+        Heard::TooLong | Heard::Ended => false,
+    };
+    if !is_there {
+        family.stop(id);
     }
-    family.stop(id);
-    false
+    is_there
 }
 
 /// Hears each worker that is meant, in order. One that does not say `pong` is stopped at once and taken out.

@@ -13,7 +13,7 @@ ghost use Rattle.child_edge.specs.Turns.{GoesOn};
 
 use crate::each::{beat_each, say_each};
 use crate::state::EdgeState;
-use crate::{own, passing};
+use crate::{calling, passing};
 use child_family::{Family, tick_line};
 use child_workers::{Who, Worker};
 use handover_text::Handover;
@@ -213,22 +213,6 @@ fn tick<F: Family>(family: &mut F, state: &mut EdgeState, now: u64) -> Numbers
     beat_each(family, &mut state.workers, now)
 }
 
-/// Makes a call: of the edge's own image, or by its child master.
-fn make<F: Family>(family: &mut F, state: &mut EdgeState, by: Actor, call: &Call) -> Answer
-    requires { vec_len state.old.workers < vec_capacity state.old.workers }
-    ensures turn { GoesOn (F.told family.old) (F.told family.new) (turn_of (state_of state.old) by call.now) (answers (state_of state.new) result) }
-    ensures listed { IsTrue (is_listed call.now result) }
-    ensures spare { vec_capacity state.old.workers - vec_len state.old.workers ≤ (vec_capacity state.new.workers - vec_len state.new.workers) + 1 }
-{
-    if by.0 != state.image {
-        return passing::pass(family, state, by, call);
-    }
-    if state.left {
-        return Answer::MasterGone;
-    }
-    own::make(family, state, call)
-}
-
 impl<F: Family + Drop> Calls for Edge<F> {
     ghost room = { λ e. e.room };
 
@@ -250,6 +234,6 @@ impl<F: Family + Drop> Calls for Edge<F> {
             → CallsHeld told (F.told self.new.family) first (entries ++ (record { by = by; call = call.now; answer = result }) ∷ []) (state_of self.new.state) }
     {
         self.room -= 1;
-        make(&mut self.family, &mut self.state, by, call)
+        calling::make(&mut self.family, &mut self.state, by, call)
     }
 }

@@ -1,13 +1,12 @@
 //! The calls of a plan, made on real children.
 #![tactic(auto)]
 
+mod calling;
 mod each;
 mod edge;
 mod files;
-mod hearing;
 mod listening;
 mod masters;
-mod own;
 mod passing;
 mod saying;
 mod starting;

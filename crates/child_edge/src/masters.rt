@@ -8,11 +8,11 @@ ghost use Rattle.child_edge.specs.State.{state_of};
 ghost use Rattle.child_edge.specs.Table.{Turn, answers, spawning, living, terminating};
 ghost use Rattle.child_edge.specs.Turns.{GoesOn};
 
-use crate::hearing::hears_line;
 use crate::saying::say_text;
 use crate::state::{ChildMaster, EdgeState};
-use child_family::{Family, Role, StartFault};
+use child_family::{Family, Heard, Role, StartFault};
 use child_workers::drop_id;
+use plain_text::Line;
 use vocabulary::Answer;
 
 /// Starts a master, and says the lines of the handover to it. Where there is a child master the family is not asked.
@@ -41,7 +41,14 @@ fn answers_alive<F: Family>(family: &mut F, id: u32) -> bool
     ensures { (yes no : Turn) → GoesOn (F.told family.old) (F.told family.new)
         (says id (codes "alive") (λ ok. if ok then hears id (λ h. if is_line (codes "alive") h then yes else no) else no)) (if result then yes else no) }
 {
-    family.say(id, b"alive") && hears_line(family, id, b"alive")
+    if !family.say(id, b"alive") {
+        return false;
+    }
+    let mut line = Line::new();
+    match family.hear(id, &mut line) {
+        Heard::Line => line.bytes() == b"alive".as_slice(),
+        Heard::TooLong | Heard::Ended => false,
+    }
 }
 
 /// Asks whether the child master of an image lives; one that does not say so is stopped.

@@ -74,16 +74,6 @@ impl LineBuffer {
         if self.drops {
             self.drop_rest();
         }
-        self.take_first(line)
-    }
-
-    fn take_first(&mut self, line: &mut Line) -> Option<Heard>
-        ensures told { option_map (λ h. heard_of h line.new) result ≡ told_first self.old }
-        ensures left { self.new ≡ left_first self.old }
-        ensures room { IsNone result → length self.new.bytes < 4097 }
-        ensures whole { IfSome result (λ h. h ≢ Ended) }
-        ensures fits { length self.old.bytes ≤ 4097 }
-    {
         match newline_in(&self.bytes[..self.filled]) {
             Some(at) => {
                 keep(line, &self.bytes[..at]);

@@ -201,22 +201,6 @@ where
         self.children.len()
     }
 
-    /// Starts a child, with the place for it taken beforehand.
-    fn start_at_free(&mut self, role: &Role) -> io::Result<u32> {
-        self.children.reserve(1)?;
-        let place = self.free_place();
-        let Ok(id) = u32::try_from(place) else {
-            return Err(io::Error::from(ErrorKind::WouldBlock));
-        };
-        let open = self.spawn(role)?;
-        if place < self.children.len() {
-            self.children[place] = Some(open);
-        } else {
-            self.children.push(Some(open))?;
-        }
-        Ok(id)
-    }
-
     fn open_mut(&mut self, id: u32) -> Option<&mut Open<R::Started>> {
         self.children.get_mut(id as usize)?.as_mut()
     }
@@ -333,7 +317,20 @@ where
 {
     fn start(&mut self, role: &Role) -> Result<u32, StartFault> {
         self.reap_all();
-        self.start_at_free(role).map_err(|error| fault_of(&error))
+        if self.children.reserve(1).is_err() {
+            return Err(StartFault::NoMemory);
+        }
+        let place = self.free_place();
+        let Ok(id) = u32::try_from(place) else {
+            return Err(StartFault::Again);
+        };
+        let open = self.spawn(role).map_err(|error| fault_of(&error))?;
+        if place < self.children.len() {
+            self.children[place] = Some(open);
+        } else if self.children.push(Some(open)).is_err() {
+            return Err(StartFault::NoMemory);
+        }
+        Ok(id)
     }
 
     fn say(&mut self, id: u32, line: &[u8]) -> bool {

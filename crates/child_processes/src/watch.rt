@@ -2,12 +2,11 @@
 use crate::limits::{ChildLimits, Debt, RoleText, owed};
 use crate::patience::{Patience, Wait};
 use crate::reader::LineReader;
-use crate::writing::{write_in_time, write_line};
+use crate::writing::{whole_line, write_in_time};
 use child_family::{Heard, Role};
 use log::{Log, info};
-use plain_text::Line;
-use std::io;
-use std::io::ErrorKind;
+use plain_text::{LINE_BYTES, Line};
+use std::io::{ErrorKind, Write};
 use std::process::{Child, OpenProcess};
 use std::time::{Clock, Duration};
 
@@ -42,15 +41,6 @@ fn last_debt(role: &Role) -> Debt {
         Role::Worker { .. } => Debt::End,
         Role::Master { .. } => Debt::Call,
     }
-}
-
-/// Hears the next line of a child, however long that takes.
-fn hear_whole<P: OpenProcess + Drop>(
-    open: &mut Open<P>,
-    line: &mut Line,
-) -> io::Result<Option<Heard>> {
-    let heard = open.heard.hear(line)?;
-    Ok(Some(heard))
 }
 
 /// A master's waits for its children. Time that it waits for one counts for all: several that hang share one limit.
@@ -96,9 +86,13 @@ impl<R: Clock + Drop, L: Log + Drop> Watch<R, L> {
         let Some(stdin) = open.child.stdin.as_mut() else {
             return false;
         };
+        let mut room = [0u8; LINE_BYTES + 1];
+        let Ok(whole) = whole_line(&mut room, line) else {
+            return false;
+        };
         let is_said = match self.patience(Debt::Room, since) {
-            Some(mut patience) => write_in_time(stdin, line, &mut patience, wait),
-            None => write_line(stdin, line),
+            Some(mut patience) => write_in_time(stdin, whole, &mut patience, wait),
+            None => stdin.write_all(whole),
         };
         open.asked = self.waited;
         match is_said {
@@ -122,7 +116,7 @@ impl<R: Clock + Drop, L: Log + Drop> Watch<R, L> {
         let wait = Wait::ToRead(open.said_at);
         let heard = match self.patience(debt, open.asked) {
             Some(mut patience) => open.heard.hear_in_time(line, &mut patience, wait),
-            None => hear_whole(open, line),
+            None => open.heard.hear(line).map(Some),
         };
         open.has_spoken = true;
         match heard {

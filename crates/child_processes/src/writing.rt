@@ -8,7 +8,10 @@ use std::time::Clock;
 use std::{fs, io, str};
 
 /// Puts a line and its newline in one piece.
-fn whole_line<'a>(room: &'a mut [u8; LINE_BYTES + 1], line: &[u8]) -> io::Result<&'a [u8]> {
+pub(crate) fn whole_line<'a>(
+    room: &'a mut [u8; LINE_BYTES + 1],
+    line: &[u8],
+) -> io::Result<&'a [u8]> {
     if line.len() > LINE_BYTES {
         return Err(io::Error::from(ErrorKind::InvalidInput));
     }
@@ -17,22 +20,15 @@ fn whole_line<'a>(room: &'a mut [u8; LINE_BYTES + 1], line: &[u8]) -> io::Result
     Ok(&room[..line.len() + 1])
 }
 
-/// Writes a line and its newline in one piece.
-pub(crate) fn write_line<W: Write>(to: &mut W, line: &[u8]) -> io::Result<()> {
-    let mut room = [0u8; LINE_BYTES + 1];
-    to.write_all(whole_line(&mut room, line)?)
-}
-
-/// Writes a line and its newline to a pipe that does not wait. Where there is no room for too long, it is refused with
-/// `WouldBlock`; a part of the line may have been written then.
+/// Writes a whole line to a pipe that does not wait. Where there is no room for too long, it is refused with `WouldBlock`;
+/// a part of the line may have been written then.
 pub(crate) fn write_in_time<W: Write, R: Clock>(
     to: &mut W,
     line: &[u8],
     patience: &mut Patience<'_, R>,
     wait: Wait,
 ) -> io::Result<()> {
-    let mut room = [0u8; LINE_BYTES + 1];
-    let mut left = whole_line(&mut room, line)?;
+    let mut left = line;
     for _ in 0..u64::MAX {
         if left.is_empty() {
             return Ok(());

@@ -1,3 +1,2 @@
-mod Chains
 mod Simple
 mod Values

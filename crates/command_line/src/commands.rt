@@ -1,6 +1,6 @@
 //! The program and its subcommands, as `clap` has them.
 ghost use Rattle.std.specs.Prelude.{◌≡◌, IfOk, false};
-ghost use Rattle.clap.specs.Words.{app_of, rule_of};
+ghost use Rattle.clap.specs.Words.{app_of, rule_of, with_rule};
 ghost use Rattle.clap.specs.declared.builder.command.Command.TheViews.{out-Command};
 ghost use Rattle.command_line.specs.Arguments.{adopt_app, bare_app, certify_app, check_app, child_app, code_rule, enact_app, explain_app, explore_app, flag_rule, option_rule, plan_app, prefork_app, program_rule, required_rule, several_rule, supervise_app, with_answer, with_children, with_demands, with_family, with_files, with_limits, with_readers, with_list, with_runs, with_start, with_words, word_rule, words_rule};
 
@@ -74,10 +74,10 @@ fn enact<'a>(alloc: Global) -> Result<Command<'a>, AllocError>
     let command = Command::new(alloc, "enact")
         .about("Carry out control words on a modelled kernel")
         .after_help(ENACT_NOTES);
-    with_answer(alloc, command)?
-        .arg(option(alloc, "held", "ADDRESS", HELD_HELP))?
-        .arg(flag(alloc, "state", STATE_HELP))?
-        .arg(words(alloc))
+    let command = with_answer(alloc, command)?;
+    let command = with_option(alloc, command, "held", "ADDRESS", HELD_HELP)?;
+    let command = with_flag(alloc, command, "state", STATE_HELP)?;
+    with_argument(command, words(alloc))
 }
 
 fn plan<'a>(alloc: Global) -> Result<Command<'a>, AllocError>
@@ -87,9 +87,9 @@ fn plan<'a>(alloc: Global) -> Result<Command<'a>, AllocError>
     let command = Command::new(alloc, "plan")
         .about("Print the plan of a control word")
         .after_help(PLAN_NOTES);
-    with_answer(alloc, command)?
-        .arg(flag(alloc, "dot", DOT_HELP))?
-        .arg(word(alloc))
+    let command = with_answer(alloc, command)?;
+    let command = with_flag(alloc, command, "dot", DOT_HELP)?;
+    with_argument(command, word(alloc))
 }
 
 fn explore<'a>(alloc: Global) -> Result<Command<'a>, AllocError>
@@ -100,7 +100,7 @@ fn explore<'a>(alloc: Global) -> Result<Command<'a>, AllocError>
         .about("Count how a control word can end")
         .after_help(EXPLORE_NOTES);
     let command = with_runs(alloc, with_list(alloc, command)?)?;
-    with_demands(alloc, command)?.arg(word(alloc))
+    with_argument(with_demands(alloc, command)?, word(alloc))
 }
 
 /// The options of each subcommand that starts a master beside somebody else, `--list`
@@ -110,10 +110,10 @@ fn with_list<'a>(alloc: Global, command: Command<'a>) -> Result<Command<'a>, All
     ensures app { IfOk result (λ more. app_of more ≡ with_list (app_of command.entry)) }
     ensures own { IfOk result (λ more. (out-Command more).has_globals ≡ false) }
 {
-    with_answer(alloc, command)?
-        .arg(option(alloc, "held", "ADDRESS", HELD_HELP))?
-        .arg(flag(alloc, "list", LIST_HELP))?
-        .arg(flag(alloc, "progress", PROGRESS_HELP))
+    let command = with_answer(alloc, command)?;
+    let command = with_option(alloc, command, "held", "ADDRESS", HELD_HELP)?;
+    let command = with_flag(alloc, command, "list", LIST_HELP)?;
+    with_flag(alloc, command, "progress", PROGRESS_HELP)
 }
 
 /// The options that say which runs are tried, and how none may end.
@@ -122,11 +122,10 @@ fn with_runs<'a>(alloc: Global, command: Command<'a>) -> Result<Command<'a>, All
     ensures app { IfOk result (λ more. app_of more ≡ with_runs (app_of command.entry)) }
     ensures own { IfOk result (λ more. (out-Command more).has_globals ≡ false) }
 {
-    command
-        .arg(option(alloc, "events", "K", EVENTS_HELP))?
-        .arg(option(alloc, "turns", "TEXT", TURNS_HELP))?
-        .arg(option(alloc, "limit", "N", LIMIT_HELP))?
-        .arg(option(alloc, "forbid", "END", FORBID_HELP))
+    let command = with_option(alloc, command, "events", "K", EVENTS_HELP)?;
+    let command = with_option(alloc, command, "turns", "TEXT", TURNS_HELP)?;
+    let command = with_option(alloc, command, "limit", "N", LIMIT_HELP)?;
+    with_option(alloc, command, "forbid", "END", FORBID_HELP)
 }
 
 /// The options that say what is demanded of the runs.
@@ -135,9 +134,8 @@ fn with_demands<'a>(alloc: Global, command: Command<'a>) -> Result<Command<'a>, 
     ensures app { IfOk result (λ more. app_of more ≡ with_demands (app_of command.entry)) }
     ensures own { IfOk result (λ more. (out-Command more).has_globals ≡ false) }
 {
-    command
-        .arg(option(alloc, "require", "END", REQUIRE_HELP))?
-        .arg(option(alloc, "least", "N", LEAST_HELP))
+    let command = with_option(alloc, command, "require", "END", REQUIRE_HELP)?;
+    with_option(alloc, command, "least", "N", LEAST_HELP)
 }
 
 fn supervise<'a>(alloc: Global) -> Result<Command<'a>, AllocError>
@@ -147,9 +145,9 @@ fn supervise<'a>(alloc: Global) -> Result<Command<'a>, AllocError>
     let command = Command::new(alloc, "supervise")
         .about("Run a master and its workers")
         .after_help(SUPERVISE_NOTES);
-    with_family(alloc, command)?
-        .arg(flag(alloc, "verbose", VERBOSE_HELP))?
-        .arg(flag(alloc, "why", WHY_HELP))
+    let command = with_family(alloc, command)?;
+    let command = with_flag(alloc, command, "verbose", VERBOSE_HELP)?;
+    with_flag(alloc, command, "why", WHY_HELP)
 }
 
 /// The options that say what a master's children are, and how long they may keep it waiting.
@@ -158,7 +156,7 @@ fn with_family<'a>(alloc: Global, command: Command<'a>) -> Result<Command<'a>, A
     ensures app { IfOk result (λ more. app_of more ≡ with_family (app_of command.entry)) }
     ensures own { IfOk result (λ more. (out-Command more).has_globals ≡ false) }
 {
-    let command = with_files(alloc, command)?.arg(program_option(alloc))?;
+    let command = with_argument(with_files(alloc, command)?, program_option(alloc))?;
     with_limits(alloc, command)
 }
 
@@ -168,8 +166,8 @@ fn adopt<'a>(alloc: Global) -> Result<Command<'a>, AllocError>
 {
     let command = Command::new(alloc, "adopt")
         .about("Be the new master of an upgrade; the old master starts it")
-        .after_help(ADOPT_NOTES)
-        .arg(option(alloc, "program", "PROGRAM", ADOPT_HELP))?;
+        .after_help(ADOPT_NOTES);
+    let command = with_option(alloc, command, "program", "PROGRAM", ADOPT_HELP)?;
     with_limits(alloc, command)
 }
 
@@ -179,9 +177,8 @@ fn with_limits<'a>(alloc: Global, command: Command<'a>) -> Result<Command<'a>, A
     ensures app { IfOk result (λ more. app_of more ≡ with_limits (app_of command.entry)) }
     ensures own { IfOk result (λ more. (out-Command more).has_globals ≡ false) }
 {
-    command
-        .arg(option(alloc, "answer-within", "S", ANSWER_HELP))?
-        .arg(option(alloc, "ready-within", "S", READY_HELP))
+    let command = with_option(alloc, command, "answer-within", "S", ANSWER_HELP)?;
+    with_option(alloc, command, "ready-within", "S", READY_HELP)
 }
 
 fn child<'a>(alloc: Global) -> Command<'a>
@@ -200,27 +197,28 @@ fn certify<'a>(alloc: Global) -> Result<Command<'a>, AllocError>
     let command = Command::new(alloc, "certify")
         .about("Check blocks against plans and model")
         .after_help(CERTIFY_NOTES);
-    with_answer(alloc, command)?.arg(option(alloc, "held", "ADDRESS", HELD_HELP))
+    let command = with_answer(alloc, command)?;
+    with_option(alloc, command, "held", "ADDRESS", HELD_HELP)
 }
 
 fn check<'a>(alloc: Global) -> Result<Command<'a>, AllocError>
     ensures app { IfOk result (λ command. app_of command ≡ check_app) }
     ensures own { IfOk result (λ command. (out-Command command).has_globals ≡ false) }
 {
-    Command::new(alloc, "check")
+    let command = Command::new(alloc, "check")
         .about("Say whether configurations would be read, and why not")
-        .after_help(CHECK_NOTES)
-        .arg(several(alloc, "files", "FILE", FILES_HELP))
+        .after_help(CHECK_NOTES);
+    with_argument(command, several(alloc, "files", "FILE", FILES_HELP))
 }
 
 fn explain<'a>(alloc: Global) -> Result<Command<'a>, AllocError>
     ensures app { IfOk result (λ command. app_of command ≡ explain_app) }
     ensures own { IfOk result (λ command. (out-Command command).has_globals ≡ false) }
 {
-    Command::new(alloc, "explain")
+    let command = Command::new(alloc, "explain")
         .about("Say what a code means and what to do; without a code, list all")
-        .after_help(EXPLAIN_NOTES)
-        .arg(code(alloc))
+        .after_help(EXPLAIN_NOTES);
+    with_argument(command, code(alloc))
 }
 
 /// The options of each subcommand that starts a master.
@@ -229,10 +227,10 @@ fn with_start<'a>(alloc: Global, command: Command<'a>) -> Result<Command<'a>, Al
     ensures app { IfOk result (λ more. app_of more ≡ with_start (app_of command.entry)) }
     ensures own { IfOk result (λ more. (out-Command more).has_globals ≡ false) }
 {
-    with_files(alloc, command)?
-        .arg(option(alloc, "workers", "N", WORKERS_HELP))?
-        .arg(flag(alloc, "bare", BARE_HELP))?
-        .arg(flag(alloc, "why", WHY_HELP))
+    let command = with_files(alloc, command)?;
+    let command = with_option(alloc, command, "workers", "N", WORKERS_HELP)?;
+    let command = with_flag(alloc, command, "bare", BARE_HELP)?;
+    with_flag(alloc, command, "why", WHY_HELP)
 }
 
 /// The options of each subcommand that starts a master and prints an answer.
@@ -241,7 +239,8 @@ fn with_answer<'a>(alloc: Global, command: Command<'a>) -> Result<Command<'a>, A
     ensures app { IfOk result (λ more. app_of more ≡ with_answer (app_of command.entry)) }
     ensures own { IfOk result (λ more. (out-Command more).has_globals ≡ false) }
 {
-    with_start(alloc, command)?.arg(flag(alloc, "json", JSON_HELP))
+    let command = with_start(alloc, command)?;
+    with_flag(alloc, command, "json", JSON_HELP)
 }
 
 /// The options that name the configurations.
@@ -250,9 +249,49 @@ fn with_files<'a>(alloc: Global, command: Command<'a>) -> Result<Command<'a>, Al
     ensures app { IfOk result (λ more. app_of more ≡ with_files (app_of command.entry)) }
     ensures own { IfOk result (λ more. (out-Command more).has_globals ≡ false) }
 {
-    command
-        .arg(option(alloc, "from", "FILE", FROM_HELP))?
-        .arg(option(alloc, "to", "FILE", TO_HELP))
+    let command = with_option(alloc, command, "from", "FILE", FROM_HELP)?;
+    with_option(alloc, command, "to", "FILE", TO_HELP)
+}
+
+/// A command with one argument more, which is its own and not its subcommands' too.
+///
+/// The one place where an argument is added: what `clap` says of it in full stays in here.
+fn with_argument<'a>(command: Command<'a>, argument: Arg<'a>) -> Result<Command<'a>, AllocError>
+    requires command { (out-Command command).has_globals ≡ false }
+    requires argument { argument.global ≡ false }
+    ensures app { IfOk result (λ more. app_of more ≡ with_rule (app_of command.entry) (rule_of argument.entry)) }
+    ensures own { IfOk result (λ more. (out-Command more).has_globals ≡ false) }
+{
+    command.arg(argument)
+}
+
+/// With `--NAME VALUE`.
+fn with_option<'a>(
+    alloc: Global,
+    command: Command<'a>,
+    name: &'a str,
+    value: &'a str,
+    help: &'a str,
+) -> Result<Command<'a>, AllocError>
+    requires { (out-Command command).has_globals ≡ false }
+    ensures app { IfOk result (λ more. app_of more ≡ with_rule (app_of command.entry) (option_rule name.entry.now)) }
+    ensures own { IfOk result (λ more. (out-Command more).has_globals ≡ false) }
+{
+    with_argument(command, option(alloc, name, value, help))
+}
+
+/// With `--NAME`.
+fn with_flag<'a>(
+    alloc: Global,
+    command: Command<'a>,
+    name: &'a str,
+    help: &'a str,
+) -> Result<Command<'a>, AllocError>
+    requires { (out-Command command).has_globals ≡ false }
+    ensures app { IfOk result (λ more. app_of more ≡ with_rule (app_of command.entry) (flag_rule name.entry.now)) }
+    ensures own { IfOk result (λ more. (out-Command more).has_globals ≡ false) }
+{
+    with_argument(command, flag(alloc, name, help))
 }
 
 /// `--NAME VALUE`

@@ -2,12 +2,12 @@
 use crate::asking::{files_of, start_of};
 use crate::keys::{UnknownKey, is_of_configuration, nearest, unknown_key};
 use crate::lines::{FoundLine, line_of_block, line_of_byte, line_of_refusal};
-use certifier::Mismatch;
 use command_line::Request;
 use faults::Fault;
 use lines_text::TextRefusal;
 use listener_set::FilePath;
 use master_config::{ConfigRefusal, GroupFault};
+use mismatches::Mismatch;
 use std::alloc::Global;
 use std::io::{ErrorKind, Write};
 use std::rt::Files;

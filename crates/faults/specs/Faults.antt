@@ -20,9 +20,9 @@ use Rattle.lines_text.specs.Codes.{refusal_text}
 use Rattle.lines_text.specs.declared.refusal.TextRefusal.{TextRefusal}
 use Rattle.lines_text.specs.declared.refusal.TextRefusal.TheVariants as pattern
 use Rattle.faults.specs.declared.fault.Fault.{Fault}
-use Rattle.certifier.specs.Codes.{mismatch_code}
-use Rattle.certifier.specs.declared.mismatch.Mismatch.{Mismatch}
-use Rattle.certifier.specs.declared.mismatch.Mismatch.TheVariants as mismatch
+use Rattle.mismatches.specs.Codes.{mismatch_code}
+use Rattle.mismatches.specs.declared.Mismatch.{Mismatch}
+use Rattle.mismatches.specs.declared.Mismatch.TheVariants as mismatch
 use Rattle.faults.specs.declared.fault.Fault.TheVariants.{Usage, Word, Config, Boot, Address, Foreign, Pattern, Transcript, Certify, Code, Orders, Running, File, Memory}
 
 ---- Which fault a refusal is: want of memory or a file where it is that, and else its own

@@ -4,13 +4,13 @@ ghost use Rattle.std.specs.IoError.{error_kind};
 ghost use Rattle.faults.specs.Faults.{command_fault, config_fault, boot_fault, foreign_fault, pattern_fault, transcript_fault, block_fault, IsOfKind, fault_text, fault_status};
 ghost use Rattle.faults.specs.declared.fault.Fault.TheVariants.{Memory};
 
-use certifier::Mismatch;
 use command_line::Refusal;
 use control_words::WordRefusal;
 use kernel_model::{BootRefusal, ForeignRefusal};
 use lines_text::TextRefusal;
 use listener_set::AddressRefusal;
 use master_config::ConfigRefusal;
+use mismatches::Mismatch;
 use std::alloc::AllocError;
 use std::io::{ErrorKind, Write};
 use std::{fmt, io};

@@ -1,5 +1,5 @@
 //! How a kernel starts.
-ghost use Rattle.std.specs.Prelude.{◌≡◌, ◌<◌, ◌≤◌, ◌↔◌, ℕ, List, length, map, IfOk, IsTrue, IsErrOf};
+ghost use Rattle.std.specs.Prelude.{◌≡◌, ◌<◌, ◌≤◌, ◌↔◌, ℕ, List, map, IfOk, IsTrue};
 ghost use Rattle.kernel_rows.specs.Holds.{seen_holds};
 ghost use Rattle.kernel_rows.specs.Seen.{seen_holder, seen_rows};
 ghost use Rattle.kernel_table.specs.Seen.{seen, seen_file};
@@ -62,7 +62,8 @@ impl fmt::Display for BootRefusal {
 
 impl Error for BootRefusal {}
 
-fn are_bad(listeners: usize, workers: u32, limits: Limits) -> bool
+/// Whether the limits do not allow a start with so many listeners and workers.
+pub fn are_bad(listeners: usize, workers: u32, limits: Limits) -> bool
     ensures { IsTrue result ↔ AreBadLimits listeners workers limits }
 {
     WORKER_LIMIT < workers
@@ -141,7 +142,8 @@ fn files(alloc: Global, pid_file: Option<FilePath>) -> Result<Vec<FileRow>, Allo
     Ok(files)
 }
 
-fn allowed(
+/// The rows of a start that the limits allow, with room for no call.
+pub fn first_store(
     alloc: Global,
     settings: &Settings,
     workers: u32,
@@ -175,21 +177,4 @@ fn allowed(
         free,
         lone: None,
     })
-}
-
-/// The rows of a start, with room for no call.
-pub fn store(
-    alloc: Global,
-    settings: &Settings,
-    workers: u32,
-    limits: Limits,
-) -> Result<Store, BootRefusal>
-    ensures table { IfOk result (λ s. seen s ≡ booted settings.now.listeners settings.now.groups workers settings.now.pid limits) }
-    ensures sound { IfOk result (λ s. IsSound 0 s) }
-    ensures bad_limits { IsErrOf result BootRefusal.BadLimits ↔ AreBadLimits (length settings.now.listeners) workers limits }
-{
-    if are_bad(settings.listeners.len(), workers, limits) {
-        return Err(BootRefusal::BadLimits);
-    }
-    allowed(alloc, settings, workers, limits).map_err(|_| BootRefusal::Memory)
 }

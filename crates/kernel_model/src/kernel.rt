@@ -59,7 +59,12 @@ impl Kernel {
         ensures bad_limits { IsErrOf result BootRefusal.BadLimits ↔ AreBadLimits (length settings.now.listeners) workers limits }
         ensures formed { IfOk result (λ k. IsFormed k.table) }
     {
-        let store = boot::store(alloc, settings, workers, limits)?;
+        if boot::are_bad(settings.listeners.len(), workers, limits) {
+            return Err(BootRefusal::BadLimits);
+        }
+        let Ok(store) = boot::first_store(alloc, settings, workers, limits) else {
+            return Err(BootRefusal::Memory);
+        };
         Ok(Kernel { store, room: 0 })
     }
 

@@ -1,9 +1,9 @@
 //! The configuration of a text.
 ghost use Rattle.std.specs.Prelude.{◌≡◌, ◌≢◌, ◌↔◌, ◌⊎◌, IfErr, Err};
-ghost use Rattle.toml.specs.View.{view, table_view};
+ghost use Rattle.toml.specs.View.{table_view};
 ghost use Rattle.toml.specs.Errors.{IsMemory};
 ghost use Rattle.master_config.specs.Values.{value_at};
-ghost use Rattle.master_config.specs.Configuration.{settings_of_one, settings_of_groups, settings_at, configuration_of, Reads};
+ghost use Rattle.master_config.specs.Configuration.{settings_at, configuration_of, Reads};
 
 use crate::command::{command_at, copied};
 use crate::groups::pools_in;
@@ -15,7 +15,7 @@ use crate::{ConfigRefusal, Key};
 use std::alloc::Global;
 use std::marker::Model;
 use toml::de::Error;
-use toml::value::{Table, Value};
+use toml::value::Table;
 use vocabulary::Settings;
 
 /// What a configuration says.
@@ -36,31 +36,22 @@ impl Model for Config {
     ghost view = { λ c. record { settings = c.settings; command = map string_bytes c.command.items } };
 }
 
-/// The settings of a table that names no groups.
-fn settings_of_one(table: &Table) -> Result<Settings, ConfigRefusal>
-    ensures { result ≡ settings_of_one (table_view table.now) }
-{
-    let listeners = listeners_at(table)?;
-    let rest = rest_of(table)?;
-    let workers = number_at(table, Key::Workers, 0, 1024, 1)?;
-    Ok(Pools::one(&listeners, workers).settings(&rest))
-}
-
-/// The settings of a table whose groups are a value.
-fn settings_of_groups(table: &Table, value: &Value) -> Result<Settings, ConfigRefusal>
-    ensures { result ≡ settings_of_groups (table_view table.now) (view value.now) }
-{
-    let pools = pools_in(table, value)?;
-    let rest = rest_of(table)?;
-    Ok(pools.settings(&rest))
-}
-
+/// The settings of a table: those of its groups, or of one group where it names none.
 fn settings_in(table: &Table) -> Result<Settings, ConfigRefusal>
     ensures { result ≡ settings_at (value_at Key.Groups (table_view table.now)) (table_view table.now) }
 {
     match value_at(table, Key::Groups) {
-        None => settings_of_one(table),
-        Some(value) => settings_of_groups(table, value),
+        None => {
+            let listeners = listeners_at(table)?;
+            let rest = rest_of(table)?;
+            let workers = number_at(table, Key::Workers, 0, 1024, 1)?;
+            Ok(Pools::one(&listeners, workers).settings(&rest))
+        }
+        Some(value) => {
+            let pools = pools_in(table, value)?;
+            let rest = rest_of(table)?;
+            Ok(pools.settings(&rest))
+        }
     }
 }
 

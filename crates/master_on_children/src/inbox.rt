@@ -5,7 +5,7 @@ ghost use Rattle.vocabulary.specs.declared.calls.Answer.TheVariants.{Go as GoesO
 ghost use Rattle.child_family.specs.Told.{heard_of};
 ghost use Rattle.master_on_children.specs.Typed.{typed};
 ghost use Rattle.master_on_children.specs.Questions.{reply_to};
-ghost use Rattle.master_on_children.specs.Inbox.{unread, ReadsOn, ReadsMore, IsNextLine, IsAnswered};
+ghost use Rattle.master_on_children.specs.Inbox.{unread, ReadsMore, IsNextLine, IsAnswered};
 
 use crate::SupervisorFault;
 use crate::waiting::{MOST_WAITING, Waiting};
@@ -76,16 +76,10 @@ impl<I: Read + Drop> Inbox<I> {
         ensures { ReadsMore I.remaining self.old.ended self.old result self.new }
     {
         match self.ended {
-            Some(Ok(())) => Ok(None),
-            Some(Err(fault)) => Err(fault),
-            None => self.read_on(),
+            Some(Ok(())) => return Ok(None),
+            Some(Err(fault)) => return Err(fault),
+            None => {}
         }
-    }
-
-    /// Reads a line of an input that has not ended.
-    fn read_on(&mut self) -> Result<Option<Result<Word, WordRefusal>>, SupervisorFault>
-        ensures { ReadsOn I.remaining self.old result self.new }
-    {
         let mut line = Line::new();
         match self.lines.next_line(&mut line) {
             Ok(heard) => match line_read(heard, line.bytes()) {

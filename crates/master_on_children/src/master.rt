@@ -5,14 +5,12 @@ ghost use Rattle.std.specs.Option.{option_copied};
 ghost use Rattle.definitions.specs.Record.{started};
 ghost use Rattle.child_edge.specs.State.{state_of};
 ghost use Rattle.child_edge.specs.Edge.{begun_by};
-ghost use Rattle.master_on_children.specs.Inbox.{unread, IsNextLine};
-ghost use Rattle.master_on_children.specs.Lines.{tick_words, taken, AreActed, IsTicked, IsRenewed, LineComesTo, EndComesTo};
+ghost use Rattle.master_on_children.specs.Inbox.{unread};
+ghost use Rattle.master_on_children.specs.Lines.{tick_words, AreActed, IsTicked, IsRenewed, LineComesTo, EndComesTo};
 
 use crate::inbox::Inbox;
 use crate::said::Said;
-use crate::{
-    Attended, NextRefusal, NextSettings, OnChildren, Operator, SupervisorFault, SupervisorStart,
-};
+use crate::{Attended, NextRefusal, NextSettings, OnChildren, Operator, SupervisorStart};
 use child_edge::Edge;
 use child_family::Family;
 use control_words::{Word, WordRefusal};
@@ -30,7 +28,7 @@ use worker_table::WorkerTable;
 pub(crate) struct Master<F: Family + Drop, I: Read + Drop, L: Log + Drop> {
     alloc: Global,
     /// Where it stands: the edge to its children, what it knows of itself, and its workers.
-    standing: Standing<Attended<F, I, L>>,
+    pub(crate) standing: Standing<Attended<F, I, L>>,
 }
 
 impl<F: Family + Drop, I: Read + Drop, L: Log + Drop> Master<F, I, L> {
@@ -83,14 +81,6 @@ impl<F: Family + Drop, I: Read + Drop, L: Log + Drop> Master<F, I, L> {
             log: _,
         } = world;
         edge.into_family()
-    }
-
-    /// The next line to act on. At the end of the input there is none.
-    pub(crate) fn next_line(&mut self) -> Result<Option<Result<Word, WordRefusal>>, SupervisorFault>
-        ensures next { IsNextLine I.remaining self.old.standing.world.inbox result self.new.standing.world.inbox }
-        ensures others { self.new.standing ≡ taken self.old.standing self.new.standing.world.inbox }
-    {
-        self.standing.world.inbox.next_line()
     }
 
     /// The log of the operator.

@@ -159,7 +159,7 @@ fn hear_all<F: Family + Drop, I: Read + Drop, L: Log + Drop, N: NextSettings, O:
 {
     let mut status = before;
     for _ in 0..u64::MAX {
-        let next_line = master.next_line()?;
+        let next_line = master.standing.world.inbox.next_line()?;
         let Some(line) = next_line else {
             return Ok(status);
         };

@@ -18,7 +18,7 @@ use Rattle.word_runner.specs.declared.asking.Asked.{Asked}
 use Rattle.word_runner.specs.declared.asking.Asked.TheVariants as asks
 use Rattle.certifier.specs.Certified.{IsBeginning}
 use Rattle.certifier.specs.Explained.{IsNoBeginning}
-use Rattle.certifier.specs.declared.mismatch.Mismatch.{Mismatch}
+use Rattle.mismatches.specs.declared.Mismatch.{Mismatch}
 use Rattle.kernel_pattern.specs.declared.section.Section.{Section}
 use Rattle.plan_executor.specs.Words.{quiet_section, EnactsAt, DeclinesAt}
 use Rattle.faults.specs.declared.fault.Fault.{Fault}

@@ -1,7 +1,7 @@
 //! How a run would have gone on where a block is none of the master's.
 use crate::{StartSetup, begin};
-use certifier::Mismatch;
 use faults::Fault;
+use mismatches::Mismatch;
 use plan_walk::Transcript;
 use std::alloc::{AllocError, Global};
 use std::rt::Files;

@@ -6,8 +6,7 @@ ghost use Rattle.table_text.specs.TableText.{IsTextOf};
 ghost use Rattle.word_runner.specs.declared.block.Block.{Block as Done};
 ghost use Rattle.certifier.specs.Blocks.{AreTaken, StopsAtBlock};
 ghost use Rattle.faults.specs.Faults.{IsDue};
-ghost use Rattle.master_on_kernel.specs.Starts.{IsStarted, limits, record_at};
-ghost use Rattle.definitions.specs.Start.{booted};
+ghost use Rattle.master_on_kernel.specs.Starts.{IsStarted, record_at};
 ghost use Rattle.faults.specs.declared.fault.Fault.TheVariants.{Memory, Orders};
 ghost use Rattle.definitions.specs.Target.{IsTarget};
 ghost use Rattle.master_on_kernel.specs.Explorations.{IsExplored, HasOrders};
@@ -20,7 +19,7 @@ use certifier::{BlockMismatch, Mismatch, certify_beginning, certify_blocks};
 use control_words::Word;
 use faults::Fault;
 use kernel_model::{Kernel, Section, Turns, WIDEST_LIMITS};
-use listener_set::{Address, WORKER_LIMIT};
+use listener_set::Address;
 use order_explorer::{ChosenOrders, OrderAudience, OrderSearch, Totals, choose_orders};
 use plan_executor::run_words;
 use plan_walk::Transcript;
@@ -40,19 +39,6 @@ pub struct Rehearsal {
     pub next: Settings,
 }
 
-/// The kernel of a start with some settings, where so many workers run.
-fn booted(alloc: Global, settings: &Settings, running: u32) -> Result<Kernel, Fault>
-    requires { running ≤ WORKER_LIMIT }
-    ensures ok { IfOk result (λ kernel. kernel ≡ record { table = booted settings.now.listeners settings.now.groups running settings.now.pid limits; room = 0 }) }
-    ensures err { IfErr result (λ fault. fault ≡ Memory) }
-{
-    // So the limits allow it.
-    let addresses = settings.listeners.len();
-    prove!(addresses <= 64);
-    let kernel = Kernel::boot(alloc, settings, running, WIDEST_LIMITS)?;
-    Ok(kernel)
-}
-
 impl Rehearsal {
     /// Boots a master with its ready workers.
     #[inline(never)]
@@ -61,7 +47,10 @@ impl Rehearsal {
         ensures err { IfErr result (IsDue (record_at start.now)) }
     {
         let record = start.record()?;
-        let kernel = booted(alloc, &start.settings, start.running)?;
+        // So the limits allow it.
+        let addresses = start.settings.listeners.len();
+        prove!(addresses <= 64);
+        let kernel = Kernel::boot(alloc, &start.settings, start.running, WIDEST_LIMITS)?;
         let workers = silent_workers(alloc, &record)?;
         let standing = Standing {
             world: kernel,

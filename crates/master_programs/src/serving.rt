@@ -13,7 +13,7 @@ use command_line::{AdoptOptions, LimitOptions, SuperviseOptions};
 use faults::Fault;
 use log::sink::{Discard, Writer};
 use log::{LevelFilter, Log, Logged};
-use master_config::{ConfigRefusal, config_in, settings_in};
+use master_config::{ConfigRefusal, config_in};
 use master_on_children::{
     NextRefusal, NextSettings, Operator, SupervisorFault, SupervisorStart, supervise_on,
 };
@@ -42,8 +42,8 @@ impl<R: AllocGlobal + Files> NextSettings for NextFile<'_, R> {
     ghost reads = { λ old answer new. IsNext (option_map (λ text. text.now) old.path) answer × (new ≡ old) };
 
     fn read(&mut self) -> Result<Settings, NextRefusal> {
-        match settings_in(self.rt, self.path, Settings::plain()) {
-            Ok(settings) => Ok(settings),
+        match config_in(self.rt, self.path) {
+            Ok(config) => Ok(config.settings),
             Err(refusal) => Err(declined(self.rt.alloc(), &refusal)),
         }
     }

@@ -6,7 +6,7 @@ ghost use Rattle.call_text.specs.Ranges.{IsName};
 ghost use Rattle.pattern_text.specs.PatternsText.{patterns_of};
 ghost use Rattle.pattern_text.specs.Courses.{course_of};
 ghost use Rattle.pattern_text.specs.PatternsWriting.{ended_line, event_text, exits_text, moment_text, moments_text, section_text, patterns_text};
-ghost use Rattle.pattern_text.specs.Written.{IsNoted, AreMoments, IsSection, AreSections};
+ghost use Rattle.pattern_text.specs.Written.{IsNoted, AreMoments, IsSection};
 
 use crate::PatternLine;
 use crate::turns_line::write_turns;
@@ -82,10 +82,11 @@ fn write_section(out: &mut Vec<u8>, section: &Section) -> Result<(), AllocError>
     write_moments(out, &section.pattern)
 }
 
-/// Sections, and a line `next` between two.
-fn write_sections(alloc: Global, sections: &[Section]) -> Result<Vec<u8>, AllocError>
-    ensures text { IfOk result (λ out. out.items ≡ patterns_text sections.now) }
-    ensures sections { IfOk result (λ _. AreSections sections.now) }
+/// The text of sections: the lines of each, its turns first and then its moments in ascending numbers, and a line `next`
+/// between two. What is written of one section or more is read again as these. The only refusal is out of memory.
+pub fn write_patterns(alloc: Global, sections: &[Section]) -> Result<Vec<u8>, AllocError>
+    ensures exact { IfOk result (λ out. out.items ≡ patterns_text sections.now) }
+    ensures again { IfOk result (λ out. sections.now ≢ [] → patterns_of out.items ≡ Ok (map course_of sections.now)) }
 {
     let mut out = Vec::new(alloc);
     for (place, section) in sections.iter().enumerate() {
@@ -95,14 +96,4 @@ fn write_sections(alloc: Global, sections: &[Section]) -> Result<Vec<u8>, AllocE
         write_section(&mut out, section)?;
     }
     Ok(out)
-}
-
-/// The text of sections: the lines of each, its turns first and then its moments in ascending numbers, and a line `next`
-/// between two. What is written of one section or more is read again as these. The only refusal is out of memory.
-#[tactic(auto, using(crate::proofs::Again::read_again))]
-pub fn write_patterns(alloc: Global, sections: &[Section]) -> Result<Vec<u8>, AllocError>
-    ensures exact { IfOk result (λ out. out.items ≡ patterns_text sections.now) }
-    ensures again { IfOk result (λ out. sections.now ≢ [] → patterns_of out.items ≡ Ok (map course_of sections.now)) }
-{
-    write_sections(alloc, sections)
 }

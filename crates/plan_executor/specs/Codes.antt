@@ -4,6 +4,8 @@ use Rattle.std.specs.Fmt.{decimal}
 use Rattle.word_runner.specs.Codes.{unplanned_code}
 use Rattle.word_runner.specs.declared.enactor.TargetRefusal.{TargetRefusal}
 use Rattle.word_runner.specs.declared.enactor.TargetRefusal.TheVariants as lack
+use Rattle.mismatches.specs.declared.Mismatch.{Mismatch}
+use Rattle.mismatches.specs.declared.Mismatch.TheVariants as mismatch
 use Rattle.plan_executor.specs.declared.enactment.EnactRefusal.{EnactRefusal}
 use Rattle.plan_executor.specs.declared.enactment.EnactRefusal.TheVariants.{Memory, RecordDisagrees, Plan, MasterNamed, NoNumbers}
 
@@ -21,3 +23,8 @@ target_refusal RecordDisagrees = lack.Coded (enact_code RecordDisagrees)
 target_refusal (Plan refusal) = lack.Coded (enact_code (Plan refusal))
 target_refusal (MasterNamed moment) = lack.Coded (enact_code (MasterNamed moment))
 target_refusal NoNumbers = lack.Coded (enact_code NoNumbers)
+
+-- what a certificate says of it
+abbrev pub mismatch_of : EnactRefusal → Mismatch
+mismatch_of Memory = mismatch.Memory
+mismatch_of _ = mismatch.Refused

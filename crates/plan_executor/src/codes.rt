@@ -1,6 +1,7 @@
 //! The codes of targets that are not carried out.
 use crate::EnactRefusal;
 use itoa::Buffer;
+use mismatches::Mismatch;
 use std::error::Error;
 use std::fmt;
 use word_runner::{CodeText, TargetRefusal};
@@ -36,6 +37,21 @@ impl From<EnactRefusal> for CodeText {
                 CodeText::of("E4 ", Buffer::new().format(moment))
             }
             EnactRefusal::NoNumbers => CodeText::of("E5", ""),
+        }
+    }
+}
+
+/// What is refused of an enactment, a certificate refuses; want of memory stays that.
+impl From<EnactRefusal> for Mismatch {
+    ghost use Rattle.std.specs.Prelude.{◌≡◌};
+    ghost use Rattle.plan_executor.specs.Codes.{mismatch_of};
+
+    ghost from_gives = { λ refusal why. why ≡ mismatch_of refusal };
+
+    fn from(refusal: EnactRefusal) -> Mismatch {
+        match refusal {
+            EnactRefusal::Memory => Mismatch::Memory,
+            _ => Mismatch::Refused,
         }
     }
 }

@@ -1,13 +1,13 @@
 //! Who takes over, and whose the record is that a run leaves.
 ghost use Rattle.std.specs.Prelude.{◌≡◌};
-ghost use Rattle.definitions.specs.After.{next_record, reigning};
+ghost use Rattle.definitions.specs.After.{next_record};
 ghost use Rattle.definitions.specs.Claims.{heirs_of};
 ghost use Rattle.plan_executor.specs.Naming.{listed};
 ghost use Rattle.plan_executor.specs.Refusals.{HasPlan};
 
 use kernel_model::Kernel;
 use service_state::{Record, next_image};
-use vocabulary::{Outcome, Report, Target};
+use vocabulary::{Report, Target};
 
 /// The image of the master that takes over: the new one of an upgrade.
 pub fn heir_of(state: &Record, target: &Target) -> Option<u32>
@@ -22,14 +22,6 @@ pub fn heir_of(state: &Record, target: &Target) -> Option<u32>
     }
 }
 
-/// The process number of the master that reigns after an outcome.
-fn reigning(state: &Record, target: &Target, outcome: &Outcome, kernel: &Kernel) -> Option<u32>
-    ensures { result ≡ reigning state.now target.now outcome.now kernel.now.table }
-{
-    let image = state.image_after(target, outcome)?;
-    kernel.master(image)
-}
-
 /// The record that a report leaves to the master that reigns then: it has that master's process number.
 pub fn record_left(
     state: &Record,
@@ -39,6 +31,7 @@ pub fn record_left(
 ) -> Option<Record>
     ensures { result ≡ next_record state.now target.now report.now kernel.now.table }
 {
-    let pid = reigning(state, target, &report.outcome, kernel)?;
+    let image = state.image_after(target, &report.outcome)?;
+    let pid = kernel.master(image)?;
     state.after(target, report, pid)
 }

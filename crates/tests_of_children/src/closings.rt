@@ -1,7 +1,7 @@
 //! Edges over processes of the system that close their input while they are told.
-use crate::lives::{Case, edge_on, is_met};
-use crate::setup::{FIRST, ask, edge_of};
-use child_processes::OsFamily;
+use crate::lives::{Case, carried_on, carried_over, is_met};
+use crate::setup::FIRST;
+use std::alloc::{AllocError, Global};
 use std::test::Fail;
 use vocabulary::{Answer, Call};
 
@@ -45,46 +45,56 @@ fn what_cannot_be_said_is_lost(rt: HostRuntime) -> Result<(), Fail> {
     Ok(())
 }
 
+/// The calls of a worker that ends with the line that it hears.
+const ENDS: [(u32, Call, Answer); 7] = [
+    (1, Call::Fork(FIRST, 0, None), Answer::Forked),
+    (1, Call::AwaitReady(FIRST, 0), Answer::Gone),
+    (1, Call::Usr1(FIRST, 0), Answer::Fine),
+    (1, Call::AwaitReady(FIRST, 0), Answer::Gone),
+    (1, Call::Fork(FIRST, 0, None), Answer::Forked),
+    (1, Call::Quit(FIRST, 0), Answer::Fine),
+    (1, Call::AwaitGone(FIRST, 0), Answer::Gone),
+];
+
 #[test]
 fn a_worker_that_ends_before_it_is_told_was_forked(rt: HostRuntime) -> Result<(), Fail> {
     for word in ["worker", "listener", "go"] {
-        let mut edge = edge_on(&rt, word, "exit 0")?;
-        for (call, answer) in [
-            (Call::Fork(FIRST, 0, None), Answer::Forked),
-            (Call::AwaitReady(FIRST, 0), Answer::Gone),
-            (Call::Usr1(FIRST, 0), Answer::Fine),
-            (Call::AwaitReady(FIRST, 0), Answer::Gone),
-            (Call::Fork(FIRST, 0, None), Answer::Forked),
-            (Call::Quit(FIRST, 0), Answer::Fine),
-            (Call::AwaitGone(FIRST, 0), Answer::Gone),
-        ] {
-            assert!(rt; ask(&mut edge, 1, call) == Some(answer));
-        }
-        assert_eq!(rt; edge.family().count(), 0);
+        assert_eq!(rt;
+            carried_on(&rt, word, "exit 0", &ENDS)?,
+            (None, 0),
+            "at {word}"
+        );
     }
     Ok(())
 }
 
-#[test]
-fn a_master_may_leave_its_handover_unread(rt: HostRuntime) -> Result<(), Fail> {
-    let alloc = rt.alloc();
-    let command: Vec<String> = Vec::new(alloc);
-    let mut edge = edge_of(
-        alloc,
-        OsFamily::new(alloc, &rt, "true", command.as_slice())?,
-    )?;
-
-    // more than a pipe holds
+/// More than a pipe holds.
+fn long_handover(alloc: Global) -> Result<Vec<u8>, AllocError> {
     let mut text: Vec<u8> = Vec::new(alloc);
     for _ in 0..20000 {
         text.extend_from_slice(b"handover\n")?;
     }
-    edge.reserve(20, text.as_slice())?;
-    for call in [Call::Adopt, Call::SpawnMaster(3)] {
-        assert!(rt; ask(&mut edge, 1, Call::SpawnMaster(2)) == Some(Answer::Spawned));
-        assert!(rt; ask(&mut edge, 2, call) == Some(Answer::MasterGone));
-        assert!(rt; ask(&mut edge, 1, Call::Alive(2)) == Some(Answer::Gone));
-        assert_eq!(rt; edge.family().count(), 0);
+    Ok(text)
+}
+
+/// The calls of masters that are gone at once.
+const UNREAD: [(u32, Call, Answer); 6] = [
+    (1, Call::SpawnMaster(2), Answer::Spawned),
+    (2, Call::Adopt, Answer::MasterGone),
+    (1, Call::Alive(2), Answer::Gone),
+    (1, Call::SpawnMaster(2), Answer::Spawned),
+    (2, Call::SpawnMaster(3), Answer::MasterGone),
+    (1, Call::Alive(2), Answer::Gone),
+];
+
+#[test]
+fn a_master_may_leave_its_handover_unread(rt: HostRuntime) -> Result<(), Fail> {
+    let text = long_handover(rt.alloc())?;
+    for calls in [&UNREAD[..3], &UNREAD] {
+        assert_eq!(rt;
+            carried_over(&rt, "true", text.as_slice(), calls)?,
+            (None, 0)
+        );
     }
     Ok(())
 }

@@ -1,12 +1,52 @@
 //! Edges over children in memory.
 use crate::recorded::{FamilyCall, Recorded};
-use crate::setup::{FIRST, ask, below, edge_of, start};
+use crate::setup::{FIRST, ask, both_beat, counts, edge_of, first_wrong, start};
 use child_edge::Edge;
 use child_family::Heard;
 use listener_set::{Address, DescriptorSet};
 use plan_walk::Calls;
+use std::alloc::{AllocError, Global};
 use std::test::Fail;
 use vocabulary::{Answer, Call};
+
+/// An edge over children of which none fails.
+fn edge_in_memory(alloc: Global) -> Result<Edge<Recorded>, AllocError> {
+    edge_of(alloc, Recorded::new(alloc, None))
+}
+
+/// An address that the edge does not listen on at first.
+fn other_address() -> Result<Address, Fail> {
+    Ok(Address::read(b"0.0.0.0:9090")?)
+}
+
+/// How many calls were made on the children.
+fn calls_made(edge: &Edge<Recorded>) -> usize {
+    edge.family().calls().len()
+}
+
+/// Whether the call at a place said just this line to the first child.
+fn is_said(edge: &Edge<Recorded>, place: usize, line: &[u8]) -> bool {
+    match edge.family().calls().get(place) {
+        Some(FamilyCall::Said(10, text, true)) => text.as_slice() == line,
+        _ => false,
+    }
+}
+
+/// Whether the call at a place heard just this line of the first child.
+fn is_heard(edge: &Edge<Recorded>, place: usize, line: &[u8]) -> bool {
+    match edge.family().calls().get(place) {
+        Some(FamilyCall::HeardLine(10, Heard::Line, text)) => text.as_slice() == line,
+        _ => false,
+    }
+}
+
+/// Whether the call at a place stopped the first child.
+fn is_stopped(edge: &Edge<Recorded>, place: usize) -> bool {
+    matches!(
+        edge.family().calls().get(place),
+        Some(FamilyCall::Stopped(10))
+    )
+}
 
 /// Starts two workers; both are told to go before the first is heard.
 fn start_two(edge: &mut Edge<Recorded>) -> bool {
@@ -24,56 +64,48 @@ fn is_ready(edge: &mut Edge<Recorded>, nr: u32) -> bool {
 
 #[test]
 fn tells_all_before_it_hears(rt: HostRuntime) -> Result<(), Fail> {
-    let mut edge = edge_of(rt.alloc(), Recorded::new(rt.alloc(), None))?;
+    let mut edge = edge_in_memory(rt.alloc())?;
     assert!(rt; start_two(&mut edge));
 
     // worker 0 gives its beat only where worker 1 was told the tick
     for now in [7, 8] {
-        assert!(rt; edge.tick(now) == below(2), "at {now}");
-        assert_eq!(rt; edge.start_of(0), Some(1));
-        assert_eq!(rt; edge.start_of(1), Some(2));
+        assert!(rt; both_beat(&mut edge, now), "at {now}");
     }
-    assert!(rt; ask(&mut edge, 1, Call::Census(FIRST)) == Some(Answer::Counted(below(2))));
+    assert!(rt; counts(&mut edge, 2));
     Ok(())
 }
 
+/// What a worker is told as it starts, line by line.
+const TOLD: [&[u8]; 3] = [b"worker 1.1 5 1", b"listener 0.0.0.0:8080", b"go"];
+
 #[test]
 fn tells_a_worker_what_it_is(rt: HostRuntime) -> Result<(), Fail> {
-    let mut edge = edge_of(rt.alloc(), Recorded::new(rt.alloc(), None))?;
+    let mut edge = edge_in_memory(rt.alloc())?;
     assert!(rt; start(&mut edge, 5) == Some(Answer::IsReady));
-    let calls = edge.family().calls();
-    assert_eq!(rt; calls.len(), 5);
-    assert!(rt;
-        matches!(&calls[1], FamilyCall::Said(10, line, true) if line.as_slice() == b"worker 1.1 5 1".as_slice())
-    );
-    assert!(rt;
-        matches!(&calls[2], FamilyCall::Said(10, line, true) if line.as_slice() == b"listener 0.0.0.0:8080".as_slice())
-    );
-    assert!(rt;
-        matches!(&calls[3], FamilyCall::Said(10, line, true) if line.as_slice() == b"go".as_slice())
-    );
-    assert!(rt;
-        matches!(&calls[4], FamilyCall::HeardLine(10, Heard::Line, line) if line.as_slice() == b"ready".as_slice())
-    );
+    assert_eq!(rt; calls_made(&edge), 5);
+    for (at, line) in TOLD.iter().enumerate() {
+        assert!(rt; is_said(&edge, at.saturating_add(1), line), "at {at}");
+    }
+    assert!(rt; is_heard(&edge, 4, b"ready"));
     Ok(())
 }
 
 #[test]
 fn opens_and_closes(rt: HostRuntime) -> Result<(), Fail> {
-    let mut edge = edge_of(rt.alloc(), Recorded::new(rt.alloc(), None))?;
-    let Ok(other) = Address::read(b"0.0.0.0:9090") else {
-        panic!(rt; "no address");
-    };
-    assert!(rt; ask(&mut edge, 1, Call::OpenAt(Address::plain())) == Some(Answer::InUse));
-    assert!(rt; ask(&mut edge, 1, Call::OpenAt(other)) == Some(Answer::Opened(4)));
-    assert!(rt; start(&mut edge, 0) == Some(Answer::IsReady));
-    assert!(rt; ask(&mut edge, 1, Call::CloseAt(Address::plain())) == Some(Answer::Fine));
-    assert!(rt; ask(&mut edge, 1, Call::OpenAt(Address::plain())) == Some(Answer::Opened(3)));
-    let calls = edge.family().calls();
-    assert_eq!(rt; calls.len(), 7);
-    assert!(rt;
-        matches!(&calls[6], FamilyCall::Said(10, line, true) if line.as_slice() == b"close 0.0.0.0:8080".as_slice())
-    );
+    let mut edge = edge_in_memory(rt.alloc())?;
+    let first = Address::plain();
+    let other = other_address()?;
+    let calls = [
+        (1, Call::OpenAt(first), Answer::InUse),
+        (1, Call::OpenAt(other), Answer::Opened(4)),
+        (1, Call::Fork(FIRST, 0, None), Answer::Forked),
+        (1, Call::AwaitReady(FIRST, 0), Answer::IsReady),
+        (1, Call::CloseAt(first), Answer::Fine),
+        (1, Call::OpenAt(first), Answer::Opened(3)),
+    ];
+    assert_eq!(rt; first_wrong(&mut edge, &calls), None);
+    assert_eq!(rt; calls_made(&edge), 7);
+    assert!(rt; is_said(&edge, 6, b"close 0.0.0.0:8080"));
     Ok(())
 }
 
@@ -91,90 +123,103 @@ fn are_said(calls: &[FamilyCall], lines: &[(u32, &[u8])]) -> bool {
     rest.next().is_none()
 }
 
-#[test]
-fn tells_a_worker_only_of_its_descriptors(rt: HostRuntime) -> Result<(), Fail> {
-    let mut edge = edge_of(rt.alloc(), Recorded::new(rt.alloc(), None))?;
-    let Ok(other) = Address::read(b"0.0.0.0:9090") else {
-        panic!(rt; "no address");
-    };
-    assert!(rt; ask(&mut edge, 1, Call::OpenAt(other)) == Some(Answer::Opened(4)));
+/// What two workers are told, each by its number.
+const SAID: [(u32, &[u8]); 11] = [
+    (10, b"worker 1.1 0 1"),
+    (10, b"listener 0.0.0.0:9090"),
+    (10, b"go"),
+    (11, b"worker 1.1 1 2"),
+    (11, b"listener 0.0.0.0:8080"),
+    (11, b"listener 0.0.0.0:9090"),
+    (11, b"go"),
+    (10, b"close 0.0.0.0:8080"),
+    (11, b"close 0.0.0.0:8080"),
+    (10, b"close 0.0.0.0:9090"),
+    (11, b"close 0.0.0.0:9090"),
+];
+
+/// The second address alone.
+fn second_alone() -> DescriptorSet {
     let mut second = DescriptorSet::none();
     second.add(4);
-    for (nr, descriptors) in [(0, Some(second)), (1, None)] {
-        let fork = Call::Fork(FIRST, nr, descriptors);
-        assert!(rt; ask(&mut edge, 1, fork) == Some(Answer::Forked));
-    }
-    for address in [Address::plain(), other] {
-        assert!(rt; ask(&mut edge, 1, Call::CloseAt(address)) == Some(Answer::Fine));
-    }
-    let lines: [(u32, &[u8]); 11] = [
-        (10, b"worker 1.1 0 1"),
-        (10, b"listener 0.0.0.0:9090"),
-        (10, b"go"),
-        (11, b"worker 1.1 1 2"),
-        (11, b"listener 0.0.0.0:8080"),
-        (11, b"listener 0.0.0.0:9090"),
-        (11, b"go"),
-        (10, b"close 0.0.0.0:8080"),
-        (11, b"close 0.0.0.0:8080"),
-        (10, b"close 0.0.0.0:9090"),
-        (11, b"close 0.0.0.0:9090"),
-    ];
-    assert!(rt; are_said(edge.family().calls(), &lines));
-    Ok(())
+    second
 }
 
 #[test]
-fn asks_nobody_where_there_is_no_child(rt: HostRuntime) -> Result<(), Fail> {
-    let mut edge = edge_of(rt.alloc(), Recorded::new(rt.alloc(), None))?;
-    let rows = [
-        (Call::AwaitReady(FIRST, 0), Answer::Gone),
-        (Call::AwaitGone(FIRST, 0), Answer::Gone),
-        (Call::Alive(2), Answer::Gone),
-        (Call::Quit(FIRST, 0), Answer::Fine),
-        (Call::Kill(FIRST, 0), Answer::Fine),
-        (Call::Usr1(FIRST, 0), Answer::Fine),
-        (Call::TermMaster(2), Answer::Fine),
-        (Call::Adopt, Answer::Refused),
+fn tells_a_worker_only_of_its_descriptors(rt: HostRuntime) -> Result<(), Fail> {
+    let mut edge = edge_in_memory(rt.alloc())?;
+    let other = other_address()?;
+    let calls = [
+        (1, Call::OpenAt(other), Answer::Opened(4)),
+        (
+            1,
+            Call::Fork(FIRST, 0, Some(second_alone())),
+            Answer::Forked,
+        ),
+        (1, Call::Fork(FIRST, 1, None), Answer::Forked),
+        (1, Call::CloseAt(Address::plain()), Answer::Fine),
+        (1, Call::CloseAt(other), Answer::Fine),
     ];
-    for (call, answer) in &rows {
-        assert!(rt; ask(&mut edge, 1, *call) == Some(*answer));
-        assert!(rt; ask(&mut edge, 2, *call) == Some(Answer::MasterGone));
+    assert_eq!(rt; first_wrong(&mut edge, &calls), None);
+    assert!(rt; are_said(edge.family().calls(), &SAID));
+    Ok(())
+}
+
+/// What is answered of a child that is not there.
+const ABSENT: [(Call, Answer); 8] = [
+    (Call::AwaitReady(FIRST, 0), Answer::Gone),
+    (Call::AwaitGone(FIRST, 0), Answer::Gone),
+    (Call::Alive(2), Answer::Gone),
+    (Call::Quit(FIRST, 0), Answer::Fine),
+    (Call::Kill(FIRST, 0), Answer::Fine),
+    (Call::Usr1(FIRST, 0), Answer::Fine),
+    (Call::TermMaster(2), Answer::Fine),
+    (Call::Adopt, Answer::Refused),
+];
+
+#[test]
+fn asks_nobody_where_there_is_no_child(rt: HostRuntime) -> Result<(), Fail> {
+    let mut edge = edge_in_memory(rt.alloc())?;
+    for (at, (call, answer)) in ABSENT.iter().enumerate() {
+        assert!(rt; ask(&mut edge, 1, *call) == Some(*answer), "at {at}");
+        assert!(rt;
+            ask(&mut edge, 2, *call) == Some(Answer::MasterGone),
+            "at {at}"
+        );
     }
-    assert_eq!(rt; edge.family().calls().len(), 0);
+    assert_eq!(rt; calls_made(&edge), 0);
     assert_eq!(rt; edge.room(), 84);
     Ok(())
 }
 
+/// The calls of an upgrade.
+const PASSED: [(u32, Call, Answer); 9] = [
+    (1, Call::SpawnMaster(2), Answer::Spawned),
+    (1, Call::SpawnMaster(3), Answer::Again),
+    (2, Call::Adopt, Answer::Adopted),
+    (1, Call::Alive(2), Answer::IsAlive),
+    // it has left, and passes lines
+    (1, Call::Leave, Answer::Fine),
+    (1, Call::Census(FIRST), Answer::MasterGone),
+    (2, Call::Adopt, Answer::Adopted),
+    // an answer that the call does not list
+    (2, Call::Alive(3), Answer::MasterGone),
+    (2, Call::Adopt, Answer::MasterGone),
+];
+
+/// What the new master is told first, line by line.
+const HANDED: [&[u8]; 3] = [b"handover 1", b"end", b"m2 adopt"];
+
 #[test]
 fn passes_calls_to_its_child_master(rt: HostRuntime) -> Result<(), Fail> {
-    let mut edge = edge_of(rt.alloc(), Recorded::new(rt.alloc(), None))?;
+    let mut edge = edge_in_memory(rt.alloc())?;
     edge.reserve(20, b"handover 1\nend\n")?;
-    assert!(rt; ask(&mut edge, 1, Call::SpawnMaster(2)) == Some(Answer::Spawned));
-    assert!(rt; ask(&mut edge, 1, Call::SpawnMaster(3)) == Some(Answer::Again));
-    assert!(rt; ask(&mut edge, 2, Call::Adopt) == Some(Answer::Adopted));
-    assert!(rt; ask(&mut edge, 1, Call::Alive(2)) == Some(Answer::IsAlive));
-
-    // it has left, and passes lines
-    assert!(rt; ask(&mut edge, 1, Call::Leave) == Some(Answer::Fine));
-    assert!(rt; ask(&mut edge, 1, Call::Census(FIRST)) == Some(Answer::MasterGone));
-    assert!(rt; ask(&mut edge, 2, Call::Adopt) == Some(Answer::Adopted));
-
-    // an answer that the call does not list
-    assert!(rt; ask(&mut edge, 2, Call::Alive(3)) == Some(Answer::MasterGone));
-    assert!(rt; ask(&mut edge, 2, Call::Adopt) == Some(Answer::MasterGone));
-    let calls = edge.family().calls();
-    assert_eq!(rt; calls.len(), 12);
-    assert!(rt;
-        matches!(&calls[1], FamilyCall::Said(10, line, true) if line.as_slice() == b"handover 1".as_slice())
-    );
-    assert!(rt;
-        matches!(&calls[2], FamilyCall::Said(10, line, true) if line.as_slice() == b"end".as_slice())
-    );
-    assert!(rt;
-        matches!(&calls[3], FamilyCall::Said(10, line, true) if line.as_slice() == b"m2 adopt".as_slice())
-    );
-    assert!(rt; matches!(calls[11], FamilyCall::Stopped(10)));
+    assert_eq!(rt; first_wrong(&mut edge, &PASSED), None);
+    assert_eq!(rt; calls_made(&edge), 12);
+    for (at, line) in HANDED.iter().enumerate() {
+        assert!(rt; is_said(&edge, at.saturating_add(1), line), "at {at}");
+    }
+    assert!(rt; is_stopped(&edge, 11));
     Ok(())
 }
 
@@ -194,17 +239,22 @@ const LIFE: [Call; 12] = [
     Call::Leave,
 ];
 
+/// Whether each call of two workers' lives is answered, and none as if the master had left before it does.
+fn lives_on(edge: &mut Edge<Recorded>) -> bool {
+    for call in LIFE {
+        match ask(edge, 1, call) {
+            None | Some(Answer::MasterGone) => return false,
+            Some(_) => {}
+        }
+    }
+    true
+}
+
 #[test]
 fn answers_whichever_call_fails(rt: HostRuntime) -> Result<(), Fail> {
     for fails in 0..24 {
         let mut edge = edge_of(rt.alloc(), Recorded::new(rt.alloc(), Some(fails)))?;
-        for call in LIFE {
-            let answer = ask(&mut edge, 1, call);
-            assert!(rt;
-                answer.is_some() && answer != Some(Answer::MasterGone),
-                "at {fails}"
-            );
-        }
+        assert!(rt; lives_on(&mut edge), "at {fails}");
         assert!(rt;
             ask(&mut edge, 1, Call::Leave) == Some(Answer::MasterGone),
             "at {fails}"

@@ -89,8 +89,42 @@ fn has_left(edge: &mut Edge<Recorded>) -> Result<bool, Fail> {
     Ok(ask(edge, 1, Call::Adopt) == Some(Answer::MasterGone))
 }
 
-/// How a start of two workers and a change of them under turns end, where a call of the family fails. A run that is lost
-/// once the edge's own master has left counts as done.
+/// Starts two workers under turns. Gives what the master knows then.
+fn start_two(
+    alloc: Global,
+    edge: &mut Edge<Recorded>,
+    known: Record,
+    turns: &Turns,
+) -> Result<(Outcome, Record), Fail> {
+    let (started, next) = carry_out(alloc, edge, &known, &Target::Workers(2), turns)?;
+    Ok((started, next.unwrap_or(known)))
+}
+
+/// How a change under turns ends, where a call of the family fails. A run that is lost once the edge's own master has
+/// left counts as done.
+fn outcome(
+    alloc: Global,
+    edge: &mut Edge<Recorded>,
+    known: &Record,
+    change: &Target,
+    turns: &Turns,
+) -> Result<Outcome, Fail>
+    requires { IsTarget change.now }
+{
+    let (changed, next) = carry_out(alloc, edge, known, change, turns)?;
+    if !hears_no_answer_twice(edge.family().calls()) {
+        return Ok(Outcome::Lost);
+    }
+    if changed == Outcome::Lost && has_left(edge)? {
+        return Ok(Outcome::Done);
+    }
+    if let Some(known) = next {
+        let _ = carry_out(alloc, edge, &known, &Target::Stop { quick: true }, turns)?;
+    }
+    Ok(changed)
+}
+
+/// How a start of two workers and a change of them under turns end, where a call of the family fails.
 fn outcomes(
     alloc: Global,
     change: &Target,
@@ -101,25 +135,8 @@ fn outcomes(
 {
     let known = Record::start(&Settings::plain(), 0, &Numbers::none(), 100);
     let mut edge = Edge::new(alloc, Recorded::new(alloc, fails), &known, 0)?;
-    let (started, next) = carry_out(alloc, &mut edge, &known, &Target::Workers(2), turns)?;
-    let known = next.unwrap_or(known);
-    let (changed, next) = carry_out(alloc, &mut edge, &known, change, turns)?;
-    if !hears_no_answer_twice(edge.family().calls()) {
-        return Ok([Outcome::Lost, Outcome::Lost]);
-    }
-    if changed == Outcome::Lost && has_left(&mut edge)? {
-        return Ok([started, Outcome::Done]);
-    }
-    if let Some(known) = next {
-        let _ = carry_out(
-            alloc,
-            &mut edge,
-            &known,
-            &Target::Stop { quick: true },
-            turns,
-        )?;
-    }
-    Ok([started, changed])
+    let (started, known) = start_two(alloc, &mut edge, known, turns)?;
+    Ok([started, outcome(alloc, &mut edge, &known, change, turns)?])
 }
 
 #[test]

@@ -1,8 +1,9 @@
 //! Edges over processes of the system. Each child ends with its input, or is stopped by the edge.
-use crate::lives::{Case, edge_on, is_met, live};
-use crate::setup::{FIRST, ask, below, edge_of, start};
-use child_processes::OsFamily;
-use listener_set::{FilePath, Numbers};
+use crate::lives::{Case, Life, carried_over, edge_on, is_met, life_of};
+use crate::setup::{FIRST, ask, below, both_beat, counts, start};
+use child_edge::Edge;
+use child_family::Family;
+use listener_set::FilePath;
 use std::process;
 use std::test::Fail;
 use vocabulary::{Answer, Call};
@@ -15,91 +16,104 @@ const FAULTS: [&str; 4] = [
     "head -c 5000 /dev/zero | tr '\\0' a; echo",
 ];
 
+/// Starts the workers 0 and 1.
+fn start_two<F: Family + Drop>(edge: &mut Edge<F>) -> bool {
+    start(edge, 0) == Some(Answer::IsReady) && start(edge, 1) == Some(Answer::IsReady)
+}
+
+/// Whether a worker ends as it is told to.
+fn quits<F: Family + Drop>(edge: &mut Edge<F>, nr: u32) -> bool {
+    ask(edge, 1, Call::Quit(FIRST, nr)) == Some(Answer::Fine)
+        && ask(edge, 1, Call::AwaitGone(FIRST, nr)) == Some(Answer::Gone)
+}
+
+/// Whether two workers beat at two ticks, and are counted.
+fn both_beat_twice<F: Family + Drop>(edge: &mut Edge<F>) -> bool {
+    both_beat(edge, 7) && both_beat(edge, 8) && counts(edge, 2)
+}
+
 #[test]
 fn two_children_answer_two_ticks(rt: HostRuntime) -> Result<(), Fail> {
     let mut edge = edge_on(&rt, "none", "exit 1")?;
-    for nr in 0..2 {
-        assert!(rt; start(&mut edge, nr) == Some(Answer::IsReady));
-    }
-    for now in [7, 8] {
-        assert!(rt; edge.tick(now) == below(2), "at {now}");
-        assert_eq!(rt; edge.start_of(0), Some(1));
-        assert_eq!(rt; edge.start_of(1), Some(2));
-    }
-    assert!(rt; ask(&mut edge, 1, Call::Census(FIRST)) == Some(Answer::Counted(below(2))));
-    for nr in 0..2 {
-        assert!(rt; ask(&mut edge, 1, Call::Quit(FIRST, nr)) == Some(Answer::Fine));
-        assert!(rt; ask(&mut edge, 1, Call::AwaitGone(FIRST, nr)) == Some(Answer::Gone));
-    }
+    assert!(rt; start_two(&mut edge));
+    assert!(rt; both_beat_twice(&mut edge));
+    assert!(rt; quits(&mut edge, 0) && quits(&mut edge, 1));
     assert_eq!(rt; edge.family().count(), 0);
     Ok(())
+}
+
+/// The first two faults end a child; one that is late goes on.
+fn ends(fault: usize) -> bool {
+    fault < 2
+}
+
+/// What is heard of a child that is to answer.
+fn gone_or_late(fault: usize) -> Option<Answer> {
+    if ends(fault) {
+        Some(Answer::Gone)
+    } else {
+        Some(Answer::Late)
+    }
+}
+
+/// Whether a worker was ready so, and neither beat nor was counted: one that is late never is. No process is left.
+fn is_missed(life: &Life, ready: Option<Answer>) -> bool {
+    life.ready == ready && life.has_beats(0) && life.is_counted(0) && life.left == 0
 }
 
 #[test]
 fn hears_faults_at_go(rt: HostRuntime) -> Result<(), Fail> {
     for (at, fault) in FAULTS.iter().enumerate() {
-        let mut edge = edge_on(&rt, "go", fault)?;
-        let life = live(&mut edge);
-        let wanted = if at < 2 { Answer::Gone } else { Answer::Late };
-        assert!(rt; life.ready == Some(wanted), "at {fault}");
-
-        // one that is late is never counted
-        assert!(rt; life.beats == Numbers::none(), "at {fault}");
-        assert!(rt;
-            life.counted == Some(Answer::Counted(Numbers::none())),
-            "at {fault}"
-        );
-        assert_eq!(rt; edge.family().count(), 0);
+        let life = life_of(&rt, "go", fault)?;
+        assert!(rt; is_missed(&life, gone_or_late(at)), "at {fault}");
     }
     Ok(())
+}
+
+/// Whether a worker beat, but was not counted, and then gone so. No process is left.
+fn is_lost(life: &Life, gone: Option<Answer>) -> bool {
+    life.has_beats(1) && life.is_counted(0) && life.gone == gone && life.left == 0
 }
 
 #[test]
 fn hears_faults_at_ping(rt: HostRuntime) -> Result<(), Fail> {
     for fault in FAULTS {
-        let mut edge = edge_on(&rt, "ping", fault)?;
-        let life = live(&mut edge);
-        assert!(rt; life.beats == below(1), "at {fault}");
-        assert!(rt;
-            life.counted == Some(Answer::Counted(Numbers::none())),
-            "at {fault}"
-        );
-        assert!(rt; life.gone == Some(Answer::Gone), "at {fault}");
-        assert_eq!(rt; edge.family().count(), 0);
+        let life = life_of(&rt, "ping", fault)?;
+        assert!(rt; is_lost(&life, Some(Answer::Gone)), "at {fault}");
     }
     Ok(())
+}
+
+/// A worker whose beat is not heard is left as it is: one that goes on is counted.
+fn counted_at_tick(fault: usize) -> Option<Answer> {
+    let counted = if ends(fault) { 0 } else { 1 };
+    Some(Answer::Counted(below(counted)))
+}
+
+/// Whether no beat came, and the workers are counted so. No process is left.
+fn has_no_beat(life: &Life, counted: Option<Answer>) -> bool {
+    life.has_beats(0) && life.counted == counted && life.left == 0
 }
 
 #[test]
 fn hears_faults_at_tick(rt: HostRuntime) -> Result<(), Fail> {
     for (at, fault) in FAULTS.iter().enumerate() {
-        let mut edge = edge_on(&rt, "tick", fault)?;
-        let life = live(&mut edge);
-        assert!(rt; life.beats == Numbers::none(), "at {fault}");
-
-        // it is left as it is: one that goes on is counted
-        let counted = if at < 2 { 0 } else { 1 };
-        assert!(rt;
-            life.counted == Some(Answer::Counted(below(counted))),
-            "at {fault}"
-        );
-        assert_eq!(rt; edge.family().count(), 0);
+        let life = life_of(&rt, "tick", fault)?;
+        assert!(rt; has_no_beat(&life, counted_at_tick(at)), "at {fault}");
     }
     Ok(())
+}
+
+/// Whether a worker was counted, and then gone so. No process is left.
+fn is_counted_once(life: &Life, gone: Option<Answer>) -> bool {
+    life.is_counted(1) && life.gone == gone && life.left == 0
 }
 
 #[test]
 fn hears_faults_at_quit(rt: HostRuntime) -> Result<(), Fail> {
     for (at, fault) in FAULTS.iter().enumerate() {
-        let mut edge = edge_on(&rt, "quit", fault)?;
-        let life = live(&mut edge);
-        assert!(rt;
-            life.counted == Some(Answer::Counted(below(1))),
-            "at {fault}"
-        );
-        let wanted = if at < 2 { Answer::Gone } else { Answer::Late };
-        assert!(rt; life.gone == Some(wanted), "at {fault}");
-        assert_eq!(rt; edge.family().count(), 0);
+        let life = life_of(&rt, "quit", fault)?;
+        assert!(rt; is_counted_once(&life, gone_or_late(at)), "at {fault}");
     }
     Ok(())
 }
@@ -144,54 +158,52 @@ fn hears_who_answers_twice(rt: HostRuntime) -> Result<(), Fail> {
     Ok(())
 }
 
+/// The calls where there is no program.
+const MISSING: [(u32, Call, Answer); 2] = [
+    (1, Call::Fork(FIRST, 0, None), Answer::Again),
+    (1, Call::SpawnMaster(2), Answer::NoImage),
+];
+
 #[test]
 fn tells_a_missing_program(rt: HostRuntime) -> Result<(), Fail> {
-    let alloc = rt.alloc();
-    let command: Vec<String> = Vec::new(alloc);
-    let mut edge = edge_of(
-        alloc,
-        OsFamily::new(alloc, &rt, "/none/such", command.as_slice())?,
-    )?;
-    assert!(rt; ask(&mut edge, 1, Call::Fork(FIRST, 0, None)) == Some(Answer::Again));
-    assert!(rt; ask(&mut edge, 1, Call::SpawnMaster(2)) == Some(Answer::NoImage));
+    assert_eq!(rt; carried_over(&rt, "/none/such", &[], &MISSING)?, (None, 0));
     Ok(())
 }
 
+/// The calls of masters that end as they begin.
+const GONE: [(u32, Call, Answer); 4] = [
+    (1, Call::SpawnMaster(2), Answer::Spawned),
+    (2, Call::Adopt, Answer::MasterGone),
+    (1, Call::SpawnMaster(2), Answer::Spawned),
+    (2, Call::Leave, Answer::MasterGone),
+];
+
 #[test]
 fn a_master_that_ends_is_gone(rt: HostRuntime) -> Result<(), Fail> {
-    let alloc = rt.alloc();
-    let command: Vec<String> = Vec::new(alloc);
-
     // there is no script `adopt`
-    let mut edge = edge_of(alloc, OsFamily::new(alloc, &rt, "sh", command.as_slice())?)?;
-    edge.reserve(20, b"end\n")?;
-    for call in [Call::Adopt, Call::Leave] {
-        assert!(rt; ask(&mut edge, 1, Call::SpawnMaster(2)) == Some(Answer::Spawned));
-        assert!(rt; ask(&mut edge, 2, call) == Some(Answer::MasterGone));
-        assert_eq!(rt; edge.family().count(), 0);
+    for calls in [&GONE[..2], &GONE] {
+        assert_eq!(rt; carried_over(&rt, "sh", b"end\n", calls)?, (None, 0));
     }
     Ok(())
 }
 
+/// A path of a file that no other run of the tests writes.
+fn own_path(rt: &HostRuntime) -> Result<FilePath, Fail> {
+    let name = format!(in rt.alloc(); "/tmp/prefork-{}.pid", process::id(rt.process()))?;
+    Ok(FilePath::read(name.as_bytes())?)
+}
+
 #[test]
 fn writes_and_moves_files(rt: HostRuntime) -> Result<(), Fail> {
-    let alloc = rt.alloc();
-    let command: Vec<String> = Vec::new(alloc);
-    let mut edge = edge_of(
-        alloc,
-        OsFamily::new(alloc, &rt, "none", command.as_slice())?,
-    )?;
-    let name = format!(in alloc; "/tmp/prefork-{}.pid", process::id(rt.process()))?;
-    let Ok(path) = FilePath::read(name.as_bytes()) else {
-        panic!(rt; "no path");
-    };
-    let Ok(nowhere) = FilePath::read(b"/none/such/a.pid") else {
-        panic!(rt; "no path");
-    };
-    assert!(rt; ask(&mut edge, 1, Call::WritePid(path)) == Some(Answer::Fine));
-    assert!(rt; ask(&mut edge, 1, Call::MovePid(path, nowhere)) == Some(Answer::IoFault));
-    assert!(rt; ask(&mut edge, 1, Call::RemovePid(path)) == Some(Answer::Fine));
-    assert!(rt; ask(&mut edge, 1, Call::RemovePid(path)) == Some(Answer::IoFault));
-    assert!(rt; ask(&mut edge, 1, Call::WritePid(nowhere)) == Some(Answer::IoFault));
+    let path = own_path(&rt)?;
+    let nowhere = FilePath::read(b"/none/such/a.pid")?;
+    let calls = [
+        (1, Call::WritePid(path), Answer::Fine),
+        (1, Call::MovePid(path, nowhere), Answer::IoFault),
+        (1, Call::RemovePid(path), Answer::Fine),
+        (1, Call::RemovePid(path), Answer::IoFault),
+        (1, Call::WritePid(nowhere), Answer::IoFault),
+    ];
+    assert_eq!(rt; carried_over(&rt, "none", &[], &calls)?, (None, 0));
     Ok(())
 }

@@ -13,6 +13,9 @@ pub(crate) const FIRST: Generation = Generation {
     config: 1,
 };
 
+/// Masters' calls, each with who makes it and how it is answered.
+pub(crate) type Dialogue<'a> = &'a [(u32, Call, Answer)];
+
 /// The edge of master 1, with process number 100, that listens on 0.0.0.0:8080.
 pub(crate) fn edge_of<F: Family + Drop>(alloc: Global, family: F) -> Result<Edge<F>, AllocError> {
     let known = Record::start(&Settings::plain(), 2, &Numbers::none(), 100);
@@ -25,6 +28,16 @@ pub(crate) fn ask<F: Family + Drop>(edge: &mut Edge<F>, by: u32, call: Call) -> 
         return None;
     }
     Some(edge.make(Actor(by), &call))
+}
+
+/// The place of the first call that is answered in another way, where there is one.
+pub(crate) fn first_wrong<F: Family + Drop>(edge: &mut Edge<F>, calls: Dialogue) -> Option<usize> {
+    for (place, (by, call, answer)) in calls.iter().enumerate() {
+        if ask(edge, *by, *call) != Some(*answer) {
+            return Some(place);
+        }
+    }
+    None
 }
 
 /// Starts a worker of master 1, and waits until it is ready.
@@ -40,4 +53,18 @@ pub(crate) fn below(n: u32) -> Numbers {
         numbers.add(nr);
     }
     numbers
+}
+
+/// Whether just workers 0 and 1 beat at a tick, and each keeps the number of its start.
+pub(crate) fn both_beat<F: Family + Drop>(edge: &mut Edge<F>, now: u64) -> bool {
+    edge.tick(now) == below(2) && has_start(edge, 0, 1) && has_start(edge, 1, 2)
+}
+
+fn has_start<F: Family + Drop>(edge: &Edge<F>, nr: u32, start: u32) -> bool {
+    edge.start_of(nr) == Some(start)
+}
+
+/// Whether just the workers below n are counted.
+pub(crate) fn counts<F: Family + Drop>(edge: &mut Edge<F>, n: u32) -> bool {
+    ask(edge, 1, Call::Census(FIRST)) == Some(Answer::Counted(below(n)))
 }

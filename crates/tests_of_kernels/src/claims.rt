@@ -12,16 +12,22 @@ const FIRST: Generation = Generation {
     config: 1,
 };
 
+/// The addresses of listeners.
+fn addresses_of(listeners: &[Listener]) -> Result<ListenerSet, Fail> {
+    let mut addresses = ListenerSet::new();
+    for listener in listeners {
+        addresses.add(&listener.address)?;
+    }
+    Ok(addresses)
+}
+
 fn booted(
     alloc: Global,
     listeners: &[Listener],
     groups: &Groups,
     path: FilePath,
 ) -> Result<Kernel, Fail> {
-    let mut addresses = ListenerSet::new();
-    for listener in listeners {
-        addresses.add(&listener.address)?;
-    }
+    let addresses = addresses_of(listeners)?;
     let count = addresses.len();
     let shares = groups.as_slice().len();
     if count < 1 || groups.addresses() as usize != count || groups.workers() != 2 || shares < 1 {
@@ -40,9 +46,21 @@ fn booted(
     Ok(Kernel::boot(alloc, &settings, 2, WIDEST_LIMITS)?)
 }
 
-/// A kernel whose master has two addresses, and workers of one group.
-fn started(alloc: Global, listeners: &[Listener], path: FilePath) -> Result<Kernel, Fail> {
-    booted(alloc, listeners, &Groups::one(2, 2), path)
+/// The path with this text.
+fn file_path(text: &[u8]) -> Result<FilePath, Fail> {
+    Ok(FilePath::read(text)?)
+}
+
+fn listener(descriptor: u32, text: &[u8]) -> Result<Listener, Fail> {
+    Ok(Listener {
+        descriptor,
+        address: Address::read(text)?,
+    })
+}
+
+/// The listener of this address at descriptor 3, and that of another at a descriptor.
+fn pair(first: &[u8], descriptor: u32, second: &[u8]) -> Result<[Listener; 2], Fail> {
+    Ok([listener(3, first)?, listener(descriptor, second)?])
 }
 
 /// The first workers of a service of these groups.
@@ -53,25 +71,6 @@ fn first_crew(groups: &Groups) -> Crew {
     }
 }
 
-/// What a master with two workers of one group says as it starts.
-fn first<'a>(listeners: &'a [Listener], path: FilePath) -> Running<'a> {
-    Running {
-        listeners,
-        crew: first_crew(&Groups::one(2, 2)),
-        ready: Numbers::below(2),
-        pid_path: Some(path),
-        note: PidNote::InPlace,
-        pid: 100,
-    }
-}
-
-fn listener(descriptor: u32, text: &[u8]) -> Result<Listener, Fail> {
-    Ok(Listener {
-        descriptor,
-        address: Address::read(text)?,
-    })
-}
-
 /// Whether they agree, where the path leaves room for the suffix.
 fn agrees(kernel: &Kernel, claim: &Running<'_>) -> bool {
     match &claim.pid_path {
@@ -80,120 +79,203 @@ fn agrees(kernel: &Kernel, claim: &Running<'_>) -> bool {
     }
 }
 
-/// Whether no claim is true of the kernel.
-fn are_denied(kernel: &Kernel, claims: &[Running<'_>]) -> bool {
-    claims.iter().all(|claim| !agrees(kernel, claim))
+/// A kernel whose master has two addresses and a pid file.
+#[derive(Drop)]
+struct AtStart {
+    kernel: Kernel,
+    listeners: [Listener; 2],
+    path: FilePath,
 }
 
-/// The listeners of the master that is started.
-fn both() -> Result<[Listener; 2], Fail> {
-    Ok([listener(3, b"127.0.0.1:80")?, listener(4, b"/run/app")?])
+impl AtStart {
+    /// With two workers of these groups.
+    fn of(alloc: Global, groups: &Groups) -> Result<Self, Fail> {
+        let listeners = pair(b"127.0.0.1:80", 4, b"/run/app")?;
+        let path = file_path(b"/run/app.pid")?;
+        let kernel = booted(alloc, &listeners, groups, path)?;
+        Ok(AtStart {
+            kernel,
+            listeners,
+            path,
+        })
+    }
+
+    /// With two workers of one group.
+    fn new(alloc: Global) -> Result<Self, Fail> {
+        Self::of(alloc, &Groups::one(2, 2))
+    }
+
+    /// What a master with two workers of one group says as it starts, of these listeners.
+    fn claim_of<'a>(&self, listeners: &'a [Listener]) -> Running<'a> {
+        Running {
+            listeners,
+            crew: first_crew(&Groups::one(2, 2)),
+            ready: Numbers::below(2),
+            pid_path: Some(self.path),
+            note: PidNote::InPlace,
+            pid: 100,
+        }
+    }
+
+    /// What it says of its own listeners.
+    fn claim(&self) -> Running<'_> {
+        self.claim_of(&self.listeners)
+    }
+
+    /// Whether a claim is true of the kernel.
+    fn agrees(&self, claim: &Running<'_>) -> bool {
+        agrees(&self.kernel, claim)
+    }
+
+    /// Whether the claim that it has these listeners is true of the kernel.
+    fn agrees_with(&self, listeners: &[Listener]) -> bool {
+        self.agrees(&self.claim_of(listeners))
+    }
+
+    /// Whether the claim that these workers are ready is true of the kernel.
+    fn agrees_with_ready(&self, ready: Numbers) -> bool {
+        self.agrees(&Running {
+            ready,
+            ..self.claim()
+        })
+    }
+
+    /// Whether the claim that the pid file is so is true of the kernel.
+    fn agrees_with_file(&self, note: PidNote, pid_path: Option<FilePath>) -> bool {
+        self.agrees(&Running {
+            note,
+            pid_path,
+            ..self.claim()
+        })
+    }
+
+    /// Whether the claim that the workers are of these groups is true of the kernel.
+    fn agrees_of(&self, groups: &Groups) -> bool {
+        self.agrees(&Running {
+            crew: first_crew(groups),
+            ..self.claim()
+        })
+    }
 }
 
 #[test]
-fn a_kernel_agrees_with_its_start_and_no_other_workers_or_files(
-    rt: HostRuntime,
-) -> Result<(), Fail> {
-    let path = FilePath::read(b"/run/app.pid")?;
-    let listeners = both()?;
-    let kernel = started(rt.alloc(), &listeners, path)?;
-    let so = first(&listeners, path);
-    let fileless = Running {
-        note: PidNote::NoFile,
-        pid_path: None,
-        ..so
-    };
-    assert!(rt; agrees(&kernel, &so));
-    assert!(rt; agrees(&kernel, &fileless));
-    let image = Generation {
-        image: 2,
-        config: 1,
-    };
-    let config = Generation {
-        image: 1,
-        config: 2,
-    };
-    let ready = |ready| Running { ready, ..so };
-    let of = |generation| Running {
-        crew: Crew {
-            generation,
-            ..so.crew
-        },
-        ..so
-    };
-    let note = |note| Running { note, ..so };
-    let at = |pid_path| Running { pid_path, ..so };
-    let wrong = [
-        ready(Numbers::below(1)),
-        ready(Numbers::below(3)),
-        of(image),
-        of(config),
-        Running { pid: 101, ..so },
-        note(PidNote::AtOldbin),
-        note(PidNote::OldbinLeft),
-        note(PidNote::Left),
-        note(PidNote::NoFile),
-        at(None),
-        at(Some(path.oldbin())),
-    ];
-    assert!(rt; are_denied(&kernel, &wrong));
+fn a_kernel_agrees_with_its_start(rt: HostRuntime) -> Result<(), Fail> {
+    let start = AtStart::new(rt.alloc())?;
+    assert!(rt; start.agrees(&start.claim()));
     Ok(())
 }
 
 #[test]
-fn a_kernel_agrees_with_its_own_listeners_and_settled_workers(rt: HostRuntime) -> Result<(), Fail> {
-    let path = FilePath::read(b"/run/app.pid")?;
-    let listeners = both()?;
-    let mut kernel = started(rt.alloc(), &listeners, path)?;
-    let elsewhere = [listener(3, b"127.0.0.1:80")?, listener(5, b"/run/app")?];
-    let swapped = [listener(3, b"/run/app")?, listener(4, b"127.0.0.1:80")?];
-    let wrong = [
-        first(&listeners[..1], path),
-        first(&elsewhere, path),
-        first(&swapped, path),
-    ];
-    assert!(rt; are_denied(&kernel, &wrong));
+fn a_kernel_agrees_with_no_other_ready_workers(rt: HostRuntime) -> Result<(), Fail> {
+    let start = AtStart::new(rt.alloc())?;
+    assert!(rt; !start.agrees_with_ready(Numbers::below(1)));
+    assert!(rt; !start.agrees_with_ready(Numbers::below(3)));
+    Ok(())
+}
 
-    kernel.reserve(2)?;
+#[test]
+fn a_kernel_agrees_with_no_other_generation(rt: HostRuntime) -> Result<(), Fail> {
+    let start = AtStart::new(rt.alloc())?;
+    for (image, config) in [(2, 1), (1, 2)] {
+        let claim = start.claim();
+        let crew = Crew {
+            generation: Generation { image, config },
+            ..claim.crew
+        };
+        assert!(rt;
+            !start.agrees(&Running { crew, ..claim }),
+            "{image}.{config}"
+        );
+    }
+    Ok(())
+}
+
+#[test]
+fn a_kernel_agrees_with_no_other_process_number(rt: HostRuntime) -> Result<(), Fail> {
+    let start = AtStart::new(rt.alloc())?;
+    let claim = Running {
+        pid: 101,
+        ..start.claim()
+    };
+    assert!(rt; !start.agrees(&claim));
+    Ok(())
+}
+
+#[test]
+fn a_kernel_agrees_with_no_other_note_of_its_pid_file(rt: HostRuntime) -> Result<(), Fail> {
+    let start = AtStart::new(rt.alloc())?;
+    for note in [
+        PidNote::AtOldbin,
+        PidNote::OldbinLeft,
+        PidNote::Left,
+        PidNote::NoFile,
+    ] {
+        assert!(rt; !start.agrees_with_file(note, Some(start.path)), "{note:?}");
+    }
+    Ok(())
+}
+
+#[test]
+fn a_kernel_agrees_with_no_file_but_with_no_other_file(rt: HostRuntime) -> Result<(), Fail> {
+    let start = AtStart::new(rt.alloc())?;
+    let beside = file_path(b"/run/app.pid.oldbin")?;
+    assert!(rt; start.agrees_with_file(PidNote::NoFile, None));
+    assert!(rt; !start.agrees_with_file(PidNote::InPlace, None));
+    assert!(rt; !start.agrees_with_file(PidNote::InPlace, Some(beside)));
+    Ok(())
+}
+
+#[test]
+fn a_kernel_agrees_with_its_own_listeners(rt: HostRuntime) -> Result<(), Fail> {
+    let start = AtStart::new(rt.alloc())?;
+    let elsewhere = pair(b"127.0.0.1:80", 5, b"/run/app")?;
+    let swapped = pair(b"/run/app", 4, b"127.0.0.1:80")?;
+    assert!(rt; !start.agrees_with(&start.listeners[..1]));
+    assert!(rt; !start.agrees_with(&elsewhere));
+    assert!(rt; !start.agrees_with(&swapped));
+    Ok(())
+}
+
+/// Makes a call of the first master at a moment at which nothing else happens, if there is room for it.
+fn make(kernel: &mut Kernel, call: &Call) {
     let quiet = Moment {
         exits: &[],
         fate: None,
     };
-    let so = first(&listeners, path);
-    let more = Running {
-        ready: Numbers::below(3),
-        ..so
-    };
-    kernel.call(Actor(1), &Call::Fork(FIRST, 2, None), &[], &quiet);
-    assert!(rt; !agrees(&kernel, &so));
-    assert!(rt; !agrees(&kernel, &more));
-    kernel.call(Actor(1), &Call::AwaitReady(FIRST, 2), &[], &quiet);
-    assert!(rt; !agrees(&kernel, &so));
-    assert!(rt; agrees(&kernel, &more));
+    if 0 < kernel.room() {
+        kernel.call(Actor(1), call, &[], &quiet);
+    }
+}
+
+#[test]
+fn a_kernel_agrees_with_its_settled_workers(rt: HostRuntime) -> Result<(), Fail> {
+    let mut start = AtStart::new(rt.alloc())?;
+    start.kernel.reserve(2)?;
+    make(&mut start.kernel, &Call::Fork(FIRST, 2, None));
+    assert!(rt; !start.agrees_with_ready(Numbers::below(2)));
+    assert!(rt; !start.agrees_with_ready(Numbers::below(3)));
+    make(&mut start.kernel, &Call::AwaitReady(FIRST, 2));
+    assert!(rt; !start.agrees_with_ready(Numbers::below(2)));
+    assert!(rt; start.agrees_with_ready(Numbers::below(3)));
     Ok(())
+}
+
+/// These groups, and one more with an address.
+fn and_one(mut groups: Groups, workers: u32) -> Result<Groups, Fail> {
+    groups.add(Group {
+        addresses: 1,
+        workers,
+    })?;
+    Ok(groups)
 }
 
 #[test]
 fn a_kernel_agrees_with_the_groups_that_it_was_started_with(rt: HostRuntime) -> Result<(), Fail> {
-    let path = FilePath::read(b"/run/app.pid")?;
-    let listeners = both()?;
-    let mut groups = Groups::one(1, 1);
-    groups.add(Group {
-        addresses: 1,
-        workers: 1,
-    })?;
-    let kernel = booted(rt.alloc(), &listeners, &groups, path)?;
-    let of = |groups| Running {
-        crew: first_crew(groups),
-        ..first(&listeners, path)
-    };
-    assert!(rt; agrees(&kernel, &of(&groups)));
-    let mut second_alone = Groups::one(1, 0);
-    second_alone.add(Group {
-        addresses: 1,
-        workers: 2,
-    })?;
-    let wrong = [of(&Groups::one(2, 2)), of(&second_alone)];
-    assert!(rt; are_denied(&kernel, &wrong));
+    let groups = and_one(Groups::one(1, 1), 1)?;
+    let second_alone = and_one(Groups::one(1, 0), 2)?;
+    let start = AtStart::of(rt.alloc(), &groups)?;
+    assert!(rt; start.agrees_of(&groups));
+    assert!(rt; !start.agrees_of(&Groups::one(2, 2)));
+    assert!(rt; !start.agrees_of(&second_alone));
     Ok(())
 }

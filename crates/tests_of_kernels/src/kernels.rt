@@ -1,5 +1,5 @@
 //! Calls on a modelled kernel that a program makes no plan for, and what its table has afterwards.
-use kernel_model::{BootRefusal, Kernel, Moment, ReserveRefusal, Row, WIDEST_LIMITS};
+use kernel_model::{BootRefusal, Kernel, Moment, ReserveRefusal, Row};
 use listener_set::{Address, DescriptorSet, FilePath, Generation, Numbers};
 use std::alloc::Global;
 use std::test::Fail;
@@ -31,22 +31,58 @@ fn failing(fate: Fate) -> Moment<'static> {
     }
 }
 
-/// Makes a call that is handed no text, if there is room for it.
-fn ask(kernel: &mut Kernel, by: Actor, call: &Call, moment: &Moment<'_>) -> Option<Answer> {
+/// Makes a call that is handed this text, if there is room for it.
+fn ask_with(
+    kernel: &mut Kernel,
+    by: Actor,
+    call: &Call,
+    text: &[u8],
+    moment: &Moment<'_>,
+) -> Option<Answer> {
     if kernel.room() == 0 {
         return None;
     }
-    Some(kernel.call(by, call, &[], moment))
+    Some(kernel.call(by, call, text, moment))
+}
+
+/// Whether the first master's call is answered so at that moment.
+fn is_answered(kernel: &mut Kernel, call: &Call, moment: &Moment<'_>, answer: Answer) -> bool {
+    ask_with(kernel, BY, call, &[], moment) == Some(answer)
 }
 
 /// Whether the first master's calls are answered so, one after another.
-fn are_answered(kernel: &mut Kernel, calls: &[(Call, Moment<'_>, Answer)]) -> bool {
-    for (call, moment, answer) in calls {
-        if ask(kernel, BY, call, moment) != Some(*answer) {
+fn are_answered(kernel: &mut Kernel, calls: &[(Call, Answer)]) -> bool {
+    for (call, answer) in calls {
+        if !is_answered(kernel, call, &QUIET, *answer) {
             return false;
         }
     }
     true
+}
+
+/// Whether the second master's call, which is handed this text, is answered so.
+fn is_second_answered(kernel: &mut Kernel, call: &Call, text: &[u8], answer: Answer) -> bool {
+    ask_with(kernel, SECOND, call, text, &QUIET) == Some(answer)
+}
+
+/// The address with this text.
+fn address(text: &[u8]) -> Result<Address, Fail> {
+    Ok(Address::read(text)?)
+}
+
+/// An address that no master has at first.
+fn other() -> Result<Address, Fail> {
+    address(b"127.0.0.1:9090")
+}
+
+/// The path with this text.
+fn file_path(text: &[u8]) -> Result<FilePath, Fail> {
+    Ok(FilePath::read(text)?)
+}
+
+/// The path of the pid file.
+fn path() -> Result<FilePath, Fail> {
+    file_path(b"/run/app.pid")
 }
 
 /// A kernel with the listener 0.0.0.0:8080 and a pid file.
@@ -55,9 +91,22 @@ fn started(alloc: Global, workers: u32, processes: u32) -> Result<Kernel, Fail> 
         processes,
         descriptors: 2,
     };
-    let mut settings = Settings::plain();
-    settings.pid = Some(FilePath::read(b"/run/app.pid")?);
+    let path = path()?;
+    if 100 < path.bytes().len() {
+        return Err(Fail::from("the path has no room for a suffix"));
+    }
+    let settings = Settings {
+        pid: Some(path),
+        ..Settings::plain()
+    };
     Ok(Kernel::boot(alloc, &settings, workers, limits)?)
+}
+
+/// The same with room for that many calls, and for as many processes as there can be.
+fn roomy(alloc: Global, workers: u32, calls: u32) -> Result<Kernel, Fail> {
+    let mut kernel = started(alloc, workers, 65_535)?;
+    kernel.reserve(calls)?;
+    Ok(kernel)
 }
 
 fn worker(number: u32, generation: Generation, nr: u32, stance: Stance) -> Option<Row> {
@@ -70,123 +119,6 @@ fn worker(number: u32, generation: Generation, nr: u32, stance: Stance) -> Optio
     })
 }
 
-#[test]
-fn a_start_has_a_master_and_ready_workers(rt: HostRuntime) -> Result<(), Fail> {
-    let kernel = started(rt.alloc(), 2, 3)?;
-    let master = Row::Master {
-        number: 100,
-        parent: 1,
-        image: 1,
-        live: true,
-    };
-    assert_eq!(rt; kernel.room(), 0);
-    assert_eq!(rt; kernel.master(1), Some(100));
-    assert_eq!(rt; kernel.master(2), None);
-    assert_eq!(rt; kernel.row(0), Some(master));
-    assert_eq!(rt; kernel.row(1), worker(101, FIRST, 0, Stance::Ready));
-    assert_eq!(rt; kernel.row(2), worker(102, FIRST, 1, Stance::Ready));
-    assert_eq!(rt; kernel.row(3), None);
-    Ok(())
-}
-
-#[test]
-fn a_start_has_holds_and_a_pid_file(rt: HostRuntime) -> Result<(), Fail> {
-    let kernel = started(rt.alloc(), 2, 3)?;
-    let hold = kernel.hold(2).ok_or("the last worker's hold")?;
-    assert_eq!(rt; (hold.process, hold.descriptor, hold.socket), (102, 3, 1));
-    assert_eq!(rt; hold.address.bytes(), b"0.0.0.0:8080".as_slice());
-    assert!(rt; kernel.hold(3).is_none());
-    let file = kernel.file(0).ok_or("the pid file")?;
-    assert_eq!(rt; file.path.bytes(), b"/run/app.pid".as_slice());
-    assert_eq!(rt; file.owner, 100);
-    assert!(rt; kernel.file(1).is_none());
-    Ok(())
-}
-
-#[test]
-fn a_start_is_served_by_its_workers(rt: HostRuntime) -> Result<(), Fail> {
-    for (workers, wanted) in [(0, None), (2, Some((FIRST, 2)))] {
-        let service = started(rt.alloc(), workers, 3)?.service()?;
-        assert_eq!(rt; service.address(0), Some(Address::plain()));
-        assert_eq!(rt; service.address(1), None);
-        assert_eq!(rt; service.entry(0, 0), wanted);
-    }
-    Ok(())
-}
-
-#[test]
-fn limits_and_numbers_are_refused(rt: HostRuntime) -> Result<(), Fail> {
-    for (workers, processes, descriptors) in [
-        (2, 2, 64),
-        (2, 3, 0),
-        (0, 65_536, 64),
-        (0, 1, 65),
-        (1025, 65_535, 64),
-    ] {
-        let limits = Limits {
-            processes,
-            descriptors,
-        };
-        let refused = Kernel::boot(rt.alloc(), &Settings::plain(), workers, limits);
-        assert!(rt;
-            matches!(&refused, Err(BootRefusal::BadLimits)),
-            "{workers} workers"
-        );
-    }
-    let mut kernel = started(rt.alloc(), 2, 3)?;
-    assert_eq!(rt;
-        kernel.reserve(4_294_967_295),
-        Err(ReserveRefusal::NoNumbers)
-    );
-    assert_eq!(rt; kernel.reserve(8), Ok(()));
-    assert_eq!(rt; kernel.reserve(4), Ok(()));
-    assert_eq!(rt; kernel.room(), 8);
-    assert_eq!(rt; kernel.set_room(4), Ok(()));
-    assert_eq!(rt; kernel.room(), 4);
-    assert_eq!(rt; kernel.copy(0)?.room(), 0);
-    assert_eq!(rt; kernel.copy(3)?.row(2), kernel.row(2));
-    Ok(())
-}
-
-#[test]
-fn no_more_processes_start_than_the_limit(rt: HostRuntime) -> Result<(), Fail> {
-    let mut kernel = started(rt.alloc(), 2, 3)?;
-    kernel.reserve(4)?;
-    let calls = [
-        (Call::Fork(FIRST, 2, None), QUIET, Answer::Again),
-        (Call::Kill(FIRST, 1), QUIET, Answer::Fine),
-        (Call::Fork(FIRST, 0, None), QUIET, Answer::Again),
-        (Call::Fork(FIRST, 1, None), QUIET, Answer::Forked),
-    ];
-    assert!(rt; are_answered(&mut kernel, &calls));
-    assert_eq!(rt; kernel.room(), 0);
-    assert_eq!(rt; kernel.row(2), worker(103, FIRST, 1, Stance::Starting));
-    Ok(())
-}
-
-#[test]
-fn a_socket_gets_the_lowest_free_descriptor(rt: HostRuntime) -> Result<(), Fail> {
-    let mut kernel = started(rt.alloc(), 1, 65_535)?;
-    kernel.reserve(5)?;
-    let plain = Address::plain();
-    let other = Address::read(b"127.0.0.1:9090")?;
-    let third = Address::read(b"/run/app")?;
-    let calls = [
-        (Call::OpenAt(plain), QUIET, Answer::InUse),
-        (Call::OpenAt(other), QUIET, Answer::Opened(4)),
-        (Call::OpenAt(third), QUIET, Answer::TooMany),
-        (Call::CloseAt(plain), QUIET, Answer::Fine),
-        (Call::OpenAt(plain), QUIET, Answer::Opened(3)),
-    ];
-    assert!(rt; are_answered(&mut kernel, &calls));
-    let first = kernel.hold(0).ok_or("the master's first hold")?;
-    let second = kernel.hold(1).ok_or("the master's second hold")?;
-    assert_eq!(rt; (first.descriptor, first.socket), (3, 3));
-    assert_eq!(rt; (second.descriptor, second.socket), (4, 2));
-    assert!(rt; kernel.hold(2).is_none(), "the worker's hold is closed");
-    Ok(())
-}
-
 /// Whether the hold at the place is of that process, descriptor and socket.
 fn is_hold(kernel: &Kernel, place: usize, process: u32, descriptor: u32, socket: u32) -> bool {
     match kernel.hold(place) {
@@ -195,20 +127,210 @@ fn is_hold(kernel: &Kernel, place: usize, process: u32, descriptor: u32, socket:
     }
 }
 
+/// Whether the file at the place has that path and is the first master's.
+fn is_file(kernel: &Kernel, place: usize, path: &[u8]) -> bool {
+    match kernel.file(place) {
+        Some(file) => file.path.bytes() == path && file.owner == 100,
+        None => false,
+    }
+}
+
 #[test]
-fn a_worker_that_is_forked_with_a_set_holds_what_it_shares(rt: HostRuntime) -> Result<(), Fail> {
-    let mut kernel = started(rt.alloc(), 0, 65_535)?;
-    kernel.reserve(5)?;
+fn a_start_has_one_master_and_no_room(rt: HostRuntime) -> Result<(), Fail> {
+    let kernel = started(rt.alloc(), 2, 3)?;
+    assert!(rt; kernel.room() == 0);
+    assert!(rt; kernel.master(1) == Some(100));
+    assert!(rt; kernel.master(2).is_none());
+    Ok(())
+}
+
+#[test]
+fn a_start_has_the_rows_of_a_master_and_of_ready_workers(rt: HostRuntime) -> Result<(), Fail> {
+    let kernel = started(rt.alloc(), 2, 3)?;
+    let master = Row::Master {
+        number: 100,
+        parent: 1,
+        image: 1,
+        live: true,
+    };
+    let rows = [
+        Some(master),
+        worker(101, FIRST, 0, Stance::Ready),
+        worker(102, FIRST, 1, Stance::Ready),
+        None,
+    ];
+    for (place, row) in rows.iter().enumerate() {
+        assert!(rt; kernel.row(place) == *row, "row {place}");
+    }
+    Ok(())
+}
+
+/// Whether the address of the hold at the place is written so.
+fn is_hold_of(kernel: &Kernel, place: usize, address: &[u8]) -> bool {
+    match kernel.hold(place) {
+        Some(hold) => hold.address.bytes() == address,
+        None => false,
+    }
+}
+
+#[test]
+fn a_start_has_holds(rt: HostRuntime) -> Result<(), Fail> {
+    let kernel = started(rt.alloc(), 2, 3)?;
+    assert!(rt; is_hold(&kernel, 2, 102, 3, 1));
+    assert!(rt; is_hold_of(&kernel, 2, b"0.0.0.0:8080"));
+    assert!(rt; kernel.hold(3).is_none());
+    Ok(())
+}
+
+#[test]
+fn a_start_has_a_pid_file(rt: HostRuntime) -> Result<(), Fail> {
+    let kernel = started(rt.alloc(), 2, 3)?;
+    assert!(rt; is_file(&kernel, 0, b"/run/app.pid"));
+    assert!(rt; kernel.file(1).is_none());
+    Ok(())
+}
+
+/// The address at a place of the service of such a start.
+fn served(alloc: Global, workers: u32, place: usize) -> Result<Option<Address>, Fail> {
+    Ok(started(alloc, workers, 3)?.service()?.address(place))
+}
+
+#[test]
+fn a_start_serves_its_address_alone(rt: HostRuntime) -> Result<(), Fail> {
+    for workers in [0, 2] {
+        assert!(rt; served(rt.alloc(), workers, 0)? == Some(Address::plain()));
+        assert!(rt; served(rt.alloc(), workers, 1)?.is_none());
+    }
+    Ok(())
+}
+
+#[test]
+fn a_start_is_served_by_its_workers(rt: HostRuntime) -> Result<(), Fail> {
+    for (workers, wanted) in [(0, None), (2, Some((FIRST, 2)))] {
+        let service = started(rt.alloc(), workers, 3)?.service()?;
+        assert!(rt; service.entry(0, 0) == wanted, "{workers} workers");
+    }
+    Ok(())
+}
+
+/// Whether a start with that many workers is refused for its limits.
+fn is_start_refused(alloc: Global, workers: u32, processes: u32, descriptors: u32) -> bool {
+    let limits = Limits {
+        processes,
+        descriptors,
+    };
+    let refused = Kernel::boot(alloc, &Settings::plain(), workers, limits);
+    matches!(&refused, Err(BootRefusal::BadLimits))
+}
+
+#[test]
+fn limits_are_refused(rt: HostRuntime) {
+    for (workers, processes, descriptors) in [
+        (2, 2, 64),
+        (2, 3, 0),
+        (0, 65_536, 64),
+        (0, 1, 65),
+        (1025, 65_535, 64),
+    ] {
+        assert!(rt;
+            is_start_refused(rt.alloc(), workers, processes, descriptors),
+            "{workers} workers"
+        );
+    }
+}
+
+#[test]
+fn the_room_is_the_most_that_was_reserved(rt: HostRuntime) -> Result<(), Fail> {
+    let mut kernel = started(rt.alloc(), 2, 3)?;
+    assert!(rt; kernel.reserve(4_294_967_295) == Err(ReserveRefusal::NoNumbers));
+    assert!(rt; kernel.reserve(8).is_ok());
+    assert!(rt; kernel.reserve(4).is_ok());
+    assert!(rt; kernel.room() == 8);
+    Ok(())
+}
+
+#[test]
+fn the_room_is_what_it_was_set_to(rt: HostRuntime) -> Result<(), Fail> {
+    let mut kernel = started(rt.alloc(), 2, 3)?;
+    kernel.reserve(8)?;
+    assert!(rt; kernel.set_room(4).is_ok());
+    assert!(rt; kernel.room() == 4);
+    Ok(())
+}
+
+#[test]
+fn a_copy_has_the_same_rows_and_a_room_of_its_own(rt: HostRuntime) -> Result<(), Fail> {
+    let mut kernel = started(rt.alloc(), 2, 3)?;
+    kernel.set_room(4)?;
+    assert!(rt; kernel.copy(0)?.room() == 0);
+    assert!(rt; kernel.copy(3)?.row(2) == kernel.row(2));
+    Ok(())
+}
+
+#[test]
+fn no_more_processes_start_than_the_limit(rt: HostRuntime) -> Result<(), Fail> {
+    let mut kernel = started(rt.alloc(), 2, 3)?;
+    kernel.reserve(4)?;
+    let calls = [
+        (Call::Fork(FIRST, 2, None), Answer::Again),
+        (Call::Kill(FIRST, 1), Answer::Fine),
+        (Call::Fork(FIRST, 0, None), Answer::Again),
+        (Call::Fork(FIRST, 1, None), Answer::Forked),
+    ];
+    assert!(rt; are_answered(&mut kernel, &calls));
+    assert!(rt; kernel.room() == 0);
+    assert!(rt; kernel.row(2) == worker(103, FIRST, 1, Stance::Starting));
+    Ok(())
+}
+
+/// Whether addresses are opened as long as a descriptor is free, and by the lowest one.
+fn are_opened(kernel: &mut Kernel) -> Result<bool, Fail> {
     let plain = Address::plain();
-    let other = Address::read(b"127.0.0.1:9090")?;
+    let third = address(b"/run/app")?;
+    let calls = [
+        (Call::OpenAt(plain), Answer::InUse),
+        (Call::OpenAt(other()?), Answer::Opened(4)),
+        (Call::OpenAt(third), Answer::TooMany),
+        (Call::CloseAt(plain), Answer::Fine),
+        (Call::OpenAt(plain), Answer::Opened(3)),
+    ];
+    Ok(are_answered(kernel, &calls))
+}
+
+#[test]
+fn a_socket_gets_the_lowest_free_descriptor(rt: HostRuntime) -> Result<(), Fail> {
+    let mut kernel = roomy(rt.alloc(), 1, 5)?;
+    assert!(rt; are_opened(&mut kernel)?);
+    assert!(rt; is_hold(&kernel, 0, 100, 3, 3));
+    assert!(rt; is_hold(&kernel, 1, 100, 4, 2));
+    assert!(rt; kernel.hold(2).is_none(), "the worker's hold is closed");
+    Ok(())
+}
+
+/// Whether the master opens another address, and forks a worker that gets it alone.
+fn is_forked_with_the_other(kernel: &mut Kernel) -> Result<bool, Fail> {
     let mut shared = DescriptorSet::none();
     shared.add(4);
     shared.add(66);
     let calls = [
-        (Call::OpenAt(other), QUIET, Answer::Opened(4)),
-        (Call::Fork(FIRST, 0, Some(shared)), QUIET, Answer::Forked),
+        (Call::OpenAt(other()?), Answer::Opened(4)),
+        (Call::Fork(FIRST, 0, Some(shared)), Answer::Forked),
     ];
-    assert!(rt; are_answered(&mut kernel, &calls));
+    Ok(are_answered(kernel, &calls))
+}
+
+/// A kernel with room for three calls, whose master has two addresses, and whose worker the second of them.
+fn sharing_one(alloc: Global) -> Result<Kernel, Fail> {
+    let mut kernel = roomy(alloc, 0, 5)?;
+    if !is_forked_with_the_other(&mut kernel)? {
+        return Err(Fail::from("the worker is not forked"));
+    }
+    Ok(kernel)
+}
+
+#[test]
+fn a_worker_that_is_forked_with_a_set_holds_what_it_shares(rt: HostRuntime) -> Result<(), Fail> {
+    let kernel = sharing_one(rt.alloc())?;
     assert!(rt; is_hold(&kernel, 0, 100, 3, 1));
     assert!(rt; is_hold(&kernel, 1, 100, 4, 2));
     assert!(rt; is_hold(&kernel, 2, 101, 4, 2));
@@ -216,15 +338,30 @@ fn a_worker_that_is_forked_with_a_set_holds_what_it_shares(rt: HostRuntime) -> R
         kernel.hold(3).is_none(),
         "the other socket is the master's alone"
     );
-    let closed = [(Call::CloseAt(plain), QUIET, Answer::Fine)];
+    Ok(())
+}
+
+#[test]
+fn a_socket_that_is_not_shared_is_closed_by_the_master_alone(rt: HostRuntime) -> Result<(), Fail> {
+    let mut kernel = sharing_one(rt.alloc())?;
+    let closed = [(Call::CloseAt(Address::plain()), Answer::Fine)];
     assert!(rt; are_answered(&mut kernel, &closed));
     assert!(rt; is_hold(&kernel, 0, 100, 4, 2));
     assert!(rt; is_hold(&kernel, 1, 101, 4, 2));
-    let both = [
-        (Call::CloseAt(other), QUIET, Answer::Fine),
-        (Call::Fork(FIRST, 1, None), QUIET, Answer::Forked),
+    Ok(())
+}
+
+#[test]
+fn a_worker_that_is_forked_where_nothing_is_open_holds_nothing(
+    rt: HostRuntime,
+) -> Result<(), Fail> {
+    let mut kernel = sharing_one(rt.alloc())?;
+    let calls = [
+        (Call::CloseAt(Address::plain()), Answer::Fine),
+        (Call::CloseAt(other()?), Answer::Fine),
+        (Call::Fork(FIRST, 1, None), Answer::Forked),
     ];
-    assert!(rt; are_answered(&mut kernel, &both));
+    assert!(rt; are_answered(&mut kernel, &calls));
     assert!(rt;
         kernel.hold(0).is_none(),
         "nothing is shared where nothing is open"
@@ -232,20 +369,15 @@ fn a_worker_that_is_forked_with_a_set_holds_what_it_shares(rt: HostRuntime) -> R
     Ok(())
 }
 
-#[test]
-fn workers_drain_exit_and_are_gone(rt: HostRuntime) -> Result<(), Fail> {
-    let mut kernel = started(rt.alloc(), 2, 65_535)?;
-    kernel.reserve(4)?;
-    let calls = [
-        (
-            Call::AwaitReady(FIRST, 0),
-            failing(Fate::Late),
-            Answer::IsReady,
-        ),
-        (Call::Quit(FIRST, 1), QUIET, Answer::Fine),
-    ];
-    assert!(rt; are_answered(&mut kernel, &calls));
-    assert_eq!(rt; kernel.row(2), worker(102, FIRST, 1, Stance::Draining));
+/// Whether the first of two workers is ready, whatever the wait's fate, and the second is asked to quit.
+fn is_one_quitting(kernel: &mut Kernel) -> bool {
+    let awaited = Call::AwaitReady(FIRST, 0);
+    is_answered(kernel, &awaited, &failing(Fate::Late), Answer::IsReady)
+        && are_answered(kernel, &[(Call::Quit(FIRST, 1), Answer::Fine)])
+}
+
+/// Whether the first of them is gone once both have exited.
+fn is_one_gone(kernel: &mut Kernel) -> bool {
     let leaving = Moment {
         exits: &[
             Name::Draining(FIRST, 1),
@@ -254,12 +386,25 @@ fn workers_drain_exit_and_are_gone(rt: HostRuntime) -> Result<(), Fail> {
         ],
         fate: None,
     };
-    let awaited = [(Call::AwaitReady(FIRST, 0), leaving, Answer::Gone)];
-    assert!(rt; are_answered(&mut kernel, &awaited));
-    assert_eq!(rt; kernel.row(1), worker(102, FIRST, 1, Stance::Exited));
-    let counted = [(Call::Census(NEXT), QUIET, Answer::Counted(Numbers::none()))];
+    is_answered(kernel, &Call::AwaitReady(FIRST, 0), &leaving, Answer::Gone)
+}
+
+#[test]
+fn a_worker_that_quits_drains(rt: HostRuntime) -> Result<(), Fail> {
+    let mut kernel = roomy(rt.alloc(), 2, 4)?;
+    assert!(rt; is_one_quitting(&mut kernel));
+    assert!(rt; kernel.row(2) == worker(102, FIRST, 1, Stance::Draining));
+    Ok(())
+}
+
+#[test]
+fn a_worker_that_exits_is_gone_once_it_is_awaited_or_counted(rt: HostRuntime) -> Result<(), Fail> {
+    let mut kernel = roomy(rt.alloc(), 2, 4)?;
+    assert!(rt; is_one_quitting(&mut kernel) && is_one_gone(&mut kernel));
+    assert!(rt; kernel.row(1) == worker(102, FIRST, 1, Stance::Exited));
+    let counted = [(Call::Census(NEXT), Answer::Counted(Numbers::none()))];
     assert!(rt; are_answered(&mut kernel, &counted));
-    assert_eq!(rt; kernel.row(1), None);
+    assert!(rt; kernel.row(1).is_none());
     Ok(())
 }
 
@@ -267,89 +412,97 @@ fn workers_drain_exit_and_are_gone(rt: HostRuntime) -> Result<(), Fail> {
 const HANDED: &[u8] =
     b"handover 1\nold-pid 100\ngeneration 2 1\nlistener 3 0.0.0.0:8080\nwant 0.0.0.0:8080\nworkers 1\nend\n";
 
+/// Whether the second master is alive once it is spawned from its image, and not before.
+fn is_second_found(kernel: &mut Kernel) -> bool {
+    let spawn = Call::SpawnMaster(2);
+    let calls = [
+        (Call::Alive(2), Answer::Gone),
+        (spawn, Answer::Spawned),
+        (Call::Alive(2), Answer::IsAlive),
+    ];
+    is_answered(kernel, &spawn, &failing(Fate::NoImage), Answer::NoImage)
+        && are_answered(kernel, &calls)
+}
+
 #[test]
 fn a_second_master_is_started_found_and_adopts_its_own_handover(
     rt: HostRuntime,
 ) -> Result<(), Fail> {
-    let mut kernel = started(rt.alloc(), 1, 65_535)?;
-    kernel.reserve(7)?;
-    assert_eq!(rt;
-        ask(&mut kernel, SECOND, &Call::Leave, &QUIET),
-        Some(Answer::MasterGone)
-    );
-    let calls = [
-        (
-            Call::SpawnMaster(2),
-            failing(Fate::NoImage),
-            Answer::NoImage,
-        ),
-        (Call::Alive(2), QUIET, Answer::Gone),
-        (Call::SpawnMaster(2), QUIET, Answer::Spawned),
-        (Call::Alive(2), QUIET, Answer::IsAlive),
-    ];
-    assert!(rt; are_answered(&mut kernel, &calls));
-    assert_eq!(rt; kernel.master(2), Some(102));
-    assert_eq!(rt;
-        ask(&mut kernel, SECOND, &Call::Adopt, &QUIET),
-        Some(Answer::Refused)
-    );
+    let mut kernel = roomy(rt.alloc(), 1, 7)?;
+    assert!(rt; is_second_answered(&mut kernel, &Call::Leave, &[], Answer::MasterGone));
+    assert!(rt; is_second_found(&mut kernel));
+    assert!(rt; kernel.master(2) == Some(102));
+    assert!(rt; is_second_answered(&mut kernel, &Call::Adopt, &[], Answer::Refused));
     assert!(rt; kernel.room() == 1);
-    assert_eq!(rt;
-        kernel.call(SECOND, &Call::Adopt, HANDED, &QUIET),
-        Answer::Adopted
-    );
+    assert!(rt; is_second_answered(&mut kernel, &Call::Adopt, HANDED, Answer::Adopted));
     Ok(())
 }
 
 #[test]
-fn a_master_is_gone_once_it_is_ended_leaves_or_exits(rt: HostRuntime) -> Result<(), Fail> {
-    let mut kernel = started(rt.alloc(), 1, 65_535)?;
-    kernel.reserve(3)?;
-    let spawned = [(Call::SpawnMaster(2), QUIET, Answer::Spawned)];
-    assert!(rt; are_answered(&mut kernel, &spawned));
-    assert_eq!(rt;
-        ask(&mut kernel, SECOND, &Call::TermMaster(1), &QUIET),
-        Some(Answer::Fine)
-    );
-    assert_eq!(rt; kernel.master(1), None);
-    assert_eq!(rt; kernel.row(1), None);
-    assert_eq!(rt;
-        ask(&mut kernel, SECOND, &Call::Leave, &QUIET),
-        Some(Answer::Fine)
-    );
-    assert_eq!(rt; kernel.row(0), None);
+fn a_master_is_gone_once_it_is_ended_or_leaves(rt: HostRuntime) -> Result<(), Fail> {
+    let mut kernel = roomy(rt.alloc(), 1, 3)?;
+    assert!(rt; are_answered(&mut kernel, &[(Call::SpawnMaster(2), Answer::Spawned)]));
+    assert!(rt; is_second_answered(&mut kernel, &Call::TermMaster(1), &[], Answer::Fine));
+    assert!(rt; kernel.master(1).is_none());
+    assert!(rt; kernel.row(1).is_none());
+    assert!(rt; is_second_answered(&mut kernel, &Call::Leave, &[], Answer::Fine));
+    assert!(rt; kernel.row(0).is_none());
+    Ok(())
+}
 
-    let mut kernel = started(rt.alloc(), 2, 65_535)?;
-    kernel.reserve(1)?;
+#[test]
+fn a_master_is_gone_once_it_exits(rt: HostRuntime) -> Result<(), Fail> {
+    let mut kernel = roomy(rt.alloc(), 2, 1)?;
     let gone = Moment {
         exits: &[Name::Master(1)],
         fate: Some(Fate::Again),
     };
-    let calls = [(Call::Fork(NEXT, 0, None), gone, Answer::MasterGone)];
-    assert!(rt; are_answered(&mut kernel, &calls));
-    assert_eq!(rt; kernel.row(0), None);
+    let call = Call::Fork(NEXT, 0, None);
+    assert!(rt; is_answered(&mut kernel, &call, &gone, Answer::MasterGone));
+    assert!(rt; kernel.row(0).is_none());
     Ok(())
 }
 
-#[test]
-fn pid_files_are_written_moved_and_removed(rt: HostRuntime) -> Result<(), Fail> {
-    let mut kernel = started(rt.alloc(), 0, 65_535)?;
-    kernel.reserve(4)?;
-    let path = FilePath::read(b"/run/app.pid")?;
-    let beside = FilePath::read(b"/run/app.pid.oldbin")?;
-    let moved = [
-        (Call::MovePid(beside, path), QUIET, Answer::IoFault),
-        (Call::MovePid(path, beside), QUIET, Answer::Fine),
+/// The path that it is moved to.
+fn beside() -> Result<FilePath, Fail> {
+    file_path(b"/run/app.pid.oldbin")
+}
+
+/// Whether the file that is there is moved, and no other.
+fn is_moved(kernel: &mut Kernel) -> Result<bool, Fail> {
+    let path = path()?;
+    let beside = beside()?;
+    let calls = [
+        (Call::MovePid(beside, path), Answer::IoFault),
+        (Call::MovePid(path, beside), Answer::Fine),
     ];
-    assert!(rt; are_answered(&mut kernel, &moved));
-    let file = kernel.file(0).ok_or("the moved file")?;
-    assert_eq!(rt; file.path.bytes(), b"/run/app.pid.oldbin".as_slice());
-    assert_eq!(rt; file.owner, 100);
-    let written = [(Call::WritePid(path), QUIET, Answer::Fine)];
-    assert!(rt; are_answered(&mut kernel, &written));
+    Ok(are_answered(kernel, &calls))
+}
+
+#[test]
+fn a_pid_file_is_moved(rt: HostRuntime) -> Result<(), Fail> {
+    let mut kernel = roomy(rt.alloc(), 0, 4)?;
+    assert!(rt; is_moved(&mut kernel)?);
+    assert!(rt; is_file(&kernel, 0, b"/run/app.pid.oldbin"));
+    Ok(())
+}
+
+/// Whether a file is written to the path that it was moved from.
+fn is_written(kernel: &mut Kernel) -> Result<bool, Fail> {
+    Ok(are_answered(kernel, &[(Call::WritePid(path()?), Answer::Fine)]))
+}
+
+/// Whether the moved file is removed.
+fn is_removed(kernel: &mut Kernel) -> Result<bool, Fail> {
+    Ok(are_answered(kernel, &[(Call::RemovePid(beside()?), Answer::Fine)]))
+}
+
+#[test]
+fn a_pid_file_is_written_beside_one_that_is_then_removed(rt: HostRuntime) -> Result<(), Fail> {
+    let mut kernel = roomy(rt.alloc(), 0, 4)?;
+    assert!(rt; is_moved(&mut kernel)? && is_written(&mut kernel)?);
     assert!(rt; kernel.file(1).is_some(), "the written file");
-    let removed = [(Call::RemovePid(beside), QUIET, Answer::Fine)];
-    assert!(rt; are_answered(&mut kernel, &removed));
+    assert!(rt; is_removed(&mut kernel)?);
     assert!(rt; kernel.file(1).is_none(), "one file is left");
     Ok(())
 }

@@ -8,7 +8,7 @@ use plan_executor::{EnactRefusal, enact};
 use service_state::Record;
 use std::alloc::Global;
 use std::test::Fail;
-use vocabulary::{Answer, Call, Fate, Name, Outcome, Settings, Target, Turn};
+use vocabulary::{Answer, Call, Entry, Fate, Name, Outcome, Settings, Target, Turn};
 use word_runner::Enacted;
 use worker_groups::Groups;
 
@@ -48,10 +48,17 @@ fn is_left_to(state: Option<Record>, image: u32, pid: u32) -> bool {
 #[test]
 fn an_upgrade_leaves_the_new_master(rt: HostRuntime) -> Result<(), Fail> {
     let enacted = upgraded(rt.alloc(), Pattern::new(rt.alloc()))??;
-    assert_eq!(rt; enacted.report.outcome, Outcome::Done);
+    assert!(rt; enacted.report.outcome == Outcome::Done);
     assert_eq!(rt; enacted.log.len(), 18);
     assert!(rt; is_left_to(enacted.after, 2, 103));
     Ok(())
+}
+
+/// Whether the old master goes on, because of what was answered to the call of that number.
+fn is_rolled_back(enacted: Enacted, cause: u32) -> bool {
+    enacted.report.outcome == Outcome::RolledBack
+        && enacted.report.cause == Some(cause)
+        && is_left_to(enacted.after, 1, 100)
 }
 
 #[test]
@@ -59,9 +66,7 @@ fn an_upgrade_whose_new_master_dies_goes_back(rt: HostRuntime) -> Result<(), Fai
     let mut pattern = Pattern::new(rt.alloc());
     pattern.add_exit(15, Name::Master(2))?;
     let enacted = upgraded(rt.alloc(), pattern)??;
-    assert_eq!(rt; enacted.report.outcome, Outcome::RolledBack);
-    assert_eq!(rt; enacted.report.cause, Some(15));
-    assert!(rt; is_left_to(enacted.after, 1, 100));
+    assert!(rt; is_rolled_back(enacted, 15));
     Ok(())
 }
 
@@ -71,23 +76,29 @@ fn an_upgrade_names_the_master_that_executes(rt: HostRuntime) -> Result<(), Fail
         let mut pattern = Pattern::new(rt.alloc());
         pattern.add_exit(moment, Name::Master(image))?;
         let refused = upgraded(rt.alloc(), pattern)?.err();
-        assert_eq!(rt; refused, Some(EnactRefusal::MasterNamed(moment)));
+        assert!(rt;
+            refused == Some(EnactRefusal::MasterNamed(moment)),
+            "at {moment}"
+        );
     }
     Ok(())
+}
+
+/// What comes of an attended upgrade that its operator ends at the second question, where so many processes may be.
+fn ended_late(alloc: Global, processes: u32) -> Result<Enacted, Fail> {
+    let mut pattern = Pattern::new(alloc);
+    pattern.set_fate(16, Fate::Back)?;
+    let section = Section::of(alloc, pattern);
+    Ok(upgraded_among(alloc, processes, true, section)??)
 }
 
 /// Two masters with two workers each are six processes. The second way back needs no more of them.
 #[test]
 fn the_way_back_has_room_where_the_way_there_had_it(rt: HostRuntime) -> Result<(), Fail> {
     for (processes, cause, calls) in [(6, 16, 23), (5, 5, 9)] {
-        let mut pattern = Pattern::new(rt.alloc());
-        pattern.set_fate(16, Fate::Back)?;
-        let section = Section::of(rt.alloc(), pattern);
-        let enacted = upgraded_among(rt.alloc(), processes, true, section)??;
-        assert_eq!(rt; enacted.report.outcome, Outcome::RolledBack);
-        assert_eq!(rt; enacted.report.cause, Some(cause));
+        let enacted = ended_late(rt.alloc(), processes)?;
         assert_eq!(rt; enacted.log.len(), calls);
-        assert!(rt; is_left_to(enacted.after, 1, 100));
+        assert!(rt; is_rolled_back(enacted, cause), "among {processes}");
     }
     Ok(())
 }
@@ -110,38 +121,46 @@ fn upgraded_short(alloc: Global, exit: u32, turns: &[Turn]) -> Result<Enacted, F
     Ok(upgraded_among(alloc, 5, false, section)??)
 }
 
+/// Whether a master asked for a worker, and got none.
+fn is_failed_fork(entry: &Entry, image: u32) -> bool {
+    entry.by.0 == image && matches!(entry.call, Call::Fork(..)) && entry.answer != Answer::Forked
+}
+
 /// How many forks of a master were answered otherwise than by a worker.
 fn failed_forks(enacted: &Enacted, image: u32) -> usize {
     let mut count: usize = 0;
     for place in 0..enacted.log.len() {
-        let entry = enacted.log.get(place);
-        let is_fork = matches!(entry.call, Call::Fork(..));
-        if entry.by.0 == image && is_fork && entry.answer != Answer::Forked {
+        if is_failed_fork(&enacted.log.get(place), image) {
             count = count.saturating_add(1);
         }
     }
     count
 }
 
+/// Whether the new master has taken over by so many calls, and something was answered to the call of that number.
+fn is_done_after(enacted: &Enacted, cause: u32, calls: usize) -> bool {
+    enacted.report.outcome == Outcome::Done
+        && enacted.report.cause == Some(cause)
+        && enacted.log.len() == calls
+}
+
 /// The place of the worker that the old master lost is taken by whoever starts one first.
 #[test]
-fn both_masters_start_workers_up_to_one_limit(rt: HostRuntime) -> Result<(), Fail> {
-    let old_first = [Turn::Old; 4];
-    let enacted = upgraded_short(rt.alloc(), 3, &old_first)?;
-    assert_eq!(rt; enacted.report.outcome, Outcome::RolledBack);
+fn the_old_master_can_take_the_last_place(rt: HostRuntime) -> Result<(), Fail> {
+    let enacted = upgraded_short(rt.alloc(), 3, &[Turn::Old; 4])?;
+    assert!(rt; enacted.report.outcome == Outcome::RolledBack);
     assert_eq!(rt; enacted.log.len(), 12);
-    assert_eq!(rt;
-        (failed_forks(&enacted, 1), failed_forks(&enacted, 2)),
-        (0, 1)
-    );
-    let new_first = [Turn::New, Turn::Old, Turn::New, Turn::New, Turn::Old];
-    let enacted = upgraded_short(rt.alloc(), 4, &new_first)?;
-    assert_eq!(rt; enacted.report.outcome, Outcome::Done);
-    assert_eq!(rt; enacted.report.cause, Some(4));
-    assert_eq!(rt; enacted.log.len(), 24);
-    assert_eq!(rt;
-        (failed_forks(&enacted, 1), failed_forks(&enacted, 2)),
-        (3, 0)
-    );
+    assert_eq!(rt; failed_forks(&enacted, 1), 0);
+    assert_eq!(rt; failed_forks(&enacted, 2), 1);
+    Ok(())
+}
+
+#[test]
+fn the_new_master_can_take_the_last_place(rt: HostRuntime) -> Result<(), Fail> {
+    let turns = [Turn::New, Turn::Old, Turn::New, Turn::New, Turn::Old];
+    let enacted = upgraded_short(rt.alloc(), 4, &turns)?;
+    assert!(rt; is_done_after(&enacted, 4, 24));
+    assert_eq!(rt; failed_forks(&enacted, 1), 3);
+    assert_eq!(rt; failed_forks(&enacted, 2), 0);
     Ok(())
 }

@@ -27,42 +27,62 @@ fn body_of(alloc: Global, state: Option<Record>, word: Word) -> Result<Body, Fai
     }
 }
 
-/// Whether a word was refused with this code.
-fn is_refused(body: &Body, wanted: &str) -> bool {
-    match body {
+/// Whether a word is refused with this code.
+fn is_refused(
+    alloc: Global,
+    state: Option<Record>,
+    word: Word,
+    wanted: &str,
+) -> Result<bool, Fail> {
+    Ok(match body_of(alloc, state, word)? {
         Body::Refused(code) => code.as_str() == wanted,
         _ => false,
-    }
+    })
 }
 
 #[test]
 fn words_lack_a_master_or_a_configuration(rt: HostRuntime) -> Result<(), Fail> {
     let state = Record::start(&Settings::plain(), 2, &Numbers::below(2), 100);
     for word in [Word::Hup, Word::Usr2] {
-        let body = body_of(rt.alloc(), Some(state), word)?;
-        assert!(rt; is_refused(&body, "W4"), "{word}");
-        let body = body_of(rt.alloc(), None, word)?;
-        assert!(rt; is_refused(&body, "V1"), "{word}");
+        assert!(rt; is_refused(rt.alloc(), Some(state), word, "W4")?, "{word}");
+        assert!(rt; is_refused(rt.alloc(), None, word, "V1")?, "{word}");
     }
     Ok(())
 }
 
+/// Whether the number is the lowest that the table lacks, and it takes it.
+fn takes_next(table: &mut WorkerTable, nr: u32) -> bool {
+    table.lowest_missing(1024) == Some(nr) && table.add(nr) == Ok(())
+}
+
+/// A table with all numbers, that takes them in their order.
+fn full_table(alloc: Global) -> Result<WorkerTable, Fail> {
+    let mut table = WorkerTable::new(alloc)?;
+    for nr in 0..1024 {
+        if !takes_next(&mut table, nr) {
+            return Err(Fail::from("a number is not taken"));
+        }
+    }
+    Ok(table)
+}
+
 #[test]
 fn a_table_takes_each_number_once(rt: HostRuntime) -> Result<(), Fail> {
-    let mut table = WorkerTable::new(rt.alloc())?;
-    for nr in 0..1024 {
-        assert!(rt; table.lowest_missing(1024) == Some(nr));
-        assert!(rt; table.add(nr) == Ok(()), "at {nr}");
-    }
+    let mut table = full_table(rt.alloc())?;
     assert!(rt; table.lowest_missing(2000) == Some(1024));
     assert!(rt; table.lowest_missing(1024) == None);
     assert!(rt; table.add(1024) == Err(TableRefusal::TooHigh));
     assert!(rt; table.add(5) == Err(TableRefusal::Taken));
+    Ok(())
+}
+
+#[test]
+fn a_table_takes_a_number_again_that_was_removed(rt: HostRuntime) -> Result<(), Fail> {
+    let mut table = full_table(rt.alloc())?;
     assert!(rt; table.remove(5) == Ok(()));
     assert!(rt; table.remove(5) == Err(TableRefusal::NoSuch));
-    assert!(rt; table.lowest_missing(1024) == Some(5));
     assert!(rt; table.lowest_missing(5) == None);
-    assert!(rt; table.add(5) == Ok(()));
+    assert!(rt; takes_next(&mut table, 5));
     Ok(())
 }
 
@@ -73,7 +93,7 @@ fn is_printed(alloc: Global, refusal: EnactRefusal, text: &str) -> Result<bool, 
 }
 
 #[test]
-fn refusals_are_printed_as_their_codes(rt: HostRuntime) -> Result<(), Fail> {
+fn refusals_of_targets_are_printed_as_their_codes(rt: HostRuntime) -> Result<(), Fail> {
     for (refusal, text) in [
         (EnactRefusal::Memory, "E1"),
         (EnactRefusal::RecordDisagrees, "E2"),
@@ -86,6 +106,17 @@ fn refusals_are_printed_as_their_codes(rt: HostRuntime) -> Result<(), Fail> {
     ] {
         assert!(rt; is_printed(rt.alloc(), refusal, text)?, "{text}");
     }
+    Ok(())
+}
+
+/// Whether a word's refusal prints its code, which is this.
+fn is_word_code(alloc: Global, refusal: WordRefusal, code: &str) -> Result<bool, Fail> {
+    let text = format!(in alloc; "{refusal}")?;
+    Ok(text.as_str() == code && refusal.code() == code)
+}
+
+#[test]
+fn refusals_of_words_are_printed_as_their_codes(rt: HostRuntime) -> Result<(), Fail> {
     for (refusal, code) in [
         (WordRefusal::Unknown, "W1"),
         (WordRefusal::BadNumber, "W2"),
@@ -93,19 +124,27 @@ fn refusals_are_printed_as_their_codes(rt: HostRuntime) -> Result<(), Fail> {
         (WordRefusal::NoConfig, "W4"),
         (WordRefusal::PidChanged, "W5"),
     ] {
-        let text = format!(in rt.alloc(); "{refusal}")?;
-        assert_eq!(rt; (text.as_str(), refusal.code()), (code, code));
+        assert!(rt; is_word_code(rt.alloc(), refusal, code)?, "{code}");
     }
     assert_eq!(rt; CodeText::from(WordRefusal::AtMost).as_str(), "W3");
+    Ok(())
+}
+
+/// Whether a table's refusal has this code, and its text begins with it.
+fn is_table_code(alloc: Global, refusal: TableRefusal, code: &str) -> Result<bool, Fail> {
+    let text = refusal.to_string(alloc)?;
+    Ok(refusal.code() == code && text.as_str().starts_with(code))
+}
+
+#[test]
+fn refusals_of_tables_begin_with_their_codes(rt: HostRuntime) -> Result<(), Fail> {
     for (refusal, code) in [
         (TableRefusal::Taken, "T1"),
         (TableRefusal::TooHigh, "T2"),
         (TableRefusal::NoSuch, "T3"),
         (TableRefusal::Backwards, "T4"),
     ] {
-        assert_eq!(rt; refusal.code(), code);
-        let text = refusal.to_string(rt.alloc())?;
-        assert!(rt; text.as_str().starts_with(code));
+        assert!(rt; is_table_code(rt.alloc(), refusal, code)?, "{code}");
     }
     Ok(())
 }

@@ -41,23 +41,50 @@ fn settings(addresses: &[&str], workers: u32) -> Result<Settings, Fail> {
     Ok(settings)
 }
 
-/// A master of two addresses whose workers are all ready.
-fn running(workers: u32, note: PidNote) -> Result<Record, Fail> {
-    let workers = workers.min(1024);
-    let settings = settings(&["0.0.0.0:8080", "0.0.0.0:9090"], workers)?;
-    let bare = Record::start(&settings, workers, &Numbers::none(), 100);
-    let ready = Report {
+/// What is heard of so many workers, where all are ready.
+fn all_ready(workers: u32, note: PidNote) -> Report {
+    Report {
         outcome: Outcome::Done,
         cause: None,
         note,
-        ready: Numbers::below(workers),
-    };
-    Ok(bare.after(&Target::Reopen, &ready, 100).ok_or("no record")?)
+        ready: Numbers::below(workers.min(1024)),
+    }
 }
 
-/// How many steps a plan has, and how many its longest path: with rounds, with nothing to start,
-/// and for as many workers as there may be; then a graceful stop, which quits each worker, waits for
-/// it and may kill it, and a quick one.
+/// A master of two addresses that starts with so many workers, of which none is ready.
+fn bare(workers: u32) -> Result<Record, Fail> {
+    let settings = settings(&["0.0.0.0:8080", "0.0.0.0:9090"], workers)?;
+    Ok(Record::start(&settings, workers.min(1024), &Numbers::none(), 100))
+}
+
+/// A master of two addresses whose workers are all ready.
+fn running(workers: u32, note: PidNote) -> Result<Record, Fail> {
+    let ready = all_ready(workers, note);
+    Ok(
+        bare(workers)?
+            .after(&Target::Reopen, &ready, 100)
+            .ok_or("no record")?,
+    )
+}
+
+/// How many steps a plan has, and how many its longest path.
+fn size(plan: &Plan) -> (usize, u32) {
+    (plan.len(), plan.longest())
+}
+
+/// The size of a plan from so many ready workers to so many.
+fn size_from(alloc: Global, ready: u32, wanted: u32, rounds: u32) -> Result<(usize, u32), Fail> {
+    if wanted > 1024 || rounds > 8 {
+        return Err(Fail::from("at most 1024 workers, and 8 rounds"));
+    }
+    let scene = Scene {
+        rounds,
+        ..scene(ready)
+    };
+    Ok(size(&plan_workers(alloc, &scene, wanted, PidNote::NoFile)?))
+}
+
+/// With rounds, with nothing to start, and for as many workers as there may be.
 #[test]
 fn steps_grow_with_the_workers(rt: HostRuntime) -> Result<(), Fail> {
     for (ready, wanted, rounds, steps, longest) in [
@@ -68,140 +95,231 @@ fn steps_grow_with_the_workers(rt: HostRuntime) -> Result<(), Fail> {
         (0, 1024, 3, 4122, 3086),
         (0, 1024, 8, 4162, 3106),
     ] {
-        assert!(rt; wanted <= 1024 && rounds <= 8);
-        let scene = Scene {
-            rounds,
-            ..scene(ready)
-        };
-        let plan = plan_workers(rt.alloc(), &scene, wanted, PidNote::NoFile)?;
-        assert_eq!(rt; plan.len(), steps, "{ready} {wanted}");
-        assert_eq!(rt; plan.longest(), longest, "{ready} {wanted}");
+        let size = size_from(rt.alloc(), ready, wanted, rounds)?;
+        assert_eq!(rt; size, (steps, longest), "{ready} {wanted}");
     }
-    let path = FilePath::read(b"/run/a.pid")?;
-    assert!(rt; path.bytes().len() <= 100);
+    Ok(())
+}
+
+fn pid_path() -> Result<FilePath, Fail> {
+    Ok(FilePath::read(b"/run/a.pid")?)
+}
+
+/// A stop of so many workers, with a pid file.
+fn stop_of(alloc: Global, workers: u32, note: PidNote, quick: bool) -> Result<Plan, Fail> {
+    let path = pid_path()?;
+    if path.bytes().len() > 100 {
+        return Err(Fail::from("the path is too long"));
+    }
+    Ok(plan_stop(alloc, &scene(workers), Some(path), note, quick)?)
+}
+
+/// A graceful stop quits each worker, waits for it and may kill it.
+#[test]
+fn the_steps_of_a_stop_grow_with_the_workers(rt: HostRuntime) -> Result<(), Fail> {
     for (workers, quick, steps) in [
         (13, false, 41),
         (14, false, 44),
         (14, true, 16),
         (0, false, 2),
     ] {
-        let file = Some(path);
-        let stop = plan_stop(rt.alloc(), &scene(workers), file, PidNote::InPlace, quick)?;
-        assert_eq!(rt; stop.len(), steps as usize, "{workers}");
-        assert_eq!(rt; stop.longest(), steps, "{workers}");
+        let stop = stop_of(rt.alloc(), workers, PidNote::InPlace, quick)?;
+        assert_eq!(rt; size(&stop), (steps as usize, steps), "{workers}");
     }
     Ok(())
 }
 
-/// A mending of a bare master has three steps for each wanted worker before a settle of three
-/// rounds; of another, none for a worker that is there or is not wanted, and one more for each that
-/// is overdue. A reopening has one step for each ready worker, and a settle.
+/// A mending of a master, where some workers are overdue.
+fn mend_of(alloc: Global, state: &Record, overdue: Numbers) -> Result<Plan, Fail> {
+    Ok(plan(alloc, state, &Target::Mend(overdue))?)
+}
+
+/// How many steps a mending has of a bare master with plain settings and so many workers.
+fn steps_to_mend(alloc: Global, workers: u32) -> Result<usize, Fail> {
+    let bare = Record::start(&Settings::plain(), workers.min(1024), &Numbers::none(), 100);
+    Ok(mend_of(alloc, &bare, Numbers::none())?.len())
+}
+
+/// It has three steps for each wanted worker before a settle of three rounds.
 #[test]
-fn steps_grow_with_the_workers_that_are_started_anew(rt: HostRuntime) -> Result<(), Fail> {
-    for (wanted, steps) in [(6, 31), (7, 34)] {
-        assert!(rt; wanted <= 1024);
-        let bare = Record::start(&Settings::plain(), wanted, &Numbers::none(), 100);
-        let mend = plan(rt.alloc(), &bare, &Target::Mend(Numbers::none()))?;
-        assert_eq!(rt; mend.len(), steps);
+fn steps_grow_with_the_workers_that_are_lacking(rt: HostRuntime) -> Result<(), Fail> {
+    assert_eq!(rt; steps_to_mend(rt.alloc(), 6)?, 31);
+    assert_eq!(rt; steps_to_mend(rt.alloc(), 7)?, 34);
+    Ok(())
+}
+
+/// What a step of a plan asks for.
+fn order_of(plan: &Plan, number: u32) -> Result<Order, Fail> {
+    Ok(step_of(plan, number)?.order())
+}
+
+fn step_of(plan: &Plan, number: u32) -> Result<&Step, Fail> {
+    if number == 0 {
+        return Err(Fail::from("steps are numbered from 1"));
     }
+    Ok(plan.get(number).ok_or("a step is missing")?)
+}
+
+/// Two workers that are overdue, of which the second is not wanted where there are fewer than 900.
+fn two_overdue() -> Numbers {
     let mut overdue = Numbers::none();
     overdue.add(1);
     overdue.add(900);
+    overdue
+}
+
+/// The first steps of a mending where worker 1 is overdue.
+const MENDING: [Call; 5] = [
+    Call::Kill(GENERATION, 1),
+    Call::Fork(GENERATION, 1, None),
+    Call::AwaitReady(GENERATION, 1),
+    Call::Kill(GENERATION, 1),
+    Call::Census(GENERATION),
+];
+
+/// It has none for a worker that is there or is not wanted, and one more for each that is overdue.
+#[test]
+fn steps_grow_with_the_workers_that_are_overdue(rt: HostRuntime) -> Result<(), Fail> {
     let state = running(3, PidNote::InPlace)?;
-    let mend = plan(rt.alloc(), &state, &Target::Mend(overdue))?;
+    let mend = mend_of(rt.alloc(), &state, two_overdue())?;
     assert_eq!(rt; mend.len(), 13);
-    for (number, call) in [
-        (1, Call::Kill(GENERATION, 1)),
-        (2, Call::Fork(GENERATION, 1, None)),
-        (3, Call::AwaitReady(GENERATION, 1)),
-        (4, Call::Kill(GENERATION, 1)),
-        (5, Call::Census(GENERATION)),
-    ] {
-        assert!(rt; number >= 1);
-        let step = mend.get(number).ok_or("a step is missing")?;
-        assert_eq!(rt; step.order(), Order::Make(call));
+    for (at, call) in (1..).zip(MENDING) {
+        assert!(rt; order_of(&mend, at)? == Order::Make(call), "at {at}");
     }
-    let three = Scene {
-        rounds: 3,
-        ..scene(2)
-    };
-    let reopen = plan_reopen(rt.alloc(), &three, PidNote::NoFile)?;
-    assert_eq!(rt; reopen.len(), 15);
     Ok(())
+}
+
+/// How many steps a reopening has of so many workers, with three rounds.
+fn steps_to_reopen(alloc: Global, workers: u32) -> Result<usize, Fail> {
+    let scene = Scene {
+        rounds: 3,
+        ..scene(workers)
+    };
+    Ok(plan_reopen(alloc, &scene, PidNote::NoFile)?.len())
+}
+
+#[test]
+fn a_reopening_has_a_step_for_each_ready_worker_and_a_settle(rt: HostRuntime) -> Result<(), Fail> {
+    assert_eq!(rt; steps_to_reopen(rt.alloc(), 2)?, 15);
+    Ok(())
+}
+
+/// Whether a step removes a file, and goes on to the next step at this reply. Gives what is noted then.
+fn noted(plan: &Plan, number: u32, file: FilePath, reply: Reply) -> Result<Option<PidNote>, Fail> {
+    let step = step_of(plan, number)?;
+    if step.order() != Order::Make(Call::RemovePid(file)) {
+        return Err(Fail::from("another order"));
+    }
+    let edge = step.edge(reply).ok_or("an edge is missing")?;
+    if edge.next != Next::To(Place(number.saturating_add(1))) {
+        return Err(Fail::from("another step comes next"));
+    }
+    Ok(edge.note)
 }
 
 /// What the removals of a stop make of the note, where both files are there.
 #[test]
 fn a_stop_notes_its_removals(rt: HostRuntime) -> Result<(), Fail> {
-    let path = FilePath::read(b"/run/a.pid")?;
-    assert!(rt; path.bytes().len() <= 100);
-    let stop = plan_stop(
-        rt.alloc(),
-        &scene(0),
-        Some(path),
-        PidNote::OldbinLeft,
-        false,
-    )?;
+    let path = pid_path()?;
+    let oldbin = FilePath::read(b"/run/a.pid.oldbin")?;
+    let stop = stop_of(rt.alloc(), 0, PidNote::OldbinLeft, false)?;
     assert_eq!(rt; stop.len(), 3);
-    let noted = [
+    for (number, file, reply, note) in [
         (1, path, Reply::Fine, Some(PidNote::NoFile)),
         (1, path, Reply::IoFault, Some(PidNote::Left)),
-        (2, path.oldbin(), Reply::Fine, None),
-        (2, path.oldbin(), Reply::IoFault, Some(PidNote::Left)),
-    ];
-    for (number, file, reply, note) in noted {
-        assert!(rt; number >= 1 && number < 3);
-        let step = stop.get(number).ok_or("a step is missing")?;
-        assert_eq!(rt; step.order(), Order::Make(Call::RemovePid(file)));
-        let edge = step.edge(reply).ok_or("an edge is missing")?;
-        assert_eq!(rt; edge.note, note);
-        assert_eq!(rt; edge.next, Next::To(Place(number + 1)));
+        (2, oldbin, Reply::Fine, None),
+        (2, oldbin, Reply::IoFault, Some(PidNote::Left)),
+    ] {
+        assert_eq!(rt; noted(&stop, number, file, reply)?, note, "at {number}");
     }
     Ok(())
 }
 
-/// What is planned elsewhere, and a configuration or an image whose number has no successor.
-#[test]
-fn an_upgrade_and_a_configuration_beyond_the_last_are_refused(rt: HostRuntime) -> Result<(), Fail> {
-    let settings = settings(&["0.0.0.0:8080"], 1)?;
+/// A master with one worker of this generation.
+fn running_as(image: u32, config: u32) -> Result<Record, Fail> {
     let mut state = running(1, PidNote::InPlace)?;
-    let refused = plan(rt.alloc(), &state, &Target::Upgrade(settings)).err();
+    state.generation = Generation { image, config };
+    Ok(state)
+}
+
+/// Why a reload to settings is refused, if it is.
+fn reload_refusal(alloc: Global, state: &Record, settings: Settings) -> Option<PlanRefusal> {
+    plan(alloc, state, &Target::Reload(settings)).err()
+}
+
+/// Why an upgrade to settings is refused as a target of one master.
+fn upgrade_refusal(alloc: Global, state: &Record, settings: Settings) -> Option<PlanRefusal> {
+    plan(alloc, state, &Target::Upgrade(settings)).err()
+}
+
+#[test]
+fn an_upgrade_is_planned_elsewhere(rt: HostRuntime) -> Result<(), Fail> {
+    let settings = settings(&["0.0.0.0:8080"], 1)?;
+    let state = running(1, PidNote::InPlace)?;
+    let refused = upgrade_refusal(rt.alloc(), &state, settings);
     assert_eq!(rt; refused, Some(PlanRefusal::Unplanned));
-    state.generation.config = u32::MAX - 1;
-    assert!(rt; plan(rt.alloc(), &state, &Target::Reload(settings)).is_ok());
-    state.generation.config = u32::MAX;
-    for target in [Target::Reload(settings), Target::Upgrade(settings)] {
-        let refused = plan(rt.alloc(), &state, &target).err();
-        assert_eq!(rt; refused, Some(PlanRefusal::NoGeneration));
-    }
-    state.generation = Generation {
-        image: u32::MAX,
-        config: 1,
-    };
-    assert!(rt; plan(rt.alloc(), &state, &Target::Reload(settings)).is_ok());
-    let refused = plan(rt.alloc(), &state, &Target::Upgrade(settings)).err();
+    Ok(())
+}
+
+#[test]
+fn a_configuration_beyond_the_last_is_refused(rt: HostRuntime) -> Result<(), Fail> {
+    let settings = settings(&["0.0.0.0:8080"], 1)?;
+    let next = running_as(1, u32::MAX - 1)?;
+    assert_eq!(rt; reload_refusal(rt.alloc(), &next, settings), None);
+    let refused = Some(PlanRefusal::NoGeneration);
+    let last = running_as(1, u32::MAX)?;
+    assert_eq!(rt; reload_refusal(rt.alloc(), &last, settings), refused);
+    assert_eq!(rt; upgrade_refusal(rt.alloc(), &last, settings), refused);
+    Ok(())
+}
+
+#[test]
+fn an_image_beyond_the_last_is_refused(rt: HostRuntime) -> Result<(), Fail> {
+    let settings = settings(&["0.0.0.0:8080"], 1)?;
+    let last = running_as(u32::MAX, 1)?;
+    assert_eq!(rt; reload_refusal(rt.alloc(), &last, settings), None);
+    let refused = upgrade_refusal(rt.alloc(), &last, settings);
     assert_eq!(rt; refused, Some(PlanRefusal::NoGeneration));
     Ok(())
 }
 
-/// The plan of an upgrade: how many steps it has where an address is dropped, and the text that the new
-/// master is handed.
+/// The upgrade of a master to settings.
+fn upgrade_of(alloc: Global, state: &Record, settings: &Settings) -> Result<Plan, Fail> {
+    Ok(upgrade_planner::plan(alloc, state, settings)?)
+}
+
+/// What a new master is handed where an address is dropped.
+const HANDED: &[u8] =
+    b"handover 2\nold-pid 100\ngeneration 2 2\nlistener 3 0.0.0.0:8080\nlistener 4 0.0.0.0:9090\ngroup 2\n\
+    want 0.0.0.0:8080\npid-file /run/a.pid\nend\n";
+
 #[test]
 fn an_upgrade_hands_a_text_over(rt: HostRuntime) -> Result<(), Fail> {
-    let grouped = in_two_groups(&settings(&["0.0.0.0:8080", "0.0.0.0:9090"], 2)?)?;
     let settings = settings(&["0.0.0.0:8080"], 2)?;
-    let mut state = running(2, PidNote::InPlace)?;
-    let plan = upgrade_planner::plan(rt.alloc(), &state, &settings)?;
+    let plan = upgrade_of(rt.alloc(), &running(2, PidNote::InPlace)?, &settings)?;
     assert_eq!(rt; plan.len(), 55);
-    let text =
-        b"handover 2\nold-pid 100\ngeneration 2 2\nlistener 3 0.0.0.0:8080\nlistener 4 0.0.0.0:9090\ngroup 2\nwant 0.0.0.0:8080\npid-file /run/a.pid\nend\n";
-    assert!(rt; plan.text() == &text[..]);
-    let plan = upgrade_planner::plan(rt.alloc(), &state, &grouped)?;
-    let text =
-        b"handover 2\nold-pid 100\ngeneration 2 2\nlistener 3 0.0.0.0:8080\nlistener 4 0.0.0.0:9090\ngroup 1\nwant 0.0.0.0:8080\ngroup 1\nwant 0.0.0.0:9090\npid-file /run/a.pid\nend\n";
-    assert!(rt; plan.text() == &text[..]);
-    state.generation.image = u32::MAX;
-    let refused = upgrade_planner::plan(rt.alloc(), &state, &settings).err();
+    assert!(rt; plan.text() == HANDED);
+    Ok(())
+}
+
+/// What a new master is handed where each address has a group.
+const HANDED_GROUPS: &[u8] =
+    b"handover 2\nold-pid 100\ngeneration 2 2\nlistener 3 0.0.0.0:8080\nlistener 4 0.0.0.0:9090\ngroup 1\n\
+    want 0.0.0.0:8080\ngroup 1\nwant 0.0.0.0:9090\npid-file /run/a.pid\nend\n";
+
+#[test]
+fn an_upgrade_hands_each_group_over(rt: HostRuntime) -> Result<(), Fail> {
+    let grouped = in_two_groups(&settings(&["0.0.0.0:8080", "0.0.0.0:9090"], 2)?)?;
+    let plan = upgrade_of(rt.alloc(), &running(2, PidNote::InPlace)?, &grouped)?;
+    assert!(rt; plan.text() == HANDED_GROUPS);
+    Ok(())
+}
+
+#[test]
+fn an_upgrade_of_the_last_image_is_refused(rt: HostRuntime) -> Result<(), Fail> {
+    let settings = settings(&["0.0.0.0:8080"], 2)?;
+    let last = running_as(u32::MAX, 1)?;
+    let refused = upgrade_planner::plan(rt.alloc(), &last, &settings).err();
     assert_eq!(rt; refused, Some(PlanRefusal::NoGeneration));
     Ok(())
 }
@@ -245,31 +363,84 @@ fn is_distinct(alloc: Global, state: &Record, target: &Target) -> Result<bool, F
     Ok(!repeats(&plan(alloc, state, target)?))
 }
 
+/// A master with so many workers, and so many rounds of starts.
+fn with_rounds(workers: u32, note: PidNote, rounds: u32) -> Result<Record, Fail> {
+    let mut state = running(workers, note)?;
+    state.retries = rounds.min(8);
+    Ok(state)
+}
+
+/// Masters with up to four workers and up to two rounds.
+fn masters(alloc: Global) -> Result<Vec<Record>, Fail> {
+    let mut masters = Vec::new(alloc);
+    for workers in 0..5 {
+        for note in [PidNote::InPlace, PidNote::AtOldbin, PidNote::OldbinLeft] {
+            for rounds in 0..3 {
+                masters.push(with_rounds(workers, note, rounds)?)?;
+            }
+        }
+    }
+    Ok(masters)
+}
+
+/// Other addresses with three workers.
+fn other() -> Result<Settings, Fail> {
+    settings(&["0.0.0.0:9090", "0.0.0.0:7070"], 3)
+}
+
+/// The same addresses with no workers.
+fn no_workers() -> Result<Settings, Fail> {
+    settings(&["0.0.0.0:8080", "0.0.0.0:9090"], 0)
+}
+
 /// Places with the same step and the same edges are one.
 #[test]
-fn no_two_steps_are_alike(rt: HostRuntime) -> Result<(), Fail> {
+fn no_two_steps_of_a_plan_are_alike(rt: HostRuntime) -> Result<(), Fail> {
+    for state in &masters(rt.alloc())? {
+        assert!(rt; is_distinct(rt.alloc(), state, &Target::Workers(2))?);
+        assert!(rt; is_distinct(rt.alloc(), state, &Target::Workers(5))?);
+        assert!(rt; is_distinct(rt.alloc(), state, &Target::Reopen)?);
+        assert!(rt; is_distinct(rt.alloc(), state, &Target::Stop { quick: false })?);
+        assert!(rt; is_distinct(rt.alloc(), state, &Target::Stop { quick: true })?);
+    }
+    Ok(())
+}
+
+#[test]
+fn no_two_steps_of_a_mending_are_alike(rt: HostRuntime) -> Result<(), Fail> {
     let mut overdue = Numbers::none();
     overdue.add(0);
     overdue.add(2);
-    let other = settings(&["0.0.0.0:9090", "0.0.0.0:7070"], 3)?;
-    let none = settings(&["0.0.0.0:8080", "0.0.0.0:9090"], 0)?;
-    for workers in 0..5 {
-        for note in [PidNote::InPlace, PidNote::AtOldbin, PidNote::OldbinLeft] {
-            let mut state = running(workers, note)?;
-            for rounds in 0..3 {
-                state.retries = rounds;
-                assert!(rt; is_distinct(rt.alloc(), &state, &Target::Workers(2))?);
-                assert!(rt; is_distinct(rt.alloc(), &state, &Target::Workers(5))?);
-                assert!(rt; is_distinct(rt.alloc(), &state, &Target::Mend(overdue))?);
-                assert!(rt; is_distinct(rt.alloc(), &state, &Target::Reopen)?);
-                assert!(rt; is_distinct(rt.alloc(), &state, &Target::Reload(other))?);
-                assert!(rt; is_distinct(rt.alloc(), &state, &Target::Reload(none))?);
-                assert!(rt; is_distinct(rt.alloc(), &state, &Target::Stop { quick: false })?);
-                assert!(rt; is_distinct(rt.alloc(), &state, &Target::Stop { quick: true })?);
-                assert!(rt; !repeats(&upgrade_planner::plan(rt.alloc(), &state, &other)?));
-                assert!(rt; !repeats(&upgrade_planner::plan_attended(rt.alloc(), &state, &none)?));
-            }
-        }
+    for state in &masters(rt.alloc())? {
+        assert!(rt; is_distinct(rt.alloc(), state, &Target::Mend(overdue))?);
+    }
+    Ok(())
+}
+
+#[test]
+fn no_two_steps_of_a_reload_are_alike(rt: HostRuntime) -> Result<(), Fail> {
+    let (other, none) = (other()?, no_workers()?);
+    for state in &masters(rt.alloc())? {
+        assert!(rt; is_distinct(rt.alloc(), state, &Target::Reload(other))?);
+        assert!(rt; is_distinct(rt.alloc(), state, &Target::Reload(none))?);
+    }
+    Ok(())
+}
+
+#[test]
+fn no_two_steps_of_an_upgrade_are_alike(rt: HostRuntime) -> Result<(), Fail> {
+    let other = other()?;
+    for state in &masters(rt.alloc())? {
+        assert!(rt; !repeats(&upgrade_of(rt.alloc(), state, &other)?));
+    }
+    Ok(())
+}
+
+#[test]
+fn no_two_steps_of_an_attended_upgrade_are_alike(rt: HostRuntime) -> Result<(), Fail> {
+    let none = no_workers()?;
+    for state in &masters(rt.alloc())? {
+        assert!(rt; !repeats(&upgrade_planner::plan_attended(rt.alloc(), state, &none)?));
     }
     Ok(())
 }

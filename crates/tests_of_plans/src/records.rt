@@ -1,10 +1,11 @@
 //! What a master knows of itself after plans.
 ghost use Rattle.std.specs.Prelude.{◌≤◌};
 
-use listener_set::{Address, FilePath, ListenerSet, Numbers};
+use listener_set::{Address, FilePath, Generation, ListenerSet, Numbers};
 use service_state::{Listeners, Record, want};
+use std::alloc::Global;
 use std::test::Fail;
-use vocabulary::{Outcome, PidNote, Report, Settings, Target};
+use vocabulary::{Listener, Outcome, PidNote, Report, Settings, Target};
 use worker_groups::{Group, Groups};
 
 /// The settings with one group of so many workers.
@@ -36,17 +37,28 @@ pub(crate) fn in_two_groups(settings: &Settings) -> Result<Settings, Fail> {
     })
 }
 
-/// Plain settings with these addresses, where there are any, and a pid file.
-pub(crate) fn settings_of(addresses: &[&str]) -> Result<Settings, Fail> {
+/// The addresses as a configuration lists them.
+fn listeners_of(addresses: &[&str]) -> Result<ListenerSet, Fail> {
     let mut listeners = ListenerSet::new();
     for address in addresses {
         listeners.add(&Address::read(address.as_bytes())?)?;
     }
+    Ok(listeners)
+}
+
+/// Plain settings that listen at these addresses, where there are any.
+fn listening_at(listeners: ListenerSet) -> Settings {
     let mut settings = Settings::plain();
     if listeners.len() >= 1 {
         settings.groups = Groups::one(listeners.len() as u32, 1);
         settings.listeners = listeners;
     }
+    settings
+}
+
+/// Plain settings with these addresses, where there are any, and a pid file.
+pub(crate) fn settings_of(addresses: &[&str]) -> Result<Settings, Fail> {
+    let mut settings = listening_at(listeners_of(addresses)?);
     settings.pid = Some(FilePath::read(b"/run/a.pid")?);
     Ok(settings)
 }
@@ -73,28 +85,54 @@ fn report(outcome: Outcome, ready: u32) -> Report {
     }
 }
 
+/// Whether a listener stands where a row of a table says.
+fn stands_at(listener: &Listener, (descriptor, address): &(u32, &str)) -> bool {
+    listener.descriptor == *descriptor && listener.address.bytes() == address.as_bytes()
+}
+
 /// Descriptors and addresses, as a table shows them.
 fn is_listening(listeners: &Listeners, expected: &[(u32, &str)]) -> bool {
     let listeners = listeners.as_slice();
-    listeners.len() == expected.len()
-        && listeners.iter().zip(expected).all(|(listener, (descriptor, address))| {
-            listener.descriptor == *descriptor && listener.address.bytes() == address.as_bytes()
-        })
+    if listeners.len() != expected.len() {
+        return false;
+    }
+    for (listener, row) in listeners.iter().zip(expected) {
+        if !stands_at(listener, row) {
+            return false;
+        }
+    }
+    true
+}
+
+/// What a master knows, as a process of this number, once a target has ended so, with so many ready workers.
+fn after(record: &Record, target: &Target, report: &Report, pid: u32) -> Option<Record> {
+    record.after(target, report, pid)
+}
+
+/// What a master knows after a target was reached, as a process of this number.
+fn known_after(record: &Record, target: &Target, pid: u32) -> Result<Record, Fail> {
+    match after(record, target, &report(Outcome::Done, 2), pid) {
+        Some(known) => Ok(known),
+        None => Err(Fail::from("no record")),
+    }
+}
+
+/// What a master knows after a reload to settings with these addresses.
+fn reloaded(record: &Record, addresses: &[&str]) -> Result<Record, Fail> {
+    known_after(record, &Target::Reload(settings(addresses)?), 100)
+}
+
+/// The numbers of a master's image and configuration.
+fn generation_of(record: &Record) -> (u32, u32) {
+    (record.generation.image, record.generation.config)
 }
 
 #[test]
 fn a_reload_opens_first_and_closes_at_its_end(rt: HostRuntime) -> Result<(), Fail> {
-    let only_9090 = settings(&["0.0.0.0:9090"])?;
-    let first = running(&["0.0.0.0:8080"])?
-        .after(&Target::Reload(only_9090), &report(Outcome::Done, 2), 100)
-        .ok_or("no record")?;
+    let first = reloaded(&running(&["0.0.0.0:8080"])?, &["0.0.0.0:9090"])?;
     assert!(rt; is_listening(&first.listeners, &[(4, "0.0.0.0:9090")]));
-    assert_eq!(rt; first.generation.image, 1);
-    assert_eq!(rt; first.generation.config, 2);
-    let both = settings(&["0.0.0.0:7070", "0.0.0.0:9090", "0.0.0.0:6060"])?;
-    let second = first
-        .after(&Target::Reload(both), &report(Outcome::Done, 2), 100)
-        .ok_or("no record")?;
+    assert_eq!(rt; generation_of(&first), (1, 2));
+    let second = reloaded(&first, &["0.0.0.0:7070", "0.0.0.0:9090", "0.0.0.0:6060"])?;
     let expected = [
         (3, "0.0.0.0:7070"),
         (4, "0.0.0.0:9090"),
@@ -106,98 +144,172 @@ fn a_reload_opens_first_and_closes_at_its_end(rt: HostRuntime) -> Result<(), Fai
 }
 
 #[test]
-fn an_upgrade_closes_first_and_then_opens(rt: HostRuntime) -> Result<(), Fail> {
-    let target = Target::Upgrade(settings(&["0.0.0.0:9090", "0.0.0.0:7070"])?);
+fn a_master_listens_at_its_addresses_in_their_order(rt: HostRuntime) -> Result<(), Fail> {
     let start = running(&["0.0.0.0:8080", "0.0.0.0:7070"])?;
+    let expected = [(3, "0.0.0.0:8080"), (4, "0.0.0.0:7070")];
+    assert!(rt; is_listening(&start.listeners, &expected));
     assert_eq!(rt; start.listeners.addresses().len(), 2);
-    let listeners = start.listeners.as_slice();
-    assert_eq!(rt; listeners.get(1).ok_or("one")?.descriptor, 4);
-    assert!(rt; listeners.get(2).is_none());
-    let record = start
-        .after(&target, &report(Outcome::Done, 2), 102)
-        .ok_or("no record")?;
-    assert!(rt;
-        is_listening(
-            &record.listeners,
-            &[(3, "0.0.0.0:9090"), (4, "0.0.0.0:7070")]
-        )
+    Ok(())
+}
+
+/// What a master knows as process 102 after an upgrade to other addresses.
+fn upgraded() -> Result<Record, Fail> {
+    let start = running(&["0.0.0.0:8080", "0.0.0.0:7070"])?;
+    let target = Target::Upgrade(settings(&["0.0.0.0:9090", "0.0.0.0:7070"])?);
+    known_after(&start, &target, 102)
+}
+
+#[test]
+fn an_upgrade_closes_first_and_then_opens(rt: HostRuntime) -> Result<(), Fail> {
+    let record = upgraded()?;
+    let expected = [(3, "0.0.0.0:9090"), (4, "0.0.0.0:7070")];
+    assert!(rt; is_listening(&record.listeners, &expected));
+    Ok(())
+}
+
+/// Whether a master is process 102, with the settings' rounds and timeout, and its pid file beside.
+fn is_of_process_102(record: &Record) -> bool {
+    record.retries == 5
+        && record.timeout == 7
+        && record.pid == 102
+        && record.note == PidNote::AtOldbin
+}
+
+#[test]
+fn an_upgrade_takes_the_settings_over(rt: HostRuntime) -> Result<(), Fail> {
+    let record = upgraded()?;
+    assert_eq!(rt; generation_of(&record), (2, 2));
+    assert!(rt; is_of_process_102(&record));
+    Ok(())
+}
+
+/// The address and the count of these numbers that so many workers want.
+fn wanted_of(
+    alloc: Global,
+    state: &Record,
+    workers: u32,
+    (address, count): (usize, usize),
+) -> Result<(Option<Address>, Option<(Generation, u32)>), Fail> {
+    let service = want(alloc, state, &Target::Workers(workers))?;
+    Ok((service.address(address), service.entry(address, count)))
+}
+
+/// The address of that number at which so many workers are wanted.
+fn address_wanted(
+    alloc: Global,
+    state: &Record,
+    workers: u32,
+    number: usize,
+) -> Result<Option<Address>, Fail> {
+    Ok(wanted_of(alloc, state, workers, (number, 0))?.0)
+}
+
+/// The count of that number at an address where so many workers are wanted.
+fn entry_wanted(
+    alloc: Global,
+    state: &Record,
+    workers: u32,
+    numbers: (usize, usize),
+) -> Result<Option<(Generation, u32)>, Fail> {
+    Ok(wanted_of(alloc, state, workers, numbers)?.1)
+}
+
+#[test]
+fn a_target_wants_each_address(rt: HostRuntime) -> Result<(), Fail> {
+    let state = running(&["0.0.0.0:8080", "0.0.0.0:7070"])?;
+    let (first, second) = (
+        Address::read(b"0.0.0.0:7070")?,
+        Address::read(b"0.0.0.0:8080")?,
     );
-    assert_eq!(rt; record.generation.image, 2);
-    assert_eq!(rt; record.generation.config, 2);
-    assert_eq!(rt; record.retries, 5);
-    assert_eq!(rt; record.timeout, 7);
-    assert_eq!(rt; record.pid, 102);
-    assert!(rt; record.note == PidNote::AtOldbin);
+    for (workers, number, address) in [
+        (3, 0, Some(first)),
+        (3, 1, Some(second)),
+        (3, 2, None),
+        (0, 1, Some(second)),
+    ] {
+        let wanted = address_wanted(rt.alloc(), &state, workers, number)?;
+        assert_eq!(rt; wanted, address, "{workers} at {number}");
+    }
     Ok(())
 }
 
 #[test]
 fn a_target_wants_its_count_at_each_address(rt: HostRuntime) -> Result<(), Fail> {
     let state = running(&["0.0.0.0:8080", "0.0.0.0:7070"])?;
-    let (first, second) = (
-        Address::read(b"0.0.0.0:7070")?,
-        Address::read(b"0.0.0.0:8080")?,
-    );
-    let three = want(rt.alloc(), &state, &Target::Workers(3))?;
-    assert_eq!(rt;
-        (three.address(0), three.address(1)),
-        (Some(first), Some(second))
-    );
-    assert_eq!(rt; three.address(2), None);
-    assert_eq!(rt; three.entry(1, 0), Some((state.generation, 3)));
-    assert_eq!(rt; three.entry(1, 1), None);
-    let bare = want(rt.alloc(), &state, &Target::Workers(0))?;
-    assert_eq!(rt; (bare.address(1), bare.entry(1, 0)), (Some(second), None));
+    let three = Some((state.generation, 3));
+    assert_eq!(rt; entry_wanted(rt.alloc(), &state, 3, (1, 0))?, three);
+    assert_eq!(rt; entry_wanted(rt.alloc(), &state, 3, (1, 1))?, None);
+    assert_eq!(rt; entry_wanted(rt.alloc(), &state, 0, (1, 0))?, None);
+    Ok(())
+}
+
+#[test]
+fn a_stop_wants_no_address(rt: HostRuntime) -> Result<(), Fail> {
+    let state = running(&["0.0.0.0:8080", "0.0.0.0:7070"])?;
     let stopped = want(rt.alloc(), &state, &Target::Stop { quick: true })?;
     assert_eq!(rt; stopped.address(0), None);
     Ok(())
 }
 
+/// The settings of two addresses, each with a group of its own.
+fn grouped_settings() -> Result<Settings, Fail> {
+    in_two_groups(&settings(&["0.0.0.0:8080", "0.0.0.0:7070"])?)
+}
+
+/// A running master with these settings.
+fn running_with(settings: &Settings) -> Record {
+    Record::start(settings, 2, &Numbers::below(2), 100)
+}
+
 #[test]
 fn a_target_wants_the_workers_of_its_group_at_each_address(rt: HostRuntime) -> Result<(), Fail> {
-    let settings = in_two_groups(&settings(&["0.0.0.0:8080", "0.0.0.0:7070"])?)?;
-    let state = Record::start(&settings, 2, &Numbers::below(2), 100);
-    let three = want(rt.alloc(), &state, &Target::Workers(3))?;
-    assert_eq!(rt; three.entry(0, 0), Some((state.generation, 2)));
-    assert_eq!(rt; three.entry(1, 0), Some((state.generation, 1)));
+    let state = running_with(&grouped_settings()?);
+    let (two, one) = (Some((state.generation, 2)), Some((state.generation, 1)));
+    assert_eq!(rt; entry_wanted(rt.alloc(), &state, 3, (0, 0))?, two);
+    assert_eq!(rt; entry_wanted(rt.alloc(), &state, 3, (1, 0))?, one);
+    Ok(())
+}
+
+#[test]
+fn a_reload_to_two_groups_has_one_before(rt: HostRuntime) -> Result<(), Fail> {
+    let settings = grouped_settings()?;
     let sole = running(&["0.0.0.0:8080", "0.0.0.0:7070"])?;
     let target = Target::Reload(settings);
     let sides = sole.sides(&target);
     assert_eq!(rt; sides.old.as_slice().len(), 1);
-    assert_eq!(rt; sides.target, settings.groups);
-    assert_eq!(rt; sole.posts_wanted(&target), state.posts);
+    assert!(rt; sides.target == settings.groups);
+    assert!(rt; sole.posts_wanted(&target) == running_with(&settings).posts);
     Ok(())
+}
+
+/// How many workers are wanted once a target has ended so, with so many ready ones.
+fn wanted_after(record: &Record, target: &Target, outcome: Outcome, ready: u32) -> Option<u32> {
+    Some(after(record, target, &report(outcome, ready), 100)?.wanted)
 }
 
 #[test]
 fn other_counts_are_wanted_after_their_word_alone(rt: HostRuntime) -> Result<(), Fail> {
     let record = running(&["0.0.0.0:8080"])?;
-    let wanted = |target, outcome, ready| match record.after(
-        &target,
-        &report(outcome, ready),
-        100,
-    ) {
-        None => None,
-        Some(after) => Some(after.wanted),
-    };
-    assert_eq!(rt; wanted(Target::Workers(3), Outcome::Done, 3), Some(3));
-    assert_eq!(rt; wanted(Target::Workers(3), Outcome::RolledBack, 2), Some(2));
-    assert_eq!(rt; wanted(Target::Workers(1), Outcome::Done, 2), None);
-    assert_eq!(rt; wanted(Target::Workers(1025), Outcome::Done, 2), None);
-    assert_eq!(rt;
-        wanted(Target::Mend(Numbers::none()), Outcome::Done, 2),
-        Some(2)
-    );
-    assert_eq!(rt; wanted(Target::Reopen, Outcome::Done, 2), Some(2));
-    assert_eq!(rt; wanted(Target::Reopen, Outcome::Lost, 2), None);
-    assert_eq!(rt;
-        wanted(Target::Stop { quick: false }, Outcome::Done, 0),
-        None
-    );
-    assert!(rt;
-        record
-            .after(&Target::Reopen, &report(Outcome::Done, 2), 0)
-            .is_none()
-    );
+    for (target, outcome, ready, wanted) in &[
+        (Target::Workers(3), Outcome::Done, 3, Some(3)),
+        (Target::Workers(3), Outcome::RolledBack, 2, Some(2)),
+        (Target::Workers(1), Outcome::Done, 2, None),
+        (Target::Workers(1025), Outcome::Done, 2, None),
+        (Target::Mend(Numbers::none()), Outcome::Done, 2, Some(2)),
+        (Target::Reopen, Outcome::Done, 2, Some(2)),
+        (Target::Reopen, Outcome::Lost, 2, None),
+        (Target::Stop { quick: false }, Outcome::Done, 0, None),
+    ] {
+        let after = wanted_after(&record, target, *outcome, *ready);
+        assert_eq!(rt; after, *wanted, "{ready} are ready");
+    }
+    Ok(())
+}
+
+#[test]
+fn a_master_has_a_process_number(rt: HostRuntime) -> Result<(), Fail> {
+    let record = running(&["0.0.0.0:8080"])?;
+    let done = report(Outcome::Done, 2);
+    assert!(rt; after(&record, &Target::Reopen, &done, 0).is_none());
     Ok(())
 }

@@ -50,6 +50,32 @@ fn handed(alloc: Global, told: &[&[u8]]) -> Result<Vec<u8>, AllocError> {
     Ok(text)
 }
 
+/// What a new master says that is told these parts behind its handover, and how it ends. The call of its family of that
+/// number fails.
+fn run(
+    alloc: Global,
+    told: &[&[u8]],
+    fails: Option<usize>,
+) -> Result<(Output, ServedMaster<Recorded>), AllocError> {
+    let told = handed(alloc, told)?;
+    let mut output = Output::new(alloc, None);
+    let served = serve_new_master(alloc, told.as_slice(), fails, &mut output);
+    Ok((output, served))
+}
+
+/// The family of a master that had one.
+fn family_of(served: ServedMaster<Recorded>) -> Result<Recorded, Fail> {
+    match served.family {
+        Some(family) => Ok(family),
+        None => Err(Fail::from("no family")),
+    }
+}
+
+/// Whether a master ended so, and had a family.
+fn has_ended(served: &ServedMaster<Recorded>, status: u8) -> bool {
+    served.status == status && served.family.is_some()
+}
+
 /// Whether a new master that is told this refuses the handover, and asks nothing of its children.
 fn refuses(alloc: Global, text: &[u8]) -> Result<bool, AllocError> {
     let told = joined(alloc, &[text, ASKED])?;
@@ -64,15 +90,11 @@ fn a_new_master_makes_the_calls_that_it_is_told(rt: HostRuntime) -> Result<(), F
     Ok(())
 }
 
-#[test]
-fn a_new_master_starts_workers_and_writes_its_number(rt: HostRuntime) -> Result<(), Fail> {
-    let alloc = rt.alloc();
-    let told = handed(alloc, &[b"m2 fork 2.2 5\nm2 write-pid /run/a.pid\n"])?;
-    let mut output = Output::new(alloc, None);
-    let served = serve_new_master(alloc, told.as_slice(), None, &mut output);
-    let Some(family) = served.family else {
-        panic!(rt; "no family");
-    };
+/// What a worker is told as it starts, line by line.
+const TOLD: [&[u8]; 3] = [b"worker 2.2 5 1\n", b"listener 0.0.0.0:8080\n", b"go\n"];
+
+/// Whether a call started worker 5 of the new master, as its first child.
+fn has_started_the_worker(call: &FamilyCall) -> bool {
     let role = Role::Worker {
         generation: Generation {
             image: 2,
@@ -81,15 +103,24 @@ fn a_new_master_starts_workers_and_writes_its_number(rt: HostRuntime) -> Result<
         nr: 5,
         start: 1,
     };
+    matches!(call, FamilyCall::Started(started, Ok(10)) if *started == role)
+}
+
+/// Whether a call wrote just this text to a file.
+fn has_written(call: &FamilyCall, text: &[u8]) -> bool {
+    matches!(call, FamilyCall::Wrote(_, written, true) if written.as_slice() == text)
+}
+
+#[test]
+fn a_new_master_starts_workers_and_writes_its_number(rt: HostRuntime) -> Result<(), Fail> {
+    let lines = b"m2 fork 2.2 5\nm2 write-pid /run/a.pid\n";
+    let (_, served) = run(rt.alloc(), &[lines], None)?;
+    let family = family_of(served)?;
     let calls = family.calls();
     assert_eq!(rt; calls.len(), 5);
-    assert!(rt; matches!(&calls[0], FamilyCall::Started(started, Ok(10)) if *started == role));
-    assert!(rt; has_said(&calls[1], b"worker 2.2 5 1"));
-    assert!(rt; has_said(&calls[2], b"listener 0.0.0.0:8080"));
-    assert!(rt; has_said(&calls[3], b"go"));
-    assert!(rt;
-        matches!(&calls[4], FamilyCall::Wrote(_, text, true) if text.as_slice() == b"200\n".as_slice())
-    );
+    assert!(rt; has_started_the_worker(&calls[0]));
+    assert!(rt; says_all(&calls[1..4], &TOLD));
+    assert!(rt; has_written(&calls[4], b"200\n"));
     Ok(())
 }
 
@@ -98,19 +129,22 @@ fn has_said(call: &FamilyCall, line: &[u8]) -> bool {
     matches!(call, FamilyCall::Said(10, said, true) if said.as_slice() == line)
 }
 
+/// Whether a handover is refused that is cut after so many bytes.
+fn refuses_cut(alloc: Global, text: &[u8], bytes: usize) -> Result<bool, Fail> {
+    let cut = text.get(..bytes).ok_or("no cut")?;
+    let line = joined(alloc, &[cut, b"\n"])?;
+
+    // without the rest of its line it waits for it, and ends with the input
+    let waits = master_says(alloc, cut, b"", 0) == Some(0);
+    Ok(waits && refuses(alloc, line.as_slice())?)
+}
+
 #[test]
 fn a_handover_that_is_cut_is_refused(rt: HostRuntime) -> Result<(), Fail> {
     let alloc = rt.alloc();
     let text = handover(alloc)?;
     for bytes in 0..text.len().saturating_sub(1) {
-        let Some(cut) = text.as_slice().get(..bytes) else {
-            panic!(rt; "no cut");
-        };
-        let line = joined(alloc, &[cut, b"\n"])?;
-        assert!(rt; refuses(alloc, line.as_slice())?);
-
-        // without the rest of its line it waits for it, and ends with the input
-        assert!(rt; master_says(alloc, cut, b"", 0) == Some(0));
+        assert!(rt; refuses_cut(alloc, text.as_slice(), bytes)?, "at {bytes}");
     }
     assert!(rt; !refuses(alloc, text.as_slice())?);
     Ok(())
@@ -125,15 +159,20 @@ fn with_line(alloc: Global, place: usize, line: &[u8]) -> Result<Vec<u8>, AllocE
     Ok(text)
 }
 
+/// Whether a handover is refused that has another text in place of one line.
+fn refuses_with_line(alloc: Global, place: usize, line: &[u8]) -> Result<bool, AllocError> {
+    let text = with_line(alloc, place, line)?;
+    refuses(alloc, text.as_slice())
+}
+
 /// The place of the line `pid-file`, which a handover can lack.
 const PID_FILE: usize = 6;
 
 #[test]
 fn a_handover_that_lacks_a_line_is_refused(rt: HostRuntime) -> Result<(), Fail> {
-    let alloc = rt.alloc();
     for place in 0..HANDOVER.len() {
-        let text = with_line(alloc, place, b"")?;
-        assert!(rt; refuses(alloc, text.as_slice())? == (place != PID_FILE));
+        let is_refused = refuses_with_line(rt.alloc(), place, b"")?;
+        assert_eq!(rt; is_refused, place != PID_FILE, "at {place}");
     }
     Ok(())
 }
@@ -142,31 +181,34 @@ fn a_handover_that_lacks_a_line_is_refused(rt: HostRuntime) -> Result<(), Fail> 
 fn a_handover_with_a_faulty_line_is_refused(rt: HostRuntime) -> Result<(), Fail> {
     let alloc = rt.alloc();
     let long = long_line(alloc, 5000)?;
-    for place in 0..7 {
-        for faulty in [b"\n".as_slice(), b"what\n", b"end \n", long.as_slice()] {
-            let text = with_line(alloc, place, faulty)?;
-            assert!(rt; refuses(alloc, text.as_slice())?);
+    for faulty in [b"\n".as_slice(), b"what\n", b"end \n", long.as_slice()] {
+        for place in 0..7 {
+            assert!(rt; refuses_with_line(alloc, place, faulty)?, "at {place}");
         }
     }
     Ok(())
 }
 
+/// Whether what follows a faulty handover is none of it.
+fn ends_with_its_line(alloc: Global, text: &[u8]) -> Result<bool, AllocError> {
+    let told = joined(alloc, &[text, b"m2 adopt\nend\nalive\n"])?;
+    let goes_on = master_says(alloc, told.as_slice(), b"refused\n", 1) == Some(0);
+    Ok(goes_on && refuses(alloc, text)?)
+}
+
 #[test]
 fn a_handover_ends_with_its_line_end(rt: HostRuntime) -> Result<(), Fail> {
-    let alloc = rt.alloc();
+    let told = handed(rt.alloc(), &[b"end\nalive\n"])?;
+    assert!(rt; master_says(rt.alloc(), told.as_slice(), b"", 1) == Some(0));
+    Ok(())
+}
 
-    // also a faulty one: what follows is none of it
-    for text in [
-        b"end\n".as_slice(),
-        b"handover 2\nend\n",
-        b"handover 1\nend\n",
-    ] {
-        assert!(rt; refuses(alloc, text)?);
-        let told = joined(alloc, &[text, b"m2 adopt\nend\nalive\n"])?;
-        assert!(rt; master_says(alloc, told.as_slice(), b"refused\n", 1) == Some(0));
+#[test]
+fn a_faulty_handover_ends_with_its_line_end(rt: HostRuntime) -> Result<(), Fail> {
+    let texts: [&[u8]; 3] = [b"end\n", b"handover 2\nend\n", b"handover 1\nend\n"];
+    for (at, text) in texts.iter().enumerate() {
+        assert!(rt; ends_with_its_line(rt.alloc(), text)?, "at {at}");
     }
-    let told = handed(alloc, &[b"end\nalive\n"])?;
-    assert!(rt; master_says(alloc, told.as_slice(), b"", 1) == Some(0));
     Ok(())
 }
 
@@ -190,18 +232,11 @@ const NEXT: [&[u8]; 14] = [
 
 #[test]
 fn calls_are_passed_to_the_next_master(rt: HostRuntime) -> Result<(), Fail> {
-    let alloc = rt.alloc();
-    let told = handed(alloc, &NEXT)?;
-    let mut output = Output::new(alloc, None);
-    let served = serve_new_master(alloc, told.as_slice(), None, &mut output);
+    let (output, served) = run(rt.alloc(), &NEXT, None)?;
+    let said = b"spawned\nadopted\nforked\nalive\nok\ncounted 0\nok\n";
     assert_eq!(rt; served.status, 0);
-    assert!(rt;
-        output.text() == b"spawned\nadopted\nforked\nalive\nok\ncounted 0\nok\n".as_slice()
-    );
-    let Some(family) = served.family else {
-        panic!(rt; "no family");
-    };
-    assert!(rt; hands_over(family.calls()));
+    assert!(rt; output.text() == said.as_slice());
+    assert!(rt; hands_over(family_of(served)?.calls()));
     Ok(())
 }
 
@@ -212,10 +247,7 @@ fn says_after_an_upgrade(
     fails: Option<usize>,
 ) -> Result<(Output, ServedMaster<Recorded>), AllocError> {
     let next = joined(alloc, &NEXT[..8])?;
-    let told = handed(alloc, &[next.as_slice(), lines])?;
-    let mut output = Output::new(alloc, None);
-    let served = serve_new_master(alloc, told.as_slice(), fails, &mut output);
-    Ok((output, served))
+    run(alloc, &[next.as_slice(), lines], fails)
 }
 
 #[test]
@@ -234,34 +266,30 @@ fn a_tick_counts_the_workers_that_beat(rt: HostRuntime) -> Result<(), Fail> {
 
 #[test]
 fn a_tick_is_passed_on_once_the_master_has_left(rt: HostRuntime) -> Result<(), Fail> {
-    let alloc = rt.alloc();
     let lines = b"tick 7\nm2 leave\ntick 8\nalive\n";
-    let (output, served) = says_after_an_upgrade(alloc, lines, None)?;
+    let (output, served) = says_after_an_upgrade(rt.alloc(), lines, None)?;
     assert!(rt; output.text() == b"spawned\ncounted none\nok\ncounted 1\nalive\n".as_slice());
-    let Some(family) = served.family else {
-        panic!(rt; "no family");
-    };
-    let (said, heard) = talk_with(alloc, &family, 10)?;
+    let (said, heard) = talk_with(rt.alloc(), &family_of(served)?, 10)?;
     assert!(rt; said.ends_with(b"end\ntick 8\n"));
     assert!(rt; heard.as_slice() == b"counted 1\n".as_slice());
     Ok(())
 }
 
+/// Whether the last call stopped the first child.
+fn stops_last(calls: &[FamilyCall]) -> bool {
+    matches!(calls.last(), Some(FamilyCall::Stopped(10)))
+}
+
 #[test]
 fn a_next_master_that_does_not_count_is_stopped(rt: HostRuntime) -> Result<(), Fail> {
-    let alloc = rt.alloc();
+    let lines = b"m2 leave\ntick 8\ntick 9\nm3 adopt\n";
+    let said = b"spawned\nok\ncounted none\ncounted none\nmaster-gone\n";
 
     // the tick cannot be said, or its answer is not heard
     for fails in [8, 9] {
-        let lines = b"m2 leave\ntick 8\ntick 9\nm3 adopt\n";
-        let (output, served) = says_after_an_upgrade(alloc, lines, Some(fails))?;
-        let said = b"spawned\nok\ncounted none\ncounted none\nmaster-gone\n";
+        let (output, served) = says_after_an_upgrade(rt.alloc(), lines, Some(fails))?;
         assert!(rt; output.text() == said.as_slice(), "at {fails}");
-        let Some(family) = served.family else {
-            panic!(rt; "no family");
-        };
-        let is_last = matches!(family.calls().last(), Some(FamilyCall::Stopped(10)));
-        assert!(rt; is_last, "at {fails}");
+        assert!(rt; stops_last(family_of(served)?.calls()), "at {fails}");
     }
     Ok(())
 }
@@ -290,26 +318,22 @@ fn says_all(calls: &[FamilyCall], lines: &[&[u8]]) -> bool {
             .is_some_and(|said| has_said(call, said)))
 }
 
+/// A handover of the next master's own.
+const HANDED: [&[u8]; 3] = [b"m3 spawn-master 4\n", b"handover 1\n", b"end\n"];
+
 #[test]
 fn a_handover_is_passed_on(rt: HostRuntime) -> Result<(), Fail> {
-    let alloc = rt.alloc();
-    let next = joined(alloc, &NEXT[..8])?;
-    let after = b"m3 spawn-master 4\nhandover 1\nend\nm3 adopt\n";
-    let told = handed(alloc, &[next.as_slice(), after])?;
+    let lines = b"m3 spawn-master 4\nhandover 1\nend\nm3 adopt\n";
 
     // the next master gives an answer that the call does not list, and is stopped
-    let mut output = Output::new(alloc, None);
-    let served = serve_new_master(alloc, told.as_slice(), None, &mut output);
+    let (output, served) = says_after_an_upgrade(rt.alloc(), lines, None)?;
     assert!(rt; output.text() == b"spawned\nmaster-gone\nmaster-gone\n".as_slice());
-    let Some(family) = served.family else {
-        panic!(rt; "no family");
-    };
+    let family = family_of(served)?;
     let calls = family.calls();
     assert_eq!(rt; calls.len(), 13);
-    let lines: [&[u8]; 3] = [b"m3 spawn-master 4\n", b"handover 1\n", b"end\n"];
-    assert!(rt; says_all(&calls[8..11], &lines));
+    assert!(rt; says_all(&calls[8..11], &HANDED));
     assert!(rt; matches!(&calls[11], FamilyCall::HeardLine(10, Heard::Line, _)));
-    assert!(rt; matches!(&calls[12], FamilyCall::Stopped(10)));
+    assert!(rt; stops_last(calls));
     Ok(())
 }
 
@@ -322,14 +346,20 @@ fn first_lines(alloc: Global, count: usize) -> Result<Vec<u8>, AllocError> {
     Ok(text)
 }
 
+/// Lines that are not of a handover.
+const BETWEEN: [&[u8]; 4] = [
+    b"alive\n",
+    b"m2 adopt\n",
+    b"tick 7\n",
+    b"m2 spawn-master 3\n",
+];
+
 #[test]
 fn nothing_comes_between_a_start_and_its_handover(rt: HostRuntime) -> Result<(), Fail> {
-    let alloc = rt.alloc();
     for count in 1..8 {
-        assert!(rt; is_the_end(alloc, count, b"alive\n")?);
-        assert!(rt; is_the_end(alloc, count, b"m2 adopt\n")?);
-        assert!(rt; is_the_end(alloc, count, b"tick 7\n")?);
-        assert!(rt; is_the_end(alloc, count, b"m2 spawn-master 3\n")?);
+        for line in &BETWEEN {
+            assert!(rt; is_the_end(rt.alloc(), count, line)?, "at {count}");
+        }
     }
     Ok(())
 }
@@ -341,23 +371,36 @@ fn is_the_end(alloc: Global, count: usize, line: &[u8]) -> Result<bool, Fail> {
     Ok(master_says(alloc, told.as_slice(), b"", 1) == Some(0))
 }
 
+/// A handover, and then the calls of two upgrades.
+fn two_upgrades(alloc: Global) -> Result<Vec<u8>, AllocError> {
+    let next = joined(alloc, &NEXT)?;
+    handed(alloc, &[CALLS, next.as_slice()])
+}
+
+/// What a new master says that is told a text.
+fn said_of(alloc: Global, told: &[u8]) -> Output {
+    let mut output = Output::new(alloc, None);
+    let _ = serve_new_master(alloc, told, None, &mut output);
+    output
+}
+
+/// Whether a new master that is told a part of a text ends with it, and said a part of what it says of the whole.
+fn says_a_part(alloc: Global, told: &[u8], said: &[u8]) -> bool {
+    let mut output = Output::new(alloc, None);
+    let served = serve_new_master(alloc, told, None, &mut output);
+    has_ended(&served, 0)
+        && said.starts_with(output.text())
+        && output.has_said(lines_in(output.text()))
+}
+
 #[test]
 fn a_new_master_ends_with_its_input(rt: HostRuntime) -> Result<(), Fail> {
     let alloc = rt.alloc();
-    let next = joined(alloc, &NEXT)?;
-    let whole = handed(alloc, &[CALLS, next.as_slice()])?;
-    let mut output = Output::new(alloc, None);
-    let _ = serve_new_master(alloc, whole.as_slice(), None, &mut output);
+    let whole = two_upgrades(alloc)?;
+    let output = said_of(alloc, whole.as_slice());
     for bytes in 0..whole.len() {
-        let mut some = Output::new(alloc, None);
-        let Some(told) = whole.as_slice().get(..bytes) else {
-            panic!(rt; "no part");
-        };
-        let served = serve_new_master(alloc, told, None, &mut some);
-        assert_eq!(rt; served.status, 0);
-        assert!(rt; served.family.is_some());
-        assert!(rt; output.text().starts_with(some.text()));
-        assert!(rt; some.has_said(lines_in(some.text())));
+        let told = whole.as_slice().get(..bytes).ok_or("no part")?;
+        assert!(rt; says_a_part(alloc, told, output.text()), "at {bytes}");
     }
     Ok(())
 }
@@ -399,32 +442,54 @@ const OTHERS: [&[u8]; 33] = [
     b"adopted",
 ];
 
+/// Whether a new master fails at a line, once it was told to adopt.
+fn fails_at(alloc: Global, line: &[u8]) -> Result<bool, AllocError> {
+    let told = handed(alloc, &[b"m2 adopt\n", line, b"\nalive\n"])?;
+    Ok(master_says(alloc, told.as_slice(), b"adopted\n", 1) == Some(0))
+}
+
 #[test]
 fn a_new_master_fails_at_any_other_line(rt: HostRuntime) -> Result<(), Fail> {
-    let alloc = rt.alloc();
-    for line in &OTHERS {
-        let told = handed(alloc, &[b"m2 adopt\n", line, b"\nalive\n"])?;
-        assert!(rt; master_says(alloc, told.as_slice(), b"adopted\n", 1) == Some(0));
+    for (at, line) in OTHERS.iter().enumerate() {
+        assert!(rt; fails_at(rt.alloc(), line)?, "at {at}");
     }
+    Ok(())
+}
+
+#[test]
+fn a_new_master_fails_at_a_line_that_is_too_long(rt: HostRuntime) -> Result<(), Fail> {
+    let alloc = rt.alloc();
     let long = long_line(alloc, 5000)?;
     let told = handed(alloc, &[b"alive\n", long.as_slice(), b"alive\n"])?;
     assert!(rt; master_says(alloc, told.as_slice(), b"alive\n", 1) == Some(0));
     Ok(())
 }
 
+/// Whether a new master whose write of that number fails ends with it.
+fn fails_at_write(alloc: Global, told: &[u8], fails: usize) -> bool {
+    let mut output = Output::new(alloc, Some(fails));
+    let served = serve_new_master(alloc, told, None, &mut output);
+    has_ended(&served, 1) && SAID.starts_with(output.text()) && output.has_said(fails)
+}
+
 #[test]
 fn a_new_master_fails_where_it_cannot_answer(rt: HostRuntime) -> Result<(), Fail> {
-    let alloc = rt.alloc();
-    let told = handed(alloc, &[CALLS])?;
+    let told = handed(rt.alloc(), &[CALLS])?;
     for fails in 0..20 {
-        let mut output = Output::new(alloc, Some(fails));
-        let served = serve_new_master(alloc, told.as_slice(), None, &mut output);
-        assert_eq!(rt; served.status, 1);
-        assert!(rt; served.family.is_some());
-        assert!(rt; SAID.starts_with(output.text()));
-        assert!(rt; output.has_said(fails));
+        assert!(rt;
+            fails_at_write(rt.alloc(), told.as_slice(), fails),
+            "at {fails}"
+        );
     }
     Ok(())
+}
+
+/// Whether a call lists this answer, or `alive` has its own.
+fn is_answer(line: &[u8], answer: &[u8]) -> bool {
+    match read_call(line) {
+        Some((_, call)) => read_answer(&call, answer).is_some(),
+        None => line == answer,
+    }
 }
 
 /// Whether each call has an answer that it lists, and `alive` its own.
@@ -434,11 +499,7 @@ fn are_answers(calls: &[u8], answers: &[u8]) -> bool {
         let Some(answer) = said.next() else {
             return false;
         };
-        let is_answer = match read_call(line) {
-            Some((_, call)) => read_answer(&call, answer).is_some(),
-            None => line == answer,
-        };
-        if !is_answer {
+        if !is_answer(line, answer) {
             return false;
         }
     }
@@ -447,15 +508,18 @@ fn are_answers(calls: &[u8], answers: &[u8]) -> bool {
 
 #[test]
 fn a_new_master_answers_whichever_call_of_its_family_fails(rt: HostRuntime) -> Result<(), Fail> {
-    let alloc = rt.alloc();
-    let told = handed(alloc, &[CALLS])?;
     for fails in 0..40 {
-        let mut output = Output::new(alloc, None);
-        let served = serve_new_master(alloc, told.as_slice(), Some(fails), &mut output);
-        assert_eq!(rt; served.status, 0);
-        assert!(rt; are_answers(CALLS, output.text()));
+        let (output, served) = run(rt.alloc(), &[CALLS], Some(fails))?;
+        assert_eq!(rt; served.status, 0, "at {fails}");
+        assert!(rt; are_answers(CALLS, output.text()), "at {fails}");
     }
     Ok(())
+}
+
+/// Puts a line behind a text.
+fn add_line(text: &mut Vec<u8>, line: &[u8]) -> Result<(), AllocError> {
+    text.extend_from_slice(line)?;
+    text.extend_from_slice(b"\n")
 }
 
 /// What was said to a child, line by line, and what was heard of it.
@@ -469,12 +533,10 @@ fn talk_with(
     for call in family.calls() {
         match call {
             FamilyCall::Said(id, line, _) if *id == child => {
-                said.extend_from_slice(line.as_slice())?;
-                said.extend_from_slice(b"\n")?;
+                add_line(&mut said, line.as_slice())?;
             }
             FamilyCall::HeardLine(id, _, line) if *id == child => {
-                heard.extend_from_slice(line.as_slice())?;
-                heard.extend_from_slice(b"\n")?;
+                add_line(&mut heard, line.as_slice())?;
             }
             _ => {}
         }
@@ -482,23 +544,20 @@ fn talk_with(
     Ok((said, heard))
 }
 
+/// Whether a worker that is told what a child was told says what was heard of that child.
+fn obeys_as(alloc: Global, family: &Recorded, child: u32) -> Result<bool, AllocError> {
+    let (said, heard) = talk_with(alloc, family, child)?;
+    let mut answers = Output::new(alloc, None);
+    let status = child_programs::serve_worker(said.as_slice(), &mut answers);
+    Ok(status == 0 && answers.text() == heard.as_slice())
+}
+
 #[test]
 fn a_worker_on_pipes_obeys_a_new_master(rt: HostRuntime) -> Result<(), Fail> {
-    let alloc = rt.alloc();
-    let told = handed(alloc, &[CALLS])?;
-    let mut output = Output::new(alloc, None);
-    let served = serve_new_master(alloc, told.as_slice(), None, &mut output);
-    let Some(family) = served.family else {
-        panic!(rt; "no family");
-    };
+    let (_, served) = run(rt.alloc(), &[CALLS], None)?;
+    let family = family_of(served)?;
     for child in 10..12 {
-        let (said, heard) = talk_with(alloc, &family, child)?;
-        let mut answers = Output::new(alloc, None);
-        assert_eq!(rt;
-            child_programs::serve_worker(said.as_slice(), &mut answers),
-            0
-        );
-        assert!(rt; answers.text() == heard.as_slice());
+        assert!(rt; obeys_as(rt.alloc(), &family, child)?, "at {child}");
     }
     Ok(())
 }

@@ -117,7 +117,8 @@ pub(crate) fn serve_new_master(
     serve_master(alloc, Recorded::new(alloc, fails), 200, told, output)
 }
 
-/// Whether a new master that is told this says that, a line a write, and ends so. Gives how many calls its family was told.
+/// Whether a new master that is told this says that, a line a write, and ends so. Gives how many calls its family was
+/// told.
 pub(crate) fn master_says(alloc: Global, told: &[u8], said: &[u8], status: u8) -> Option<usize> {
     let mut output = Output::new(alloc, None);
     let served = serve_new_master(alloc, told, None, &mut output);

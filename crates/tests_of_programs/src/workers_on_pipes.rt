@@ -1,6 +1,7 @@
 //! Workers on pipes.
 use crate::piped::{Output, joined, long_line, slow_worker_says, worker_says};
 use child_programs::serve_worker;
+use std::alloc::{AllocError, Global};
 use std::test::Fail;
 
 const LIFE: &[u8] =
@@ -108,16 +109,20 @@ const OTHERS: [&[u8]; 50] = [
     b"alive",
 ];
 
+/// Whether a worker fails at a line, once it was told to go.
+fn fails_at(alloc: Global, line: &[u8]) -> Result<bool, AllocError> {
+    let told = joined(alloc, &[b"worker 1.1 0 1\ngo\n", line, b"\nping\n"])?;
+    Ok(worker_says(alloc, told.as_slice(), b"ready\n", 1))
+}
+
 #[test]
 fn a_worker_fails_at_any_other_line(rt: HostRuntime) -> Result<(), Fail> {
-    let alloc = rt.alloc();
-    for line in &OTHERS {
-        let told = joined(alloc, &[b"worker 1.1 0 1\ngo\n", line, b"\nping\n"])?;
-        assert!(rt; worker_says(alloc, told.as_slice(), b"ready\n", 1));
+    for (at, line) in OTHERS.iter().enumerate() {
+        assert!(rt; fails_at(rt.alloc(), line)?, "at {at}");
     }
 
     // it was not told its start
-    assert!(rt; worker_says(alloc, b"go\ntick 1\nping\n", b"ready\n", 1));
+    assert!(rt; worker_says(rt.alloc(), b"go\ntick 1\nping\n", b"ready\n", 1));
     Ok(())
 }
 
@@ -132,14 +137,18 @@ fn a_worker_fails_at_a_line_that_is_too_long(rt: HostRuntime) -> Result<(), Fail
     Ok(())
 }
 
+/// Whether a worker whose write of that number fails ends with it.
+fn fails_at_write(alloc: Global, fails: usize) -> bool {
+    let mut output = Output::new(alloc, Some(fails));
+    serve_worker(LIFE, &mut output) == 1
+        && SAID.starts_with(output.text())
+        && output.has_said(fails)
+}
+
 #[test]
 fn a_worker_fails_where_it_cannot_answer(rt: HostRuntime) -> Result<(), Fail> {
-    let alloc = rt.alloc();
     for fails in 0..6 {
-        let mut output = Output::new(alloc, Some(fails));
-        assert_eq!(rt; serve_worker(LIFE, &mut output), 1);
-        assert!(rt; SAID.starts_with(output.text()));
-        assert!(rt; output.has_said(fails));
+        assert!(rt; fails_at_write(rt.alloc(), fails), "at {fails}");
     }
     Ok(())
 }

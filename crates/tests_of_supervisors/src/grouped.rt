@@ -1,18 +1,15 @@
 //! A master whose workers are in two groups: what it writes, read back and held against a modelled kernel.
-use certifier::certify_blocks;
-use kernel_model::{Kernel, WIDEST_LIMITS};
-use listener_set::{Address, ListenerSet, Numbers};
+use crate::setup::{Always, are_certified};
+use listener_set::{Address, ListenerSet};
 use log::sink::Discard;
-use master_on_children::{NextRefusal, NextSettings, Operator, SupervisorStart, supervise_on};
-use service_state::Record;
+use master_on_children::{Operator, SupervisorStart, supervise_on};
 use std::alloc::{AllocError, Global};
 use std::test::Fail;
 use tests_of_children::Recorded;
 use transcript::{read_transcripts, write_transcript};
 use vocabulary::{Outcome, Settings, Side};
-use word_runner::{Block, Body, Standing};
+use word_runner::{Block, Body};
 use worker_groups::{Group, Groups};
-use worker_table::WorkerTable;
 
 /// Settings with an address for each of two groups, which have one worker each.
 fn two_groups() -> Result<Settings, Fail> {
@@ -32,30 +29,14 @@ fn two_groups() -> Result<Settings, Fail> {
     })
 }
 
-/// Next settings that stay the same.
-#[derive(Drop)]
-struct Always {
-    settings: Settings,
-}
-
-impl NextSettings for Always {
-    fn read(&mut self) -> Result<Settings, NextRefusal> {
-        Ok(self.settings)
-    }
-}
-
-/// What is written over children that obey.
-fn written(alloc: Global, settings: &Settings, input: &[u8]) -> Vec<u8> {
-    let start = SupervisorStart {
-        settings: *settings,
-        pid: 7,
-    };
-    let mut next = Always {
-        settings: *settings,
-    };
+/// What is written over children that obey, where a reload comes.
+fn reloaded(alloc: Global, settings: Settings) -> Vec<u8> {
+    let start = SupervisorStart { settings, pid: 7 };
+    let mut next = Always { settings };
     let mut output = Vec::new(alloc);
     let family = Recorded::new(alloc, None);
-    let log = &Discard;
+    let input = b"HUP\nQUIT\n".as_slice();
+    let log = Discard;
     let operator = Operator { input, log };
     let _ = supervise_on(alloc, family, &start, &mut next, operator, &mut output);
     output
@@ -70,17 +51,16 @@ fn text_of(alloc: Global, blocks: &[Block]) -> Result<Vec<u8>, AllocError> {
     Ok(text)
 }
 
-/// Whether a modelled kernel could have given these blocks to a master of these settings that began without workers.
-fn are_certified(alloc: Global, settings: &Settings, blocks: &[Block]) -> Result<bool, Fail> {
-    let kernel = Kernel::boot(alloc, settings, 0, WIDEST_LIMITS)?;
-    let record = Record::start(settings, settings.workers, &Numbers::none(), 100);
-    let mut standing = Standing {
-        world: kernel,
-        record: Some(record),
-        workers: WorkerTable::new(alloc)?,
-    };
-    let certified = certify_blocks(alloc, &mut standing, Some(settings), blocks);
-    Ok(certified.is_ok())
+/// Whether a text is that of the blocks which are read of it.
+fn is_read_back(alloc: Global, text: &[u8]) -> Result<bool, Fail> {
+    let blocks = read_transcripts(alloc, text)?;
+    Ok(text_of(alloc, &blocks)?.as_slice() == text)
+}
+
+/// Whether a modelled kernel could have given the blocks of a text to a master of these settings.
+fn is_certified(alloc: Global, settings: &Settings, text: &[u8]) -> Result<bool, Fail> {
+    let blocks = read_transcripts(alloc, text)?;
+    are_certified(alloc, settings, &blocks)
 }
 
 /// A first tick and a reload: each worker gets what its group has.
@@ -103,15 +83,19 @@ const A_RELOAD: &[u8] = b"word tick 0\n\
     done cause none pid no-file\n";
 
 #[test]
-fn a_reload_of_two_groups_is_read_back_and_certified(rt: HostRuntime) -> Result<(), Fail> {
-    let alloc = rt.alloc();
-    let settings = two_groups()?;
-    let output = written(alloc, &settings, b"HUP\nQUIT\n");
+fn a_reload_of_two_groups_is_read_back(rt: HostRuntime) -> Result<(), Fail> {
+    let output = reloaded(rt.alloc(), two_groups()?);
     assert!(rt; output.starts_with(A_RELOAD));
-    let blocks = read_transcripts(alloc, &output)?;
-    assert!(rt; text_of(alloc, &blocks)? == output);
-    assert!(rt; are_certified(alloc, &settings, &blocks)?);
-    assert!(rt; !are_certified(alloc, &Settings::plain(), &blocks)?);
+    assert!(rt; is_read_back(rt.alloc(), output.as_slice())?);
+    Ok(())
+}
+
+#[test]
+fn a_reload_of_two_groups_is_certified(rt: HostRuntime) -> Result<(), Fail> {
+    let settings = two_groups()?;
+    let output = reloaded(rt.alloc(), settings);
+    assert!(rt; is_certified(rt.alloc(), &settings, output.as_slice())?);
+    assert!(rt; !is_certified(rt.alloc(), &Settings::plain(), output.as_slice())?);
     Ok(())
 }
 
@@ -121,19 +105,21 @@ const A_SHORT_RELOAD: &[u8] = b"word HUP\n\
     2 m1 census 1.2 : counted 0\n\
     degraded target 0,1 cause 1 pid in-place\n";
 
+/// Whether two calls were made, and this many workers are lacking of each group on the side of the target.
+fn lacks(block: &Block, wanted: &[u32]) -> bool {
+    let Block::Heard(_, Body::Ran(log, report)) = block else {
+        return false;
+    };
+    let Outcome::Degraded { side, shortfalls } = &report.outcome else {
+        return false;
+    };
+    log.len() == 2 && *side == Side::Target && shortfalls.as_slice() == wanted
+}
+
 #[test]
 fn what_each_group_lacks_is_read_back(rt: HostRuntime) -> Result<(), Fail> {
-    let alloc = rt.alloc();
-    let blocks = read_transcripts(alloc, A_SHORT_RELOAD)?;
-    let Some(Block::Heard(_, Body::Ran(log, report))) = blocks.first() else {
-        return Err(Fail::from("no calls"));
-    };
-    assert_eq!(rt; log.len(), 2);
-    let Outcome::Degraded { side, shortfalls } = &report.outcome else {
-        return Err(Fail::from("nothing is lacking"));
-    };
-    assert_eq!(rt; *side, Side::Target);
-    assert_eq!(rt; shortfalls.as_slice(), [0, 1].as_slice());
-    assert!(rt; text_of(alloc, &blocks)?.as_slice() == A_SHORT_RELOAD);
+    let blocks = read_transcripts(rt.alloc(), A_SHORT_RELOAD)?;
+    assert!(rt; blocks.first().is_some_and(|block| lacks(block, &[0, 1])));
+    assert!(rt; is_read_back(rt.alloc(), A_SHORT_RELOAD)?);
     Ok(())
 }

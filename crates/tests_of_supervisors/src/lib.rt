@@ -10,4 +10,6 @@ mod grouped;
 #[cfg(test)]
 mod replacing;
 #[cfg(test)]
+mod setup;
+#[cfg(test)]
 mod supervising;

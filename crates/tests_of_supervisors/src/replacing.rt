@@ -1,14 +1,13 @@
 //! Upgrades that lose an old worker while the new master starts, carried out on children in memory.
-use crate::supervising::{FIRST_TICK, are_certified, is_lost};
+use crate::setup::{Always, could_be_up_to_a_loss, ticked};
 use child_family::{Family, Heard, Role, StartFault};
 use listener_set::FilePath;
 use log::sink::Discard;
-use master_on_children::{NextRefusal, NextSettings, Operator, SupervisorStart, supervise_on};
+use master_on_children::{Operator, SupervisorFault, SupervisorStart, supervise_on};
 use plain_text::Line;
 use std::alloc::Global;
 use std::test::Fail;
 use tests_of_children::Recorded;
-use transcript::read_transcripts;
 use vocabulary::Settings;
 
 /// Children that obey, but for the first worker that is asked whether it lives once a master was started: it is gone.
@@ -58,16 +57,6 @@ impl Family for LosesAWorker {
     }
 }
 
-/// Next settings that stay the same.
-#[derive(Drop)]
-struct Same;
-
-impl NextSettings for Same {
-    fn read(&mut self) -> Result<Settings, NextRefusal> {
-        Ok(Settings::plain())
-    }
-}
-
 /// The masters take turns, call by call: the old one starts its worker again while the new one starts its first.
 const REPLACES_MEANWHILE: &[u8] = b"word USR2\n\
     1 m1 spawn-master 2 : spawned\n\
@@ -86,32 +75,30 @@ const REPLACES_MEANWHILE: &[u8] = b"word USR2\n\
     14 m2 census 2.2 : counted 0\n\
     done cause 3 pid no-file\n";
 
-#[test]
-fn an_old_worker_is_replaced_while_the_new_master_starts(rt: HostRuntime) -> Result<(), Fail> {
-    let alloc = rt.alloc();
+/// What a supervisor of such children writes where it upgrades itself, and what comes of it.
+fn upgraded(alloc: Global) -> (Vec<u8>, Result<u8, SupervisorFault>) {
+    let settings = Settings::plain();
+    let start = SupervisorStart { settings, pid: 7 };
     let family = LosesAWorker {
         children: Recorded::new(alloc, None),
         loses_next: false,
     };
-    let start = SupervisorStart {
-        settings: Settings::plain(),
-        pid: 7,
-    };
-    let operator = Operator {
-        input: b"USR2\n".as_slice(),
-        log: Discard,
-    };
+    let input = b"USR2\n".as_slice();
+    let log = Discard;
+    let operator = Operator { input, log };
+    let mut next = Always { settings };
     let mut output = Vec::new(alloc);
-    let ended = supervise_on(alloc, family, &start, &mut Same, operator, &mut output);
-    assert!(rt; ended.status.is_ok());
-    let mut text = FIRST_TICK.to_vec(alloc)?;
-    text.extend_from_slice(REPLACES_MEANWHILE)?;
+    let ended = supervise_on(alloc, family, &start, &mut next, operator, &mut output);
+    (output, ended.status)
+}
+
+#[test]
+fn an_old_worker_is_replaced_while_the_new_master_starts(rt: HostRuntime) -> Result<(), Fail> {
+    let (output, status) = upgraded(rt.alloc());
+    assert!(rt; status.is_ok());
+    let text = ticked(rt.alloc(), &[REPLACES_MEANWHILE])?;
     assert!(rt; output.starts_with(text.as_slice()));
-    let mut blocks = read_transcripts(alloc, &output)?;
     // (the new master of this family answers no wait for the end of a worker, so its stop is lost)
-    if let Some(lost) = blocks.iter().position(is_lost) {
-        blocks.truncate(lost);
-    }
-    assert!(rt; are_certified(alloc, &blocks)?);
+    assert!(rt; could_be_up_to_a_loss(rt.alloc(), output.as_slice())?);
     Ok(())
 }

@@ -1,22 +1,20 @@
 //! Control words of an input, carried out on children in memory.
-use certifier::certify_blocks;
-use kernel_model::{Kernel, WIDEST_LIMITS};
-use listener_set::{FilePath, Numbers};
+use crate::setup::{
+    FIRST_QUITS, FIRST_TICK, are_lines, could_be_up_to_a_loss, joined, ticked, times,
+};
+use listener_set::FilePath;
 use log::sink::{Discard, Memory};
-use log::{LevelFilter, Logged};
+use log::{LevelFilter, Log, Logged};
 use master_on_children::{
     NextRefusal, NextSettings, Operator, Supervised, SupervisorFault, SupervisorStart, supervise_on,
 };
-use service_state::Record;
 use std::alloc::{AllocError, Global};
 use std::io::{Error as IoError, ErrorKind, Read, Result as IoResult, Write};
 use std::test::Fail;
 use tests_of_children::{FamilyCall, Recorded};
-use transcript::read_transcripts;
-use vocabulary::{Outcome, Settings};
-use word_runner::{Block, Body, CodeText, Standing};
+use vocabulary::Settings;
+use word_runner::CodeText;
 use worker_groups::Groups;
-use worker_table::WorkerTable;
 
 /// What a reading of the next settings comes to.
 #[derive(Clone, Copy)]
@@ -79,37 +77,51 @@ fn writes(
     output.as_slice() == text && ended.status == status
 }
 
+/// The same of what it writes behind the first tick.
+fn writes_then(
+    alloc: Global,
+    gives: Gives,
+    input: &[u8],
+    parts: &[&[u8]],
+    status: Result<u8, SupervisorFault>,
+) -> Result<bool, AllocError> {
+    let text = ticked(alloc, parts)?;
+    Ok(writes(alloc, gives, input, text.as_slice(), status))
+}
+
+/// The name of a call of a family, and what is said or written by it.
+fn call_parts(call: &FamilyCall) -> (&'static [u8], &[u8]) {
+    match call {
+        FamilyCall::Started(..) => (b"start", b""),
+        FamilyCall::Said(_, line, _) => (b"say ", line.as_slice()),
+        FamilyCall::HeardLine(..) => (b"hear", b""),
+        FamilyCall::Stopped(_) => (b"stop", b""),
+        FamilyCall::Awaited(..) => (b"gone", b""),
+        FamilyCall::Wrote(_, contents, _) => (b"write ", contents.as_slice()),
+        FamilyCall::Renamed(..) => (b"rename", b""),
+        FamilyCall::Removed(..) => (b"remove", b""),
+    }
+}
+
 /// The calls of a family, a line each.
 fn calls_text(alloc: Global, calls: &[FamilyCall]) -> Result<Vec<u8>, AllocError> {
     let mut text = Vec::new(alloc);
     for call in calls {
-        match call {
-            FamilyCall::Started(..) => text.extend_from_slice(b"start")?,
-            FamilyCall::Said(_, line, _) => {
-                text.extend_from_slice(b"say ")?;
-                text.extend_from_slice(line)?;
-            }
-            FamilyCall::HeardLine(..) => text.extend_from_slice(b"hear")?,
-            FamilyCall::Stopped(_) => text.extend_from_slice(b"stop")?,
-            FamilyCall::Awaited(..) => text.extend_from_slice(b"gone")?,
-            FamilyCall::Wrote(_, contents, _) => {
-                text.extend_from_slice(b"write ")?;
-                text.extend_from_slice(contents)?;
-            }
-            FamilyCall::Renamed(..) => text.extend_from_slice(b"rename")?,
-            FamilyCall::Removed(..) => text.extend_from_slice(b"remove")?,
-        }
-        text.extend_from_slice(b"\n")?;
+        let (name, said) = call_parts(call);
+        text.extend_from_slice(name)?;
+        text.extend_from_slice(said)?;
+        text.push(b'\n')?;
     }
     Ok(text)
 }
 
-/// The first tick, where one worker is wanted.
-pub(crate) const FIRST_TICK: &[u8] = b"word tick 0\n\
-    1 m1 fork 1.1 0 : forked\n\
-    2 m1 await-ready 1.1 0 : ready\n\
-    3 m1 census 1.1 : counted 0\n\
-    done cause none pid no-file\n";
+/// Whether a family was told just this, a line each call.
+fn was_told(alloc: Global, family: &Recorded, text: &[u8]) -> Result<bool, AllocError> {
+    let calls = calls_text(alloc, family.calls())?;
+    Ok(calls.as_slice() == text)
+}
+
+const TICK_AND_END: &[u8] = b"tick 1\nQUIT\n";
 
 /// A run of a tick and an end.
 const A_TICK_AND_AN_END: &[u8] = b"word tick 0\n\
@@ -149,75 +161,89 @@ fn tells_a_family_just_this(rt: HostRuntime) -> Result<(), Fail> {
     let alloc = rt.alloc();
     let mut output = Vec::new(alloc);
     let family = Recorded::new(alloc, None);
-    let input = b"tick 1\nQUIT\n".as_slice();
-    let ended = run(alloc, family, Gives::Plain, input, &mut output);
+    let ended = run(alloc, family, Gives::Plain, TICK_AND_END, &mut output);
     assert!(rt; ended.status == Ok(0));
     assert!(rt; output.as_slice() == A_TICK_AND_AN_END);
-    let calls = calls_text(alloc, ended.family.calls())?;
-    assert!(rt; calls.as_slice() == ITS_CALLS);
+    assert!(rt; was_told(alloc, &ended.family, ITS_CALLS)?);
     Ok(())
 }
 
 #[test]
 fn quits_at_the_end_of_its_input(rt: HostRuntime) -> Result<(), Fail> {
-    let alloc = rt.alloc();
     // the same without the word, and with a last line that has no newline
     for input in [
         b"tick 1\n".as_slice(),
         b"tick 1\nQUIT".as_slice(),
         b"tick 1".as_slice(),
     ] {
-        assert!(rt; writes(alloc, Gives::Plain, input, A_TICK_AND_AN_END, Ok(0)));
+        assert!(rt; writes(rt.alloc(), Gives::Plain, input, A_TICK_AND_AN_END, Ok(0)));
     }
-    let mut at_once = FIRST_TICK.to_vec(alloc)?;
-    let quit =
-        b"word QUIT\n1 m1 quit 1.1 0 : ok\n2 m1 await-gone 1.1 0 : gone\n3 m1 leave : ok\ndone cause none pid no-file\n";
-    at_once.extend_from_slice(quit)?;
-    assert!(rt; writes(alloc, Gives::Plain, b"", &at_once, Ok(0)));
+    Ok(())
+}
+
+#[test]
+fn quits_at_once_where_its_input_is_empty(rt: HostRuntime) -> Result<(), Fail> {
+    assert!(rt; writes_then(rt.alloc(), Gives::Plain, b"", &[FIRST_QUITS], Ok(0))?);
     Ok(())
 }
 
 #[test]
 fn goes_on_after_lines_that_are_refused(rt: HostRuntime) -> Result<(), Fail> {
     let alloc = rt.alloc();
-    let mut input = b"hello\ntick 01\n".to_vec(alloc)?;
-    for _ in 0..5_000 {
-        input.push(b'a')?;
-    }
-    input.extend_from_slice(b"\nbeat 0 5\nbeat 7 5\nQUIT\nTTIN\ntick 9\n\n")?;
-    let mut text = FIRST_TICK.to_vec(alloc)?;
-    text.extend_from_slice(
-        b"unread W1\nunread W2\nunread W1\nword beat 0 5\nnothing\nword beat 7 5\nrefused T3\n",
-    )?;
-    text.extend_from_slice(
-        b"word QUIT\n1 m1 quit 1.1 0 : ok\n2 m1 await-gone 1.1 0 : gone\n3 m1 leave : ok\ndone cause none pid no-file\n",
-    )?;
-    text.extend_from_slice(b"word TTIN\nrefused V1\nword tick 9\nrefused V1\nunread W1\n")?;
-    assert!(rt; writes(alloc, Gives::Plain, &input, &text, Ok(1)));
+    let long = times(alloc, 5_000, b"a")?;
+    let lines = [
+        b"hello\ntick 01\n".as_slice(),
+        long.as_slice(),
+        b"\nbeat 0 5\nbeat 7 5\nQUIT\nTTIN\ntick 9\n\n".as_slice(),
+    ];
+    let input = joined(alloc, &lines)?;
+    let blocks = [
+        b"unread W1\nunread W2\nunread W1\nword beat 0 5\nnothing\nword beat 7 5\nrefused T3\n".as_slice(),
+        FIRST_QUITS,
+        b"word TTIN\nrefused V1\nword tick 9\nrefused V1\nunread W1\n".as_slice(),
+    ];
+    assert!(rt; writes_then(alloc, Gives::Plain, &input, &blocks, Ok(1))?);
     Ok(())
 }
 
 #[test]
-fn takes_up_what_the_next_settings_come_to(rt: HostRuntime) -> Result<(), Fail> {
-    let alloc = rt.alloc();
-    let quit =
-        b"word QUIT\n1 m1 quit 1.1 0 : ok\n2 m1 await-gone 1.1 0 : gone\n3 m1 leave : ok\ndone cause none pid no-file\n";
-    for (gives, block) in [
-        (Gives::Refused, b"word HUP\nrefused C4 workers\n".as_slice()),
-        (Gives::Unreadable, b"word HUP\nrefused W4\n".as_slice()),
-    ] {
-        let mut text = FIRST_TICK.to_vec(alloc)?;
-        text.extend_from_slice(block)?;
-        text.extend_from_slice(quit)?;
-        assert!(rt; writes(alloc, gives, b"HUP\nQUIT\n", &text, Ok(1)));
-    }
+fn refuses_a_reload_whose_settings_are_refused(rt: HostRuntime) -> Result<(), Fail> {
+    let reload = b"HUP\nQUIT\n".as_slice();
+    let refused = [b"word HUP\nrefused C4 workers\n".as_slice(), FIRST_QUITS];
+    assert!(rt; writes_then(rt.alloc(), Gives::Refused, reload, &refused, Ok(1))?);
+    let unreadable = [b"word HUP\nrefused W4\n".as_slice(), FIRST_QUITS];
+    assert!(rt; writes_then(rt.alloc(), Gives::Unreadable, reload, &unreadable, Ok(1))?);
+    Ok(())
+}
+
+#[test]
+fn ends_where_there_is_no_memory_for_its_settings(rt: HostRuntime) -> Result<(), Fail> {
     let short = Err(SupervisorFault::Memory);
-    assert!(rt; writes(alloc, Gives::NoMemory, b"HUP\nQUIT\n", FIRST_TICK, short));
-    let mut text = FIRST_TICK.to_vec(alloc)?;
-    text.extend_from_slice(quit)?;
-    text.extend_from_slice(b"word HUP\nrefused V1\nword USR2\nrefused V1\n")?;
-    // without a master they are not read
-    assert!(rt; writes(alloc, Gives::NoMemory, b"QUIT\nHUP\nUSR2\n", &text, Ok(1)));
+    assert!(rt;
+        writes(
+            rt.alloc(),
+            Gives::NoMemory,
+            b"HUP\nQUIT\n",
+            FIRST_TICK,
+            short
+        )
+    );
+    Ok(())
+}
+
+#[test]
+fn reads_no_settings_without_a_master(rt: HostRuntime) -> Result<(), Fail> {
+    let refused = b"word HUP\nrefused V1\nword USR2\nrefused V1\n".as_slice();
+    let blocks = [FIRST_QUITS, refused];
+    assert!(rt;
+        writes_then(
+            rt.alloc(),
+            Gives::NoMemory,
+            b"QUIT\nHUP\nUSR2\n",
+            &blocks,
+            Ok(1)
+        )?
+    );
     Ok(())
 }
 
@@ -294,58 +320,36 @@ fn ends_or_fails<I: Read + Drop, O: Write>(
     ended.status == wanted
 }
 
-const TICK_AND_END: &[u8] = b"tick 1\nQUIT\n";
+/// Whether a run ends at the read of that number, which fails, and has written a part of what it writes else.
+fn ends_at_read(alloc: Global, at: u32) -> bool {
+    let text = TICK_AND_END;
+    let mut output = Vec::new(alloc);
+    ends_or_fails(alloc, FailingReader { text, at }, &mut output, at <= 13)
+        && A_TICK_AND_AN_END.starts_with(output.as_slice())
+}
 
 #[test]
 fn ends_where_a_read_fails(rt: HostRuntime) -> Result<(), Fail> {
-    let alloc = rt.alloc();
     for at in 1..16 {
-        let text = TICK_AND_END;
-        let mut output = Vec::new(alloc);
-        assert!(rt;
-            ends_or_fails(alloc, FailingReader { text, at }, &mut output, at <= 13),
-            "at {at}"
-        );
-        assert!(rt; A_TICK_AND_AN_END.starts_with(output.as_slice()));
+        assert!(rt; ends_at_read(rt.alloc(), at), "at {at}");
     }
     Ok(())
+}
+
+/// The same of a write or a flush.
+fn ends_at_write(alloc: Global, at: u32) -> bool {
+    let written = Vec::new(alloc);
+    let mut output = FailingWriter { written, at };
+    ends_or_fails(alloc, TICK_AND_END, &mut output, at <= 8)
+        && A_TICK_AND_AN_END.starts_with(output.written.as_slice())
 }
 
 #[test]
 fn ends_where_a_write_fails(rt: HostRuntime) -> Result<(), Fail> {
-    let alloc = rt.alloc();
     for at in 1..12 {
-        let written = Vec::new(alloc);
-        let mut output = FailingWriter { written, at };
-        assert!(rt;
-            ends_or_fails(alloc, TICK_AND_END, &mut output, at <= 8),
-            "at {at}"
-        );
-        assert!(rt; A_TICK_AND_AN_END.starts_with(output.written.as_slice()));
+        assert!(rt; ends_at_write(rt.alloc(), at), "at {at}");
     }
     Ok(())
-}
-
-/// Whether the master was lost in a block.
-pub(crate) fn is_lost(block: &Block) -> bool {
-    match block {
-        Block::Heard(_, Body::Ran(_, report)) => report.outcome == Outcome::Lost,
-        _ => false,
-    }
-}
-
-/// Whether a modelled kernel could have given these blocks to a master that began without workers.
-pub(crate) fn are_certified(alloc: Global, blocks: &[Block]) -> Result<bool, Fail> {
-    let settings = Settings::plain();
-    let kernel = Kernel::boot(alloc, &settings, 0, WIDEST_LIMITS)?;
-    let record = Record::start(&settings, settings.workers, &Numbers::none(), 100);
-    let mut standing = Standing {
-        world: kernel,
-        record: Some(record),
-        workers: WorkerTable::new(alloc)?,
-    };
-    let certified = certify_blocks(alloc, &mut standing, Some(&settings), blocks);
-    Ok(certified.is_ok())
 }
 
 /// Whether a run ends where that call of its children fails, and a modelled kernel could have given its blocks, up to one
@@ -354,107 +358,116 @@ fn ends_so(alloc: Global, fails: usize, input: &[u8]) -> Result<bool, Fail> {
     let mut output = Vec::new(alloc);
     let family = Recorded::new(alloc, Some(fails));
     let ended = run(alloc, family, Gives::Plain, input, &mut output);
-    let Ok(mut blocks) = read_transcripts(alloc, &output) else {
-        return Ok(false);
-    };
-    if let Some(lost) = blocks.iter().position(is_lost) {
-        blocks.truncate(lost);
-    }
-    Ok(matches!(ended.status, Ok(0 | 1 | 3 | 4)) && are_certified(alloc, &blocks)?)
+    Ok(matches!(ended.status, Ok(0 | 1 | 3 | 4)) && could_be_up_to_a_loss(alloc, &output)?)
 }
 
 #[test]
 fn ends_whichever_call_of_its_children_fails(rt: HostRuntime) -> Result<(), Fail> {
-    let alloc = rt.alloc();
     for fails in 0..40 {
-        assert!(rt; ends_so(alloc, fails, b"tick 1\nQUIT\n")?);
-        assert!(rt; ends_so(alloc, fails, b"USR2\nQUIT\n")?);
+        assert!(rt; ends_so(rt.alloc(), fails, TICK_AND_END)?, "at {fails}");
+        assert!(rt; ends_so(rt.alloc(), fails, b"USR2\nQUIT\n")?, "at {fails}");
     }
     Ok(())
 }
+
+/// An upgrade to a new master.
+const A_SUCCESSION: &[u8] = b"word USR2\n\
+    1 m1 spawn-master 2 : spawned\n\
+    2 m2 adopt : adopted\n\
+    3 m1 census 1.1 : counted 0\n\
+    4 m2 fork 2.2 0 : forked\n\
+    5 m2 await-ready 2.2 0 : ready\n\
+    6 m2 census 2.2 : counted 0\n\
+    7 m1 quit 1.1 0 : ok\n\
+    8 m1 await-gone 1.1 0 : gone\n\
+    9 m1 alive 2 : alive\n\
+    10 m1 leave : ok\n\
+    11 m2 census 2.2 : counted 0\n\
+    done cause none pid no-file\n";
 
 #[test]
 fn goes_over_to_a_new_master(rt: HostRuntime) -> Result<(), Fail> {
     let alloc = rt.alloc();
-    let mut text = FIRST_TICK.to_vec(alloc)?;
-    text.extend_from_slice(
-        b"word USR2\n1 m1 spawn-master 2 : spawned\n2 m2 adopt : adopted\n3 m1 census 1.1 : counted 0\n4 m2 fork 2.2 0 : forked\n5 m2 await-ready 2.2 0 : ready\n6 m2 census 2.2 : counted 0\n7 m1 quit 1.1 0 : ok\n8 m1 await-gone 1.1 0 : gone\n9 m1 alive 2 : alive\n10 m1 leave : ok\n11 m2 census 2.2 : counted 0\ndone cause none pid no-file\n",
-    )?;
+    let text = ticked(alloc, &[A_SUCCESSION])?;
     let mut output = Vec::new(alloc);
     let family = Recorded::new(alloc, None);
-    let ended = run(
-        alloc,
-        family,
-        Gives::Plain,
-        b"USR2\n".as_slice(),
-        &mut output,
-    );
+    let input = b"USR2\n".as_slice();
+    let ended = run(alloc, family, Gives::Plain, input, &mut output);
     assert!(rt; output.starts_with(text.as_slice()));
-    assert!(rt; matches!(ended.status, Ok(_)));
+    assert!(rt; ended.status.is_ok());
     Ok(())
+}
+
+/// What comes of a master with a pid file and without workers, whose input is empty: of the call of that number, which
+/// fails. Nothing where the next settings were read.
+fn run_with_a_file(
+    alloc: Global,
+    fails: Option<usize>,
+    output: &mut Vec<u8>,
+) -> Result<Option<Supervised<Recorded>>, Fail> {
+    let settings = Settings {
+        workers: 0,
+        groups: Groups::one(1, 0),
+        pid: Some(FilePath::read(b"/run/a.pid")?),
+        ..Settings::plain()
+    };
+    let start = SupervisorStart { settings, pid: 41 };
+    let mut next = CountedSettings {
+        gives: Gives::Plain,
+        reads: 0,
+    };
+    let input = b"".as_slice();
+    let log = Discard;
+    let operator = Operator { input, log };
+    let family = Recorded::new(alloc, fails);
+    let ended = supervise_on(alloc, family, &start, &mut next, operator, output);
+    Ok((next.reads == 0).then_some(ended))
 }
 
 #[test]
 fn writes_the_pid_file_first(rt: HostRuntime) -> Result<(), Fail> {
-    let alloc = rt.alloc();
-    let Ok(path) = FilePath::read(b"/run/a.pid") else {
-        panic!(rt; "no path");
+    let mut output = Vec::new(rt.alloc());
+    let Some(ended) = run_with_a_file(rt.alloc(), None, &mut output)? else {
+        return Err(Fail::from("settings were read"));
     };
-    let start = SupervisorStart {
-        settings: Settings {
-            workers: 0,
-            groups: Groups::one(1, 0),
-            pid: Some(path),
-            ..Settings::plain()
-        },
-        pid: 41,
-    };
-    for fails in [None, Some(0)] {
-        let mut next = CountedSettings {
-            gives: Gives::Plain,
-            reads: 0,
-        };
-        let mut output = Vec::new(alloc);
-        let family = Recorded::new(alloc, fails);
-        let input = b"".as_slice();
-        let log = &Discard;
-        let operator = Operator { input, log };
-        let ended = supervise_on(alloc, family, &start, &mut next, operator, &mut output);
-        let calls = calls_text(alloc, ended.family.calls())?;
-        if fails.is_none() {
-            assert!(rt; ended.status == Ok(0));
-            assert!(rt; calls.as_slice() == b"write 41\n\nremove\n".as_slice());
-        } else {
-            assert!(rt; ended.status == Err(SupervisorFault::File));
-            assert!(rt; calls.as_slice() == b"write 41\n\n".as_slice());
-            assert!(rt; output.is_empty());
-        }
-        assert_eq!(rt; next.reads, 0);
-    }
+    assert!(rt; ended.status == Ok(0));
+    assert!(rt; was_told(rt.alloc(), &ended.family, b"write 41\n\nremove\n")?);
     Ok(())
 }
 
 #[test]
-fn logs_a_line_for_each_block(rt: HostRuntime) -> Result<(), Fail> {
-    let alloc = rt.alloc();
-    let start = SupervisorStart {
-        settings: Settings::plain(),
-        pid: 7,
+fn ends_where_the_pid_file_cannot_be_written(rt: HostRuntime) -> Result<(), Fail> {
+    let mut output = Vec::new(rt.alloc());
+    let Some(ended) = run_with_a_file(rt.alloc(), Some(0), &mut output)? else {
+        return Err(Fail::from("settings were read"));
     };
+    assert!(rt; ended.status == Err(SupervisorFault::File));
+    assert!(rt; was_told(rt.alloc(), &ended.family, b"write 41\n\n")?);
+    assert!(rt; output.is_empty());
+    Ok(())
+}
+
+/// Whether a run with this log is refused a reload, and reads the next settings once.
+fn is_refused_a_reload<L: Log + Drop>(alloc: Global, log: L) -> bool {
+    let settings = Settings::plain();
+    let start = SupervisorStart { settings, pid: 7 };
     let mut next = CountedSettings {
         gives: Gives::Refused,
         reads: 0,
     };
-    let log = Logged::new((), LevelFilter::Info, Memory::new(alloc));
-    let mut output = Vec::new(alloc);
-    let family = Recorded::new(alloc, None);
     let input = b"tick 1\nHUP\nwhat\nQUIT\n".as_slice();
-    let operator = Operator { input, log: &log };
+    let operator = Operator { input, log };
+    let family = Recorded::new(alloc, None);
+    let mut output = Vec::new(alloc);
     let ended = supervise_on(alloc, family, &start, &mut next, operator, &mut output);
-    assert!(rt; ended.status == Ok(1));
-    assert_eq!(rt; next.reads, 1);
+    ended.status == Ok(1) && next.reads == 1
+}
+
+#[test]
+fn logs_a_line_for_each_block(rt: HostRuntime) -> Result<(), Fail> {
+    let log = Logged::new((), LevelFilter::Info, Memory::new(rt.alloc()));
+    assert!(rt; is_refused_a_reload(rt.alloc(), &log));
     let (_, sink) = log.into_parts();
-    let lines = sink.into_lines();
     let wanted = [
         "[INFO  prefork] tick 0: done",
         "[INFO  prefork] beat 0 1: nothing",
@@ -463,9 +476,6 @@ fn logs_a_line_for_each_block(rt: HostRuntime) -> Result<(), Fail> {
         "[INFO  prefork] unread W1",
         "[INFO  prefork] QUIT: done",
     ];
-    assert_eq!(rt; lines.len(), wanted.len());
-    for (line, text) in lines.as_slice().iter().zip(wanted) {
-        assert!(rt; line.as_str() == text);
-    }
+    assert!(rt; are_lines(sink.into_lines().as_slice(), &wanted));
     Ok(())
 }

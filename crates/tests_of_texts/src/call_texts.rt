@@ -4,6 +4,8 @@ use call_text::{
 };
 use listener_set::{Address, DescriptorSet, FilePath, Generation, Numbers};
 use plain_text::Line;
+use std::alloc::{AllocError, Global};
+use std::process::Abort;
 use std::test::Fail;
 use vocabulary::{Actor, Answer, Call, Outcome, PidNote, Report, Side};
 use worker_groups::Shortfalls;
@@ -23,30 +25,53 @@ fn set(numbers: &[u32]) -> Numbers {
 }
 
 /// Whether a call is written so, in place of what the line held, and read back.
-fn is_call(line: &mut Line, call: Call, text: &str) -> bool {
-    write_call(Actor(7), &call, line);
-    let read = read_call(text.as_bytes()) == Some((Actor(7), call));
+fn is_call(line: &mut Line, call: &Call, text: &str) -> bool {
+    write_call(Actor(7), call, line);
+    let read = read_call(text.as_bytes()) == Some((Actor(7), *call));
     read && line.bytes() == text.as_bytes()
+}
+
+/// Asserts this of each of these calls, one after another.
+fn check_calls(rt: &impl Abort, calls: &[(Call, &str)]) {
+    let mut line = Line::new();
+    for (call, text) in calls {
+        assert!(rt; is_call(&mut line, call, text), "{text}");
+    }
 }
 
 /// Whether an answer to a call is written so, in place of what the line held, and read back.
-fn is_answer(line: &mut Line, call: Call, answer: Answer, text: &str) -> bool {
-    write_answer(&answer, line);
-    let read = read_answer(&call, text.as_bytes()) == Some(answer);
+fn is_answer(line: &mut Line, call: &Call, answer: &Answer, text: &str) -> bool {
+    write_answer(answer, line);
+    let read = read_answer(call, text.as_bytes()) == Some(*answer);
     read && line.bytes() == text.as_bytes()
 }
 
+/// Asserts this of each of these answers, one after another.
+fn check_answers(rt: &impl Abort, answers: &[(Call, Answer, &str)]) {
+    let mut line = Line::new();
+    for (call, answer, text) in answers {
+        assert!(rt; is_answer(&mut line, call, answer, text), "{text}");
+    }
+}
+
 #[test]
-fn calls_are_read_as_they_are_written(rt: HostRuntime) -> Result<(), Fail> {
+fn calls_on_addresses_are_read_as_they_are_written(rt: HostRuntime) -> Result<(), Fail> {
     let address = Address::read(b"0.0.0.0:8080")?;
-    let path = FilePath::read(b"/run/a.pid")?;
+    let calls = [
+        (Call::OpenAt(address), "m7 open 0.0.0.0:8080"),
+        (Call::CloseAt(address), "m7 close 0.0.0.0:8080"),
+    ];
+    check_calls(&rt, &calls);
+    Ok(())
+}
+
+#[test]
+fn calls_on_workers_are_read_as_they_are_written(rt: HostRuntime) {
     let far = Generation {
         image: 4_294_967_295,
         config: 0,
     };
-    let texts = [
-        (Call::OpenAt(address), "m7 open 0.0.0.0:8080"),
-        (Call::CloseAt(address), "m7 close 0.0.0.0:8080"),
+    let calls = [
         (Call::Fork(FIRST, 2, None), "m7 fork 1.1 2"),
         (
             Call::AwaitReady(far, 1023),
@@ -56,66 +81,110 @@ fn calls_are_read_as_they_are_written(rt: HostRuntime) -> Result<(), Fail> {
         (Call::Kill(FIRST, 0), "m7 kill 1.1 0"),
         (Call::Census(FIRST), "m7 census 1.1"),
         (Call::AwaitGone(FIRST, 0), "m7 await-gone 1.1 0"),
+        (Call::Usr1(FIRST, 0), "m7 usr1 1.1 0"),
+    ];
+    check_calls(&rt, &calls);
+}
+
+#[test]
+fn calls_on_masters_are_read_as_they_are_written(rt: HostRuntime) {
+    let calls = [
         (Call::SpawnMaster(2), "m7 spawn-master 2"),
         (Call::Adopt, "m7 adopt"),
+        (Call::Alive(2), "m7 alive 2"),
+        (Call::Leave, "m7 leave"),
+        (Call::TermMaster(2), "m7 term-master 2"),
+    ];
+    check_calls(&rt, &calls);
+}
+
+#[test]
+fn calls_on_pid_files_are_read_as_they_are_written(rt: HostRuntime) -> Result<(), Fail> {
+    let path = FilePath::read(b"/run/a.pid")?;
+    let calls = [
         (Call::WritePid(path), "m7 write-pid /run/a.pid"),
         (
             Call::MovePid(path, path.oldbin()),
             "m7 move-pid /run/a.pid /run/a.pid.oldbin",
         ),
         (Call::RemovePid(path), "m7 remove-pid /run/a.pid"),
-        (Call::Alive(2), "m7 alive 2"),
-        (Call::Leave, "m7 leave"),
-        (Call::Usr1(FIRST, 0), "m7 usr1 1.1 0"),
-        (Call::TermMaster(2), "m7 term-master 2"),
     ];
-    let mut line = Line::new();
-    for (call, text) in texts {
-        assert!(rt; is_call(&mut line, call, text), "{text}");
-    }
+    check_calls(&rt, &calls);
     Ok(())
 }
 
+/// A call to open the plain address.
+fn open() -> Call {
+    Call::OpenAt(Address::plain())
+}
+
 #[test]
-fn answers_are_read_as_they_are_written(rt: HostRuntime) -> Result<(), Fail> {
-    let open = Call::OpenAt(Address::plain());
-    let census = Call::Census(FIRST);
-    let spawn = Call::SpawnMaster(2);
-    let texts = [
-        (open, Answer::Opened(66), "opened 66"),
-        (open, Answer::InUse, "in-use"),
-        (open, Answer::TooMany, "too-many"),
-        (open, Answer::Denied, "denied"),
-        (open, Answer::NoMemory, "no-memory"),
-        (Call::Leave, Answer::Fine, "ok"),
+fn answers_to_an_open_are_read_as_they_are_written(rt: HostRuntime) {
+    let answers = [
+        (open(), Answer::Opened(66), "opened 66"),
+        (open(), Answer::InUse, "in-use"),
+        (open(), Answer::TooMany, "too-many"),
+        (open(), Answer::Denied, "denied"),
+        (open(), Answer::NoMemory, "no-memory"),
+    ];
+    check_answers(&rt, &answers);
+}
+
+#[test]
+fn answers_of_workers_are_read_as_they_are_written(rt: HostRuntime) {
+    let answers = [
         (Call::Fork(FIRST, 0, None), Answer::Forked, "forked"),
         (Call::Fork(FIRST, 0, None), Answer::Again, "again"),
         (Call::AwaitReady(FIRST, 0), Answer::IsReady, "ready"),
         (Call::AwaitGone(FIRST, 0), Answer::Gone, "gone"),
         (Call::AwaitGone(FIRST, 0), Answer::Late, "late"),
-        (census, Answer::Counted(set(&[])), "counted none"),
-        (census, Answer::Counted(set(&[5])), "counted 5"),
+    ];
+    check_answers(&rt, &answers);
+}
+
+#[test]
+fn counts_are_read_as_they_are_written(rt: HostRuntime) {
+    let answers = [
         (
-            census,
+            Call::Census(FIRST),
+            Answer::Counted(set(&[])),
+            "counted none",
+        ),
+        (Call::Census(FIRST), Answer::Counted(set(&[5])), "counted 5"),
+        (
+            Call::Census(FIRST),
             Answer::Counted(set(&[0, 1, 2, 5, 7, 8, 1023])),
             "counted 0-2,5,7-8,1023",
         ),
-        (spawn, Answer::Spawned, "spawned"),
-        (spawn, Answer::NoImage, "no-image"),
+    ];
+    check_answers(&rt, &answers);
+}
+
+#[test]
+fn answers_to_a_new_master_are_read_as_they_are_written(rt: HostRuntime) {
+    let answers = [
+        (Call::SpawnMaster(2), Answer::Spawned, "spawned"),
+        (Call::SpawnMaster(2), Answer::NoImage, "no-image"),
         (Call::Adopt, Answer::Adopted, "adopted"),
         (Call::Adopt, Answer::Refused, "refused"),
-        (
-            Call::RemovePid(FilePath::read(b"/a")?),
-            Answer::IoFault,
-            "io-fault",
-        ),
+    ];
+    check_answers(&rt, &answers);
+}
+
+#[test]
+fn answers_of_masters_are_read_as_they_are_written(rt: HostRuntime) {
+    let answers = [
         (Call::Alive(2), Answer::IsAlive, "alive"),
         (Call::Alive(2), Answer::MasterGone, "master-gone"),
+        (Call::Leave, Answer::Fine, "ok"),
     ];
-    let mut line = Line::new();
-    for (call, answer, text) in texts {
-        assert!(rt; is_answer(&mut line, call, answer, text), "{text}");
-    }
+    check_answers(&rt, &answers);
+}
+
+#[test]
+fn a_fault_of_a_file_is_read_as_it_is_written(rt: HostRuntime) -> Result<(), Fail> {
+    let remove = Call::RemovePid(FilePath::read(b"/a")?);
+    check_answers(&rt, &[(remove, Answer::IoFault, "io-fault")]);
     Ok(())
 }
 
@@ -126,16 +195,17 @@ fn fork_with(numbers: &[u32]) -> Call {
 
 #[test]
 fn forks_with_descriptors_are_read_as_they_are_written(rt: HostRuntime) {
-    let texts = [
+    let calls = [
         (fork_with(&[]), "m7 fork 1.1 2 fds none"),
         (fork_with(&[3]), "m7 fork 1.1 2 fds 3"),
         (fork_with(&[66]), "m7 fork 1.1 2 fds 66"),
         (fork_with(&[7, 3, 4, 5]), "m7 fork 1.1 2 fds 3-5,7"),
     ];
-    let mut line = Line::new();
-    for (call, text) in texts {
-        assert!(rt; is_call(&mut line, call, text), "{text}");
-    }
+    check_calls(&rt, &calls);
+}
+
+#[test]
+fn a_fork_with_descriptors_is_answered_that_there_is_no_memory(rt: HostRuntime) {
     assert!(rt; read_answer(&fork_with(&[3]), b"no-memory") == Some(Answer::NoMemory));
 }
 
@@ -198,20 +268,44 @@ const OTHER_SETS: [&str; 14] = [
 ];
 
 #[test]
-fn other_calls_answers_and_sets_are_refused(rt: HostRuntime) {
-    let open = Call::OpenAt(Address::plain());
-    for text in ["opened 2", "opened 67", "ok", "counted 1"] {
-        assert!(rt; read_answer(&open, text.as_bytes()).is_none(), "{text}");
+fn other_answers_are_refused(rt: HostRuntime) {
+    for (call, text) in [
+        (open(), "opened 2"),
+        (open(), "opened 67"),
+        (open(), "ok"),
+        (open(), "counted 1"),
+        (Call::Adopt, "gone"),
+        (Call::Leave, "ok "),
+    ] {
+        assert!(rt; read_answer(&call, text.as_bytes()).is_none(), "{text}");
     }
-    assert!(rt; read_answer(&Call::Adopt, b"gone").is_none());
-    assert!(rt; read_answer(&Call::Leave, b"ok ").is_none());
+}
+
+#[test]
+fn other_calls_are_refused(rt: HostRuntime) {
     for text in OTHER_CALLS {
         assert!(rt; read_call(text.as_bytes()).is_none(), "{text}");
     }
+}
+
+#[test]
+fn other_sets_are_refused(rt: HostRuntime) {
     for text in OTHER_SETS {
         assert!(rt; read_set(text.as_bytes()).is_none(), "{text}");
     }
+}
+
+#[test]
+fn the_set_of_all_numbers_is_read(rt: HostRuntime) {
     assert!(rt; read_set(b"0-1023") == Some(Numbers::below(1024)));
+}
+
+/// Whether a report is written so, and read back.
+fn is_report(alloc: Global, report: &Report, text: &str) -> Result<bool, AllocError> {
+    let mut out = Vec::new(alloc);
+    write_report(&mut out, report)?;
+    let read = read_report(text.as_bytes(), &report.ready) == Some(*report);
+    Ok(read && out.as_slice() == text.as_bytes())
 }
 
 /// What a report says, but for its ready workers, and its text.
@@ -252,16 +346,14 @@ fn reports_are_read_as_they_are_written(rt: HostRuntime) -> Result<(), Fail> {
             note,
             ready,
         };
-        let mut out = Vec::new(rt.alloc());
-        write_report(&mut out, &report)?;
-        assert!(rt; out.as_slice() == text.as_bytes(), "{text}");
-        assert!(rt;
-            read_report(text.as_bytes(), &ready) == Some(report),
-            "{text}"
-        );
+        assert!(rt; is_report(rt.alloc(), &report, text)?, "{text}");
     }
-    assert!(rt; read_report(b"done cause none", &ready).is_none());
     Ok(())
+}
+
+#[test]
+fn a_report_that_is_cut_is_refused(rt: HostRuntime) {
+    assert!(rt; read_report(b"done cause none", &set(&[1])).is_none());
 }
 
 /// What each of some groups lacks.
@@ -273,9 +365,21 @@ fn shortfalls(first: u32, others: &[u32]) -> Shortfalls {
     all
 }
 
+/// A target that lacks so many workers, where worker 1 is ready.
+fn degraded(shortfalls: Shortfalls) -> Report {
+    Report {
+        outcome: Outcome::Degraded {
+            side: Side::Target,
+            shortfalls,
+        },
+        cause: Some(9),
+        note: PidNote::OldbinLeft,
+        ready: set(&[1]),
+    }
+}
+
 #[test]
 fn what_each_group_lacks_is_read_as_it_is_written(rt: HostRuntime) -> Result<(), Fail> {
-    let ready = set(&[1]);
     let texts = [
         (shortfalls(3, &[]), "3"),
         (shortfalls(0, &[2]), "0,2"),
@@ -283,21 +387,9 @@ fn what_each_group_lacks_is_read_as_it_is_written(rt: HostRuntime) -> Result<(),
         (shortfalls(1, &[1; 15]), "1,1,1,1,1,1,1,1,1,1,1,1,1,1,1,1"),
     ];
     for (shortfalls, counts) in texts {
-        let report = Report {
-            outcome: Outcome::Degraded {
-                side: Side::Target,
-                shortfalls,
-            },
-            cause: Some(9),
-            note: PidNote::OldbinLeft,
-            ready,
-        };
         let text = format!(in rt.alloc(); "degraded target {counts} cause 9 pid oldbin-left")?;
-        let mut out = Vec::new(rt.alloc());
-        write_report(&mut out, &report)?;
-        assert!(rt; out.as_slice() == text.as_bytes(), "{text}");
         assert!(rt;
-            read_report(text.as_bytes(), &ready) == Some(report),
+            is_report(rt.alloc(), &degraded(shortfalls), text.as_str())?,
             "{text}"
         );
     }

@@ -1,4 +1,4 @@
-//! Tests of texts: calls, answers and reports, lines, patterns and handovers, and of the lines of readers.
+//! Tests of texts: calls, answers and reports, lines, patterns and handovers.
 #![tactic(auto)]
 
 #[cfg(test)]
@@ -9,5 +9,3 @@ mod handovers;
 mod lines;
 #[cfg(test)]
 mod patterns;
-#[cfg(test)]
-mod readers;

@@ -34,6 +34,11 @@ fn longest_descriptors() -> DescriptorSet {
     set
 }
 
+/// Whether a line has so many bytes, and is read as that call.
+fn is_call(line: &Line, call: &Call, bytes: usize) -> bool {
+    line.bytes().len() == bytes && read_call(line.bytes()) == Some((Actor(MOST), *call))
+}
+
 #[test]
 fn the_longest_calls_fit_and_are_read(rt: HostRuntime) -> Result<(), Fail> {
     let mut text = [b'a'; FILE_PATH_BYTES];
@@ -48,11 +53,7 @@ fn the_longest_calls_fit_and_are_read(rt: HostRuntime) -> Result<(), Fail> {
     let mut line = Line::new();
     for (call, bytes) in calls {
         write_call(Actor(MOST), &call, &mut line);
-        assert!(rt; line.bytes().len() == bytes, "{bytes}");
-        assert!(rt;
-            read_call(line.bytes()) == Some((Actor(MOST), call)),
-            "{bytes}"
-        );
+        assert!(rt; is_call(&line, &call, bytes), "{bytes}");
     }
     Ok(())
 }
@@ -80,38 +81,76 @@ fn an_empty_line_is_no_call_and_no_answer(rt: HostRuntime) -> Result<(), Fail> {
     Ok(())
 }
 
+/// A line with room for two bytes.
+fn almost_full() -> Line {
+    let mut line = Line::new();
+    line.put(&[b'a'; LINE_BYTES - 2]);
+    line
+}
+
+/// Whether a line takes neither of two texts of three bytes.
+fn refuses_three_bytes(line: &mut Line) -> bool {
+    !line.put(b"bcd") && !line.put_number(100)
+}
+
 #[test]
-fn a_line_takes_a_text_whole_or_not_at_all(rt: HostRuntime) -> Result<(), Fail> {
+fn a_line_stays_as_it_is_where_a_text_does_not_fit(rt: HostRuntime) {
     let mut line = Line::new();
     assert!(rt; line.put(&[b'a'; LINE_BYTES - 2]));
-    assert!(rt; !line.put(b"bcd"));
-    assert!(rt; !line.put_number(100));
+    assert!(rt; refuses_three_bytes(&mut line));
     assert!(rt; line.bytes().len() == LINE_BYTES - 2);
     assert!(rt; line.bytes().ends_with(b"aaa"));
     assert!(rt; !line.is_full());
+}
+
+#[test]
+fn a_line_is_filled_to_its_last_byte(rt: HostRuntime) {
+    let mut line = almost_full();
+    assert!(rt; refuses_three_bytes(&mut line));
     assert!(rt; line.put_number(42));
+    assert!(rt; line.is_full());
+    assert!(rt; line.bytes().ends_with(b"a42"));
+}
+
+/// A line that has no room.
+fn full() -> Line {
+    let mut line = almost_full();
+    line.put_number(42);
+    line
+}
+
+#[test]
+fn a_full_line_takes_an_empty_text_alone(rt: HostRuntime) {
+    let mut line = full();
     assert!(rt; line.is_full());
     assert!(rt; !line.put(b"e"));
     assert!(rt; line.put(b""));
     assert!(rt; line.bytes().ends_with(b"a42"));
+}
+
+#[test]
+fn a_line_that_is_cleared_takes_no_more_than_its_length(rt: HostRuntime) {
+    let mut line = full();
     line.clear();
     assert!(rt; line.bytes().is_empty());
     assert!(rt; !line.put(&[b'a'; LINE_BYTES + 1]));
     assert!(rt; line.put(b"d"));
     assert!(rt; line.bytes() == b"d".as_slice());
-    Ok(())
+}
+
+/// Writes a word, the longest number and the longest set.
+fn write_longest<S: Sink>(out: &mut S) -> Result<(), S::Refusal> {
+    out.put(b"at ")?;
+    write_number(out, u64::MAX)?;
+    write_set(out, &longest_set())
 }
 
 #[test]
 fn a_vector_and_a_line_hold_the_same_text(rt: HostRuntime) -> Result<(), Fail> {
     let mut line = Line::new();
+    write_longest(&mut line)?;
     let mut bytes = Vec::new(rt.alloc());
-    assert!(rt; line.put(b"at "));
-    bytes.put(b"at ")?;
-    write_number(&mut line, u64::MAX)?;
-    write_number(&mut bytes, u64::MAX)?;
-    write_set(&mut line, &longest_set())?;
-    write_set(&mut bytes, &longest_set())?;
+    write_longest(&mut bytes)?;
     assert!(rt; line.bytes() == bytes.as_slice());
     assert!(rt; line.bytes().len() == 3 + 20 + 2673);
     Ok(())

@@ -13,23 +13,38 @@ const SECOND: Generation = Generation {
 
 const WORKER: Name = Name::Worker(SECOND, 3);
 
-#[test]
-fn moments_are_kept_by_their_numbers(rt: HostRuntime) -> Result<(), Fail> {
-    let mut pattern = Pattern::new(rt.alloc());
-    assert!(rt; pattern.is_empty());
+/// A pattern with the moments 2 and 7 and that of the greatest number, of which the first two are told in turns.
+fn three_moments(alloc: Global) -> Result<Pattern, Fail> {
+    let mut pattern = Pattern::new(alloc);
     pattern.set_fate(7, Fate::Late)?;
     pattern.add_exit(2, WORKER)?;
     pattern.add_exit(2, Name::Master(1))?;
     pattern.set_fate(2, Fate::Again)?;
     pattern.set_fate(7, Fate::NoMemory)?;
     pattern.add_exit(4_294_967_295, Name::Master(2))?;
+    Ok(pattern)
+}
 
+#[test]
+fn a_new_pattern_is_empty(rt: HostRuntime) {
+    assert!(rt; Pattern::new(rt.alloc()).is_empty());
+}
+
+#[test]
+fn a_moment_has_its_exits_in_order_and_its_last_fate(rt: HostRuntime) -> Result<(), Fail> {
+    let pattern = three_moments(rt.alloc())?;
     let second = pattern.moment(2);
-    assert_eq!(rt; second.exits, [WORKER, Name::Master(1)].as_slice());
-    assert_eq!(rt; second.fate, Some(Fate::Again));
+    assert!(rt; second.exits == [WORKER, Name::Master(1)].as_slice());
+    assert!(rt; second.fate == Some(Fate::Again));
     let third = pattern.moment(3);
     assert!(rt; third.exits.is_empty() && third.fate.is_none());
-    assert_eq!(rt; pattern.moment(7).fate, Some(Fate::NoMemory));
+    assert!(rt; pattern.moment(7).fate == Some(Fate::NoMemory));
+    Ok(())
+}
+
+#[test]
+fn moments_are_kept_by_their_numbers(rt: HostRuntime) -> Result<(), Fail> {
+    let pattern = three_moments(rt.alloc())?;
     assert_eq!(rt; pattern.len(), 3);
     for (i, wanted) in [
         (0, Some(2)),
@@ -42,22 +57,31 @@ fn moments_are_kept_by_their_numbers(rt: HostRuntime) -> Result<(), Fail> {
     Ok(())
 }
 
+/// Whether a line is written so, with a newline behind it, and read back.
+fn is_line(alloc: Global, line: PatternLine, text: &str) -> Result<bool, Fail> {
+    let mut out = Vec::new(alloc);
+    line.write(&mut out)?;
+    let read = PatternLine::read(text.as_bytes()) == Some(line);
+    Ok(read && out.as_slice().strip_suffix(b"\n") == Some(text.as_bytes()))
+}
+
 #[test]
-fn lines_are_read_as_they_are_written(rt: HostRuntime) -> Result<(), Fail> {
+fn exits_are_read_as_they_are_written(rt: HostRuntime) -> Result<(), Fail> {
+    for (number, name, text) in [
+        (1, Name::Worker(SECOND, 0), "1 exit w1.2.0"),
+        (2, Name::Worker(SECOND, 1023), "2 exit w1.2.1023"),
+        (12, Name::Draining(SECOND, 9), "12 exit d1.2.9"),
+        (2, Name::Master(1), "2 exit m1"),
+    ] {
+        let line = PatternLine::Exit(number, name);
+        assert!(rt; is_line(rt.alloc(), line, text)?, "{text}");
+    }
+    Ok(())
+}
+
+#[test]
+fn failures_and_ends_of_sections_are_read_as_they_are_written(rt: HostRuntime) -> Result<(), Fail> {
     for (line, text) in [
-        (
-            PatternLine::Exit(1, Name::Worker(SECOND, 0)),
-            "1 exit w1.2.0",
-        ),
-        (
-            PatternLine::Exit(2, Name::Worker(SECOND, 1023)),
-            "2 exit w1.2.1023",
-        ),
-        (
-            PatternLine::Exit(12, Name::Draining(SECOND, 9)),
-            "12 exit d1.2.9",
-        ),
-        (PatternLine::Exit(2, Name::Master(1)), "2 exit m1"),
         (
             PatternLine::Fail(4_294_967_295, Fate::TooMany),
             "4294967295 fail too-many",
@@ -65,12 +89,7 @@ fn lines_are_read_as_they_are_written(rt: HostRuntime) -> Result<(), Fail> {
         (PatternLine::Fail(3, Fate::NoImage), "3 fail no-image"),
         (PatternLine::Next, "next"),
     ] {
-        let mut out = Vec::new(rt.alloc());
-        line.write(&mut out)?;
-        assert!(rt; out.len() == text.len() + 1, "{text}");
-        assert!(rt; out.as_slice().starts_with(text.as_bytes()), "{text}");
-        assert!(rt; out.as_slice().ends_with(b"\n"), "{text}");
-        assert!(rt; PatternLine::read(text.as_bytes()) == Some(line), "{text}");
+        assert!(rt; is_line(rt.alloc(), line, text)?, "{text}");
     }
     Ok(())
 }
@@ -92,39 +111,46 @@ fn turns_are_kept_in_order(rt: HostRuntime) -> Result<(), Fail> {
     turns.add(Turn::Old)?;
     turns.add(Turn::New)?;
     assert!(rt; !turns.is_empty());
-    assert_eq!(rt; turns.len(), 2);
+    assert!(rt; turns.len() == 2);
     for (place, wanted) in [(0, Some(Turn::Old)), (1, Some(Turn::New)), (2, None)] {
         assert_eq!(rt; turns.get(place), wanted, "turn {place}");
     }
     Ok(())
 }
 
-#[test]
-fn turns_are_the_first_line_of_their_section(rt: HostRuntime) -> Result<(), Fail> {
-    let mut sections = Vec::new(rt.alloc());
+/// Three sections: with turns of both masters, with none, and with one.
+fn three_sections(alloc: Global) -> Result<Vec<Section>, Fail> {
+    let mut sections = Vec::new(alloc);
     for turns in [
         [Turn::New, Turn::Old, Turn::Old].as_slice(),
         &[],
         &[Turn::Old],
     ] {
-        sections.push(section_with(rt.alloc(), turns)?)?;
+        sections.push(section_with(alloc, turns)?)?;
     }
+    Ok(sections)
+}
+
+/// How they are written.
+const THREE_SECTIONS: &[u8] =
+    b"turns noo\n1 fail again\nnext\n1 fail again\nnext\nturns o\n1 fail again\n";
+
+#[test]
+fn turns_are_written_as_the_first_line_of_their_section(rt: HostRuntime) -> Result<(), Fail> {
+    let sections = three_sections(rt.alloc())?;
     let text = write_patterns(rt.alloc(), &sections)?;
-    let wanted = "turns noo\n1 fail again\nnext\n1 fail again\nnext\nturns o\n1 fail again\n";
-    assert!(rt; text.as_slice() == wanted.as_bytes());
-    let again = read_patterns(rt.alloc(), &text)?;
-    assert_eq!(rt; again.len(), 3);
-    for (place, section) in again.iter().enumerate() {
-        assert_eq!(rt;
-            section.turns.len(),
-            sections[place].turns.len(),
-            "section {place}"
-        );
-        assert_eq!(rt;
-            section.pattern.moment(1).fate,
-            Some(Fate::Again),
-            "section {place}"
-        );
+    assert!(rt; text.as_slice() == THREE_SECTIONS);
+    Ok(())
+}
+
+#[test]
+fn turns_are_read_from_the_first_line_of_their_section(rt: HostRuntime) -> Result<(), Fail> {
+    let sections = read_patterns(rt.alloc(), THREE_SECTIONS)?;
+    let counts = [3, 0, 1];
+    assert_eq!(rt; sections.len(), counts.len());
+    for (section, count) in sections.iter().zip(counts) {
+        assert!(rt; section.turns.len() == count);
+        assert!(rt; section.pattern.moment(1).fate == Some(Fate::Again));
     }
     Ok(())
 }

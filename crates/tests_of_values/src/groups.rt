@@ -3,52 +3,76 @@ use listener_set::{DescriptorSet, Numbers};
 use std::test::Fail;
 use worker_groups::{Group, GroupRefusal, Groups, Posts, Shortfalls};
 
+/// These groups, and one more behind them.
+fn with_group(mut groups: Groups, addresses: u32, workers: u32) -> Result<Groups, Fail> {
+    groups.add(Group { addresses, workers })?;
+    Ok(groups)
+}
+
+/// Three groups: two workers at one address, none at two, and one at one.
+fn three_groups() -> Result<Groups, Fail> {
+    with_group(with_group(Groups::one(1, 2), 2, 0)?, 1, 1)
+}
+
 #[test]
-fn a_number_falls_to_the_group_that_takes_it(rt: HostRuntime) -> Result<(), Fail> {
-    let mut groups = Groups::one(1, 2);
-    groups.add(Group {
-        addresses: 2,
-        workers: 0,
-    })?;
-    groups.add(Group {
-        addresses: 1,
-        workers: 1,
-    })?;
-    assert_eq!(rt; (groups.addresses(), groups.workers()), (4, 3));
-    assert_eq!(rt; (groups.group_of(0), groups.group_of(1)), (0, 0));
-    assert_eq!(rt; (groups.group_of(2), groups.group_of(3)), (2, 2));
-    assert_eq!(rt; (groups.group_at(0), groups.group_at(1)), (0, 1));
-    assert_eq!(rt; (groups.group_at(2), groups.group_at(3)), (1, 2));
+fn groups_have_the_addresses_and_workers_of_all(rt: HostRuntime) -> Result<(), Fail> {
+    let groups = three_groups()?;
+    assert!(rt; groups.addresses() == 4);
+    assert!(rt; groups.workers() == 3);
     Ok(())
 }
 
 #[test]
-fn groups_have_at_most_64_addresses_and_1024_workers(rt: HostRuntime) -> Result<(), Fail> {
-    let mut groups = Groups::one(60, 1000);
-    let of = |addresses, workers| Group { addresses, workers };
-    assert_eq!(rt; groups.add(of(0, 25)), Err(GroupRefusal::NoAddress));
-    assert_eq!(rt; groups.add(of(5, 25)), Err(GroupRefusal::TooManyAddresses));
-    assert_eq!(rt; groups.add(of(4, 25)), Err(GroupRefusal::TooManyWorkers));
-    assert_eq!(rt; groups.add(of(4, 24)), Ok(()));
-    assert_eq!(rt; (groups.addresses(), groups.workers()), (64, 1024));
-
-    let mut many = Groups::one(1, 1);
-    for _more in 1..16 {
-        many.add(of(1, 1))?;
+fn a_number_falls_to_the_group_that_takes_it(rt: HostRuntime) -> Result<(), Fail> {
+    let groups = three_groups()?;
+    for (number, of_worker, at_address) in [(0, 0, 0), (1, 0, 1), (2, 2, 1), (3, 2, 2)] {
+        assert_eq!(rt; groups.group_of(number), of_worker, "worker {number}");
+        assert_eq!(rt; groups.group_at(number), at_address, "address {number}");
     }
-    assert_eq!(rt; many.add(of(0, 2000)), Err(GroupRefusal::TooMany));
-    assert_eq!(rt; (many.as_slice().len(), many.group_of(15)), (16, 15));
+    Ok(())
+}
+
+/// How a group of these is refused.
+fn refusal(groups: &mut Groups, addresses: u32, workers: u32) -> Option<GroupRefusal> {
+    groups.add(Group { addresses, workers }).err()
+}
+
+#[test]
+fn groups_have_at_most_64_addresses_and_1024_workers(rt: HostRuntime) {
+    let mut groups = Groups::one(60, 1000);
+    for (addresses, workers, wanted) in [
+        (0, 25, Some(GroupRefusal::NoAddress)),
+        (5, 25, Some(GroupRefusal::TooManyAddresses)),
+        (4, 25, Some(GroupRefusal::TooManyWorkers)),
+        (4, 24, None),
+    ] {
+        assert_eq!(rt; refusal(&mut groups, addresses, workers), wanted);
+    }
+    assert!(rt; groups.addresses() == 64);
+    assert!(rt; groups.workers() == 1024);
+}
+
+/// As many groups as there can be.
+fn sixteen_groups() -> Result<Groups, Fail> {
+    let mut groups = Groups::one(1, 1);
+    for _more in 1..16 {
+        groups = with_group(groups, 1, 1)?;
+    }
+    Ok(groups)
+}
+
+#[test]
+fn there_are_at_most_16_groups(rt: HostRuntime) -> Result<(), Fail> {
+    let mut groups = sixteen_groups()?;
+    assert!(rt; refusal(&mut groups, 0, 2000) == Some(GroupRefusal::TooMany));
+    assert!(rt; groups.as_slice().len() == 16);
+    assert!(rt; groups.group_of(15) == 15);
     Ok(())
 }
 
 /// Two groups: workers 0 and 1 at one address, and worker 2 at two others.
 fn two_groups() -> Result<Groups, Fail> {
-    let mut groups = Groups::one(1, 2);
-    groups.add(Group {
-        addresses: 2,
-        workers: 1,
-    })?;
-    Ok(groups)
+    with_group(Groups::one(1, 2), 2, 1)
 }
 
 /// The set of these descriptors.
@@ -62,16 +86,28 @@ fn descriptors(numbers: &[u32]) -> DescriptorSet {
 
 #[test]
 fn workers_are_given_what_their_group_has(rt: HostRuntime) -> Result<(), Fail> {
-    let mut posts = Posts::first(&two_groups()?);
-    assert_eq!(rt; posts.is_sole(), false);
-    assert_eq!(rt; posts.given(1), Some(descriptors(&[0])));
-    assert_eq!(rt; posts.given(2), Some(descriptors(&[1, 2])));
-    posts.set_descriptors(1, &descriptors(&[63]));
-    assert_eq!(rt; posts.given_in(1), Some(descriptors(&[63])));
-    assert_eq!(rt; posts.descriptors_of(0), descriptors(&[0]));
-    assert_eq!(rt; posts.groups().as_slice().len(), 2);
-    assert_eq!(rt; Posts::new(&Groups::one(1, 2)).given(1), None);
+    let posts = Posts::first(&two_groups()?);
+    assert!(rt; !posts.is_sole());
+    assert!(rt; posts.given(1) == Some(descriptors(&[0])));
+    assert!(rt; posts.given(2) == Some(descriptors(&[1, 2])));
+    assert!(rt; posts.groups().as_slice().len() == 2);
     Ok(())
+}
+
+#[test]
+fn a_group_is_given_other_descriptors(rt: HostRuntime) -> Result<(), Fail> {
+    let mut posts = Posts::first(&two_groups()?);
+    assert!(rt; posts.groups().as_slice().len() == 2);
+    posts.set_descriptors(1, &descriptors(&[63]));
+    assert!(rt; posts.given_in(1) == Some(descriptors(&[63])));
+    assert!(rt; posts.descriptors_of(0) == descriptors(&[0]));
+    assert!(rt; posts.groups().as_slice().len() == 2);
+    Ok(())
+}
+
+#[test]
+fn workers_of_one_group_are_given_no_set(rt: HostRuntime) {
+    assert!(rt; Posts::new(&Groups::one(1, 2)).given(1).is_none());
 }
 
 #[test]
@@ -79,8 +115,8 @@ fn what_is_lacking_is_counted_by_groups(rt: HostRuntime) -> Result<(), Fail> {
     let mut lacking = Numbers::below(1024);
     lacking.remove(0);
     let counts = Shortfalls::of(&two_groups()?, &lacking);
-    assert_eq!(rt; counts.as_slice(), [1, 1022].as_slice());
-    assert_eq!(rt; counts.total(), 1023);
-    assert_eq!(rt; counts == Shortfalls::one(1023), false);
+    assert!(rt; counts.as_slice() == [1, 1022].as_slice());
+    assert!(rt; counts.total() == 1023);
+    assert!(rt; counts != Shortfalls::one(1023));
     Ok(())
 }

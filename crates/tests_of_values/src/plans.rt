@@ -2,7 +2,7 @@
 use listener_set::{Generation, Numbers};
 use plan_text::{write_graph, write_plan};
 use rollback_plan::{Bound, Draft, DraftRefusal, MOST_STEPS, Next, Plan, PlanEdge};
-use std::alloc::Global;
+use std::alloc::{AllocError, Global};
 use std::test::Fail;
 use vocabulary::{Actor, Answer, Call, End, Order, PidNote, Reply, Side, Sides};
 use worker_groups::{Crew, Group, Groups, Posts};
@@ -119,12 +119,18 @@ fn counts_of_two_masters(alloc: Global) -> Result<Plan, Fail> {
     Ok(draft.finish(first, PidNote::InPlace, &sole_sides(), Vec::new(alloc))?)
 }
 
+/// A draft with a count that no other step will lead to.
+fn with_unused(alloc: Global) -> Result<Draft, Fail> {
+    let mut draft = Draft::new(alloc);
+    draft.settle(Actor(1), &first_crew(), &Numbers::none(), Side::Target, 0)?;
+    Ok(draft)
+}
+
 /// A fork whose worker quits again, a count that two paths lead to, and one that none leads to.
 fn two_ways(alloc: Global) -> Result<Plan, Fail> {
     let none = Numbers::none();
     let crew = first_crew();
-    let mut draft = Draft::new(alloc);
-    let _unused = draft.settle(Actor(1), &crew, &none, Side::Target, 0)?;
+    let mut draft = with_unused(alloc)?;
     let end = draft.settle(Actor(1), &crew, &none, Side::Old, 0)?;
     let quit = draft.call(Actor(1), Call::Quit(FIRST, 7), end)?;
     let first = draft.add(
@@ -201,16 +207,36 @@ const TWO_GROUPS: &[u8] = b"plan steps 6 longest 6\n\
     5 m1 kill 1.1 missing | ok 6\n\
     6 m1 census 1.1 set 0-2 | full done | short degraded-target\n";
 
+/// Whether a plan is written so.
+fn is_written(alloc: Global, plan: &Plan, text: &[u8]) -> Result<bool, AllocError> {
+    Ok(write_plan(alloc, plan)?.as_slice() == text)
+}
+
 #[test]
 fn plans_are_numbered_and_written(rt: HostRuntime) -> Result<(), Fail> {
-    let more = one_worker_more(rt.alloc())?;
-    assert!(rt; write_plan(rt.alloc(), &more)?.as_slice() == ONE_WORKER_MORE);
-    let settle = a_settle(rt.alloc())?;
-    assert!(rt; write_plan(rt.alloc(), &settle)?.as_slice() == A_SETTLE);
-    let ways = two_ways(rt.alloc())?;
-    assert!(rt; write_plan(rt.alloc(), &ways)?.as_slice() == TWO_WAYS);
-    let grouped = one_more_of_two_groups(rt.alloc())?;
-    assert!(rt; write_plan(rt.alloc(), &grouped)?.as_slice() == TWO_GROUPS);
+    let plan = one_worker_more(rt.alloc())?;
+    assert!(rt; is_written(rt.alloc(), &plan, ONE_WORKER_MORE)?);
+    Ok(())
+}
+
+#[test]
+fn a_settle_is_written_without_numbers_of_workers(rt: HostRuntime) -> Result<(), Fail> {
+    let plan = a_settle(rt.alloc())?;
+    assert!(rt; is_written(rt.alloc(), &plan, A_SETTLE)?);
+    Ok(())
+}
+
+#[test]
+fn a_step_is_written_behind_all_that_lead_to_it(rt: HostRuntime) -> Result<(), Fail> {
+    let plan = two_ways(rt.alloc())?;
+    assert!(rt; is_written(rt.alloc(), &plan, TWO_WAYS)?);
+    Ok(())
+}
+
+#[test]
+fn a_fork_is_written_with_the_descriptors_of_its_group(rt: HostRuntime) -> Result<(), Fail> {
+    let plan = one_more_of_two_groups(rt.alloc())?;
+    assert!(rt; is_written(rt.alloc(), &plan, TWO_GROUPS)?);
     Ok(())
 }
 
@@ -228,7 +254,7 @@ fn each_master_names_what_its_own_count_lacked(rt: HostRuntime) -> Result<(), Fa
     let Some(fork) = plan.get(3) else {
         panic!(rt; "no third step");
     };
-    assert_eq!(rt; bound.call(fork), Call::Fork(FIRST, 2, None));
+    assert!(rt; bound.call(fork) == Call::Fork(FIRST, 2, None));
     Ok(())
 }
 
@@ -256,35 +282,44 @@ const SETTLE_DRAWN: &[u8] = b"digraph plan {\n\
     \x20 2 -> \"done\" [label=\"ok\\lmaster-gone\\lpid left\\l\", weight=9, style=bold];\n\
     }\n";
 
+/// Whether a plan is drawn so.
+fn is_drawn(alloc: Global, plan: &Plan, text: &[u8]) -> Result<bool, AllocError> {
+    Ok(write_graph(alloc, plan)?.as_slice() == text)
+}
+
 #[test]
 fn plans_are_drawn_with_a_box_for_each_step(rt: HostRuntime) -> Result<(), Fail> {
     let more = one_worker_more(rt.alloc())?;
-    assert!(rt; write_graph(rt.alloc(), &more)?.as_slice() == MORE_DRAWN);
+    assert!(rt; is_drawn(rt.alloc(), &more, MORE_DRAWN)?);
     let settle = a_settle(rt.alloc())?;
-    assert!(rt; write_graph(rt.alloc(), &settle)?.as_slice() == SETTLE_DRAWN);
+    assert!(rt; is_drawn(rt.alloc(), &settle, SETTLE_DRAWN)?);
     Ok(())
+}
+
+/// Adds so many settles with no round of starts.
+fn add_settles(draft: &mut Draft, count: usize) -> Result<(), Fail> {
+    for _step in 0..count {
+        draft.settle(Actor(1), &first_crew(), &Numbers::none(), Side::Old, 0)?;
+    }
+    Ok(())
+}
+
+/// How a settle with so many rounds of starts is refused.
+fn refusal(draft: &mut Draft, rounds: u32) -> Option<DraftRefusal> {
+    draft
+        .settle(Actor(1), &first_crew(), &Numbers::none(), Side::Old, rounds)
+        .err()
 }
 
 /// A settle that doesn't fit adds nothing, and no step fits into a full draft.
 #[test]
 fn a_full_draft_stays_as_it_is(rt: HostRuntime) -> Result<(), Fail> {
     let mut draft = Draft::new(rt.alloc());
-    let set = Numbers::none();
-    for _step in 0..MOST_STEPS - 4 {
-        draft.settle(Actor(1), &first_crew(), &set, Side::Old, 0)?;
-    }
-    let refused = draft
-        .settle(Actor(1), &first_crew(), &set, Side::Old, 1)
-        .err();
-    assert_eq!(rt; refused, Some(DraftRefusal::TooLarge));
+    add_settles(&mut draft, MOST_STEPS - 4)?;
+    assert_eq!(rt; refusal(&mut draft, 1), Some(DraftRefusal::TooLarge));
     assert_eq!(rt; draft.len(), MOST_STEPS - 4);
-    for _step in 0..4 {
-        draft.settle(Actor(1), &first_crew(), &set, Side::Old, 0)?;
-    }
-    let refused = draft
-        .settle(Actor(1), &first_crew(), &set, Side::Old, 0)
-        .err();
-    assert_eq!(rt; refused, Some(DraftRefusal::TooLarge));
+    add_settles(&mut draft, 4)?;
+    assert_eq!(rt; refusal(&mut draft, 0), Some(DraftRefusal::TooLarge));
     assert_eq!(rt; draft.len(), MOST_STEPS);
     Ok(())
 }

@@ -1,22 +1,10 @@
 //! Blocks as texts.
 ghost use Rattle.std.specs.Prelude.{◌≡◌, ◌++◌, IfOk};
-ghost use Rattle.call_text.specs.ReportText.{entries_text};
 ghost use Rattle.transcript.specs.Block.{body_text, block_text};
 
 use call_text::{write_entry, write_report};
-use plan_walk::Transcript;
 use std::alloc::{AllocError, Global};
 use word_runner::{Block, Body};
-
-/// A line for each call, numbered from 1.
-fn write_entries(out: &mut Vec<u8>, log: &Transcript) -> Result<(), AllocError>
-    ensures { IfOk result (λ _. out.new.items ≡ out.old.items ++ entries_text 1 log.now.entries) }
-{
-    for place in 0..log.len() {
-        write_entry(out, place as u64 + 1, &log.get(place))?;
-    }
-    Ok(())
-}
 
 /// What a word came to, behind what was written: `nothing`, or `refused CODE`, or a line for each call, numbered from 1, and the
 /// report's line. The only refusal is want of memory.
@@ -31,7 +19,9 @@ pub fn write_body(out: &mut Vec<u8>, body: &Body) -> Result<(), AllocError>
             out.extend_from_slice(b"\n")
         }
         Body::Ran(log, report) => {
-            write_entries(out, log)?;
+            for place in 0..log.len() {
+                write_entry(out, place as u64 + 1, &log.get(place))?;
+            }
             write_report(out, report)?;
             out.extend_from_slice(b"\n")
         }

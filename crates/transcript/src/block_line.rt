@@ -1,7 +1,8 @@
 //! Lines of blocks, other than calls, read.
 ghost use Rattle.std.specs.Prelude.{◌≡◌, IfSome, option_map};
+ghost use Rattle.control_words.specs.Words.{IsWord};
 ghost use Rattle.transcript.specs.BlockLine.{IsLine, seen};
-ghost use Rattle.transcript.specs.LineReading.{word_of, unread_of, plain_about, plain_of};
+ghost use Rattle.transcript.specs.LineReading.{word_of, unread_of, plain_of};
 
 use crate::codes::is_code;
 use call_text::read_report;
@@ -26,7 +27,8 @@ pub(crate) enum BlockLine<'a> {
 }
 
 fn read_word(text: &[u8]) -> Option<Word>
-    ensures { result ≡ word_of text.now }
+    ensures exact { result ≡ word_of text.now }
+    ensures within { IfSome result IsWord }
 {
     control_words::read(text).ok()
 }
@@ -44,39 +46,30 @@ fn read_unread(code: &[u8]) -> Option<WordRefusal>
     None
 }
 
-/// A line by its first word and what follows it.
-fn read_about<'a>(text: &'a [u8], first: &[u8], rest: &'a [u8]) -> Option<BlockLine<'a>>
-    ensures { option_map seen result ≡ plain_about text.now first.now rest.now }
-{
-    if first == b"word".as_slice() {
-        let word = read_word(rest)?;
-        return Some(BlockLine::Heard(word));
-    }
-    if first == b"unread".as_slice() {
-        let refusal = read_unread(rest)?;
-        return Some(BlockLine::Unread(refusal));
-    }
-    if first == b"refused".as_slice() {
-        return if is_code(rest) {
-            Some(BlockLine::Refused(rest))
-        } else {
-            None
-        };
-    }
-    let report = read_report(text, &Numbers::none())?;
-    Some(BlockLine::Ended(report))
-}
-
 impl<'a> BlockLine<'a> {
     /// Reads a line without its newline, and no other text. It takes no memory. Any bytes may come.
+    #[tactic(auto, using(crate::proofs::BlockLines::plain_within))]
     pub(crate) fn read(text: &'a [u8]) -> Option<BlockLine<'a>>
         ensures exact { option_map seen result ≡ plain_of text.now }
         ensures within { IfSome result (λ line. IsLine (seen line)) }
     {
-        match cut(text, b' ') {
-            Some((first, rest)) => read_about(text, first, rest),
-            None if text == b"nothing".as_slice() => Some(BlockLine::Nothing),
-            None => None,
+        let Some((first, rest)) = cut(text, b' ') else {
+            return if text == b"nothing".as_slice() {
+                Some(BlockLine::Nothing)
+            } else {
+                None
+            };
+        };
+        if first == b"word".as_slice() {
+            Some(BlockLine::Heard(read_word(rest)?))
+        } else if first == b"unread".as_slice() {
+            Some(BlockLine::Unread(read_unread(rest)?))
+        } else if first != b"refused".as_slice() {
+            Some(BlockLine::Ended(read_report(text, &Numbers::none())?))
+        } else if is_code(rest) {
+            Some(BlockLine::Refused(rest))
+        } else {
+            None
         }
     }
 }

@@ -2,7 +2,7 @@
 ghost use Rattle.std.specs.Prelude.{◌≡◌, ◌≢◌, List, [], map, Ok, Err, OnOk, IfOk, IfErr, IsErrOf, IsOk, option_map};
 ghost use Rattle.transcript.specs.BlockLine.{seen as seen_line, IsLine};
 ghost use Rattle.transcript.specs.Block.{AreBlocks, IsTextOf, block_read};
-ghost use Rattle.transcript.specs.Reading.{fault_within, fault_of, plain_here, call_here, known_after, last_count, with_entry, with_block, with_line, ran, begun, blocks_of};
+ghost use Rattle.transcript.specs.Reading.{fault_within, fault_of, call_here, known_after, last_count, with_entry, with_block, with_line, ran, begun, blocks_of};
 ghost use Rattle.word_runner.specs.declared.block.Block.{Block as Done};
 
 use crate::block_line::BlockLine;
@@ -96,21 +96,6 @@ impl BlocksReader {
         }
     }
 
-    /// Reads the line with this number, other than a call, if it may stand here. It takes no memory, so it never wants any.
-    fn read_here<'a>(&self, number: usize, text: &'a [u8]) -> Result<BlockLine<'a>, TextRefusal>
-        ensures ok { IfOk result (λ line. plain_here number (seen self.now) text.now ≡ Ok (seen_line line)) }
-        ensures err { IfErr result (λ e. plain_here number (seen self.now) text.now ≡ Err e) }
-        ensures within { IfOk result (λ line. IsLine (seen_line line)) }
-    {
-        let Some(line) = BlockLine::read(text) else {
-            return Err(TextRefusal::Line(number));
-        };
-        match self.fault_of(number, &line) {
-            Some(refusal) => Err(refusal),
-            None => Ok(line),
-        }
-    }
-
     /// Ends the block that has begun.
     fn close(&mut self, body: Body) -> Result<(), AllocError>
         ensures { OnOk result (seen self.new ≡ with_block (λ _. body) (seen self.old)) }
@@ -184,9 +169,9 @@ impl BlocksReader {
 }
 
 impl TakesLines for BlocksReader {
-    ghost use Rattle.std.specs.Prelude.{◌≡◌, List, Ok, Err, IfOk, IfErr};
+    ghost use Rattle.std.specs.Prelude.{◌≡◌, ◌≢◌, List, Ok, Err, OnOk, IfOk, IfErr};
     ghost use Rattle.word_runner.specs.declared.block.Block.{Block};
-    ghost use Rattle.transcript.specs.Reading.{Reading, taken, finished};
+    ghost use Rattle.transcript.specs.Reading.{Reading, line_here, taken, finished};
     ghost use Rattle.transcript.specs.Reader.{seen};
 
     type Value = Vec<Block>;
@@ -203,15 +188,22 @@ impl TakesLines for BlocksReader {
 
     ghost finished = { finished };
 
-    fn take(&mut self, alloc: Global, number: usize, line: &[u8]) -> Result<(), TextRefusal> {
+    /// A line that can't stand here is refused as such, and never as want of memory.
+    fn take(&mut self, alloc: Global, number: usize, line: &[u8]) -> Result<(), TextRefusal>
+        ensures ok { OnOk result (taken number (seen self.old) line.now ≡ Ok (seen self.new)) }
+        ensures err { IfErr result (λ e. e ≢ TextRefusal.Memory → taken number (seen self.old) line.now ≡ Err e) }
+        ensures due { IfErr (line_here number (seen self.old) line.now) (λ e. result ≡ Err e) }
+    {
         if let Some((count, call)) = numbered(line) {
             return self.take_call(number, count, call);
         }
-        match self.read_here(number, line) {
-            Ok(line) => self.add_line(alloc, &line)?,
-            Err(refusal) => return Err(refusal),
+        let Some(found) = BlockLine::read(line) else {
+            return Err(TextRefusal::Line(number));
+        };
+        match self.fault_of(number, &found) {
+            Some(refusal) => Err(refusal),
+            None => Ok(self.add_line(alloc, &found)?),
         }
-        Ok(())
     }
 
     fn finish(self, number: usize) -> Result<Vec<Block>, TextRefusal>

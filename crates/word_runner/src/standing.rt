@@ -3,7 +3,7 @@ ghost use Rattle.std.specs.Prelude.{◌≡◌, ◌<◌, ℕ};
 ghost use Rattle.std.specs.Option.{option_copied};
 ghost use Rattle.listener_set.specs.Numbers.{is_in};
 ghost use Rattle.worker_table.specs.Beats.{followed};
-ghost use Rattle.word_runner.specs.Started.{start_of, started_in, started};
+ghost use Rattle.word_runner.specs.Started.{start_of, started};
 
 use listener_set::{Generation, Numbers, WORKER_LIMIT};
 use plan_walk::Transcript;
@@ -42,17 +42,11 @@ impl<W> Standing<W> {
 fn started(after: Option<&Record>, log: &Transcript) -> Numbers
     ensures { (k : ℕ) → k < WORKER_LIMIT → is_in result k ≡ is_in (started (option_copied after.entry) log.now.entries) k }
 {
-    match after {
-        None => Numbers::none(),
-        Some(after) => started_in(after.generation, log),
-    }
-}
-
-/// The workers of a generation that a run started.
-fn started_in(generation: Generation, log: &Transcript) -> Numbers
-    ensures { (k : ℕ) → k < WORKER_LIMIT → is_in result k ≡ is_in (started_in generation log.now.entries) k }
-{
     let mut started = Numbers::none();
+    let Some(after) = after else {
+        return started;
+    };
+    let generation = after.generation;
     for place in 0..log.len() {
         if let Some(nr) = start_of(generation, &log.get(place)) {
             if nr < WORKER_LIMIT {

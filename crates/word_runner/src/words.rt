@@ -1,18 +1,16 @@
 //! Control words, carried out one after another.
 ghost use Rattle.std.specs.Prelude.{◌≡◌, ◌+◌, ◌<◌, ◌++◌, ◌↔◌, ◌⊎◌, ℕ, List, length, slice_get, vec_capacity, vec_len, IfOk, IsErr, OnOk, OnErr};
 ghost use Rattle.std.specs.Option.{option_copied};
-ghost use Rattle.definitions.specs.Target.{IsTarget};
 ghost use Rattle.word_runner.specs.Asking.{AsksTarget};
 ghost use Rattle.word_runner.specs.Enactors.{IsTold};
-ghost use Rattle.word_runner.specs.Words.{IsActed, ComesTo, AreDone, WantsMemory};
+ghost use Rattle.word_runner.specs.Words.{ComesTo, AreDone, WantsMemory};
 ghost use Rattle.word_runner.specs.declared.block.Block.{Block as Done};
 
 use crate::asking::{Asked, asked_by, note};
 use crate::{Block, Body, CodeText, Enacted, Enactor, Standing, TargetRefusal};
 use control_words::Word;
-use service_state::Record;
 use std::alloc::{AllocError, Global};
-use vocabulary::{Settings, Target};
+use vocabulary::Settings;
 
 /// Carries control words out one after another. `settings` are those of a new configuration.
 ///
@@ -64,35 +62,18 @@ fn run_word<E: Enactor>(
     let Some(running) = standing.record else {
         return Ok(Body::Refused(CodeText::stopped()));
     };
-    match asked_by(word, &running, &standing.workers, settings) {
-        Asked::Nothing => Ok(Body::Nothing),
-        Asked::Beat(heard) => Ok(note(&mut standing.workers, heard)),
-        Asked::Refused(code) => Ok(Body::Refused(code)),
-        Asked::Act(target) => act(alloc, enactor, standing, place, &running, &target),
-    }
-}
-
-/// Carries a target out for a running master. Want of memory leaves everything as it was, and comes only where carrying
-/// it out wants memory.
-fn act<E: Enactor>(
-    alloc: Global,
-    enactor: &E,
-    standing: &mut Standing<E::World>,
-    place: usize,
-    running: &Record,
-    target: &Target,
-) -> Result<Body, AllocError>
-    requires { IsTarget target.now }
-    ensures ok { IfOk result (λ body. IsActed (E.enacts enactor.now) (E.declines enactor.now) place standing.old running.now target.now body standing.new) }
-    ensures err { OnErr result (standing.new ≡ standing.old) }
-    ensures memory { OnErr result (E.wants_memory enactor.now standing.old.world place running.now target.now) }
-{
+    let target = match asked_by(word, &running, &standing.workers, settings) {
+        Asked::Nothing => return Ok(Body::Nothing),
+        Asked::Beat(heard) => return Ok(note(&mut standing.workers, heard)),
+        Asked::Refused(code) => return Ok(Body::Refused(code)),
+        Asked::Act(target) => target,
+    };
     let Enacted { log, report, after } = match enactor.enact(
         alloc,
         &mut standing.world,
         place,
-        running,
-        target,
+        &running,
+        &target,
     ) {
         Ok(enacted) => enacted,
         Err(refusal) => return told(refusal),

@@ -11,9 +11,10 @@ use Rattle.plan_executor.specs.Naming.{listed}
 use Rattle.plan_executor.specs.declared.enactment.EnactRefusal.TheVariants.{Memory, NoNumbers}
 use Rattle.plan_executor.proofs.Exact.{no_plan}
 use Rattle.kernel_pattern.specs.declared.section.Section.{Section}
-use Rattle.certifier.specs.declared.mismatch.Mismatch.{Mismatch}
+use Rattle.mismatches.specs.declared.Mismatch.{Mismatch}
 use Rattle.certifier.specs.Places.{planned_start, HasTaken, StopsBy}
-use Rattle.certifier.specs.Explained.{IsReady, IsNoBeginning, mismatch_of}
+use Rattle.certifier.specs.Explained.{IsReady, IsNoBeginning}
+use Rattle.plan_executor.specs.Codes.{mismatch_of}
 use Rattle.certifier.proofs.Explaining.{starts}
 use Rattle.certifier.proofs.Holding.{shows-all}
 use Rattle.certifier.proofs.Matching.{IsExactly, plain-beginnings, exact-unready, exact-planless, exact-short, answered-beginning, complete-beginning}

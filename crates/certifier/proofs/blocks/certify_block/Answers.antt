@@ -5,7 +5,7 @@ use Rattle.word_runner.specs.declared.asking.Asked.{Asked}
 use Rattle.word_runner.specs.declared.block.Block.{Block}
 use Rattle.word_runner.specs.declared.block.Body.{Body}
 use Rattle.word_runner.specs.Asking.{IsActOn}
-use Rattle.certifier.specs.declared.mismatch.Mismatch.TheVariants as mismatch
+use Rattle.mismatches.specs.declared.Mismatch.TheVariants as mismatch
 use Rattle.certifier.specs.Blocks.{asked_at, IsBodyFault, IsFault}
 use Rattle.certifier.proofs.blocks.certify_block.Goals as goal
 

@@ -4,7 +4,7 @@ use Rattle.std.proofs.lemmas.Result.{err_from_is_err_and}
 use Rattle.word_runner.specs.declared.block.Block.{Block}
 use Rattle.certifier.specs.Blocks.{AreTaken, StopsAtBlock, LeadsUpTo}
 use Rattle.certifier.specs.declared.blocks.BlockMismatch.{BlockMismatch}
-use Rattle.certifier.specs.declared.mismatch.Mismatch.TheVariants.{Memory}
+use Rattle.mismatches.specs.declared.Mismatch.TheVariants.{Memory}
 use Rattle.certifier.proofs.BlockRuns.{taken-more, fault-by, stops-there, leads-there}
 use Rattle.certifier.proofs.blocks.certify_blocks.Goals as goal
 

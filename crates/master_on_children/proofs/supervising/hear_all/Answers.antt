@@ -5,11 +5,8 @@ use Rattle.std.specs.Io.KnownBytes.{Appends}
 use Rattle.std.proofs.KnownBytes.{Appends-trans}
 use Rattle.transcript.specs.Block.{transcript_text}
 use Rattle.word_runner.specs.Status.{status_after}
-use Rattle.word_runner.specs.declared.standing.Standing.{Standing}
 use Rattle.master_on_children.specs.Typed.{Typed}
 use Rattle.master_on_children.specs.Inbox.{IsNextLine}
-use Rattle.master_on_children.specs.Lines.{LineComesTo}
-use Rattle.master_on_children.specs.declared.attended.Attended.{Attended}
 use Rattle.master_on_children.specs.declared.fault.Halt.{Halt}
 use Rattle.master_on_children.specs.declared.fault.Halt.TheVariants.{Short}
 use Rattle.master_on_children.proofs.Hearing.{heard-push}
@@ -21,14 +18,13 @@ loop-preserved g c =
     let remaining = g.I.Read.remaining in
     let reads = g.N.NextSettings.reads in
     let h = c.loop.invariant in
-    let inbox = c.next_line.new.self.standing.world.inbox in
+    let inbox = c.next_line.new.self in
     let line = c.in-Some.line in
     let said = c.hear-said.result in
     let first = g.O.Write.contents c.args.output.now in
     let last = g.O.Write.contents c.tell.new.output in
-    let next = subst (λ (one : Option Typed). IsNextLine remaining c.loop.master.standing.world.inbox (Ok one) inbox) c.in-Some.is c.in_ok-next_line.ensures.next in
-    let comes =
-    subst (λ (s : Standing (Attended _ _ _ _)). LineComesTo remaining reads line c.loop.next s said c.hear-said.new.next c.hear-said.new.self.standing) c.next_line.ensures.others c.hear-said.ensures in (
+    let next = subst (λ (one : Option Typed). IsNextLine remaining c.loop.master.standing.world.inbox (Ok one) inbox) c.in-Some.is c.in_ok-next_line.ensures in
+    let comes = c.hear-said.ensures in (
       h.0 ++ line ∷ [],
       h.1 ++ said.blocks.items,
       heard-push remaining reads h.0 c.args.next.now c.args.master.now.standing h.1 c.loop.next c.loop.master.standing line inbox said c.hear-said.new.next c.hear-said.new.self.standing h.2 next c.in_ok-status.ensures.whole comes,
@@ -41,14 +37,14 @@ pub returns-in_default-clause-heard : goal.returns-in_default-clause-heard
 returns-in_default-clause-heard g c =
     let remaining = g.I.Read.remaining in
     let h = c.loop.invariant in
-    let inbox = c.next_line.new.self.standing.world.inbox in (
+    let inbox = c.next_line.new.self in (
       h.0,
       h.1,
       record {
         before_end = c.loop.master.standing;
         are_heard = h.2;
-        ended = subst (λ (one : Option Typed). IsNextLine remaining c.loop.master.standing.world.inbox (Ok one) inbox) c.in_default.is c.in_ok-next_line.ensures.next;
-        still = c.next_line.ensures.others;
+        ended = subst (λ (one : Option Typed). IsNextLine remaining c.loop.master.standing.world.inbox (Ok one) inbox) c.in_default.is c.in_ok-next_line.ensures;
+        still = refl;
       },
       h.3,
       h.4,
@@ -59,7 +55,7 @@ returns-in_err-status-clause-short g c is =
     let remaining = g.I.Read.remaining in
     let reads = g.N.NextSettings.reads in
     let h = c.loop.invariant in
-    let inbox = c.next_line.new.self.standing.world.inbox in
+    let inbox = c.next_line.new.self in
     let line = c.in-Some.line in
     let said = c.hear-said.result in
     let first = g.O.Write.contents c.args.output.now in
@@ -68,9 +64,8 @@ returns-in_err-status-clause-short g c is =
     let why = c.in_err-status.field-0.0 in
     let same : why ≡ p.0 = cc in
     let short : IsErrOf {T = ℕ} (Err why) Short = subst (λ (e : Halt). IsErrOf {T = ℕ} (Err e) Short) (sym same) (subst (λ (r : Result ℕ Halt). IsErrOf r Short) p.1 is) in
-    let next = subst (λ (one : Option Typed). IsNextLine remaining c.loop.master.standing.world.inbox (Ok one) inbox) c.in-Some.is c.in_ok-next_line.ensures.next in
-    let comes =
-    subst (λ (s : Standing (Attended _ _ _ _)). LineComesTo remaining reads line c.loop.next s said c.hear-said.new.next c.hear-said.new.self.standing) c.next_line.ensures.others c.hear-said.ensures in (
+    let next = subst (λ (one : Option Typed). IsNextLine remaining c.loop.master.standing.world.inbox (Ok one) inbox) c.in-Some.is c.in_ok-next_line.ensures in
+    let comes = c.hear-said.ensures in (
       h.0 ++ line ∷ [],
       h.1 ++ said.blocks.items,
       record {

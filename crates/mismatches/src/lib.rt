@@ -1,5 +1,6 @@
-//! Why a transcript is not certified.
-use plan_executor::EnactRefusal;
+//! Why a transcript is not certified: a crate below all that only name the code, so that these need no certifier.
+#![tactic(auto)]
+
 use std::alloc::AllocError;
 use std::error::Error;
 use std::fmt;
@@ -21,7 +22,7 @@ pub enum Mismatch {
 
 impl fmt::Display for Mismatch {
     ghost use Rattle.std.specs.Prelude.{Some};
-    ghost use Rattle.certifier.specs.Codes.{mismatch_code};
+    ghost use Rattle.mismatches.specs.Codes.{mismatch_code};
 
     ghost output = { λ why. Some (mismatch_code why) };
 
@@ -40,26 +41,11 @@ impl Error for Mismatch {}
 
 impl From<AllocError> for Mismatch {
     ghost use Rattle.std.specs.Prelude.{◌≡◌};
-    ghost use Rattle.certifier.specs.declared.mismatch.Mismatch.TheVariants.{Memory};
+    ghost use Rattle.mismatches.specs.declared.Mismatch.TheVariants.{Memory};
 
     ghost from_gives = { λ _ why. why ≡ Memory };
 
     fn from(_error: AllocError) -> Mismatch {
         Mismatch::Memory
-    }
-}
-
-/// What an enactment refuses is refused; want of memory stays that.
-impl From<EnactRefusal> for Mismatch {
-    ghost use Rattle.std.specs.Prelude.{◌≡◌};
-    ghost use Rattle.certifier.specs.Explained.{mismatch_of};
-
-    ghost from_gives = { λ refusal why. why ≡ mismatch_of refusal };
-
-    fn from(refusal: EnactRefusal) -> Mismatch {
-        match refusal {
-            EnactRefusal::Memory => Mismatch::Memory,
-            _ => Mismatch::Refused,
-        }
     }
 }

@@ -7,7 +7,7 @@ use Rattle.vocabulary.specs.Settings.{Settings}
 use Rattle.definitions.specs.Start.{booted}
 use Rattle.kernel_model.specs.Boot.{first_pairs}
 use Rattle.kernel_model.proofs.Booting.{seen-booted, sound-booted}
-use Rattle.kernel_model.proofs.boot.allowed.Goals as goal
+use Rattle.kernel_model.proofs.boot.first_store.Goals as goal
 
 pub returns-clause-table : goal.returns-clause-table
 returns-clause-table c =

@@ -7,23 +7,36 @@ use std::io;
 use std::io::{ErrorKind, Read};
 use std::test::Fail;
 
+/// So many letters, and then a text.
+fn letters(alloc: Global, count: usize, text: &[u8]) -> Result<Vec<u8>, AllocError> {
+    let mut bytes = Vec::new(alloc);
+    for _ in 0..count {
+        bytes.push(b'a')?;
+    }
+    bytes.extend_from_slice(text)?;
+    Ok(bytes)
+}
+
+/// Whether this is what is heard next.
+fn is_heard(reader: &mut LineReader<&[u8]>, line: &mut Line, heard: Heard) -> bool {
+    match reader.hear(line) {
+        Ok(found) => found == heard,
+        Err(_) => false,
+    }
+}
+
 #[test]
 fn hears_the_line_after_one_that_is_too_long(rt: HostRuntime) -> Result<(), Fail> {
-    let alloc = rt.alloc();
-    let mut text: Vec<u8> = Vec::new(alloc);
-    text.extend_from_slice(b"first\n")?;
-    for _ in 0..5000 {
-        text.push(b'a')?;
-    }
-    text.extend_from_slice(b"\nlast\nrest")?;
+    let mut text = Vec::from_slice(rt.alloc(), b"first\n")?;
+    text.append(&mut letters(rt.alloc(), 5000, b"\nlast\nrest")?)?;
     let mut reader = LineReader::new(text.as_slice());
     let mut line = Line::new();
-    assert!(rt; matches!(reader.hear(&mut line), Ok(Heard::Line)));
+    assert!(rt; is_heard(&mut reader, &mut line, Heard::Line));
     assert!(rt; line.bytes() == b"first".as_slice());
-    assert!(rt; matches!(reader.hear(&mut line), Ok(Heard::TooLong)));
-    assert!(rt; matches!(reader.hear(&mut line), Ok(Heard::Line)));
+    assert!(rt; is_heard(&mut reader, &mut line, Heard::TooLong));
+    assert!(rt; is_heard(&mut reader, &mut line, Heard::Line));
     assert!(rt; line.bytes() == b"last".as_slice());
-    assert!(rt; matches!(reader.hear(&mut line), Ok(Heard::Ended)));
+    assert!(rt; is_heard(&mut reader, &mut line, Heard::Ended));
     Ok(())
 }
 
@@ -75,28 +88,34 @@ fn lines_of<R: Read + Drop>(alloc: Global, input: R) -> Result<(Vec<u8>, u32), A
     Ok((text, faults))
 }
 
+/// Whether all lines are heard and so many reads fail, where the read of a number fails in a way.
+fn are_all_heard(
+    alloc: Global,
+    fails: usize,
+    kind: ErrorKind,
+    faults: u32,
+) -> Result<bool, AllocError> {
+    let input = Faulty {
+        bytes: b"one\ntwo\n\nlast",
+        reads: 0,
+        fails,
+        kind,
+    };
+    let (text, found) = lines_of(alloc, input)?;
+    Ok(text.as_slice() == b"one|two||last|".as_slice() && found == faults)
+}
+
 #[test]
 fn no_failed_read_loses_a_byte(rt: HostRuntime) -> Result<(), Fail> {
-    let alloc = rt.alloc();
     for fails in 0..14 {
-        for (kind, faults) in [(ErrorKind::BrokenPipe, 1), (ErrorKind::Interrupted, 0)] {
-            let input = Faulty {
-                bytes: b"one\ntwo\n\nlast",
-                reads: 0,
-                fails,
-                kind,
-            };
-            let (text, found) = lines_of(alloc, input)?;
-            assert!(rt; text.as_slice() == b"one|two||last|".as_slice());
-            assert!(rt; found == faults);
-        }
+        assert!(rt; are_all_heard(rt.alloc(), fails, ErrorKind::BrokenPipe, 1)?);
+        assert!(rt; are_all_heard(rt.alloc(), fails, ErrorKind::Interrupted, 0)?);
     }
     Ok(())
 }
 
 #[test]
 fn gives_the_last_line_without_a_newline(rt: HostRuntime) -> Result<(), Fail> {
-    let alloc = rt.alloc();
     let rows: [(&[u8], &[u8]); 5] = [
         (b"", b""),
         (b"\n", b"|"),
@@ -105,40 +124,38 @@ fn gives_the_last_line_without_a_newline(rt: HostRuntime) -> Result<(), Fail> {
         (b"a\nb", b"a|b|"),
     ];
     for (input, wanted) in rows {
-        let (text, faults) = lines_of(alloc, input)?;
+        let (text, faults) = lines_of(rt.alloc(), input)?;
         assert!(rt; text.as_slice() == wanted);
         assert!(rt; faults == 0);
     }
     Ok(())
 }
 
-/// So many letters, and then a text.
-fn letters(alloc: Global, count: usize, text: &[u8]) -> Result<Vec<u8>, AllocError> {
-    let mut bytes = Vec::new(alloc);
-    for _ in 0..count {
-        bytes.push(b'a')?;
-    }
-    bytes.extend_from_slice(text)?;
-    Ok(bytes)
+/// All lines of so many letters and a text.
+fn lines_behind(alloc: Global, count: usize, text: &[u8]) -> Result<Vec<u8>, AllocError> {
+    let input = letters(alloc, count, text)?;
+    let (lines, _) = lines_of(alloc, input.as_slice())?;
+    Ok(lines)
 }
 
 #[test]
-fn a_line_has_at_most_4096_bytes(rt: HostRuntime) -> Result<(), Fail> {
-    let alloc = rt.alloc();
-    for (count, end) in [(4096, b"".as_slice()), (4096, b"\n")] {
-        let input = letters(alloc, count, end)?;
-        let (text, _) = lines_of(alloc, input.as_slice())?;
-        assert_eq!(rt; text.len(), 4097);
+fn a_line_may_have_4096_bytes(rt: HostRuntime) -> Result<(), Fail> {
+    for end in [b"".as_slice(), b"\n"] {
+        assert_eq!(rt; lines_behind(rt.alloc(), 4096, end)?.len(), 4097);
     }
+    Ok(())
+}
+
+#[test]
+fn a_line_may_not_have_more_bytes(rt: HostRuntime) -> Result<(), Fail> {
     for (count, end, wanted) in [
         (4097, b"".as_slice(), b"+".as_slice()),
         (4097, b"\n", b"+"),
         (9000, b"", b"+"),
         (9000, b"\nb", b"+b|"),
     ] {
-        let input = letters(alloc, count, end)?;
-        let (text, _) = lines_of(alloc, input.as_slice())?;
-        assert!(rt; text.as_slice() == wanted);
+        let lines = lines_behind(rt.alloc(), count, end)?;
+        assert!(rt; lines.as_slice() == wanted, "{count} letters");
     }
     Ok(())
 }

@@ -1,14 +1,14 @@
-//! The calls that the edge makes itself.
+//! Calls, made by the edge itself or passed on.
 ghost use Rattle.std.specs.Prelude.{◌≡◌, ◌≤◌, ◌<◌, ◌-◌, ◌+◌, IsTrue, vec_len, vec_capacity};
 ghost use Rattle.definitions.specs.Tree.{is_listed};
 ghost use Rattle.child_edge.specs.State.{state_of};
-ghost use Rattle.child_edge.specs.Table.{answers, adopted_or_refused, own_turn};
+ghost use Rattle.child_edge.specs.Table.{answers, adopted_or_refused, turn_of};
 ghost use Rattle.child_edge.specs.Turns.{GoesOn};
 
 use crate::state::EdgeState;
-use crate::{files, listening, masters, starting, workers};
+use crate::{files, listening, masters, passing, starting, workers};
 use child_family::Family;
-use vocabulary::{Answer, Call};
+use vocabulary::{Actor, Answer, Call};
 
 fn adopt(adopted: bool) -> Answer
     ensures { result ≡ adopted_or_refused adopted }
@@ -20,13 +20,24 @@ fn adopt(adopted: bool) -> Answer
     }
 }
 
-/// Makes a call of the edge's own image.
-pub(crate) fn make<F: Family>(family: &mut F, state: &mut EdgeState, call: &Call) -> Answer
+/// Makes a call: of the edge's own image, or by its child master.
+pub(crate) fn make<F: Family>(
+    family: &mut F,
+    state: &mut EdgeState,
+    by: Actor,
+    call: &Call,
+) -> Answer
     requires { vec_len state.old.workers < vec_capacity state.old.workers }
-    ensures turn { GoesOn (F.told family.old) (F.told family.new) (own_turn (state_of state.old) call.now) (answers (state_of state.new) result) }
+    ensures turn { GoesOn (F.told family.old) (F.told family.new) (turn_of (state_of state.old) by call.now) (answers (state_of state.new) result) }
     ensures listed { IsTrue (is_listed call.now result) }
     ensures spare { vec_capacity state.old.workers - vec_len state.old.workers ≤ (vec_capacity state.new.workers - vec_len state.new.workers) + 1 }
 {
+    if by.0 != state.image {
+        return passing::pass(family, state, by, call);
+    }
+    if state.left {
+        return Answer::MasterGone;
+    }
     match call {
         Call::OpenAt(address) => listening::open(state, address),
         Call::CloseAt(address) => listening::close(family, state, address),

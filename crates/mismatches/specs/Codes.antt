@@ -1,8 +1,8 @@
 -- The codes of mismatches, as they are printed.
 use Rattle.std.specs.Prelude.{ℕ, List, ◌++◌, codes}
 use Rattle.std.specs.Fmt.{decimal}
-use Rattle.certifier.specs.declared.mismatch.Mismatch.{Mismatch}
-use Rattle.certifier.specs.declared.mismatch.Mismatch.TheVariants.{Refused, Step, Short, Report, Memory}
+use Rattle.mismatches.specs.declared.Mismatch.{Mismatch}
+use Rattle.mismatches.specs.declared.Mismatch.TheVariants.{Refused, Step, Short, Report, Memory}
 
 abbrev pub mismatch_code : Mismatch → List ℕ
 mismatch_code Refused = codes "Y4"

@@ -1,6 +1,6 @@
 use Rattle.std.proofs.Common.{◌≡◌, ◌+◌, ◌++◌, drop}
 use Rattle.call_text.specs.ReportText.{entries_text}
-use Rattle.transcript.proofs.block.write_entries.Given as goal
+use Rattle.transcript.proofs.block.write_body.Given as goal
 
 abbrev pub invariant-loop-place : goal.invariant-loop-place
 invariant-loop-place l =
