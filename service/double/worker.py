@@ -19,8 +19,9 @@ import sys
 import threading
 
 # How long a kept connection may be idle, a request may take to arrive, the requests in progress may take to end, and
-# the keeper to answer.
-IDLE_SECONDS = 2.0
+# the keeper to answer. The first is longer than a machine may stand still: the load counts a kept connection that ends
+# before its answer as a failure.
+IDLE_SECONDS = 20.0
 REQUEST_SECONDS = 10.0
 FINISH_SECONDS = 30.0
 KEEPER_SECONDS = 10.0
