@@ -12,6 +12,7 @@ import unittest
 import uuid
 from collections.abc import Callable
 from typing import Any
+from unittest import mock
 
 from prefork_service.conversation import MARK, Conversation, marked
 
@@ -29,6 +30,11 @@ def until(holds: Callable[[], Any], seconds: float = 60.0) -> bool:
             return True
         time.sleep(0.02)
     return False
+
+
+def clock_ahead(seconds: float) -> mock.Mock:
+    """A clock that shows a later time."""
+    return mock.Mock(monotonic=lambda: time.monotonic() + seconds)
 
 
 def free_address() -> str:

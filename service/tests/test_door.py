@@ -9,13 +9,9 @@ import time
 import unittest
 from unittest import mock
 
+from kit import clock_ahead, until
 from prefork_service import door
 from prefork_service.door import Door
-
-
-def clock_ahead(seconds: float) -> mock.Mock:
-    """A clock that shows a later time."""
-    return mock.Mock(monotonic=lambda: time.monotonic() + seconds)
 
 
 class DoorTest(unittest.TestCase):
@@ -50,10 +46,13 @@ class DoorTest(unittest.TestCase):
     def turn(self, seconds: float = 0.3) -> None:
         """Lets it do what there is to do, however long that takes, and waits for more."""
         deadline = time.monotonic() + seconds
-        while (ready := self.events.select(0.05)) or time.monotonic() < deadline:
+        while True:
+            is_late, ready = time.monotonic() >= deadline, self.events.select(0.05)
             for key, _ in ready:
                 key.data(key.fileobj)
             self.door.tend()
+            if is_late and not ready:
+                return
 
     def is_dropped(self, client: socket.socket) -> bool:
         client.setblocking(False)
@@ -111,7 +110,7 @@ class DoorTest(unittest.TestCase):
         self.client(b"word")
         self.without_descriptors(0)
         self.assertEqual(self.heard, [])
-        self.turn()
+        self.assertTrue(until(lambda: self.turn(0.1) or self.heard))
         self.assertEqual(self.heard, [b"word"])
 
     def without_descriptors(self, left: int) -> None:

@@ -39,7 +39,7 @@ class KeepingTest(unittest.TestCase):
         for one in self.keeping.held.values():
             one.close()
 
-    def turn(self, holds: Callable, seconds: float = 20.0) -> bool:
+    def turn(self, holds: Callable, seconds: float = 60.0) -> bool:
         deadline = time.monotonic() + seconds
         while not holds() and time.monotonic() < deadline:
             for key, _ in self.events.select(0.05):
@@ -175,15 +175,16 @@ class KeepingTest(unittest.TestCase):
 
 class KeptTest(unittest.TestCase):
     def test_a_socket_that_strangers_may_hold_stays_until_they_have_finished(self) -> None:
-        kept = Kept("127.0.0.1:1", mock.Mock(), has_strangers=True)
-        self.assertFalse(kept.is_free(0.0))
-        with mock.patch.object(keeper, "FINISH_SECONDS", 0.2):
+        with mock.patch.object(keeper, "time") as clock:
+            clock.monotonic.return_value = 1000.0
+            kept = Kept("127.0.0.1:1", mock.Mock(), has_strangers=True)
+            self.assertFalse(kept.is_free(0.0))
             kept.settle()
-        self.assertFalse(kept.is_free(0.0))
-        time.sleep(0.3)
-        self.assertTrue(kept.is_free(0.0))
-        kept.holders = 1
-        self.assertFalse(kept.is_free(0.0))
+            for seconds, wanted in ((keeper.FINISH_SECONDS, False), (keeper.FINISH_SECONDS + 0.1, True)):
+                clock.monotonic.return_value = 1000.0 + seconds
+                self.assertEqual(kept.is_free(0.0), wanted, seconds)
+            kept.holders = 1
+            self.assertFalse(kept.is_free(0.0))
 
     def test_one_without_strangers_is_not_kept_for_them(self) -> None:
         kept = Kept("127.0.0.1:1", mock.Mock())

@@ -87,7 +87,7 @@ class NextPlanTest(unittest.TestCase):
         def is_there() -> bool:
             self.plan.tend(self.status)
             return self.plan.text.startswith(begin)
-        return until(is_there, 20)
+        return until(is_there)
 
     def test_it_is_made_once_and_again_when_something_has_changed(self) -> None:
         self.assertTrue(self.comes("x\n1\n"))

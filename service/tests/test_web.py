@@ -8,7 +8,7 @@ import time
 import unittest
 from unittest import mock
 
-from kit import free_address
+from kit import clock_ahead, free_address, until
 from prefork_service import web
 from prefork_service.web import MOST_VISITS, Site, opened
 
@@ -75,13 +75,13 @@ class WebTest(unittest.TestCase):
             self.assertEqual(len(got.read().partition(b"\r\n\r\n")[2]), len(BIG))
 
     def test_those_that_take_too_long_are_dropped(self) -> None:
-        with mock.patch.object(web, "SECONDS", 0.3):
-            silent, stuck = self.visitor(), self.visitor()
-            silent.sendall(b"GET / ")
-            stuck.sendall(b"GET /big HTTP/1.1\r\n\r\n")
+        silent, stuck = self.visitor(), self.visitor()
+        silent.sendall(b"GET / ")
+        stuck.sendall(b"GET /big HTTP/1.1\r\n\r\n")
+        self.assertTrue(until(lambda: sorted(it.is_answered for it in list(self.site.visits.values())) == [False, True]))
+        with mock.patch.object(web, "time", clock_ahead(web.SECONDS)):
             self.assertEqual(silent.recv(100), b"")
-            time.sleep(0.5)
-        self.assertEqual(self.site.visits, {})
+            self.assertTrue(until(lambda: not self.site.visits))
 
     def test_only_so_many_at_a_time(self) -> None:
         with mock.patch.object(web, "SECONDS", 1000.0):
