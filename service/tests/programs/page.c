@@ -1,7 +1,7 @@
 /* page [NUMBER..]: a small server for tests. It takes the numbers of its listening sockets as arguments, or without any
  * by LISTEN_FDS, and answers each request with a line: `version V process P`, V from the environment (VERSION). /slow takes a second, /stuck for ever.
  * SIGTERM finishes: it accepts no more, answers what has begun, and closes kept connections after their next answer, or
- * once they have been idle for two seconds. */
+ * once they have been idle for twenty seconds: longer than a client may stand still. */
 #define _GNU_SOURCE
 #include <errno.h>
 #include <poll.h>
@@ -15,7 +15,7 @@
 #include <unistd.h>
 
 #define MOST 256
-#define IDLE_SECONDS 2
+#define IDLE_SECONDS 20
 
 struct client {
     int socket;

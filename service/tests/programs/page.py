@@ -1,16 +1,19 @@
 """page.py: a small server for tests. It takes its listening sockets by LISTEN_FDS, and tells NOTIFY_SOCKET once it is ready.
 
 It answers each request with a line: `version V process P`, V from the environment (VERSION). /slow takes a second,
-/stuck stops the whole server, /print prints a line first. SIGTERM finishes as in page.c.
+/held makes the file HELD and waits while that is there, /stuck stops the whole server, /print prints a line first.
+SIGTERM finishes as in page.c.
 """
 import asyncio
 import os
+import pathlib
 import signal
 import socket
 import time
 
 FIRST = 3
-IDLE_SECONDS = 2.0
+# Longer than a machine may stand still: a client that asks on a kept connection must find it open.
+IDLE_SECONDS = 20.0
 
 
 class Page:
@@ -60,6 +63,8 @@ class Page:
         path = head.split(b" ", 2)[1]
         if path == b"/slow":
             await asyncio.sleep(1)
+        if path == b"/held":
+            await hold(pathlib.Path(os.environ["HELD"]))
         if path == b"/stuck":
             time.sleep(3600)
         if path == b"/print":
@@ -75,6 +80,12 @@ class Page:
             writer.write_eof()
             await asyncio.wait_for(reader.read(), 1.0)
         return keeps
+
+
+async def hold(file: pathlib.Path) -> None:
+    file.touch()
+    while file.exists():
+        await asyncio.sleep(0.02)
 
 
 def notify(text: str) -> None:
