@@ -38,7 +38,7 @@ class Conversation:
             # What is heard tells that it has ended.
             pass
 
-    def hear(self, seconds: float = 20.0) -> str:
+    def hear(self, seconds: float = 60.0) -> str:
         """The next line, or what came in its place."""
         deadline = time.monotonic() + seconds
         while b"\n" not in self.unread:
@@ -62,7 +62,7 @@ class Conversation:
             got += piece
         return got
 
-    def wait(self, seconds: float = 20.0) -> int | str:
+    def wait(self, seconds: float = 60.0) -> int | str:
         """Its status."""
         try:
             return self.process.wait(seconds)

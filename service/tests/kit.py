@@ -72,7 +72,7 @@ def end_all(running: Callable[[], Any], seconds: float = 5.0) -> None:
         time.sleep(0.05)
 
 
-def answer_of(address: str, path: str = "/", seconds: float = 20.0) -> str:
+def answer_of(address: str, path: str = "/", seconds: float = 60.0) -> str:
     """The text of an answer, on a connection of its own."""
     host, _, port = address.rpartition(":")
     with socket.create_connection((host, int(port)), seconds) as connection:
@@ -123,7 +123,7 @@ class WorkerTest(unittest.TestCase):
             talk.close()
         self.assertTrue(until(lambda: not marked(self.mark)), marked(self.mark))
         self.keeper.stdin.close()
-        self.keeper.wait(20)
+        self.keeper.wait(60)
 
     def started(self, *command, addresses: tuple[str, ...] = (), go: bool = True, **more: str) -> Conversation:
         """A worker that was told its addresses."""

@@ -125,13 +125,15 @@ class EndTest(WorkerTest):
         self.assertEqual((talk.hear(), talk.wait(), self.left()), (END, 1, []))
 
     def test_quit_lets_a_request_end(self) -> None:
-        address, answers = free_address(), []
-        talk = self.started(ACTIVATE, "--", *SCRIPT, addresses=(address,))
+        address, answers, held = free_address(), [], self.room / "held"
+        talk = self.started(ACTIVATE, "--", *SCRIPT, addresses=(address,), HELD=str(held))
         talk.hear()
-        asked = threading.Thread(target=lambda: answers.append(answer_of(address, "/slow")))
+        asked = threading.Thread(target=lambda: answers.append(answer_of(address, "/held")))
         asked.start()
-        until(lambda: False, 0.3)
+        self.assertTrue(until(held.exists))
         talk.say("quit")
+        until(lambda: False, 0.3)
+        held.unlink()
         self.assertEqual((talk.hear(), talk.wait()), ("gone", 0))
         asked.join()
         self.assertIn("version 1 ", answers[0])
@@ -199,20 +201,20 @@ class EndTest(WorkerTest):
 class ProbeTest(WorkerTest):
     def test_a_program_that_has_stopped_serving_misses_its_beats_and_is_ended(self) -> None:
         address = free_address()
-        options = ("--ready", "probe", "--probe", "/", "--probe-within", "0.5", "--probe-limit", "6")
+        options = ("--ready", "probe", "--probe", "/", "--probe-within", "1", "--probe-limit", "10")
         talk = self.started(ACTIVATE, *options, "--", *SCRIPT, addresses=(address,))
         self.assertEqual(talk.hear(), "ready")
-        talk.say("tick 1")
-        self.assertEqual(talk.hear(), "beat 1 7")
-        threading.Thread(target=self.hangs, args=(address,), daemon=True).start()
         said = []
 
-        def is_late() -> bool:
-            talk.say("tick 2")
+        def says(wanted: str) -> bool:
+            talk.say("tick 1")
             said.append(talk.hear())
-            return said[-1] == "late"
+            return said[-1] == wanted
 
-        self.assertTrue(until(is_late), said)
+        # (a program that has stood still for a second is late, too)
+        self.assertTrue(until(lambda: says("beat 1 7")), said)
+        threading.Thread(target=self.hangs, args=(address,), daemon=True).start()
+        self.assertTrue(until(lambda: says("late")), said)
         talk.say("ping")
         self.assertEqual((talk.hear(), talk.hear(), talk.wait()), ("pong", END, 1))
 

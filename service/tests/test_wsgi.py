@@ -75,22 +75,26 @@ class WsgiTest(WorkerTest):
         self.assertEqual((talk.hear(), talk.hear()), ("gone", END))
 
     def test_quit_answers_what_has_begun(self) -> None:
-        talk, address = self.begun()
+        held = self.room / "held"
+        talk, address = self.begun("--idle", "30", HELD=str(held))
         talk.hear()
         answers, slow, idle = [], kept(address), kept(address)
         asked(slow)
         asked(idle)
-        thread = threading.Thread(target=lambda: answers.append(asked(slow, "/slow")))
+        thread = threading.Thread(target=lambda: answers.append(asked(slow, "/held")))
         thread.start()
         # A request of which only a part has come.
         partial = kept(address)
         partial.sendall(b"GET / HTTP/1.1\r\nHost: test\r\n")
+        self.assertTrue(until(held.exists))
         time.sleep(0.3)
-        talk.say("quit")
-        time.sleep(0.3)
+        # It has heard the first line once it answers the second.
+        talk.say("quit", "ping")
+        self.assertEqual(talk.hear(), "pong")
         last = asked(idle)
         partial.sendall(b"\r\n")
         self.assertIn(b"200 OK", received(partial))
+        held.unlink()
         thread.join()
         for answer in (answers[0], last):
             self.assertIn(b"200 OK", answer)
@@ -111,12 +115,12 @@ class WsgiTest(WorkerTest):
         idle.close()
 
     def test_requests_that_never_end(self) -> None:
-        talk, address = self.begun("--threads", "2", "--timeout", "1")
+        talk, address = self.begun("--threads", "2", "--timeout", "4")
         self.assertEqual(talk.hear(), "ready")
         stuck = [kept(address) for _ in range(2)]
         stuck[0].sendall(b"GET /stuck HTTP/1.1\r\nHost: test\r\n\r\n")
         # One that hangs leaves the other thread.
-        time.sleep(1.5)
+        time.sleep(5)
         self.assertIn("version 1 ", answer_of(address))
         stuck[1].sendall(b"GET /stuck HTTP/1.1\r\nHost: test\r\n\r\n")
         self.assertEqual((talk.hear(), talk.wait()), (END, 1))
@@ -160,7 +164,7 @@ class WsgiTest(WorkerTest):
 
     def test_an_application_that_hangs_at_its_start(self) -> None:
         (self.room / "hangs.py").write_text("import time; time.sleep(3600)")
-        talk, _ = self.begun("--chdir", str(self.room), "--ready-within", "1", application="hangs")
+        talk, _ = self.begun("--chdir", str(self.room), "--ready-within", "5", application="hangs")
         talk.say("ping")
         self.assertEqual((talk.hear(), talk.hear(), talk.wait()), ("pong", END, 1))
         (self.room / "hangs.py").unlink()

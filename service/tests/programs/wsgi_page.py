@@ -1,5 +1,6 @@
 """A WSGI application for tests. Its paths show what a worker must cope with."""
 import os
+import pathlib
 import subprocess
 import sys
 import time
@@ -9,6 +10,8 @@ def application(environ, start_response):
     path, text = environ["PATH_INFO"], f"version {os.environ.get('VERSION', '1')} process {os.getpid()}\n"
     if path == "/slow":
         time.sleep(1)
+    if path == "/held":
+        hold(pathlib.Path(os.environ["HELD"]))
     if path == "/stuck":
         time.sleep(3600)
     if path == "/print":
@@ -22,6 +25,13 @@ def application(environ, start_response):
         text = f"{len(environ['wsgi.input'].read())}\n"
     start_response("200 OK", [("Content-Type", "text/plain"), ("Content-Length", str(len(text)))])
     return [text.encode()]
+
+
+def hold(file: pathlib.Path) -> None:
+    """Makes a file, and waits while it is there."""
+    file.touch()
+    while file.exists():
+        time.sleep(0.02)
 
 
 def fork_a_printer() -> None:
