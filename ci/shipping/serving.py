@@ -38,6 +38,10 @@ class Service:
         shutil.copy(SERVICE / "tests" / "programs" / "page.py", self.home)
         (self.home / "site.toml").write_text(configuration(listeners=[self.address], workers=1))
         self.run, self.mark = self.home / "run", Mark("SHIPPING")
+        # The file that is there while a request is held. Workers make it, in a folder of their user.
+        self.held = self.home / "theirs" / "held"
+        self.held.parent.mkdir()
+        os.chown(self.held.parent, NOBODY, NOBODY)
         self.serve: Any = None
 
     def check(self, what: str, holds: Any) -> None:
@@ -53,7 +57,7 @@ class Service:
             *before, self.root.bin / "prefork-serve", "--folder", self.run, "--prefork", self.root.bin / "prefork",
             *options, "site.toml", "--", *program, "/usr/bin/python3", "page.py",
         ]
-        environment = self.mark.environment(PATH=PATH)
+        environment = self.mark.environment(PATH=PATH, HELD=str(self.held))
         with open(self.home / "said", "w") as said:
             streams: dict[str, Any] = {"stdin": subprocess.DEVNULL, "stdout": said, "stderr": said}
             self.serve = subprocess.Popen(command, cwd=self.home, env=environment, **streams)
@@ -69,11 +73,14 @@ class Service:
         return [number for number, words in self.mark.processes().items() if words == own]
 
     def finishes(self, tell: Callable[[], object]) -> None:
-        """A request that takes a second is answered, though the service is told to end meanwhile."""
-        with concurrent.futures.ThreadPoolExecutor(1) as pool:
-            slow = pool.submit(answer_of, self.address, "/slow")
+        """A request in progress is answered, though the service is told to end meanwhile."""
+        with concurrent.futures.ThreadPoolExecutor(2) as pool:
+            slow = pool.submit(answer_of, self.address, "/held")
+            until(f"{self.name}: the request in progress", self.held.exists)
+            told = pool.submit(tell)
             time.sleep(0.4)
-            tell()
+            self.held.unlink()
+            told.result(SECONDS)
             self.check("a request in progress is lost", slow.result(SECONDS).startswith("version "))
         self.check("it ends with another status", self.serve.wait(SECONDS) == 0)
         self.check(f"processes are left: {self.mark.processes()}", not self.mark.left())

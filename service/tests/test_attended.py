@@ -11,6 +11,8 @@ from prefork_service.questions import ASKS, LOG, state
 UPGRADE = "USR2 attended"
 # Longer than the time between two ticks.
 PAUSE = 1.5
+# The longest time that is waited for an answer or an end.
+SECONDS = 60
 
 
 class AttendedTest(unittest.TestCase):
@@ -34,7 +36,7 @@ class AttendedTest(unittest.TestCase):
         if self.serve.poll() is None:
             self.heard("back")
             self.heard("QUIT")
-        self.assertEqual(self.serve.wait(20), 0)
+        self.assertEqual(self.serve.wait(SECONDS), 0)
 
     def told(self) -> str:
         """What the master was told."""
@@ -51,7 +53,7 @@ class AttendedTest(unittest.TestCase):
 
     def heard(self, *words: str) -> tuple[int, str]:
         sent = self.sent(*words)
-        text, _ = sent.communicate(timeout=20)
+        text, _ = sent.communicate(timeout=SECONDS)
         return sent.returncode, text
 
     def asks(self, question: int) -> None:
@@ -63,7 +65,7 @@ class AttendedTest(unittest.TestCase):
         self.assertEqual(self.heard("go"), (0, "word go\nanswered 1 go\n"))
         self.asks(2)
         self.assertEqual(self.heard("go"), (0, "word go\nanswered 2 go\n"))
-        block, asked = sent.communicate(timeout=20)
+        block, asked = sent.communicate(timeout=SECONDS)
         self.assertEqual((sent.returncode, block), (0, f"word {UPGRADE}\ndone cause none pid no-file\n"))
         self.assertEqual([line.split(": ")[1] for line in asked.splitlines()], ["it asks 1", "it asks 2", "runs now"])
         self.assertTrue(self.answered().startswith("WINCH\nWINCH\n"))
@@ -77,7 +79,7 @@ class AttendedTest(unittest.TestCase):
                 self.heard(word)
             self.asks(1 + len(before))
             self.assertEqual(self.heard("back")[0], 0)
-            self.assertEqual(sent.communicate(timeout=20)[0].splitlines()[-1], "rolled-back cause 1 pid no-file")
+            self.assertEqual(sent.communicate(timeout=SECONDS)[0].splitlines()[-1], "rolled-back cause 1 pid no-file")
             self.assertEqual(sent.returncode, 3)
         words = [line for line in self.answered().splitlines() if not line.startswith("tick ")]
         self.assertEqual(words, ["HUP", UPGRADE, "WINCH", "HUP"])
@@ -92,10 +94,10 @@ class AttendedTest(unittest.TestCase):
         time.sleep(PAUSE)
         self.assertEqual(self.answered(), "")
         self.heard("back")
-        heard = [word.communicate(timeout=20)[0].split("\n")[0] for word in waiting]
+        heard = [word.communicate(timeout=SECONDS)[0].split("\n")[0] for word in waiting]
         # A stop goes before what waits.
         self.assertEqual(heard, ["lost: the service has stopped", "word QUIT"])
-        self.assertEqual(self.serve.wait(20), 0)
+        self.assertEqual(self.serve.wait(SECONDS), 0)
         self.assertEqual(self.answered(), "HUP\nQUIT\n")
 
     def test_an_answer_to_nothing_is_refused(self) -> None:
@@ -114,7 +116,7 @@ class AttendedTest(unittest.TestCase):
         self.asks(1)
         found = subprocess.run(["pgrep", "-P", str(self.serve.pid), "-f", "asking.py"], capture_output=True, text=True)
         subprocess.run(["kill", "-9", *found.stdout.split()], check=True)
-        self.assertEqual(sent.communicate(timeout=20)[0], "lost: the master has ended\n")
+        self.assertEqual(sent.communicate(timeout=SECONDS)[0], "lost: the master has ended\n")
         self.assertTrue(until(lambda: self.heard()[1] == "asks nothing\n"))
         self.assertEqual(self.heard("go")[0], 1)
         self.assertEqual(self.heard("HUP")[0], 0)

@@ -251,7 +251,7 @@ class LaunchTest(unittest.TestCase):
             for word, text in (("child", "worker 1.1 0 7\n"), ("adopt", "")):
                 self.assertEqual(self.launched(folder, word, text, **more).stderr, "")
             keeper.stdin.close()
-            keeper.wait(20)
+            keeper.wait(60)
             self.assertEqual((room / "said").read_text(), "worker\nmaster\n")
 
     def test_what_is_no_start_of_a_worker_is_refused(self) -> None:

@@ -51,7 +51,7 @@ class KeepingTest(unittest.TestCase):
         """The answer of the keeper, and the number of the socket in the system."""
         hold = socket.socket(socket.AF_UNIX, socket.SOCK_SEQPACKET)
         self.addCleanup(hold.close)
-        hold.settimeout(20)
+        hold.settimeout(60)
         hold.connect(str(self.folder.keeper))
         hold.send(address.encode())
         said, given, _, _ = socket.recv_fds(hold, 200, 1)
@@ -73,7 +73,7 @@ class KeepingTest(unittest.TestCase):
         holds = [socket.socket(socket.AF_UNIX, socket.SOCK_SEQPACKET) for _ in range(2)]
         for number, hold in enumerate(holds):
             self.addCleanup(hold.close)
-            hold.settimeout(20)
+            hold.settimeout(60)
             hold.connect(str(self.folder.keeper))
             hold.send(str(self.room / f"site{number}").encode())
             self.assertEqual(hold.recv(200), b"ok")
@@ -103,7 +103,7 @@ class KeepingTest(unittest.TestCase):
         hold.send(place.encode())
         process = self.killed()
         self.assertTrue(self.turn(lambda: self.is_another(process)))
-        hold.settimeout(20)
+        hold.settimeout(60)
         said, given, _, _ = socket.recv_fds(hold, 200, 1)
         with socket.socket(fileno=given[0]) as one:
             self.assertEqual((said.decode(), os.fstat(one.fileno()).st_ino), before)
@@ -154,7 +154,7 @@ class KeepingTest(unittest.TestCase):
         process = self.keeping.process
         self.events.unregister(self.keeping.channel)
         self.keeping.channel.close()
-        self.assertEqual(process.wait(20), 0)
+        self.assertEqual(process.wait(60), 0)
         self.assertTrue(place.exists())
         self.keeping.begin()
         self.keeping.end()

@@ -6,6 +6,7 @@ import tempfile
 import unittest
 from unittest import mock
 
+from prefork_service import limits as told
 from prefork_service.limits import MOST, end_seconds, killed_by, known, limits_of
 from prefork_service.options import arguments
 
@@ -50,13 +51,14 @@ class LimitsTest(unittest.TestCase):
         limits = ["--answer-within", "60"]
         with tempfile.TemporaryDirectory() as room:
             program = pathlib.Path(room) / "prefork"
-            for script, wanted in (
-                ("echo '  --answer-within <S>  Kill'", limits), ("echo '  --other'", []), ("false", []),
-                ("sleep 1000", []),
+            for script, seconds, wanted in (
+                ("echo '  --answer-within <S>  Kill'", 60.0, limits), ("echo '  --other'", 60.0, []), ("false", 60.0, []),
+                ("sleep 1000", 2.0, []),
             ):
                 program.write_text(f"#!/bin/sh\n[ \"$*\" = 'supervise --help' ] && exec {script}\n")
                 program.chmod(stat.S_IRWXU)
-                self.assertEqual(known(str(program), limits), wanted, script)
+                with mock.patch.object(told, "ASKING_SECONDS", seconds):
+                    self.assertEqual(known(str(program), limits), wanted, script)
                 self.assertEqual(known(str(program), []), [])
         self.assertEqual(known("/nonexistent", limits), [])
 
