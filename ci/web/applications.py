@@ -50,13 +50,13 @@ def an_application_prints_and_leaves_daemons(site: Site) -> None:
 
 def an_application_deadlocks(site: Site) -> None:
     """A worker that serves nobody any more is ended by its adapter, and another one started."""
-    begin(site, "", "--probe", "/", "--probe-within", "1", "--probe-limit", "2")
+    begin(site, "", "--probe", "/", "--probe-within", "1", "--probe-limit", "8")
     old = site.workers()
     with socket.create_connection(place_of(site.first)) as client:
         client.sendall(b"GET /stuck HTTP/1.1\r\nHost: x\r\n\r\n")
         until("another worker", lambda: len(site.workers()) == 2 and len(site.workers() & old) == 1)
     site.wants("HUP", 0, "done", 2)
-    until("the journal has the reason", lambda: " has not answered / for 2 seconds" in (site.run / "journal").read_text())
+    until("the journal has the reason", lambda: " has not answered / for 8 seconds" in (site.run / "journal").read_text())
     site.end("1", may_fail=CLIENTS)
     site.certify()
 

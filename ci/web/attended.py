@@ -10,8 +10,9 @@ from web.site import CLIENTS, Scenario, Site
 from web.starts import status
 
 UPGRADE = "USR2 attended"
-# Longer than the time between two ticks, and than the `timeout` of a worker that must not count as hanging afterwards.
-PAUSE, TIMEOUT = 2.5, 2
+# Longer than the time between two ticks; and longer than the `timeout` of a worker that must not count as hanging
+# afterwards. A worker of a machine that stands still for a while does not count as hanging either.
+PAUSE, LONG_PAUSE, TIMEOUT = 2.5, 6.5, 6
 
 
 def begin_upgrade(site: Site) -> subprocess.Popen:
@@ -47,7 +48,7 @@ def versions(site: Site) -> set[str]:
 def pauses(site: Site) -> None:
     """Lets it ask for a while. No tick is told: the master would carry it out afterwards."""
     before = status(site)["ticks"]
-    time.sleep(PAUSE)
+    time.sleep(LONG_PAUSE)
     told = status(site)["ticks"] - before
     site.check(f"{told} ticks were told while it asked", not told)
 

@@ -1,6 +1,7 @@
 """Much at a time: words in a burst, upgrades in a row, and workers that flood the pipe to their master."""
+import os
+import signal
 import subprocess
-import time
 
 from gate.addresses import free_address, is_answered
 from gate.waiting import SECONDS, comes, until
@@ -8,8 +9,6 @@ from web.site import CLIENTS, SERVICE, Scenario, Site, descriptors
 from web.starts import answer_to, asks, status
 
 UPGRADES, HUPS, MANY = 10, 20, 200
-# A burst is one if all words are sent in this time.
-BURST_SECONDS = 0.01
 # Goes into the application: lines that nobody asked for, without an end, from a moment on.
 NOISE = """
 import threading
@@ -22,18 +21,18 @@ AT_ITS_END = f"{NOISE}worker.Server.finish = lambda self: flood()\n"
 
 
 def hups_in_a_burst(site: Site) -> None:
-    """Twenty HUPs that come at a time: each sender has a block, and fewer reloads are made."""
+    """Twenty HUPs that come at a time: each sender has a block, and fewer reloads are made. So that they do, however
+    slowly they are sent, `serve` is stopped meanwhile."""
     site.begin()
-    for _ in range(20):
-        begun = time.monotonic()
+    os.kill(site.serve.pid, signal.SIGSTOP)
+    try:
         askers = [asks(site, "HUP") for _ in range(HUPS)]
-        took = time.monotonic() - begun
-        answers = [answer_to(asker) for asker in askers]
-        wrong = [answer for answer in answers if not answer.rpartition("\ndone ")[1]]
-        site.check(f"HUPs were not done: {wrong}", not wrong)
-        if took < BURST_SECONDS:
-            break
-    site.check(f"twenty HUPs took {took} seconds to send", took < BURST_SECONDS)
+        site.check("a HUP was carried out before all were sent", "word HUP\n" not in site.blocks())
+    finally:
+        os.kill(site.serve.pid, signal.SIGCONT)
+    answers = [answer_to(asker) for asker in askers]
+    wrong = [answer for answer in answers if not answer.rpartition("\ndone ")[1]]
+    site.check(f"HUPs were not done: {wrong}", not wrong)
     site.check("each HUP was a reload of its own", len(set(answers)) < HUPS)
     site.check_workers("HUP", 2)
     site.end("1")

@@ -33,13 +33,13 @@ def a_worker_is_killed(site: Site) -> None:
 
 def a_worker_owes_an_answer(site: Site) -> None:
     """A worker that is stopped: its master kills it in time, logs that, and starts another one."""
-    site.options = ["--answer-within", "3"]
+    site.options = ["--answer-within", "10"]
     site.begin()
     names = {worker["process"]: f"{worker['generation']}.{worker['number']}" for worker in status(site)["workers"]}
     victim = min(site.workers())
     os.kill(victim, signal.SIGSTOP)
     until("another worker", lambda: site.has_others({victim}))
-    killed = re.findall(r"worker (\S+) is killed by its master: no answer within 3 s\n", text_of(site.room / "said"))
+    killed = re.findall(r"worker (\S+) is killed by its master: no answer within 10 s\n", text_of(site.room / "said"))
     site.check(f"one worker is killed, and told: {names.get(victim)}, {killed}", killed == [names.get(victim)])
     site.wants("HUP", 0, "done", 2)
     site.end("1", may_fail=CLIENTS)

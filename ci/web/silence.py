@@ -47,7 +47,7 @@ def workers_stop_at_each_line(site: Site) -> None:
     """Versions whose workers stop at `ping`, at `tick` and at `quit`. At the first HUP is rolled back, at the second the
     next tick starts others, and at the third nobody waits for them: they are killed in time. Each word ends with its
     status."""
-    site.options = ["--answer-within", "2", "--ready-within", "20"]
+    site.options = ["--answer-within", "8", "--ready-within", "20"]
     site.begin()
     old = site.workers()
     site.install(stopping(site, 2, "ping"))

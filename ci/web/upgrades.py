@@ -47,7 +47,7 @@ def workers_of_a_new_master_beat(site: Site) -> None:
     """After USR2, and after another one, the workers are told ticks: the status has their beats. One that misses them for
     longer than `timeout` is replaced, and no request fails."""
     late = site.room / "late"
-    site.begin(timeout=2)
+    site.begin(timeout=6)
     for number in (2, 3):
         text = site.version(number)
         site.install(text.replace('VERSION = "', f'{LATE.format(there=str(late))}VERSION = "', 1))
