@@ -10,6 +10,8 @@ from gate.waiting import comes
 PROCESSORS = (1, 2, 4, 8)
 # A script that notes when it begins and when it ends.
 NOTES = '#!/bin/sh\nname=${0##*/}\necho "begins $name" >> "$1"\nsleep 0.05\necho "ends $name" >> "$1"\n'
+# What one of two scripts does that run side by side: it waits until the other has begun, too.
+WAITS = 'count=0\nuntil grep -q "begins {}" "$1" || [ $count = 3000 ]; do sleep 0.02; count=$((count + 1)); done\n'
 PASSES = 'echo "1 passed, 0 failed"\n'
 FAILS = 'echo "what is wrong"\necho "1 passed, 2 failed"\nexit 1\n'
 BREAKS_OFF = "exit 1\n"
@@ -45,10 +47,16 @@ def most_at_a_time(notes: list[list[str]]) -> int:
     return most
 
 
+def waiting_for(name: str) -> str:
+    return NOTES.replace("sleep 0.05\n", WAITS.format(name)) + PASSES
+
+
 def run_side_by_side(room: pathlib.Path) -> Iterator[str]:
     """On four processors three run at a time, on one processor one, and `json` before all of these."""
     for processors, wanted in ((1, 1), (2, 2), (4, 3)):
-        scripts = laid_out(room, processors)
+        # The first of both lanes, which a busy machine may otherwise begin one after the other.
+        beside = {"adapters": waiting_for("cases"), "cases": waiting_for("adapters")} if wanted > 1 else {}
+        scripts = laid_out(room, processors, **beside)
         with scripts:
             scripts.begin()
             scripts.run()

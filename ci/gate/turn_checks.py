@@ -4,13 +4,15 @@ import subprocess
 import threading
 import time
 from collections.abc import Callable, Iterator
+from unittest import mock
 
 from gate import kit
-from gate.edits import Turns
+from gate.edits import CHECK_MEMORY, Turns
 from gate.giving_way import checks, give_way
 from gate.waiting import comes
 
-SECONDS = 20.0
+# Only what hangs reaches this: a check has the lowest priority, so beside proofs it may hardly run for a while.
+SECONDS = 600.0
 PAUSE = 0.05
 
 
@@ -79,8 +81,9 @@ CHECKS: tuple[Callable[[Times], Iterator[str]], ...] = (begins_late, is_stopped)
 
 
 def faults(check: Callable[[Times], Iterator[str]]) -> list[str]:
-    """What a check finds wrong."""
-    return [f"a check of edits {check.__name__}: {fault}" for fault in check(Times())]
+    """What a check finds wrong. Memory is made up, too: proofs may have taken it."""
+    with mock.patch.object(kit, "free_memory", lambda: CHECK_MEMORY):
+        return [f"a check of edits {check.__name__}: {fault}" for fault in check(Times())]
 
 
 def all_faults() -> Iterator[list[str]]:
