@@ -29,6 +29,9 @@ PAGES = {
 ADDRESS, ADDED = "127.0.0.1:8080", "127.0.0.1:8081"
 README, README_NEEDS = "service/README.md", {"wsgi", "gunicorn"}
 NUMBER = re.compile(r"process \d+")
+# How often a page asks for its first answer, once a second, and how often that is done here: a busy machine starts a
+# service more slowly than an operator's.
+ASKS, OFTEN = "--retry 9 --retry-delay 1 ", "--retry 90 --retry-delay 1 "
 # The time from the first command to the status of the reload.
 MOST_SECONDS = 120
 # A program is typed with & after it, so its output is a file.
@@ -56,7 +59,7 @@ class Reader:
         self.environment = self.mark.environment(PATH=path, LC_ALL="C")
 
     def text(self, page: str) -> str:
-        return (GUIDES / page).read_text().replace(ADDRESS, self.address)
+        return (GUIDES / page).read_text().replace(ADDRESS, self.address).replace(ASKS, OFTEN)
 
     def write(self, page: str) -> None:
         """Writes the files of a page."""
@@ -146,7 +149,7 @@ class ReaderOfService(Reader):
             file.write_text(self.with_ports(file.read_text()))
 
     def with_ports(self, text: str) -> str:
-        return text.replace(ADDRESS, self.address).replace(ADDED, self.added)
+        return text.replace(ADDRESS, self.address).replace(ADDED, self.added).replace(ASKS, OFTEN)
 
     def follow(self) -> None:
         """Types each command whose output the page has, and compares the two."""

@@ -42,7 +42,8 @@ async def app(scope, receive, send):
     await send({"type": "http.response.start", "status": 200, "headers": headers})
     await send({"type": "http.response.body", "body": text})
 """
-# uvicorn closes a connection unheard that it has just accepted when it is told to finish: that has a second here.
+# uvicorn closes a connection unheard that it has just accepted when it is told to finish: that has five seconds here,
+# longer than a client may stand still.
 UVICORN = """import asyncio, sys
 import uvicorn
 
@@ -50,7 +51,7 @@ class Server(uvicorn.Server):
     async def shutdown(self, sockets=None):
         for server in self.servers:
             server.close()
-        await asyncio.sleep(1)
+        await asyncio.sleep(5)
         await super().shutdown(sockets)
 
 sys.path.insert(0, "@SITE@")
