@@ -31,8 +31,8 @@ PATIENCE, ANSWER_SECONDS = 45.0, 10.0
 # Below the ports that the system gives to outgoing connections.
 PORTS = range(15000, 32000)
 LEAST_BACKLOG = 511
-# In the TCP_INFO of a listening socket: the offset of the longest queue.
-BACKLOG_AT = 28
+# In the TCP_INFO of a listening socket: the offsets of the number of connections that wait, and of the longest queue.
+WAITING_AT, BACKLOG_AT, INFO_BYTES = 24, 28, 104
 CLIENTS = 4
 
 
@@ -48,16 +48,35 @@ def free_address() -> str:
 
 def first_line(address: str, path: str, seconds: float) -> str:
     """The first line of an answer, read to its end; or why there is none."""
-    host, _, port = address.rpartition(":")
     try:
-        with socket.create_connection((host, int(port)), seconds) as connection:
-            connection.sendall(f"GET {path} HTTP/1.1\r\nHost: check\r\nConnection: close\r\n\r\n".encode())
-            got = b""
-            while piece := connection.recv(65536):
-                got += piece
-            return got.split(b"\r\n", 1)[0].decode("latin-1") or "an end without an answer"
+        return line_of(asked(address, path, seconds))
     except OSError as fault:
         return f"{fault}"
+
+
+def asked(address: str, path: str, seconds: float) -> socket.socket:
+    """A connection on which a page was asked for."""
+    host, _, port = address.rpartition(":")
+    connection = socket.create_connection((host, int(port)), seconds)
+    connection.sendall(f"GET {path} HTTP/1.1\r\nHost: check\r\nConnection: close\r\n\r\n".encode())
+    return connection
+
+
+def line_of(connection: socket.socket) -> str:
+    """The first line of an answer, which is read to its end; or why there is none."""
+    got = b""
+    with connection:
+        try:
+            while piece := connection.recv(65536):
+                got += piece
+        except OSError as fault:
+            return f"{fault}"
+    return got.split(b"\r\n", 1)[0].decode("latin-1") or "an end without an answer"
+
+
+def number_of(listener: socket.socket, at: int) -> int:
+    """What the system says of a listening socket."""
+    return struct.unpack_from("I", listener.getsockopt(socket.IPPROTO_TCP, socket.TCP_INFO, INFO_BYTES), at)[0]
 
 
 def is_answer(line: str) -> bool:
@@ -109,6 +128,22 @@ class Bench:
         self.passed, self.failed = self.passed + is_met, self.failed + (not is_met)
         print(f"ok     {what}" if is_met else f"FAULT  {what}; found: {found!r}", flush=True)
 
+    def shared(self, address: str) -> socket.socket:
+        """The socket of an address, that all workers share."""
+        with socket.socket(socket.AF_UNIX, socket.SOCK_SEQPACKET) as hold:
+            hold.connect(str(self.path))
+            hold.send(address.encode())
+            _, given, _, _ = socket.recv_fds(hold, 200, 1)
+        return socket.socket(fileno=given[0])
+
+    def await_accepted(self, address: str) -> None:
+        """Waits until no connection waits at an address, and for the worker to read what was asked."""
+        deadline = time.monotonic() + self.answer
+        with self.shared(address) as listener:
+            while number_of(listener, WAITING_AT) and time.monotonic() < deadline:
+                time.sleep(0.02)
+        time.sleep(0.4)
+
     def nothing_left(self, when: str, talk: Conversation) -> None:
         deadline = time.monotonic() + self.answer
         while marked(talk.mark) and time.monotonic() < deadline:
@@ -149,13 +184,9 @@ def check_lines(bench: Bench) -> None:
 
 def check_socket(bench: Bench, address: str) -> None:
     """What it has done to the socket that all workers share."""
-    with socket.socket(socket.AF_UNIX, socket.SOCK_SEQPACKET) as hold:
-        hold.connect(str(bench.path))
-        hold.send(address.encode())
-        _, given, _, _ = socket.recv_fds(hold, 200, 1)
-    with socket.socket(fileno=given[0]) as shared:
+    with bench.shared(address) as shared:
         is_blocking = not fcntl.fcntl(shared, fcntl.F_GETFL) & os.O_NONBLOCK
-        longest = struct.unpack_from("I", shared.getsockopt(socket.IPPROTO_TCP, socket.TCP_INFO, 104), BACKLOG_AT)[0]
+        longest = number_of(shared, BACKLOG_AT)
     bench.point("the shared socket stays non-blocking", is_blocking, False)
     if longest < LEAST_BACKLOG:
         print(f"note   it has called listen with {longest}, which holds for all workers; {LEAST_BACKLOG} is better")
@@ -164,10 +195,11 @@ def check_socket(bench: Bench, address: str) -> None:
 def check_quit(bench: Bench) -> None:
     address, answers = free_address(), []
     talk = bench.ready(address)
-    asked = threading.Thread(target=lambda: answers.append(first_line(address, bench.given.slow, bench.patience)))
     if bench.given.slow:
-        asked.start()
-        time.sleep(0.4)
+        connection = asked(address, bench.given.slow, bench.patience)
+        reader = threading.Thread(target=lambda: answers.append(line_of(connection)))
+        reader.start()
+        bench.await_accepted(address)
         talk.say("ping")
         bench.point("it answers the master while it answers a request", talk.hear(bench.answer), "pong")
     talk.say("quit")
@@ -175,7 +207,7 @@ def check_quit(bench: Bench) -> None:
     bench.point("after gone it ends with status 0", talk.wait(bench.answer), 0)
     bench.point("after gone it says nothing", talk.rest() if talk.process.returncode is not None else b"", b"")
     if bench.given.slow:
-        asked.join()
+        reader.join()
         bench.point("a request that had begun before quit is answered", answers[0], is_answer)
     bench.nothing_left("after quit", talk)
 
