@@ -56,7 +56,8 @@ def an_application_deadlocks(site: Site) -> None:
         client.sendall(b"GET /stuck HTTP/1.1\r\nHost: x\r\n\r\n")
         until("another worker", lambda: len(site.workers()) == 2 and len(site.workers() & old) == 1)
     site.wants("HUP", 0, "done", 2)
-    until("the journal has the reason", lambda: " has not answered / for 8 seconds" in (site.run / "journal").read_text())
+    reason = " has not answered / for 8 seconds"
+    until("the journal has the reason", lambda: reason in (site.run / "journal").read_text())
     site.end("1", may_fail=CLIENTS)
     site.certify()
 

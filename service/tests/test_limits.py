@@ -52,8 +52,8 @@ class LimitsTest(unittest.TestCase):
         with tempfile.TemporaryDirectory() as room:
             program = pathlib.Path(room) / "prefork"
             for script, seconds, wanted in (
-                ("echo '  --answer-within <S>  Kill'", 60.0, limits), ("echo '  --other'", 60.0, []), ("false", 60.0, []),
-                ("sleep 1000", 2.0, []),
+                ("echo '  --answer-within <S>  Kill'", 60.0, limits), ("echo '  --other'", 60.0, []),
+                ("false", 60.0, []), ("sleep 1000", 2.0, []),
             ):
                 program.write_text(f"#!/bin/sh\n[ \"$*\" = 'supervise --help' ] && exec {script}\n")
                 program.chmod(stat.S_IRWXU)

@@ -78,7 +78,7 @@ class WebTest(unittest.TestCase):
         silent, stuck = self.visitor(), self.visitor()
         silent.sendall(b"GET / ")
         stuck.sendall(b"GET /big HTTP/1.1\r\n\r\n")
-        self.assertTrue(until(lambda: sorted(it.is_answered for it in list(self.site.visits.values())) == [False, True]))
+        self.assertTrue(until(lambda: sorted(it.is_answered for it in [*self.site.visits.values()]) == [False, True]))
         with mock.patch.object(web, "time", clock_ahead(web.SECONDS)):
             self.assertEqual(silent.recv(100), b"")
             self.assertTrue(until(lambda: not self.site.visits))
