@@ -54,6 +54,10 @@ class DoorTest(unittest.TestCase):
             if is_late and not ready:
                 return
 
+    def hears(self) -> bool:
+        self.turn(0.1)
+        return bool(self.heard)
+
     def is_dropped(self, client: socket.socket) -> bool:
         client.setblocking(False)
         try:
@@ -110,7 +114,7 @@ class DoorTest(unittest.TestCase):
         self.client(b"word")
         self.without_descriptors(0)
         self.assertEqual(self.heard, [])
-        self.assertTrue(until(lambda: self.turn(0.1) or self.heard))
+        self.assertTrue(until(self.hears))
         self.assertEqual(self.heard, [b"word"])
 
     def without_descriptors(self, left: int) -> None:
