@@ -56,9 +56,10 @@ def answer_of(address: str, path: str = "/", seconds: float = SECONDS) -> str:
             return got.read().decode().partition("\r\n\r\n")[2]
 
 
-def is_answered(address: str) -> bool:
+def is_answered(address: str, seconds: float = 5.0) -> bool:
+    """Whether there is an answer. Who asks only once gives it more time."""
     try:
-        return bool(answer_of(address, seconds=5))
+        return bool(answer_of(address, seconds=seconds))
     except OSError:
         return False
 

@@ -101,7 +101,7 @@ def two_hundred_workers(site: Site) -> None:
         site.check(f"{len(old)} workers before {word}", len(old) == MANY)
         site.wants(word, 0, "done", MANY)
         until("other workers", lambda: site.has_others(old, MANY))
-        site.check(f"an address is not answered after {word}", all(is_answered(place) for place in places))
+        site.check(f"an address is not answered after {word}", all(is_answered(it, SECONDS) for it in places))
         site.kill(keeper)
         until("another keeper", lambda: site.keeper() not in (None, keeper))
     victim = min(site.workers())
