@@ -19,6 +19,7 @@ import time
 from typing import Any
 
 PATIENCE = 10.0
+ENDS = (signal.SIGINT, signal.SIGTERM)
 
 
 class Closed(ValueError):
@@ -192,12 +193,15 @@ def told(found: dict) -> None:
 
 def main() -> int:
     given, tally, stopping = arguments(), Tally(), threading.Event()
-    for end in (signal.SIGINT, signal.SIGTERM):
+    for end in ENDS:
         signal.signal(end, lambda number, frame: stopping.set())
     clients = [Client(given, place % 2 == 1, tally, stopping) for place in range(given.clients)]
     threads = [threading.Thread(target=client.run) for client in clients]
+    # Threads have the mask of who starts them. A signal that one of them took would not wake the main thread, which waits.
+    signal.pthread_sigmask(signal.SIG_BLOCK, ENDS)
     for thread in threads:
         thread.start()
+    signal.pthread_sigmask(signal.SIG_UNBLOCK, ENDS)
     stopping.wait(given.seconds)
     stopping.set()
     for thread in threads:
