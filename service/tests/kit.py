@@ -82,11 +82,12 @@ def answer_of(address: str, path: str = "/", seconds: float = 60.0) -> str:
 
 
 def built() -> None:
-    """Compiles the C programs, and that of the tests, if they are not there."""
+    """Compiles the C programs if they are not there, and that of the tests if it is not there or has changed."""
     if not (OUT / "prefork-activate").exists():
         subprocess.run([SERVICE / "build"], check=True)
-    if not (OUT / "page").exists():
-        subprocess.run(["cc", "-std=gnu11", "-O2", "-o", OUT / "page", PROGRAMS / "page.c"], check=True)
+    page, source = OUT / "page", PROGRAMS / "page.c"
+    if not page.exists() or page.stat().st_mtime < source.stat().st_mtime:
+        subprocess.run(["cc", "-std=gnu11", "-O2", "-o", page, source], check=True)
 
 
 class WorkerTest(unittest.TestCase):
