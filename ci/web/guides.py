@@ -93,7 +93,8 @@ class Reader:
             if name or "prefork" not in command:
                 continue
             if "prefork-serve " in command and (self.room / "run" / "serve.pid").exists():
-                self.typed("prefork-ctl QUIT")
+                # (the word is answered a moment before the service has ended, and another one is refused until then)
+                self.stop()
             printed = self.typed(command)
             if "curl " in command:
                 self.expect(command, printed, self.answer)
