@@ -7,6 +7,7 @@ import signal
 import socket
 import subprocess
 import tempfile
+import threading
 import unittest
 from typing import Any
 
@@ -14,6 +15,34 @@ from kit import BIN, PROGRAMS, answer_of, built, free_address, until
 
 SECONDS = 60
 BACK = "1 m1 fork 1.2 0 : forked\n2 m1 await-ready 1.2 0 : gone\n3 m1 census 1.1 : counted 0-1\nrolled-back cause 2 pid no-file\n"
+
+
+class Systemd:
+    """What systemd is told. It is heard all the while: the system keeps few messages, and the service drops the rest."""
+
+    def __init__(self, place: pathlib.Path):
+        self.place, self.said, self.seen = place, list[str](), 0
+        self.told = socket.socket(socket.AF_UNIX, socket.SOCK_DGRAM)
+        self.told.bind(str(place))
+        self.thread = threading.Thread(target=self.hear, daemon=True)
+        self.thread.start()
+
+    def hear(self) -> None:
+        while text := self.told.recv(4096):
+            self.said.append(text.decode())
+
+    def comes(self, text: str) -> int:
+        """How many messages came up to the next one that begins so."""
+        assert until(lambda: any(it.startswith(text) for it in self.said[self.seen :])), (text, self.said)
+        at = next(at for at in range(self.seen, len(self.said)) if self.said[at].startswith(text))
+        self.seen = at + 1
+        return at
+
+    def close(self) -> None:
+        with socket.socket(socket.AF_UNIX, socket.SOCK_DGRAM) as end:
+            end.sendto(b"", str(self.place))
+        self.thread.join()
+        self.told.close()
 
 
 class WholeTest(unittest.TestCase):
@@ -130,38 +159,29 @@ class WholeTest(unittest.TestCase):
         return answer_of(address, path, SECONDS)
 
     def test_systemd_is_told(self) -> None:
-        place = self.room / "notify"
-        with socket.socket(socket.AF_UNIX, socket.SOCK_DGRAM) as systemd:
-            systemd.bind(str(place))
-            systemd.settimeout(SECONDS)
-            self.environment |= {"NOTIFY_SOCKET": str(place), "WATCHDOG_USEC": "1000000"}
-            said: list[str] = []
-
-            def comes(text: str) -> int:
-                """How many messages came up to one that begins so."""
-                begin = len(said)
-                while not said[begin:] or not said[-1].startswith(text):
-                    said.append(systemd.recv(4096).decode())
-                return len(said) - 1
-
-            self.start()
-            comes("READY=1")
-            runs = f"STATUS=2 workers of generation 1.1 at {self.address}"
-            comes(runs)
-            (self.blocks / "HUP").write_text(BACK)
-            self.ctl("HUP")
-            reloading = comes("RELOADING=1\nMONOTONIC_USEC=")
-            self.assertTrue(reloading < comes("READY=1") < comes(f"{runs}; last word HUP: rolled-back cause 2 pid no-file"))
-            self.ctl("TTIN")
-            comes(f"{runs}; last word TTIN: done")
-            self.assertEqual([text for text in said[reloading + 1 :] if text.startswith("RELOADING")], [])
-            beats = [comes("WATCHDOG=1") for _ in range(3)]
-            self.assertEqual(len(set(beats)), 3)
-            sent = subprocess.Popen([BIN / "prefork-ctl", "QUIT"], cwd=self.room, stdout=subprocess.DEVNULL, stderr=subprocess.DEVNULL)
-            # Once as the word begins, and once at the very end.
-            self.assertLess(comes("STOPPING=1"), comes("STOPPING=1"))
-            sent.wait(SECONDS)
-            self.serve.wait(SECONDS)
+        systemd = Systemd(self.room / "notify")
+        self.addCleanup(systemd.close)
+        self.environment |= {"NOTIFY_SOCKET": str(systemd.place), "WATCHDOG_USEC": "1000000"}
+        comes = systemd.comes
+        self.start()
+        comes("READY=1")
+        runs = f"STATUS=2 workers of generation 1.1 at {self.address}"
+        comes(runs)
+        (self.blocks / "HUP").write_text(BACK)
+        self.ctl("HUP")
+        reloading = comes("RELOADING=1\nMONOTONIC_USEC=")
+        self.assertTrue(reloading < comes("READY=1") < comes(f"{runs}; last word HUP: rolled-back cause 2 pid no-file"))
+        self.ctl("TTIN")
+        comes(f"{runs}; last word TTIN: done")
+        self.assertEqual([text for text in systemd.said[reloading + 1 :] if text.startswith("RELOADING")], [])
+        beats = [comes("WATCHDOG=1") for _ in range(3)]
+        self.assertEqual(len(set(beats)), 3)
+        streams: dict[str, Any] = {"stdout": subprocess.DEVNULL, "stderr": subprocess.DEVNULL}
+        sent = subprocess.Popen([BIN / "prefork-ctl", "QUIT"], cwd=self.room, **streams)
+        # Once as the word begins, and once at the very end.
+        self.assertLess(comes("STOPPING=1"), comes("STOPPING=1"))
+        sent.wait(SECONDS)
+        self.serve.wait(SECONDS)
 
     def test_metrics_and_page_agree_with_the_status(self) -> None:
         measured, seen, file = free_address(), free_address(), self.room / "metrics"
