@@ -18,7 +18,7 @@ BACK = "1 m1 fork 1.2 0 : forked\n2 m1 await-ready 1.2 0 : gone\n3 m1 census 1.1
 
 
 class Systemd:
-    """What systemd is told. It is heard all the while: the system keeps few messages, and the service drops the rest."""
+    """What systemd is told, heard all the while: the system keeps few messages, and the service drops the rest."""
 
     def __init__(self, place: pathlib.Path):
         self.place, self.said, self.seen = place, list[str](), 0
