@@ -1,4 +1,5 @@
 """What refuses a program memory, reads and writes: tests/faults/refuse.c, loaded before it."""
+import dataclasses
 import os
 import pathlib
 import select
@@ -7,15 +8,19 @@ import struct
 import subprocess
 import sys
 import tempfile
-from collections.abc import Callable
+from collections.abc import Callable, Iterator
 from typing import Any, TypeVar
 
 from gate.tally import ROOT
 
 Ended = TypeVar("Ended")
-# The numbers that refuse.c writes of a copy: its status, whether the refusal came, and the sizes of its two outputs.
+# What came of a run: its status and its two outputs.
+Result = tuple[int, bytes, bytes]
+# The numbers that refuse.c writes of a copy: its status, whether it had something refused, and the sizes of its two
+# outputs.
 ENDED = struct.Struct("=4q")
-NUMBER = struct.Struct("=q")
+# What refuse.c reads: the place of an argument, from 1 on, and the size at which it ends; 0 where none is cut.
+CUT = struct.Struct("=2q")
 
 
 class Refuser:
@@ -46,34 +51,45 @@ class Refuser:
         return ended, is_met
 
 
+@dataclasses.dataclass
+class Start:
+    """How a program is started: standard input is a file with what is given. A run has `seconds` to end."""
+
+    command: list[Any]
+    given: bytes
+    folder: str
+    seconds: float
+
+
 class Copies:
     """Runs of a program that starts no process. The program is started once, and each run is a copy of that process,
-    which takes half of the time of a start. `kind` is m, r or w: of what a run can have one refused. Standard
-    input is a file, and a run has `seconds` to end."""
+    which takes less time than a start."""
 
-    def __init__(self, refuser: Refuser, kind: str, command: list[Any], given: bytes, folder: str, seconds: float):
-        self.command, self.seconds = command, seconds
-        theirs, self.ask = os.pipe()
-        self.told, their_told = os.pipe()
-        environment = {"LD_PRELOAD": refuser.library, "REFUSE": kind, "REFUSE_COPIES": f"{theirs},{their_told}"}
-        how: dict[str, Any] = {"cwd": folder, "env": environment, "pass_fds": [theirs, their_told]}
+    def __init__(self, refuser: Refuser, how: Start):
+        self.library, self.how = refuser.library, how
         self.given = tempfile.TemporaryFile()
-        self.given.write(given)
+        self.given.write(how.given)
         self.given.flush()
-        # (in a session of its own it would not give way: the system weighs sessions, and niceness only within one)
-        self.program = subprocess.Popen(command, stdin=self.given, **how)
-        os.close(theirs)
-        os.close(their_told)
+        self.given.seek(0)
+        self.told, self.their_told = os.pipe()
+        # The program, once it is started.
+        self.program: Any = None
 
-    def __enter__(self) -> "Copies":
-        return self
+    def start(self, variables: dict[str, str], *theirs: int) -> None:
+        """Starts the program with variables for refuse.c, and with descriptors that it then has alone."""
+        theirs = (*theirs, self.their_told)
+        environment = {"LD_PRELOAD": self.library, **variables}
+        # (in a session of its own it would not give way: the system weighs sessions, and niceness only within one)
+        self.program = subprocess.Popen(
+            self.how.command, stdin=self.given, cwd=self.how.folder, env=environment, pass_fds=theirs)
+        for descriptor in theirs:
+            os.close(descriptor)
 
     def __exit__(self, *_: Any) -> None:
-        os.close(self.ask)
         os.close(self.told)
         self.given.close()
         try:
-            self.program.wait(self.seconds)
+            self.program.wait(self.how.seconds)
         except subprocess.TimeoutExpired:
             self.end()
 
@@ -81,25 +97,54 @@ class Copies:
         self.program.kill()
         self.program.wait()
 
-    def give(self, size: int) -> None:
-        """From now on standard input ends after this number of bytes."""
-        self.given.truncate(size)
-
-    def run(self, number: int = 0) -> tuple[tuple[int, bytes, bytes], bool]:
-        """A run in which the growth, read or write of the number, from 1 on, is refused: its status and its two
-        outputs, and whether there was one."""
-        os.write(self.ask, NUMBER.pack(number))
-        if not select.select([self.told], [], [], self.seconds)[0]:
+    def next(self) -> tuple[Result, bool]:
+        """The next run that has ended, and whether it had something refused."""
+        if not select.select([self.told], [], [], self.how.seconds)[0]:
             self.end()
-            raise TimeoutError(f"{self.command}: a run had not ended after {self.seconds} seconds")
-        status, is_met, output, errors = ENDED.unpack(self.read(ENDED.size))
-        return (status, self.read(output), self.read(errors)), bool(is_met)
+            raise TimeoutError(f"{self.how.command}: a run had not ended after {self.how.seconds} seconds")
+        status, is_refused, output, errors = ENDED.unpack(self.read(ENDED.size))
+        return (status, self.read(output), self.read(errors)), bool(is_refused)
 
     def read(self, size: int) -> bytes:
         found = b""
         while len(found) < size:
             more = os.read(self.told, size - len(found))
             if not more:
-                raise EOFError(f"{self.command}: the program has ended before its copies")
+                raise EOFError(f"{self.how.command}: the program has ended before its copies")
             found += more
         return found
+
+
+class Refusals(Copies):
+    """Runs in each of which one growth (`m`), read (`r`) or write (`w`) is refused: of the first ones (`all_of`) each, and
+    after these one in a number (`one_in`). Each is a copy of the process at that moment. In the last run none is refused."""
+
+    def __init__(self, refuser: Refuser, how: Start, kind: str, all_of: int, one_in: int):
+        super().__init__(refuser, how)
+        self.variables = {"REFUSE": kind, "REFUSE_AT": f"{self.their_told},{all_of},{one_in}"}
+
+    def __enter__(self) -> Iterator[tuple[Result, bool]]:
+        self.start(self.variables)
+        return iter(self.next, None)
+
+
+class Cuts(Copies):
+    """Runs in each of which the input, or an argument, ends early: each from the beginning of the program."""
+
+    def __enter__(self) -> "Cuts":
+        theirs, self.ask = os.pipe()
+        self.start({"REFUSE_CUT": f"{theirs},{self.their_told}"}, theirs)
+        return self
+
+    def __exit__(self, *given: Any) -> None:
+        os.close(self.ask)
+        super().__exit__(*given)
+
+    def give(self, size: int) -> None:
+        """From now on standard input ends after this number of bytes."""
+        self.given.truncate(size)
+
+    def run(self, place: int = 0, size: int = 0) -> Result:
+        """A run, with the argument of this place, from 1 on, ending at this size."""
+        os.write(self.ask, CUT.pack(place, size))
+        return self.next()[0]
