@@ -36,7 +36,7 @@ ASKS, OFTEN = "--retry 9 --retry-delay 1 ", "--retry 90 --retry-delay 1 "
 MOST_SECONDS = 120
 # A program is typed with & after it, so its output is a file.
 BLOCK = re.compile(r"^( *)```(\w+)\n(.*?)^ *```$", re.M | re.S)
-NAME = re.compile(r"`([\w-]+\.(?:py|js|ru|toml|conf\.in)|start-\w+)`")
+NAME = re.compile(r"`([\w.-]+\.(?:py|js|ru|toml|conf\.in)|start-\w+)`")
 
 
 def blocks_of(text: str) -> Iterator[tuple[str, str]]:

@@ -19,7 +19,7 @@ import sys
 import threading
 
 # How long a kept connection may be idle, a request may take to arrive, the requests in progress may take to end, and
-# the keeper to answer. The first is longer than a machine may stand still: the load counts a kept connection that ends
+# the keeper to answer. The first is longer than a machine may halt: the load counts a kept connection that ends
 # before its answer as a failure.
 IDLE_SECONDS = 20.0
 REQUEST_SECONDS = 10.0
