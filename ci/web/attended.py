@@ -11,7 +11,7 @@ from web.starts import status
 
 UPGRADE = "USR2 attended"
 # Longer than the time between two ticks; and longer than the `timeout` of a worker that must not count as hanging
-# afterwards. A worker of a machine that stands still for a while does not count as hanging either.
+# afterwards. A worker of a machine that halts for a while does not count as hanging either.
 PAUSE, LONG_PAUSE, TIMEOUT = 2.5, 6.5, 6
 
 

@@ -43,7 +43,7 @@ async def app(scope, receive, send):
     await send({"type": "http.response.body", "body": text})
 """
 # uvicorn closes a connection unheard that it has just accepted when it is told to finish: that has five seconds here,
-# longer than a client may stand still.
+# longer than a client may halt.
 UVICORN = """import asyncio, sys
 import uvicorn
 

@@ -1,7 +1,7 @@
 /* page [NUMBER..]: a small server for tests. It takes the numbers of its listening sockets as arguments, or without any
  * by LISTEN_FDS, and answers each request with a line: `version V process P`, V from the environment (VERSION). /slow takes a second, /stuck for ever.
  * SIGTERM finishes: it accepts no more, answers what has begun, and closes kept connections after their next answer, or
- * once they have been idle for twenty seconds: longer than a client may stand still. */
+ * once they have been idle for twenty seconds: longer than a client may halt. */
 #define _GNU_SOURCE
 #include <errno.h>
 #include <poll.h>

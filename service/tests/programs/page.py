@@ -12,7 +12,7 @@ import socket
 import time
 
 FIRST = 3
-# Longer than a machine may stand still: a client that asks on a kept connection must find it open.
+# Longer than a machine may halt: a client that asks on a kept connection must find it open.
 IDLE_SECONDS = 20.0
 
 
