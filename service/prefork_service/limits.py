@@ -15,7 +15,7 @@ ADAPTER_SECONDS, EARLIER = 30.0, 30.0
 # The numbers of the master have 32 bits.
 MOST = (1 << 32) // TIMES - 1
 # How long a program may take to say what it knows.
-ASKING_SECONDS = 2.0
+ASKING_SECONDS = 10.0
 # What the master logs of a child that it has killed.
 KILLED = re.compile(r"killed (?:worker (\d+\.\d+) (\d+)|master \d+), process \d+: (.*)")
 
