@@ -1,2 +1,3 @@
+mod Apps
 mod Simple
 mod Values

@@ -1,6 +1,6 @@
 //! The program and its subcommands, as `clap` has them.
 ghost use Rattle.std.specs.Prelude.{◌≡◌, IfOk, false};
-ghost use Rattle.clap.specs.Words.{app_of, rule_of, with_rule};
+ghost use Rattle.clap.specs.Words.{App, app_of, new_app, new_rule, rule_of, with_rule, with_subcommand};
 ghost use Rattle.clap.specs.declared.builder.command.Command.TheViews.{out-Command};
 ghost use Rattle.command_line.specs.Arguments.{adopt_app, bare_app, certify_app, check_app, child_app, code_rule, enact_app, explain_app, explore_app, flag_rule, option_rule, plan_app, prefork_app, program_rule, required_rule, several_rule, supervise_app, with_answer, with_children, with_demands, with_family, with_files, with_limits, with_readers, with_list, with_runs, with_start, with_words, word_rule, words_rule};
 
@@ -41,39 +41,39 @@ fn bare<'a>(alloc: Global) -> Command<'a>
 fn with_words<'a>(alloc: Global, command: Command<'a>) -> Result<Command<'a>, AllocError>
     ensures { IfOk result (λ more. app_of more ≡ with_words (app_of command.entry)) }
 {
-    command
-        .subcommand(enact(alloc)?)?
-        .subcommand(plan(alloc)?)?
-        .subcommand(explore(alloc)?)
+    let command = with_command(command, enact(alloc))?;
+    let command = with_command(command, plan(alloc))?;
+    with_command(command, explore(alloc))
 }
 
 /// The subcommands that are masters and workers.
 fn with_children<'a>(alloc: Global, command: Command<'a>) -> Result<Command<'a>, AllocError>
     ensures { IfOk result (λ more. app_of more ≡ with_children (app_of command.entry)) }
 {
-    command
-        .subcommand(supervise(alloc)?)?
-        .subcommand(adopt(alloc)?)?
-        .subcommand(child(alloc))
+    let command = with_command(command, supervise(alloc))?;
+    let command = with_command(command, adopt(alloc))?;
+    with_command(command, Ok(child(alloc)))
 }
 
 /// The subcommands that read texts and say what they are.
 fn with_readers<'a>(alloc: Global, command: Command<'a>) -> Result<Command<'a>, AllocError>
     ensures { IfOk result (λ more. app_of more ≡ with_readers (app_of command.entry)) }
 {
-    command
-        .subcommand(certify(alloc)?)?
-        .subcommand(check(alloc)?)?
-        .subcommand(explain(alloc)?)
+    let command = with_command(command, certify(alloc))?;
+    let command = with_command(command, check(alloc))?;
+    with_command(command, explain(alloc))
 }
 
 fn enact<'a>(alloc: Global) -> Result<Command<'a>, AllocError>
     ensures app { IfOk result (λ command. app_of command ≡ enact_app) }
     ensures own { IfOk result (λ command. (out-Command command).has_globals ≡ false) }
 {
-    let command = Command::new(alloc, "enact")
-        .about("Carry out control words on a modelled kernel")
-        .after_help(ENACT_NOTES);
+    let command = named(
+        alloc,
+        "enact",
+        "Carry out control words on a modelled kernel",
+        ENACT_NOTES,
+    );
     let command = with_answer(alloc, command)?;
     let command = with_option(alloc, command, "held", "ADDRESS", HELD_HELP)?;
     let command = with_flag(alloc, command, "state", STATE_HELP)?;
@@ -84,9 +84,12 @@ fn plan<'a>(alloc: Global) -> Result<Command<'a>, AllocError>
     ensures app { IfOk result (λ command. app_of command ≡ plan_app) }
     ensures own { IfOk result (λ command. (out-Command command).has_globals ≡ false) }
 {
-    let command = Command::new(alloc, "plan")
-        .about("Print the plan of a control word")
-        .after_help(PLAN_NOTES);
+    let command = named(
+        alloc,
+        "plan",
+        "Print the plan of a control word",
+        PLAN_NOTES,
+    );
     let command = with_answer(alloc, command)?;
     let command = with_flag(alloc, command, "dot", DOT_HELP)?;
     with_argument(command, word(alloc))
@@ -96,10 +99,14 @@ fn explore<'a>(alloc: Global) -> Result<Command<'a>, AllocError>
     ensures app { IfOk result (λ command. app_of command ≡ explore_app) }
     ensures own { IfOk result (λ command. (out-Command command).has_globals ≡ false) }
 {
-    let command = Command::new(alloc, "explore")
-        .about("Count how a control word can end")
-        .after_help(EXPLORE_NOTES);
-    let command = with_runs(alloc, with_list(alloc, command)?)?;
+    let command = named(
+        alloc,
+        "explore",
+        "Count how a control word can end",
+        EXPLORE_NOTES,
+    );
+    let command = with_list(alloc, command)?;
+    let command = with_runs(alloc, command)?;
     with_argument(with_demands(alloc, command)?, word(alloc))
 }
 
@@ -142,9 +149,12 @@ fn supervise<'a>(alloc: Global) -> Result<Command<'a>, AllocError>
     ensures app { IfOk result (λ command. app_of command ≡ supervise_app) }
     ensures own { IfOk result (λ command. (out-Command command).has_globals ≡ false) }
 {
-    let command = Command::new(alloc, "supervise")
-        .about("Run a master and its workers")
-        .after_help(SUPERVISE_NOTES);
+    let command = named(
+        alloc,
+        "supervise",
+        "Run a master and its workers",
+        SUPERVISE_NOTES,
+    );
     let command = with_family(alloc, command)?;
     let command = with_flag(alloc, command, "verbose", VERBOSE_HELP)?;
     with_flag(alloc, command, "why", WHY_HELP)
@@ -156,7 +166,8 @@ fn with_family<'a>(alloc: Global, command: Command<'a>) -> Result<Command<'a>, A
     ensures app { IfOk result (λ more. app_of more ≡ with_family (app_of command.entry)) }
     ensures own { IfOk result (λ more. (out-Command more).has_globals ≡ false) }
 {
-    let command = with_argument(with_files(alloc, command)?, program_option(alloc))?;
+    let command = with_files(alloc, command)?;
+    let command = with_argument(command, program_option(alloc))?;
     with_limits(alloc, command)
 }
 
@@ -164,9 +175,12 @@ fn adopt<'a>(alloc: Global) -> Result<Command<'a>, AllocError>
     ensures app { IfOk result (λ command. app_of command ≡ adopt_app) }
     ensures own { IfOk result (λ command. (out-Command command).has_globals ≡ false) }
 {
-    let command = Command::new(alloc, "adopt")
-        .about("Be the new master of an upgrade; the old master starts it")
-        .after_help(ADOPT_NOTES);
+    let command = named(
+        alloc,
+        "adopt",
+        "Be the new master of an upgrade; the old master starts it",
+        ADOPT_NOTES,
+    );
     let command = with_option(alloc, command, "program", "PROGRAM", ADOPT_HELP)?;
     with_limits(alloc, command)
 }
@@ -185,18 +199,24 @@ fn child<'a>(alloc: Global) -> Command<'a>
     ensures app { app_of result ≡ child_app }
     ensures own { (out-Command result).has_globals ≡ false }
 {
-    Command::new(alloc, "child")
-        .about("Be a worker that answers its master and serves nothing")
-        .after_help(CHILD_NOTES)
+    named(
+        alloc,
+        "child",
+        "Be a worker that answers its master and serves nothing",
+        CHILD_NOTES,
+    )
 }
 
 fn certify<'a>(alloc: Global) -> Result<Command<'a>, AllocError>
     ensures app { IfOk result (λ command. app_of command ≡ certify_app) }
     ensures own { IfOk result (λ command. (out-Command command).has_globals ≡ false) }
 {
-    let command = Command::new(alloc, "certify")
-        .about("Check blocks against plans and model")
-        .after_help(CERTIFY_NOTES);
+    let command = named(
+        alloc,
+        "certify",
+        "Check blocks against plans and model",
+        CERTIFY_NOTES,
+    );
     let command = with_answer(alloc, command)?;
     with_option(alloc, command, "held", "ADDRESS", HELD_HELP)
 }
@@ -205,9 +225,12 @@ fn check<'a>(alloc: Global) -> Result<Command<'a>, AllocError>
     ensures app { IfOk result (λ command. app_of command ≡ check_app) }
     ensures own { IfOk result (λ command. (out-Command command).has_globals ≡ false) }
 {
-    let command = Command::new(alloc, "check")
-        .about("Say whether configurations would be read, and why not")
-        .after_help(CHECK_NOTES);
+    let command = named(
+        alloc,
+        "check",
+        "Say whether configurations would be read, and why not",
+        CHECK_NOTES,
+    );
     with_argument(command, several(alloc, "files", "FILE", FILES_HELP))
 }
 
@@ -215,10 +238,39 @@ fn explain<'a>(alloc: Global) -> Result<Command<'a>, AllocError>
     ensures app { IfOk result (λ command. app_of command ≡ explain_app) }
     ensures own { IfOk result (λ command. (out-Command command).has_globals ≡ false) }
 {
-    let command = Command::new(alloc, "explain")
-        .about("Say what a code means and what to do; without a code, list all")
-        .after_help(EXPLAIN_NOTES);
+    let command = named(
+        alloc,
+        "explain",
+        "Say what a code means and what to do; without a code, list all",
+        EXPLAIN_NOTES,
+    );
     with_argument(command, code(alloc))
+}
+
+/// A subcommand with no argument yet.
+///
+/// The one place where one is made: what `clap` says of a new command in full stays in here.
+fn named<'a>(alloc: Global, name: &'a str, about: &'a str, notes: &'a str) -> Command<'a>
+    ensures app { app_of result ≡ new_app name.entry.now }
+    ensures own { (out-Command result).has_globals ≡ false }
+{
+    Command::new(alloc, name).about(about).after_help(notes)
+}
+
+/// A command with one subcommand more, if there was memory for it; none of its arguments is
+/// another's too.
+///
+/// The one place where a subcommand is added: what `clap` says of it in full stays in here.
+fn with_command<'a>(
+    command: Command<'a>,
+    part: Result<Command<'a>, AllocError>,
+) -> Result<Command<'a>, AllocError>
+    requires { IfOk part (λ made. (out-Command made).has_globals ≡ false) }
+    ensures { IfOk result (λ more. (known : App) → IfOk part.entry (λ made. app_of made ≡ known)
+        → app_of more ≡ with_subcommand (app_of command.entry) known.top) }
+{
+    let part = part?;
+    command.subcommand(part)
 }
 
 /// The options of each subcommand that starts a master.
@@ -294,16 +346,32 @@ fn with_flag<'a>(
     with_argument(command, flag(alloc, name, help))
 }
 
+/// An argument of which no more is said yet than its name.
+///
+/// The one place where one is made: what `clap` says of a new argument in full stays in here.
+fn argument<'a>(alloc: Global, name: &'a str, help: &'a str) -> Arg<'a>
+    ensures rule { rule_of result ≡ new_rule name.entry.now }
+    ensures own { result.global ≡ false }
+{
+    Arg::new(alloc, name).help(help)
+}
+
+/// An argument with a value.
+fn valued<'a>(alloc: Global, name: &'a str, value: &'a str, help: &'a str) -> Arg<'a>
+    ensures rule { rule_of result ≡ record (new_rule name.entry.now) { value_names = 1 } }
+    ensures own { result.global ≡ false }
+{
+    argument(alloc, name, help).value_name(value)
+}
+
 /// `--NAME VALUE`
 fn option<'a>(alloc: Global, name: &'a str, value: &'a str, help: &'a str) -> Arg<'a>
     ensures rule { rule_of result ≡ option_rule name.entry.now }
     ensures own { result.global ≡ false }
 {
-    Arg::new(alloc, name)
+    valued(alloc, name, value, help)
         .long(name)
-        .value_name(value)
         .action(ArgAction::Set)
-        .help(help)
 }
 
 /// `--program PROGRAM`, which must be there.
@@ -319,10 +387,9 @@ fn flag<'a>(alloc: Global, name: &'a str, help: &'a str) -> Arg<'a>
     ensures rule { rule_of result ≡ flag_rule name.entry.now }
     ensures own { result.global ≡ false }
 {
-    Arg::new(alloc, name)
+    argument(alloc, name, help)
         .long(name)
         .action(ArgAction::SetTrue)
-        .help(help)
 }
 
 /// `VALUE`, which must be there.
@@ -330,10 +397,7 @@ fn required<'a>(alloc: Global, name: &'a str, value: &'a str, help: &'a str) -> 
     ensures rule { rule_of result ≡ required_rule name.entry.now }
     ensures own { result.global ≡ false }
 {
-    Arg::new(alloc, name)
-        .value_name(value)
-        .required(true)
-        .help(help)
+    valued(alloc, name, value, help).required(true)
 }
 
 /// `VALUE..`, of which one must be there.
@@ -364,8 +428,5 @@ fn code<'a>(alloc: Global) -> Arg<'a>
     ensures rule { rule_of result ≡ code_rule }
     ensures own { result.global ≡ false }
 {
-    Arg::new(alloc, "code")
-        .value_name("CODE")
-        .action(ArgAction::Set)
-        .help(CODE_HELP)
+    valued(alloc, "code", "CODE", CODE_HELP).action(ArgAction::Set)
 }

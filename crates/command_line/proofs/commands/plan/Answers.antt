@@ -1,0 +1,10 @@
+use Rattle.std.proofs.Common.{codes}
+use Rattle.command_line.specs.Arguments.{flag_rule, with_answer}
+use Rattle.command_line.proofs.Apps.{ends_with, follows, more}
+use Rattle.command_line.proofs.commands.plan.Goals as goal
+
+pub returns-clause-app : goal.returns-clause-app
+returns-clause-app c =
+    let known0 = follows with_answer c.named-command.result c.in_ok-command.command _ c.named-command.ensures.app c.in_ok-command.ensures.app in
+    let known1 = follows (more (flag_rule (codes "dot"))) c.in_ok-command.command c.in_ok-command-2.command _ known0 c.in_ok-command-2.ensures.app in
+    ends_with c.in_ok-command-2.command c.with_argument.result c.word.result _ _ known1 c.word.ensures.rule c.with_argument.ensures.app
