@@ -1,55 +1,73 @@
 //! Edges over children in memory.
-use crate::recorded::{FamilyCall, Recorded};
-use crate::setup::{FIRST, ask, both_beat, counts, edge_of, first_wrong, start};
+use crate::setup::{Dialogue, FIRST, Telling, ask, both_beat, counts, edge_of, first_wrong, start};
 use child_edge::Edge;
 use child_family::Heard;
+use child_recorder::{FamilyCall, Recorded};
 use listener_set::{Address, DescriptorSet};
 use plan_walk::Calls;
 use std::alloc::{AllocError, Global};
+use std::process::Abort;
 use std::test::Fail;
 use vocabulary::{Answer, Call};
 
-/// An edge over children of which none fails.
-fn edge_in_memory(alloc: Global) -> Result<Edge<Recorded>, AllocError> {
-    edge_of(alloc, Recorded::new(alloc, None))
+/// Children of which none fails.
+fn children(alloc: Global) -> Recorded {
+    Recorded::new(alloc, None)
+}
+
+/// The address of a text. A proof about a text that stands where it is read takes longer.
+fn address_of(text: &[u8]) -> Result<Address, Fail> {
+    Ok(Address::read(text)?)
 }
 
 /// An address that the edge does not listen on at first.
 fn other_address() -> Result<Address, Fail> {
-    Ok(Address::read(b"0.0.0.0:9090")?)
+    address_of(b"0.0.0.0:9090")
 }
 
-/// How many calls were made on the children.
-fn calls_made(edge: &Edge<Recorded>) -> usize {
-    edge.family().calls().len()
+/// Stops the test where another number of calls was made on the children.
+fn check_calls<F: Telling>(rt: &impl Abort, edge: &Edge<F>, count: usize) {
+    assert_eq!(rt; edge.family().calls_told().len(), count);
+}
+
+/// Stops the test at the first call that is answered in another way.
+fn check_answers<C: Calls>(rt: &impl Abort, edge: &mut C, calls: Dialogue) {
+    assert_eq!(rt; first_wrong(edge, calls), None);
 }
 
 /// Whether the call at a place said just this line to the first child.
-fn is_said(edge: &Edge<Recorded>, place: usize, line: &[u8]) -> bool {
-    match edge.family().calls().get(place) {
+fn is_said<F: Telling>(edge: &Edge<F>, place: usize, line: &[u8]) -> bool {
+    match edge.family().calls_told().get(place) {
         Some(FamilyCall::Said(10, text, true)) => text.as_slice() == line,
         _ => false,
     }
 }
 
+/// Stops the test where the calls from the second on did not say these lines to the first child.
+fn check_said<F: Telling>(rt: &impl Abort, edge: &Edge<F>, lines: &[&[u8]]) {
+    for (at, line) in lines.iter().enumerate() {
+        assert!(rt; is_said(edge, at.saturating_add(1), line), "at {at}");
+    }
+}
+
 /// Whether the call at a place heard just this line of the first child.
-fn is_heard(edge: &Edge<Recorded>, place: usize, line: &[u8]) -> bool {
-    match edge.family().calls().get(place) {
+fn is_heard<F: Telling>(edge: &Edge<F>, place: usize, line: &[u8]) -> bool {
+    match edge.family().calls_told().get(place) {
         Some(FamilyCall::HeardLine(10, Heard::Line, text)) => text.as_slice() == line,
         _ => false,
     }
 }
 
 /// Whether the call at a place stopped the first child.
-fn is_stopped(edge: &Edge<Recorded>, place: usize) -> bool {
+fn is_stopped<F: Telling>(edge: &Edge<F>, place: usize) -> bool {
     matches!(
-        edge.family().calls().get(place),
+        edge.family().calls_told().get(place),
         Some(FamilyCall::Stopped(10))
     )
 }
 
 /// Starts two workers; both are told to go before the first is heard.
-fn start_two(edge: &mut Edge<Recorded>) -> bool {
+fn start_two<C: Calls>(edge: &mut C) -> bool {
     for nr in 0..2 {
         if ask(edge, 1, Call::Fork(FIRST, nr, None)) != Some(Answer::Forked) {
             return false;
@@ -58,13 +76,13 @@ fn start_two(edge: &mut Edge<Recorded>) -> bool {
     (0..2).all(|nr| is_ready(edge, nr))
 }
 
-fn is_ready(edge: &mut Edge<Recorded>, nr: u32) -> bool {
+fn is_ready<C: Calls>(edge: &mut C, nr: u32) -> bool {
     ask(edge, 1, Call::AwaitReady(FIRST, nr)) == Some(Answer::IsReady)
 }
 
-#[test]
-fn tells_all_before_it_hears(rt: HostRuntime) -> Result<(), Fail> {
-    let mut edge = edge_in_memory(rt.alloc())?;
+/// Two workers start, beat at two ticks, and are counted.
+fn two_beat<F: Telling>(rt: &impl Abort, alloc: Global, family: F) -> Result<(), AllocError> {
+    let mut edge = edge_of(alloc, family)?;
     assert!(rt; start_two(&mut edge));
 
     // worker 0 gives its beat only where worker 1 was told the tick
@@ -75,26 +93,38 @@ fn tells_all_before_it_hears(rt: HostRuntime) -> Result<(), Fail> {
     Ok(())
 }
 
+#[test]
+fn tells_all_before_it_hears(rt: HostRuntime) -> Result<(), Fail> {
+    Ok(two_beat(&rt, rt.alloc(), children(rt.alloc()))?)
+}
+
 /// What a worker is told as it starts, line by line.
 const TOLD: [&[u8]; 3] = [b"worker 1.1 5 1", b"listener 0.0.0.0:8080", b"go"];
 
-#[test]
-fn tells_a_worker_what_it_is(rt: HostRuntime) -> Result<(), Fail> {
-    let mut edge = edge_in_memory(rt.alloc())?;
+/// Worker 5 starts.
+fn one_starts<F: Telling>(rt: &impl Abort, alloc: Global, family: F) -> Result<(), AllocError> {
+    let mut edge = edge_of(alloc, family)?;
     assert!(rt; start(&mut edge, 5) == Some(Answer::IsReady));
-    assert_eq!(rt; calls_made(&edge), 5);
-    for (at, line) in TOLD.iter().enumerate() {
-        assert!(rt; is_said(&edge, at.saturating_add(1), line), "at {at}");
-    }
+    check_calls(rt, &edge, 5);
+    check_said(rt, &edge, &TOLD);
     assert!(rt; is_heard(&edge, 4, b"ready"));
     Ok(())
 }
 
 #[test]
-fn opens_and_closes(rt: HostRuntime) -> Result<(), Fail> {
-    let mut edge = edge_in_memory(rt.alloc())?;
+fn tells_a_worker_what_it_is(rt: HostRuntime) -> Result<(), Fail> {
+    Ok(one_starts(&rt, rt.alloc(), children(rt.alloc()))?)
+}
+
+/// The edge listens on another address too, and closes the first while a worker runs.
+fn two_addresses_open<F: Telling>(
+    rt: &impl Abort,
+    alloc: Global,
+    family: F,
+    other: Address,
+) -> Result<(), AllocError> {
+    let mut edge = edge_of(alloc, family)?;
     let first = Address::plain();
-    let other = other_address()?;
     let calls = [
         (1, Call::OpenAt(first), Answer::InUse),
         (1, Call::OpenAt(other), Answer::Opened(4)),
@@ -103,10 +133,15 @@ fn opens_and_closes(rt: HostRuntime) -> Result<(), Fail> {
         (1, Call::CloseAt(first), Answer::Fine),
         (1, Call::OpenAt(first), Answer::Opened(3)),
     ];
-    assert_eq!(rt; first_wrong(&mut edge, &calls), None);
-    assert_eq!(rt; calls_made(&edge), 7);
+    check_answers(rt, &mut edge, &calls);
+    check_calls(rt, &edge, 7);
     assert!(rt; is_said(&edge, 6, b"close 0.0.0.0:8080"));
     Ok(())
+}
+
+#[test]
+fn opens_and_closes(rt: HostRuntime) -> Result<(), Fail> {
+    Ok(two_addresses_open(&rt, rt.alloc(), children(rt.alloc()), other_address()?)?)
 }
 
 /// Whether just these lines were said, in order, each to the child of its number.
@@ -145,10 +180,14 @@ fn second_alone() -> DescriptorSet {
     second
 }
 
-#[test]
-fn tells_a_worker_only_of_its_descriptors(rt: HostRuntime) -> Result<(), Fail> {
-    let mut edge = edge_in_memory(rt.alloc())?;
-    let other = other_address()?;
+/// Of two workers one is told of both addresses, and one of the other address alone; then both are closed.
+fn two_addresses_are_told<F: Telling>(
+    rt: &impl Abort,
+    alloc: Global,
+    family: F,
+    other: Address,
+) -> Result<(), AllocError> {
+    let mut edge = edge_of(alloc, family)?;
     let calls = [
         (1, Call::OpenAt(other), Answer::Opened(4)),
         (
@@ -160,9 +199,14 @@ fn tells_a_worker_only_of_its_descriptors(rt: HostRuntime) -> Result<(), Fail> {
         (1, Call::CloseAt(Address::plain()), Answer::Fine),
         (1, Call::CloseAt(other), Answer::Fine),
     ];
-    assert_eq!(rt; first_wrong(&mut edge, &calls), None);
-    assert!(rt; are_said(edge.family().calls(), &SAID));
+    check_answers(rt, &mut edge, &calls);
+    assert!(rt; are_said(edge.family().calls_told(), &SAID));
     Ok(())
+}
+
+#[test]
+fn tells_a_worker_only_of_its_descriptors(rt: HostRuntime) -> Result<(), Fail> {
+    Ok(two_addresses_are_told(&rt, rt.alloc(), children(rt.alloc()), other_address()?)?)
 }
 
 /// What is answered of a child that is not there.
@@ -177,9 +221,13 @@ const ABSENT: [(Call, Answer); 8] = [
     (Call::Adopt, Answer::Refused),
 ];
 
-#[test]
-fn asks_nobody_where_there_is_no_child(rt: HostRuntime) -> Result<(), Fail> {
-    let mut edge = edge_in_memory(rt.alloc())?;
+/// Calls about children that are not there.
+fn nobody_is_asked<F: Telling>(
+    rt: &impl Abort,
+    alloc: Global,
+    family: F,
+) -> Result<(), AllocError> {
+    let mut edge = edge_of(alloc, family)?;
     for (at, (call, answer)) in ABSENT.iter().enumerate() {
         assert!(rt; ask(&mut edge, 1, *call) == Some(*answer), "at {at}");
         assert!(rt;
@@ -187,9 +235,14 @@ fn asks_nobody_where_there_is_no_child(rt: HostRuntime) -> Result<(), Fail> {
             "at {at}"
         );
     }
-    assert_eq!(rt; calls_made(&edge), 0);
-    assert_eq!(rt; edge.room(), 84);
+    check_calls(rt, &edge, 0);
+    assert!(rt; edge.room() == 84);
     Ok(())
+}
+
+#[test]
+fn asks_nobody_where_there_is_no_child(rt: HostRuntime) -> Result<(), Fail> {
+    Ok(nobody_is_asked(&rt, rt.alloc(), children(rt.alloc()))?)
 }
 
 /// The calls of an upgrade.
@@ -210,17 +263,24 @@ const PASSED: [(u32, Call, Answer); 9] = [
 /// What the new master is told first, line by line.
 const HANDED: [&[u8]; 3] = [b"handover 1", b"end", b"m2 adopt"];
 
-#[test]
-fn passes_calls_to_its_child_master(rt: HostRuntime) -> Result<(), Fail> {
-    let mut edge = edge_in_memory(rt.alloc())?;
+/// The calls of an upgrade.
+fn a_master_is_asked<F: Telling>(
+    rt: &impl Abort,
+    alloc: Global,
+    family: F,
+) -> Result<(), AllocError> {
+    let mut edge = edge_of(alloc, family)?;
     edge.reserve(20, b"handover 1\nend\n")?;
-    assert_eq!(rt; first_wrong(&mut edge, &PASSED), None);
-    assert_eq!(rt; calls_made(&edge), 12);
-    for (at, line) in HANDED.iter().enumerate() {
-        assert!(rt; is_said(&edge, at.saturating_add(1), line), "at {at}");
-    }
+    check_answers(rt, &mut edge, &PASSED);
+    check_calls(rt, &edge, 12);
+    check_said(rt, &edge, &HANDED);
     assert!(rt; is_stopped(&edge, 11));
     Ok(())
+}
+
+#[test]
+fn passes_calls_to_its_child_master(rt: HostRuntime) -> Result<(), Fail> {
+    Ok(a_master_is_asked(&rt, rt.alloc(), children(rt.alloc()))?)
 }
 
 /// All calls of two workers' lives.
@@ -240,7 +300,7 @@ const LIFE: [Call; 12] = [
 ];
 
 /// Whether each call of two workers' lives is answered, and none as if the master had left before it does.
-fn lives_on(edge: &mut Edge<Recorded>) -> bool {
+fn lives_on<C: Calls>(edge: &mut C) -> bool {
     for call in LIFE {
         match ask(edge, 1, call) {
             None | Some(Answer::MasterGone) => return false,
@@ -250,15 +310,18 @@ fn lives_on(edge: &mut Edge<Recorded>) -> bool {
     true
 }
 
+/// Whether two workers live on so, and then their master has left.
+fn leaves_at_last<F: Telling>(alloc: Global, family: F) -> Result<bool, AllocError> {
+    let mut edge = edge_of(alloc, family)?;
+    Ok(lives_on(&mut edge) && ask(&mut edge, 1, Call::Leave) == Some(Answer::MasterGone))
+}
+
 #[test]
 fn answers_whichever_call_fails(rt: HostRuntime) -> Result<(), Fail> {
+    let alloc = rt.alloc();
     for fails in 0..24 {
-        let mut edge = edge_of(rt.alloc(), Recorded::new(rt.alloc(), Some(fails)))?;
-        assert!(rt; lives_on(&mut edge), "at {fails}");
-        assert!(rt;
-            ask(&mut edge, 1, Call::Leave) == Some(Answer::MasterGone),
-            "at {fails}"
-        );
+        let family = Recorded::new(alloc, Some(fails));
+        assert!(rt; leaves_at_last(alloc, family)?, "at {fails}");
     }
     Ok(())
 }

@@ -1,4 +1,4 @@
-//! Tests of children: a family in memory, which tells its calls, and processes of the system.
+//! Tests of edges, over children in memory and over processes of the system.
 #![tactic(auto)]
 
 #[cfg(test)]
@@ -7,13 +7,9 @@ mod closings;
 mod edges;
 #[cfg(test)]
 mod lives;
-mod obeying;
 #[cfg(test)]
 mod plans;
 #[cfg(test)]
 mod processes;
-mod recorded;
 #[cfg(test)]
 mod setup;
-
-pub use recorded::{FamilyCall, Recorded};

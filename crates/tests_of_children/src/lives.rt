@@ -1,16 +1,15 @@
-//! What an edge hears of one worker in its life, where that is a shell on a script.
-use crate::setup::{Dialogue, FIRST, ask, below, edge_of, first_wrong, start};
+//! What an edge hears of one worker in its life, and what comes of calls, where children are processes of the system.
+use crate::setup::{
+    Countable, Dialogue, FIRST, FamilyTrial, ask, below, edge_of, first_wrong, start, tried,
+};
 use child_edge::Edge;
 use child_family::Family;
-use child_processes::OsFamily;
 use listener_set::Numbers;
-use log::sink::Discard;
+use std::alloc::Global;
+use std::process::Abort;
 use std::test::Fail;
 use tests_of_processes::worker;
 use vocabulary::{Answer, Call};
-
-/// An edge over processes of the system.
-type OsEdge<'a> = Edge<OsFamily<&'a HostRuntime, Discard>>;
 
 /// What an edge hears of one worker in its life, and how many processes are left then.
 #[derive(Clone, Copy)]
@@ -66,60 +65,76 @@ pub(crate) struct Case {
     pub(crate) gone: Answer,
 }
 
-/// Whether a worker was ready, and then heard as a case says.
+/// Whether a worker that was ready was heard as a case says.
 fn is_heard_as(life: &Life, case: &Case) -> bool {
-    life.ready == Some(Answer::IsReady)
-        && life.has_beats(case.beats)
-        && life.is_counted(case.counted)
-        && life.gone == Some(case.gone)
+    life.has_beats(case.beats) && life.is_counted(case.counted) && life.gone == Some(case.gone)
 }
 
-/// An edge whose workers run a command, and whose masters a program.
-fn edge_running<'a>(
-    rt: &'a HostRuntime,
-    program: &str,
-    command: &[String],
-) -> Result<OsEdge<'a>, Fail> {
-    let family = OsFamily::new(rt.alloc(), rt, program, command)?;
-    Ok(edge_of(rt.alloc(), family)?)
-}
-
-/// An edge whose workers are shells that do something at a word.
-pub(crate) fn edge_on<'a>(
-    rt: &'a HostRuntime,
+/// What comes of a trial where workers are shells that do something at a word.
+pub(crate) fn tried_on<T: FamilyTrial>(
+    rt: &HostRuntime,
     word: &str,
     instead: &str,
-) -> Result<OsEdge<'a>, Fail> {
+    trial: &T,
+) -> Result<T::Found, Fail> {
     let command = worker(rt.alloc(), word, instead)?;
-    edge_running(rt, "none", command.as_slice())
+    tried(rt, "none", command.as_slice(), trial)
 }
 
-/// An edge whose workers and masters run a program.
-fn edge_over<'a>(rt: &'a HostRuntime, program: &str) -> Result<OsEdge<'a>, Fail> {
-    let command: Vec<String> = Vec::new(rt.alloc());
-    edge_running(rt, program, command.as_slice())
+/// The life of a worker, and what is left of it.
+#[derive(Clone, Copy)]
+struct OneLife;
+
+impl FamilyTrial for OneLife {
+    type Found = Life;
+
+    fn on<F: Countable>(&self, alloc: Global, family: F) -> Result<Life, Fail> {
+        let mut edge = edge_of(alloc, family)?;
+        let life = live(&mut edge);
+        Ok(Life {
+            left: edge.family().left(),
+            ..life
+        })
+    }
 }
 
 /// The life of a worker that does something at a word.
 pub(crate) fn life_of(rt: &HostRuntime, word: &str, instead: &str) -> Result<Life, Fail> {
-    let mut edge = edge_on(rt, word, instead)?;
-    let life = live(&mut edge);
-    Ok(Life {
-        left: edge.family().count(),
-        ..life
-    })
+    tried_on(rt, word, instead, &OneLife)
 }
 
-/// Whether a worker that does as a case says is heard as it says, and leaves no process.
+/// Whether a worker that does as a case says is ready, heard as it says, and leaves no process.
 pub(crate) fn is_met(rt: &HostRuntime, case: &Case) -> Result<bool, Fail> {
-    let mut edge = edge_on(rt, case.word, case.instead)?;
-    let life = live(&mut edge);
-    Ok(is_heard_as(&life, case) && edge.family().count() == 0)
+    let life = life_of(rt, case.word, case.instead)?;
+    Ok(life.ready == Some(Answer::IsReady) && is_heard_as(&life, case) && life.left == 0)
 }
 
 /// What comes of calls: the place of the first that is answered in another way, where there is one, and how many
 /// processes are left.
 pub(crate) type Carried = (Option<usize>, usize);
+
+/// What comes of calls, where a new master is handed a text.
+#[derive(Clone, Copy)]
+struct Carry<'a> {
+    text: &'a [u8],
+    calls: Dialogue<'a>,
+}
+
+impl FamilyTrial for Carry<'_> {
+    type Found = Carried;
+
+    fn on<F: Countable>(&self, alloc: Global, family: F) -> Result<Carried, Fail> {
+        let mut edge = edge_of(alloc, family)?;
+        edge.reserve(20, self.text)?;
+        let wrong = first_wrong(&mut edge, self.calls);
+        Ok((wrong, edge.family().left()))
+    }
+}
+
+/// Stops the test where a call was answered in another way, or a process is left.
+pub(crate) fn check_carried(rt: &impl Abort, carried: Carried, place: &str) {
+    assert_eq!(rt; carried, (None, 0), "at {place}");
+}
 
 /// What comes of calls where workers are shells that do something at a word.
 pub(crate) fn carried_on(
@@ -128,9 +143,7 @@ pub(crate) fn carried_on(
     instead: &str,
     calls: Dialogue,
 ) -> Result<Carried, Fail> {
-    let mut edge = edge_on(rt, word, instead)?;
-    let wrong = first_wrong(&mut edge, calls);
-    Ok((wrong, edge.family().count()))
+    tried_on(rt, word, instead, &Carry { text: &[], calls })
 }
 
 /// What comes of calls where workers and masters run a program, and a new master is handed a text.
@@ -140,8 +153,5 @@ pub(crate) fn carried_over(
     text: &[u8],
     calls: Dialogue,
 ) -> Result<Carried, Fail> {
-    let mut edge = edge_over(rt, program)?;
-    edge.reserve(20, text)?;
-    let wrong = first_wrong(&mut edge, calls);
-    Ok((wrong, edge.family().count()))
+    tried(rt, program, &[], &Carry { text, calls })
 }

@@ -1,9 +1,10 @@
 //! Plans carried out on children in memory, of which each call fails in turn.
 ghost use Rattle.definitions.specs.Target.{IsTarget};
 
-use crate::recorded::{FamilyCall, Recorded};
-use crate::setup::ask;
+use crate::setup::{Telling, ask};
 use child_edge::Edge;
+use child_family::Family;
+use child_recorder::{FamilyCall, Recorded};
 use listener_set::Numbers;
 use plan_walk::{Calls, Transcript, Turns, execute};
 use service_state::Record;
@@ -25,9 +26,9 @@ fn by_turns(alloc: Global, count: u32) -> Result<[Turns; 2], Fail> {
 }
 
 /// Carries a target out under turns. Gives what the master knows then, or none where nothing runs.
-fn carry_out(
+fn carry_out<F: Family + Drop>(
     alloc: Global,
-    edge: &mut Edge<Recorded>,
+    edge: &mut Edge<F>,
     known: &Record,
     target: &Target,
     turns: &Turns,
@@ -84,15 +85,15 @@ fn told(calls: &[FamilyCall], id: u32) -> usize {
 }
 
 /// Whether the edge's own master has left. Whoever runs then can be lost.
-fn has_left(edge: &mut Edge<Recorded>) -> Result<bool, Fail> {
+fn has_left<F: Family + Drop>(edge: &mut Edge<F>) -> Result<bool, Fail> {
     edge.reserve(1, &[])?;
     Ok(ask(edge, 1, Call::Adopt) == Some(Answer::MasterGone))
 }
 
 /// Starts two workers under turns. Gives what the master knows then.
-fn start_two(
+fn start_two<F: Family + Drop>(
     alloc: Global,
-    edge: &mut Edge<Recorded>,
+    edge: &mut Edge<F>,
     known: Record,
     turns: &Turns,
 ) -> Result<(Outcome, Record), Fail> {
@@ -102,9 +103,9 @@ fn start_two(
 
 /// How a change under turns ends, where a call of the family fails. A run that is lost once the edge's own master has
 /// left counts as done.
-fn outcome(
+fn outcome<F: Telling>(
     alloc: Global,
-    edge: &mut Edge<Recorded>,
+    edge: &mut Edge<F>,
     known: &Record,
     change: &Target,
     turns: &Turns,
@@ -112,7 +113,7 @@ fn outcome(
     requires { IsTarget change.now }
 {
     let (changed, next) = carry_out(alloc, edge, known, change, turns)?;
-    if !hears_no_answer_twice(edge.family().calls()) {
+    if !hears_no_answer_twice(edge.family().calls_told()) {
         return Ok(Outcome::Lost);
     }
     if changed == Outcome::Lost && has_left(edge)? {
@@ -124,17 +125,17 @@ fn outcome(
     Ok(changed)
 }
 
-/// How a start of two workers and a change of them under turns end, where a call of the family fails.
-fn outcomes(
+/// How a start of two workers and a change of them under turns end.
+fn outcomes<F: Telling>(
     alloc: Global,
+    family: F,
     change: &Target,
     turns: &Turns,
-    fails: Option<usize>,
 ) -> Result<[Outcome; 2], Fail>
     requires { IsTarget change.now }
 {
     let known = Record::start(&Settings::plain(), 0, &Numbers::none(), 100);
-    let mut edge = Edge::new(alloc, Recorded::new(alloc, fails), &known, 0)?;
+    let mut edge = Edge::new(alloc, family, &known, 0)?;
     let (started, known) = start_two(alloc, &mut edge, known, turns)?;
     Ok([started, outcome(alloc, &mut edge, &known, change, turns)?])
 }
@@ -149,7 +150,7 @@ fn carries_targets_out(rt: HostRuntime) -> Result<(), Fail> {
         Target::Stop { quick: false },
     ] {
         for turns in &by_turns(alloc, 4)? {
-            let ended = outcomes(alloc, change, turns, None)?;
+            let ended = outcomes(alloc, Recorded::new(alloc, None), change, turns)?;
             assert!(rt; ended == [Outcome::Done, Outcome::Done]);
         }
     }
@@ -165,7 +166,8 @@ fn no_failing_call_loses_a_master(rt: HostRuntime) -> Result<(), Fail> {
     ] {
         for turns in &by_turns(alloc, 13)? {
             for fails in 0..40 {
-                let ended = outcomes(alloc, change, turns, Some(fails))?;
+                let family = Recorded::new(alloc, Some(fails));
+                let ended = outcomes(alloc, family, change, turns)?;
                 assert!(rt;
                     ended[0] != Outcome::Lost && ended[1] != Outcome::Lost,
                     "at {fails}"

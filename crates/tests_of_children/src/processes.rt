@@ -1,9 +1,11 @@
 //! Edges over processes of the system. Each child ends with its input, or is stopped by the edge.
-use crate::lives::{Case, Life, carried_over, edge_on, is_met, life_of};
-use crate::setup::{FIRST, ask, below, both_beat, counts, start};
+use crate::lives::{Case, Life, carried_over, check_carried, is_met, life_of, tried_on};
+use crate::setup::{Countable, FIRST, FamilyTrial, ask, below, both_beat, counts, edge_of, start};
 use child_edge::Edge;
 use child_family::Family;
 use listener_set::FilePath;
+use plan_walk::Calls;
+use std::alloc::Global;
 use std::process;
 use std::test::Fail;
 use vocabulary::{Answer, Call};
@@ -17,12 +19,12 @@ const FAULTS: [&str; 4] = [
 ];
 
 /// Starts the workers 0 and 1.
-fn start_two<F: Family + Drop>(edge: &mut Edge<F>) -> bool {
+fn start_two<C: Calls>(edge: &mut C) -> bool {
     start(edge, 0) == Some(Answer::IsReady) && start(edge, 1) == Some(Answer::IsReady)
 }
 
 /// Whether a worker ends as it is told to.
-fn quits<F: Family + Drop>(edge: &mut Edge<F>, nr: u32) -> bool {
+fn quits<C: Calls>(edge: &mut C, nr: u32) -> bool {
     ask(edge, 1, Call::Quit(FIRST, nr)) == Some(Answer::Fine)
         && ask(edge, 1, Call::AwaitGone(FIRST, nr)) == Some(Answer::Gone)
 }
@@ -32,13 +34,40 @@ fn both_beat_twice<F: Family + Drop>(edge: &mut Edge<F>) -> bool {
     both_beat(edge, 7) && both_beat(edge, 8) && counts(edge, 2)
 }
 
+/// What comes of two workers, and how many processes are left then.
+#[derive(Clone, Copy)]
+struct Two {
+    are_ready: bool,
+    have_beaten: bool,
+    have_quit: bool,
+    left: usize,
+}
+
+/// Two workers that start, beat at two ticks, and quit.
+#[derive(Clone, Copy)]
+struct TwoLives;
+
+impl FamilyTrial for TwoLives {
+    type Found = Two;
+
+    fn on<F: Countable>(&self, alloc: Global, family: F) -> Result<Two, Fail> {
+        let mut edge = edge_of(alloc, family)?;
+        Ok(Two {
+            are_ready: start_two(&mut edge),
+            have_beaten: both_beat_twice(&mut edge),
+            have_quit: quits(&mut edge, 0) && quits(&mut edge, 1),
+            left: edge.family().left(),
+        })
+    }
+}
+
 #[test]
 fn two_children_answer_two_ticks(rt: HostRuntime) -> Result<(), Fail> {
-    let mut edge = edge_on(&rt, "none", "exit 1")?;
-    assert!(rt; start_two(&mut edge));
-    assert!(rt; both_beat_twice(&mut edge));
-    assert!(rt; quits(&mut edge, 0) && quits(&mut edge, 1));
-    assert_eq!(rt; edge.family().count(), 0);
+    let two = tried_on(&rt, "none", "exit 1", &TwoLives)?;
+    assert!(rt; two.are_ready);
+    assert!(rt; two.have_beaten);
+    assert!(rt; two.have_quit);
+    assert_eq!(rt; two.left, 0);
     Ok(())
 }
 
@@ -166,7 +195,8 @@ const MISSING: [(u32, Call, Answer); 2] = [
 
 #[test]
 fn tells_a_missing_program(rt: HostRuntime) -> Result<(), Fail> {
-    assert_eq!(rt; carried_over(&rt, "/none/such", &[], &MISSING)?, (None, 0));
+    let carried = carried_over(&rt, "/none/such", &[], &MISSING)?;
+    check_carried(&rt, carried, "/none/such");
     Ok(())
 }
 
@@ -182,21 +212,27 @@ const GONE: [(u32, Call, Answer); 4] = [
 fn a_master_that_ends_is_gone(rt: HostRuntime) -> Result<(), Fail> {
     // there is no script `adopt`
     for calls in [&GONE[..2], &GONE] {
-        assert_eq!(rt; carried_over(&rt, "sh", b"end\n", calls)?, (None, 0));
+        let carried = carried_over(&rt, "sh", b"end\n", calls)?;
+        check_carried(&rt, carried, "sh");
     }
     Ok(())
+}
+
+/// The path of a text.
+fn path_of(text: &[u8]) -> Result<FilePath, Fail> {
+    Ok(FilePath::read(text)?)
 }
 
 /// A path of a file that no other run of the tests writes.
 fn own_path(rt: &HostRuntime) -> Result<FilePath, Fail> {
     let name = format!(in rt.alloc(); "/tmp/prefork-{}.pid", process::id(rt.process()))?;
-    Ok(FilePath::read(name.as_bytes())?)
+    path_of(name.as_bytes())
 }
 
 #[test]
 fn writes_and_moves_files(rt: HostRuntime) -> Result<(), Fail> {
     let path = own_path(&rt)?;
-    let nowhere = FilePath::read(b"/none/such/a.pid")?;
+    let nowhere = path_of(b"/none/such/a.pid")?;
     let calls = [
         (1, Call::WritePid(path), Answer::Fine),
         (1, Call::MovePid(path, nowhere), Answer::IoFault),
@@ -204,6 +240,7 @@ fn writes_and_moves_files(rt: HostRuntime) -> Result<(), Fail> {
         (1, Call::RemovePid(path), Answer::IoFault),
         (1, Call::WritePid(nowhere), Answer::IoFault),
     ];
-    assert_eq!(rt; carried_over(&rt, "none", &[], &calls)?, (None, 0));
+    let carried = carried_over(&rt, "none", &[], &calls)?;
+    check_carried(&rt, carried, "none");
     Ok(())
 }

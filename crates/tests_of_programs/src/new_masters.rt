@@ -3,10 +3,10 @@ use crate::piped::{Output, joined, lines_in, long_line, master_says, serve_new_m
 use call_text::{read_answer, read_call};
 use child_family::{Heard, Role};
 use child_programs::ServedMaster;
+use child_recorder::{FamilyCall, Recorded};
 use listener_set::Generation;
 use std::alloc::{AllocError, Global};
 use std::test::Fail;
-use tests_of_children::{FamilyCall, Recorded};
 
 /// What an old master hands over, line by line.
 const HANDOVER: [&[u8]; 8] = [

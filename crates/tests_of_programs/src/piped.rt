@@ -1,9 +1,9 @@
 //! Programs on pipes, over bytes.
 use child_programs::{ServedMaster, serve_master, serve_worker};
+use child_recorder::Recorded;
 use std::alloc::{AllocError, Global};
 use std::io;
 use std::io::{ErrorKind, Read, Write};
-use tests_of_children::Recorded;
 
 /// An input that gives one byte at a time.
 #[derive(Drop)]

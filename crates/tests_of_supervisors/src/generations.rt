@@ -1,9 +1,9 @@
 //! Children in memory of which a new master can start the next one.
 use child_family::{Family, Heard, Role, StartFault};
+use child_recorder::Recorded;
 use listener_set::FilePath;
 use plain_text::Line;
 use std::alloc::Global;
-use tests_of_children::Recorded;
 
 /// Children that obey. A master also answers the calls of an upgrade that it carries out itself.
 #[derive(Drop)]

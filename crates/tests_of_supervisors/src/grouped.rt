@@ -1,11 +1,11 @@
 //! A master whose workers are in two groups: what it writes, read back and held against a modelled kernel.
 use crate::setup::{Always, are_certified};
+use child_recorder::Recorded;
 use listener_set::{Address, ListenerSet};
 use log::sink::Discard;
 use master_on_children::{Operator, SupervisorStart, supervise_on};
 use std::alloc::{AllocError, Global};
 use std::test::Fail;
-use tests_of_children::Recorded;
 use transcript::{read_transcripts, write_transcript};
 use vocabulary::{Outcome, Settings, Side};
 use word_runner::{Block, Body};

@@ -1,13 +1,13 @@
 //! Upgrades that lose an old worker while the new master starts, carried out on children in memory.
 use crate::setup::{Always, could_be_up_to_a_loss, ticked};
 use child_family::{Family, Heard, Role, StartFault};
+use child_recorder::Recorded;
 use listener_set::FilePath;
 use log::sink::Discard;
 use master_on_children::{Operator, SupervisorFault, SupervisorStart, supervise_on};
 use plain_text::Line;
 use std::alloc::Global;
 use std::test::Fail;
-use tests_of_children::Recorded;
 use vocabulary::Settings;
 
 /// Children that obey, but for the first worker that is asked whether it lives once a master was started: it is gone.

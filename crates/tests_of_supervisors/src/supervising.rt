@@ -2,6 +2,7 @@
 use crate::setup::{
     FIRST_QUITS, FIRST_TICK, are_lines, could_be_up_to_a_loss, joined, ticked, times,
 };
+use child_recorder::{FamilyCall, Recorded};
 use listener_set::FilePath;
 use log::sink::{Discard, Memory};
 use log::{LevelFilter, Log, Logged};
@@ -11,7 +12,6 @@ use master_on_children::{
 use std::alloc::{AllocError, Global};
 use std::io::{Error as IoError, ErrorKind, Read, Result as IoResult, Write};
 use std::test::Fail;
-use tests_of_children::{FamilyCall, Recorded};
 use vocabulary::Settings;
 use word_runner::CodeText;
 use worker_groups::Groups;

@@ -31,7 +31,7 @@ pub struct Recorded {
 impl Recorded {
     ghost use Rattle.std.specs.Prelude.{◌≡◌, []};
     ghost use Rattle.child_family.specs.Told.{Tells};
-    ghost use Rattle.tests_of_children.specs.Recorded.{told_of, calls_of};
+    ghost use Rattle.child_recorder.specs.Recorded.{told_of, calls_of};
 
     /// No children, and no calls yet. The call of that number, counted from 0, fails.
     pub fn new(alloc: Global, fails: Option<usize>) -> Recorded
@@ -66,7 +66,7 @@ impl Recorded {
 }
 
 impl Family for Recorded {
-    ghost use Rattle.tests_of_children.specs.Recorded.{calls_of};
+    ghost use Rattle.child_recorder.specs.Recorded.{calls_of};
 
     ghost told = { calls_of };
 

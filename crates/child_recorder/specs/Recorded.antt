@@ -1,8 +1,8 @@
 -- What a family in memory tells.
 use Rattle.std.specs.Prelude.{List, map, Option, Some, None, if◌then◌else◌}
-use Rattle.tests_of_children.specs.declared.recorded.FamilyCall.{FamilyCall}
-use Rattle.tests_of_children.specs.declared.recorded.FamilyCall.TheVariants.{Started, Said, HeardLine, Stopped, Awaited, Wrote, Renamed, Removed}
-use Rattle.tests_of_children.specs.declared.recorded.Recorded.{Recorded}
+use Rattle.child_recorder.specs.declared.recorded.FamilyCall.{FamilyCall}
+use Rattle.child_recorder.specs.declared.recorded.FamilyCall.TheVariants.{Started, Said, HeardLine, Stopped, Awaited, Wrote, Renamed, Removed}
+use Rattle.child_recorder.specs.declared.recorded.Recorded.{Recorded}
 use Rattle.child_family.specs.Told.{Told, heard_of, started, said, heard, stopped, awaited, wrote, renamed, removed}
 
 abbrev pub told_of : FamilyCall → Told
