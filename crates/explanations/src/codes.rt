@@ -40,15 +40,29 @@ pub fn meaning_of(code: &str) -> Option<Explanation> {
 }
 
 fn meaning_of_fault(code: &str) -> Option<Explanation> {
-    explanation_of(&FAULTS, code)
+    explanation_of(fault_pages(), code)
 }
 
 fn meaning_of_word(code: &str) -> Option<Explanation> {
-    explanation_of(&WORDS, code)
+    explanation_of(word_pages(), code)
 }
 
 fn meaning_of_answer(code: &str) -> Option<Explanation> {
-    explanation_of(&ANSWERS, code)
+    explanation_of(answer_pages(), code)
+}
+
+// A function that names a table has all its sentences in its code, and takes long to prove: one function names it.
+
+fn fault_pages() -> &'static [Explanation] {
+    &FAULTS
+}
+
+fn word_pages() -> &'static [Explanation] {
+    &WORDS
+}
+
+fn answer_pages() -> &'static [Explanation] {
+    &ANSWERS
 }
 
 /// A line for each.
@@ -61,15 +75,15 @@ fn list(alloc: Global) -> Result<Vec<u8>, AllocError> {
 }
 
 fn put_faults(text: &mut Vec<u8>) -> Result<(), AllocError> {
-    put_lines(text, &FAULTS)
+    put_lines(text, fault_pages())
 }
 
 fn put_words(text: &mut Vec<u8>) -> Result<(), AllocError> {
-    put_lines(text, &WORDS)
+    put_lines(text, word_pages())
 }
 
 fn put_answers(text: &mut Vec<u8>) -> Result<(), AllocError> {
-    put_lines(text, &ANSWERS)
+    put_lines(text, answer_pages())
 }
 
 fn put_lines(text: &mut Vec<u8>, explanations: &[Explanation]) -> Result<(), AllocError> {
