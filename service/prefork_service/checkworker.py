@@ -16,7 +16,6 @@ import signal
 import socket
 import struct
 import subprocess
-import sys
 import tempfile
 import threading
 import time
@@ -47,7 +46,7 @@ def free_address() -> str:
 
 
 def first_line(address: str, path: str, seconds: float) -> str:
-    """The first line of an answer, read to its end; or why there is none."""
+    """Asks for a page, and gives the first line of the answer, or the fault."""
     try:
         return line_of(asked(address, path, seconds))
     except OSError as fault:
@@ -63,7 +62,7 @@ def asked(address: str, path: str, seconds: float) -> socket.socket:
 
 
 def line_of(connection: socket.socket) -> str:
-    """The first line of an answer, which is read to its end; or why there is none."""
+    """Reads an answer to its end, and gives its first line, or the fault."""
     got = b""
     with connection:
         try:

@@ -1,7 +1,4 @@
 """prefork-wsgi: a worker that serves a WSGI application."""
-import os
-import pathlib
-import signal
 import socket
 import subprocess
 import threading
@@ -9,7 +6,7 @@ import time
 import unittest
 
 from kit import BIN, PROGRAMS, WorkerTest, answer_of, free_address, until
-from prefork_service.conversation import END, NOTHING
+from prefork_service.conversation import END
 
 
 def python_with_waitress() -> str | None:
