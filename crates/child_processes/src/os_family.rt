@@ -12,7 +12,7 @@ use std::alloc::{AllocError, Global};
 use std::io;
 use std::io::ErrorKind;
 use std::os::fd::AsRawFd;
-use std::process::{Command, OpenProcess, Processes, Stdio};
+use std::process::{Child, Command, OpenProcess, Processes, Stdio};
 use std::rt::Files;
 use std::time::{Clock, Duration};
 
@@ -157,37 +157,30 @@ where
         Ok(())
     }
 
-    fn spawn(&mut self, role: &Role) -> io::Result<Open<R::Started>> {
-        let mut command = self.command_of(role)?;
-        command.stdin(Stdio::piped());
-        command.stdout(Stdio::piped());
-        let mut child = command.spawn(&self.watch.rt)?;
-        match child.stdout.take() {
-            Some(stdout) => {
-                let told_at = match child.stdin.as_ref() {
-                    Some(stdin) => stdin.as_raw_fd(),
-                    None => -1,
-                };
-                if self.watch.limits.answer > 0 {
-                    os::set_nonblocking(told_at, true);
-                }
-                Ok(Open {
-                    child,
-                    role: *role,
-                    said_at: stdout.as_raw_fd(),
-                    told_at,
-                    heard: LineReader::new(stdout),
-                    told_to_quit: false,
-                    has_spoken: false,
-                    is_killed: false,
-                    asked: self.watch.waited,
-                })
-            }
-            None => {
-                let _ = child.kill();
-                let _ = child.wait();
-                Err(io::Error::from(ErrorKind::BrokenPipe))
-            }
+    /// A child that was started, of which nothing was heard. It says its lines there.
+    fn opened(
+        &self,
+        child: Child<R::Started>,
+        stdout: <R::Started as OpenProcess>::Stdout,
+        role: &Role,
+    ) -> Open<R::Started> {
+        let told_at = match child.stdin.as_ref() {
+            Some(stdin) => stdin.as_raw_fd(),
+            None => -1,
+        };
+        if self.watch.limits.answer > 0 {
+            os::set_nonblocking(told_at, true);
+        }
+        Open {
+            child,
+            role: *role,
+            said_at: stdout.as_raw_fd(),
+            told_at,
+            heard: LineReader::new(stdout),
+            told_to_quit: false,
+            has_spoken: false,
+            is_killed: false,
+            asked: self.watch.waited,
         }
     }
 
@@ -324,7 +317,20 @@ where
         let Ok(id) = u32::try_from(place) else {
             return Err(StartFault::Again);
         };
-        let open = self.spawn(role).map_err(|error| fault_of(&error))?;
+        let Ok(mut command) = self.command_of(role) else {
+            return Err(StartFault::NoMemory);
+        };
+        command.stdin(Stdio::piped());
+        command.stdout(Stdio::piped());
+        let mut child = command
+            .spawn(&self.watch.rt)
+            .map_err(|error| fault_of(&error))?;
+        let Some(stdout) = child.stdout.take() else {
+            let _ = child.kill();
+            let _ = child.wait();
+            return Err(StartFault::Again);
+        };
+        let open = self.opened(child, stdout, role);
         if place < self.children.len() {
             self.children[place] = Some(open);
         } else if self.children.push(Some(open)).is_err() {

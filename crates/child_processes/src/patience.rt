@@ -35,10 +35,47 @@ pub(crate) enum Wait {
     ToWrite(i32),
 }
 
+/// What says how long something is waited for.
+pub(crate) trait Waits {
+    /// Waits until there is something; false where it takes too long.
+    fn lasts(&mut self) -> bool;
+}
+
+/// A wait that takes as long as it takes.
+#[derive(Drop)]
+pub(crate) struct Forever;
+
+impl Waits for Forever {
+    fn lasts(&mut self) -> bool {
+        true
+    }
+}
+
+/// A wait for a descriptor, while the patience for it lasts.
+#[derive(Drop)]
+pub(crate) struct Awaited<'a, R> {
+    patience: Patience<'a, R>,
+    wait: Wait,
+}
+
+impl<R: Clock> Waits for Awaited<'_, R> {
+    fn lasts(&mut self) -> bool {
+        self.patience.lasts(self.wait)
+    }
+}
+
 impl<'a, R: Clock> Patience<'a, R> {
     /// It ends once the master has waited for so long.
     pub(crate) fn new(rt: &'a R, waited: &'a mut Duration, end: Duration) -> Patience<'a, R> {
         Patience { rt, waited, end }
+    }
+
+    /// The wait for a descriptor, for as long as this lasts.
+    pub(crate) fn awaiting(self, wait: Wait) -> Awaited<'a, R> {
+        Awaited {
+            patience: self,
+            wait,
+        }
     }
 
     /// How much of it is left.

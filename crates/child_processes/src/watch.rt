@@ -91,7 +91,7 @@ impl<R: Clock + Drop, L: Log + Drop> Watch<R, L> {
             return false;
         };
         let is_said = match self.patience(Debt::Room, since) {
-            Some(mut patience) => write_in_time(stdin, whole, &mut patience, wait),
+            Some(patience) => write_in_time(stdin, whole, &mut patience.awaiting(wait)),
             None => stdin.write_all(whole),
         };
         open.asked = self.waited;
@@ -115,17 +115,18 @@ impl<R: Clock + Drop, L: Log + Drop> Watch<R, L> {
         let debt = open.debt();
         let wait = Wait::ToRead(open.said_at);
         let heard = match self.patience(debt, open.asked) {
-            Some(mut patience) => open.heard.hear_in_time(line, &mut patience, wait),
-            None => open.heard.hear(line).map(Some),
+            Some(patience) => open.heard.hear_within(line, &mut patience.awaiting(wait)),
+            None => open.heard.hear(line),
         };
         open.has_spoken = true;
         match heard {
-            Ok(Some(heard)) => heard,
-            Ok(None) => {
-                self.give_up(open, debt);
+            Ok(heard) => heard,
+            Err(error) => {
+                if error.kind() == ErrorKind::TimedOut {
+                    self.give_up(open, debt);
+                }
                 Heard::Ended
             }
-            Err(_) => Heard::Ended,
         }
     }
 

@@ -1,10 +1,9 @@
 //! Lines and files, written.
-use crate::patience::{Patience, Wait};
+use crate::patience::Waits;
 use listener_set::FilePath;
 use plain_text::{LINE_BYTES, Line};
 use std::io::{ErrorKind, Write};
 use std::rt::Files;
-use std::time::Clock;
 use std::{fs, io, str};
 
 /// Puts a line and its newline in one piece.
@@ -22,11 +21,10 @@ pub(crate) fn whole_line<'a>(
 
 /// Writes a whole line to a pipe that does not wait. Where there is no room for too long, it is refused with `WouldBlock`;
 /// a part of the line may have been written then.
-pub(crate) fn write_in_time<W: Write, R: Clock>(
-    to: &mut W,
+pub(crate) fn write_in_time<T: Write, W: Waits>(
+    to: &mut T,
     line: &[u8],
-    patience: &mut Patience<'_, R>,
-    wait: Wait,
+    wait: &mut W,
 ) -> io::Result<()> {
     let mut left = line;
     for _ in 0..u64::MAX {
@@ -38,7 +36,7 @@ pub(crate) fn write_in_time<W: Write, R: Clock>(
             Ok(count) => left = left.get(count..).unwrap_or(&[]),
             Err(error) if error.kind() == ErrorKind::Interrupted => {}
             Err(error) if error.kind() == ErrorKind::WouldBlock => {
-                if !patience.lasts(wait) {
+                if !wait.lasts() {
                     return Err(error);
                 }
             }

@@ -1,6 +1,6 @@
 use Rattle.std.specs.Io.KnownBytes.{Keeps}
 use Rattle.child_processes.specs.NextLine.{unheard}
-use Rattle.child_processes.proofs.reader.LineReader.hear_in_time.Given as goal
+use Rattle.child_processes.proofs.reader.LineReader.hear_within.Given as goal
 
 -- no line was told yet, and no byte was lost
 abbrev pub invariant-loop : goal.invariant-loop
