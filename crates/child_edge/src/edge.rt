@@ -6,7 +6,7 @@ ghost use Rattle.vocabulary.specs.declared.reports.Entry.{Entry};
 ghost use Rattle.child_family.specs.Told.{Told};
 ghost use Rattle.child_family.specs.Talk.{Held};
 ghost use Rattle.child_edge.specs.State.{State, state_of};
-ghost use Rattle.child_edge.specs.Table.{answers, turn_of, tick_turn, reigning_tick};
+ghost use Rattle.child_edge.specs.Table.{answers, turn_of, reigning_tick};
 ghost use Rattle.child_edge.specs.EdgeLemmas.{CallsHeld-none};
 ghost use Rattle.child_edge.specs.Edge.{begun, begun_by, begun_from, start_of, start_after, CallsHeld};
 ghost use Rattle.child_edge.specs.Turns.{GoesOn};
@@ -155,16 +155,9 @@ impl<F: Family + Drop> Edge<F> {
         Ok(())
     }
 
-    /// Tells each ready worker the moment, and then hears each. Gives the numbers of those that beat then.
-    pub fn tick(&mut self, now: u64) -> Numbers
-        ensures turn { Held (F.told self.old.family) (F.told self.new.family) (tick_turn (state_of self.old.state) now) (state_of self.new.state, Counted result) }
-        ensures room { self.new.room ≡ self.old.room }
-    {
-        tick(&mut self.family, &mut self.state, now)
-    }
-
-    /// Ticks the workers of the master that reigns: its own, or those of its child master once it has left itself. Gives
-    /// the numbers of those that beat then. A child master that does not count them is stopped.
+    /// Ticks the workers of the master that reigns: its own, or those of its child master once it has left itself. Each that
+    /// is ready is told the moment, and then each is heard. Gives the numbers of those that beat then. A child master that
+    /// does not count them is stopped.
     pub fn tick_reigning(&mut self, now: u64) -> Numbers
         ensures turn { Held (F.told self.old.family) (F.told self.new.family) (reigning_tick (state_of self.old.state) now) (state_of self.new.state, Counted result) }
         ensures room { self.new.room ≡ self.old.room }
@@ -172,7 +165,9 @@ impl<F: Family + Drop> Edge<F> {
         if self.state.left {
             return passing::pass_tick(&mut self.family, &mut self.state, now);
         }
-        tick(&mut self.family, &mut self.state, now)
+        let workers = &mut self.state.workers;
+        say_each(&mut self.family, workers, Who::IsReady, tick_line(now).bytes());
+        beat_each(&mut self.family, workers, now)
     }
 
     /// The start that the last beat of a worker's number named.
@@ -203,14 +198,6 @@ fn start_of(workers: &[Worker], nr: u32) -> Option<u32>
         }
     }
     found
-}
-
-fn tick<F: Family>(family: &mut F, state: &mut EdgeState, now: u64) -> Numbers
-    ensures turn { GoesOn (F.told family.old) (F.told family.new) (tick_turn (state_of state.old) now) (answers (state_of state.new) (Counted result)) }
-    ensures spare { vec_capacity state.old.workers - vec_len state.old.workers ≤ vec_capacity state.new.workers - vec_len state.new.workers }
-{
-    say_each(family, &state.workers, Who::IsReady, tick_line(now).bytes());
-    beat_each(family, &mut state.workers, now)
 }
 
 impl<F: Family + Drop> Calls for Edge<F> {

@@ -1,7 +1,7 @@
 //! The configuration of a file.
 ghost use Rattle.std.specs.Prelude.{◌≡◌, IfOk, IfErr, option_map};
 ghost use Rattle.std.specs.IoError.{error_kind};
-ghost use Rattle.master_config.specs.Files.{AreNamed, IsConfigured, IsMisread, IsNamed, IsOfKind, IsRefusalOf, IsUnread};
+ghost use Rattle.master_config.specs.Files.{AreNamed, IsNamed, IsOfKind, IsRefusalOf, IsUnread};
 
 use crate::{Config, ConfigRefusal, read};
 use std::alloc::Global;
@@ -31,15 +31,6 @@ pub fn text_in<R: AllocGlobal + Files>(rt: &R, path: &str) -> Result<Vec<u8>, Co
     Ok(fs::read(rt, path)?)
 }
 
-/// The configuration of a file.
-fn read_file<R: AllocGlobal + Files>(rt: &R, path: &str) -> Result<Config, ConfigRefusal>
-    ensures ok { IfOk result IsConfigured }
-    ensures err { IfErr result IsMisread }
-{
-    let text = text_in(rt, path)?;
-    read(rt.alloc(), text.as_slice())
-}
-
 /// The configuration of a file, or the defaults where none is named.
 pub fn config_in<R: AllocGlobal + Files>(
     rt: &R,
@@ -49,7 +40,10 @@ pub fn config_in<R: AllocGlobal + Files>(
     ensures err { IfErr result (IsRefusalOf (option_map (λ text. text.now) path.entry)) }
 {
     match path {
-        Some(path) => read_file(rt, path),
+        Some(path) => {
+            let text = text_in(rt, path)?;
+            read(rt.alloc(), text.as_slice())
+        }
         None => Ok(Config::plain(rt.alloc())),
     }
 }
@@ -64,7 +58,7 @@ pub fn settings_in<R: AllocGlobal + Files>(
     ensures err { IfErr result (IsRefusalOf (option_map (λ text. text.now) path.entry)) }
 {
     match path {
-        Some(path) => Ok(read_file(rt, path)?.settings),
+        Some(_) => Ok(config_in(rt, path)?.settings),
         None => Ok(without),
     }
 }

@@ -1,5 +1,5 @@
 -- Faults of a supervisor, as they are printed.
-use Rattle.std.specs.Prelude.{ℕ, ◌≡◌, ◌≢◌, ◌⊎◌, List, Result, Ok, Err, codes}
+use Rattle.std.specs.Prelude.{ℕ, ◌≡◌, ◌≢◌, ◌⊎◌, ⊥, List, Result, Ok, Err, codes}
 use Rattle.std.specs.declared.io.ErrorKind.{ErrorKind}
 use Rattle.std.specs.declared.io.ErrorKind.TheVariants.{OutOfMemory}
 use Rattle.master_on_children.specs.declared.fault.SupervisorFault.{SupervisorFault}
@@ -23,3 +23,7 @@ status_or_fault (Err halt) = Err (fault_of halt)
 -- By the kind of an error: want of memory, which may fail a read or a write too, or else a fault of a file.
 abbrev pub IsOfKind : ErrorKind → SupervisorFault → Type 0
 IsOfKind kind fault = ((kind ≡ OutOfMemory) × (fault ≡ Memory)) ⊎ ((kind ≢ OutOfMemory) × (fault ≡ File))
+
+abbrev pub IsFaultOfKind : ErrorKind → Halt → Type 0
+IsFaultOfKind kind Short = ⊥
+IsFaultOfKind kind (Fault fault) = IsOfKind kind fault

@@ -1,11 +1,11 @@
 -- What lines come to, on real children.
-use Rattle.std.specs.Prelude.{ℕ, ◌≡◌, ◌⊎◌, List, [], ◌∷◌, ◌++◌, map, length, Option, Some, None, Result, Ok, Err, OnOk, IsOk, IsErr, is_ok, alloc_error, if◌then◌else◌}
+use Rattle.std.specs.Prelude.{ℕ, Bool, true, false, ◌≡◌, ◌⊎◌, List, [], ◌∷◌, ◌++◌, map, length, Option, Some, None, Result, Ok, Err, OnOk, IsOk, IsErr, is_ok, alloc_error, if◌then◌else◌}
 use Rattle.vocabulary.specs.Settings.{Settings}
 use Rattle.definitions.specs.Record.{Record}
 use Rattle.vocabulary.specs.declared.targets.Target.{Target}
 use Rattle.vocabulary.specs.declared.calls.Answer.TheVariants.{Counted}
 use Rattle.control_words.specs.declared.words.Word.{Word}
-use Rattle.control_words.specs.declared.words.Word.TheVariants.{Hup, Quit, Int, Term, Usr1, Usr2, Usr2Attended, Winch, Ttin, Ttou, Beat, Tick}
+use Rattle.control_words.specs.declared.words.Word.TheVariants.{Hup, Quit, Usr2, Usr2Attended, Beat, Tick}
 use Rattle.child_family.specs.declared.family.Family.{Ghosts}
 use Rattle.child_family.specs.Talk.{Held}
 use Rattle.child_edge.specs.State.{state_of}
@@ -29,6 +29,13 @@ use Rattle.master_on_children.specs.declared.said.Said.{Said}
 -- a beat for each worker that was heard, and then the tick
 abbrev pub tick_words : List ℕ → ℕ → List Word
 tick_words heard now = map (λ nr. Beat nr now) heard ++ Tick now ∷ []
+
+-- Which words take the next settings up: a reload does, and each upgrade.
+abbrev pub takes_settings : Word → Bool
+takes_settings Hup = true
+takes_settings Usr2 = true
+takes_settings Usr2Attended = true
+takes_settings _ = false
 
 -- This block is what was said, unless memory for it was wanted.
 abbrev pub IsTold : Block → Said → Type 0
@@ -81,29 +88,15 @@ taken s inbox = record s { world = record s.world { inbox = inbox } }
 
 -- What a reading of the next settings says.
 module _ {F I L N : Type 0} {f : Ghosts F} (remaining : I → Option (List ℕ)) (reads : N → Result Settings NextRefusal → N → Type 0) where
-  -- Where a master runs, the next settings are read anew.
-  abbrev pub IsRenewed : Option Record → Word → N → Standing (Attended F I L f) → Said → N → Standing (Attended F I L f) → Type 0
-  IsRenewed None word n old said m new = AreActed remaining None (word ∷ []) old said new × (m ≡ n)
-  IsRenewed (Some r) word n old said m new = (read : Result Settings NextRefusal) × reads n read m × IsTakenUp remaining read word old said new
-
-  -- any other word
-  abbrev pub IsOther : Word → N → Standing (Attended F I L f) → Said → N → Standing (Attended F I L f) → Type 0
-  IsOther word n old said m new = AreActed remaining None (word ∷ []) old said new × (m ≡ n)
+  -- A word, by whether it takes the next settings up. Where a master runs, they are read anew for it.
+  abbrev pub ComesTo : Bool → Option Record → Word → N → Standing (Attended F I L f) → Said → N → Standing (Attended F I L f) → Type 0
+  ComesTo true (Some r) word n old said m new = (read : Result Settings NextRefusal) × reads n read m × IsTakenUp remaining read word old said new
+  ComesTo _ _ word n old said m new = AreActed remaining None (word ∷ []) old said new × (m ≡ n)
 
   -- What a word comes to.
   abbrev pub WordComesTo : Word → N → Standing (Attended F I L f) → Said → N → Standing (Attended F I L f) → Type 0
-  WordComesTo Hup n old said m new = IsRenewed old.record Hup n old said m new
-  WordComesTo Usr2 n old said m new = IsRenewed old.record Usr2 n old said m new
-  WordComesTo Usr2Attended n old said m new = IsRenewed old.record Usr2Attended n old said m new
   WordComesTo (Tick now) n old said m new = IsTicked remaining old.record now old said new × (m ≡ n)
-  WordComesTo Quit n old said m new = IsOther Quit n old said m new
-  WordComesTo Int n old said m new = IsOther Int n old said m new
-  WordComesTo Term n old said m new = IsOther Term n old said m new
-  WordComesTo Usr1 n old said m new = IsOther Usr1 n old said m new
-  WordComesTo Winch n old said m new = IsOther Winch n old said m new
-  WordComesTo Ttin n old said m new = IsOther Ttin n old said m new
-  WordComesTo Ttou n old said m new = IsOther Ttou n old said m new
-  WordComesTo (Beat nr now) n old said m new = IsOther (Beat nr now) n old said m new
+  WordComesTo word n old said m new = ComesTo (takes_settings word) old.record word n old said m new
 
   -- What a line comes to: what its word does, or a block of its own.
   abbrev pub LineComesTo : Typed → N → Standing (Attended F I L f) → Said → N → Standing (Attended F I L f) → Type 0
@@ -120,7 +113,7 @@ module _ {F I L N : Type 0} {f : Ghosts F} (remaining : I → Option (List ℕ))
       × IsOk said.done × LineComesTo line n (taken old inbox) said k mid × (blocks ≡ said.blocks.items ++ rest) × AreHeard lines k mid rest m new
 
   -- The same, up to the end of the input, where none waits.
-  pub record IsHeardOut (lines : List Typed) (n : N) (old : Standing (Attended F I L f)) (blocks : List Block) (m : N) (new : Standing (Attended F I L f)) : Type 0 where
+  pub record ComesToOut (lines : List Typed) (n : N) (old : Standing (Attended F I L f)) (blocks : List Block) (m : N) (new : Standing (Attended F I L f)) : Type 0 where
     pub before_end : Standing (Attended F I L f)
     pub are_heard : AreHeard lines n old blocks m before_end
     pub ended : IsNextLine remaining before_end.world.inbox (Ok None) new.world.inbox
@@ -155,7 +148,7 @@ module _ {F I L N : Type 0} {f : Ghosts F} (remaining : I → Option (List ℕ))
   abbrev pub IsShortAtEnd : N → Standing (Attended F I L f) → List Block → N → Standing (Attended F I L f) → Type 0
   IsShortAtEnd n first blocks m last =
       (tick : Said) × (ticked : Standing (Attended F I L f)) × (lines : List Typed) × (heard : List Block) × (before_end : Standing (Attended F I L f)) × (end : Said)
-      × IsTicked remaining first.record 0 first tick ticked × IsOk tick.done × IsHeardOut lines n ticked heard m before_end
+      × IsTicked remaining first.record 0 first tick ticked × IsOk tick.done × ComesToOut lines n ticked heard m before_end
       × EndComesTo remaining before_end.record before_end end last × IsErr end.done × (blocks ≡ (tick.blocks.items ++ heard) ++ end.blocks.items)
 
   abbrev pub IsShortRun : N → Standing (Attended F I L f) → List Block → N → Standing (Attended F I L f) → Type 0
@@ -171,7 +164,7 @@ module _ {F I L N : Type 0} {f : Ghosts F} (remaining : I → Option (List ℕ))
     pub end : Said
     pub is_ticked : IsTicked remaining first.record 0 first tick ticked
     pub tick_whole : IsOk tick.done
-    pub are_heard : IsHeardOut lines n ticked heard m before_end
+    pub are_heard : ComesToOut lines n ticked heard m before_end
     pub is_ended : EndComesTo remaining before_end.record before_end end last
     pub end_whole : IsOk end.done
     pub blocks_are : blocks ≡ tick.blocks.items ++ heard ++ end.blocks.items

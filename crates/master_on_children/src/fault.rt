@@ -49,6 +49,29 @@ impl From<SupervisorFault> for Halt {
     }
 }
 
+impl From<AllocError> for Halt {
+    ghost use Rattle.std.specs.Prelude.{◌≡◌};
+    ghost use Rattle.master_on_children.specs.declared.fault.Halt.TheVariants.{Fault};
+    ghost use Rattle.master_on_children.specs.declared.fault.SupervisorFault.TheVariants.{Memory};
+
+    ghost from_gives = { λ _ halt. halt ≡ Fault Memory };
+
+    fn from(error: AllocError) -> Halt {
+        Halt::Fault(SupervisorFault::from(error))
+    }
+}
+
+impl From<IoError> for Halt {
+    ghost use Rattle.std.specs.IoError.{error_kind};
+    ghost use Rattle.master_on_children.specs.Faults.{IsFaultOfKind};
+
+    ghost from_gives = { λ error halt. IsFaultOfKind (error_kind error) halt };
+
+    fn from(error: IoError) -> Halt {
+        Halt::Fault(SupervisorFault::from(error))
+    }
+}
+
 /// To who started the supervisor, want of memory is that.
 impl From<Halt> for SupervisorFault {
     ghost use Rattle.std.specs.Prelude.{◌≡◌};

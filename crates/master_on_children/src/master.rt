@@ -6,7 +6,7 @@ ghost use Rattle.definitions.specs.Record.{started};
 ghost use Rattle.child_edge.specs.State.{state_of};
 ghost use Rattle.child_edge.specs.Edge.{begun_by};
 ghost use Rattle.master_on_children.specs.Inbox.{unread};
-ghost use Rattle.master_on_children.specs.Lines.{tick_words, AreActed, IsTicked, IsRenewed, LineComesTo, EndComesTo};
+ghost use Rattle.master_on_children.specs.Lines.{tick_words, takes_settings, AreActed, IsTicked, LineComesTo, EndComesTo};
 
 use crate::inbox::Inbox;
 use crate::said::Said;
@@ -104,7 +104,8 @@ impl<F: Family + Drop, I: Read + Drop, L: Log + Drop> Master<F, I, L> {
         Said { blocks, done }
     }
 
-    /// What a line comes to that was read as a word or refused.
+    /// What a line comes to that was read as a word or refused. For a word that takes the next settings up, these are read
+    /// anew where a master runs.
     pub(crate) fn hear<N: NextSettings>(
         &mut self,
         line: Result<Word, WordRefusal>,
@@ -112,13 +113,21 @@ impl<F: Family + Drop, I: Read + Drop, L: Log + Drop> Master<F, I, L> {
     ) -> Said
         ensures { LineComesTo I.remaining N.reads line next.old self.old.standing result next.new self.new.standing }
     {
-        match line {
-            Ok(Word::Tick { now }) => self.tick(now),
-            Ok(Word::Hup) => self.renew(Word::Hup, next),
-            Ok(Word::Usr2) => self.renew(Word::Usr2, next),
-            Ok(Word::Usr2Attended) => self.renew(Word::Usr2Attended, next),
-            Ok(word) => self.act(&[word], None),
-            Err(refusal) => Said::unread(self.alloc, refusal),
+        let word = match line {
+            Ok(Word::Tick { now }) => return self.tick(now),
+            Ok(word) => word,
+            Err(refusal) => return Said::unread(self.alloc, refusal),
+        };
+        if self.standing.record.is_none() || !takes_settings(word) {
+            return self.act(&[word], None);
+        }
+        match next.read() {
+            Ok(settings) => self.act(&[word], Some(&settings)),
+            Err(NextRefusal::Unreadable) => self.act(&[word], None),
+            Err(NextRefusal::Refused(code)) => {
+                Said::block(self.alloc, Block::Heard(word, Body::Refused(code)))
+            }
+            Err(NextRefusal::Memory) => Said::short(self.alloc),
         }
     }
 
@@ -137,23 +146,6 @@ impl<F: Family + Drop, I: Read + Drop, L: Log + Drop> Master<F, I, L> {
         }
     }
 
-    /// What a word comes to that takes the next settings up. Where a master runs they are read anew.
-    fn renew<N: NextSettings>(&mut self, word: Word, next: &mut N) -> Said
-        ensures { IsRenewed I.remaining N.reads self.old.standing.record word next.old self.old.standing result next.new self.new.standing }
-    {
-        if self.standing.record.is_none() {
-            return self.act(&[word], None);
-        }
-        match next.read() {
-            Ok(settings) => self.act(&[word], Some(&settings)),
-            Err(NextRefusal::Unreadable) => self.act(&[word], None),
-            Err(NextRefusal::Refused(code)) => {
-                Said::block(self.alloc, Block::Heard(word, Body::Refused(code)))
-            }
-            Err(NextRefusal::Memory) => Said::short(self.alloc),
-        }
-    }
-
     /// What the end of the input comes to: a master that runs quits.
     pub(crate) fn end(&mut self) -> Said
         ensures { EndComesTo I.remaining self.old.standing.record self.old.standing result self.new.standing }
@@ -163,6 +155,13 @@ impl<F: Family + Drop, I: Read + Drop, L: Log + Drop> Master<F, I, L> {
             None => Said::nothing(self.alloc),
         }
     }
+}
+
+/// Whether a word takes the next settings up: a reload does, and each upgrade.
+fn takes_settings(word: Word) -> bool
+    ensures { result ≡ takes_settings word }
+{
+    matches!(word, Word::Hup | Word::Usr2 | Word::Usr2Attended)
 }
 
 /// The words of a tick: a beat for each worker that was heard, upwards in number, and then the tick.

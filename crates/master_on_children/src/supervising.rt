@@ -1,7 +1,7 @@
 //! Control words from an input, with their blocks on an output.
 ghost use Rattle.std.specs.Prelude.{◌≡◌, ◌≤◌, List, IfOk, IsOk, IsErr, IsErrOf, IsTrue, OnOk};
 ghost use Rattle.std.specs.Io.KnownBytes.{Appends};
-ghost use Rattle.transcript.specs.Block.{block_text, transcript_text};
+ghost use Rattle.transcript.specs.Block.{transcript_text};
 ghost use Rattle.word_runner.specs.Status.{status_after, gravest};
 ghost use Rattle.word_runner.specs.declared.block.Block.{Block as Done};
 ghost use Rattle.master_on_children.specs.Faults.{status_or_fault};
@@ -19,7 +19,7 @@ use std::alloc::Global;
 use std::io::{Read, Write};
 use transcript::write_transcript;
 use vocabulary::Settings;
-use word_runner::{Block, graver, status_of};
+use word_runner::{graver, status_of};
 use worker_table::WorkerTable;
 
 /// What a supervisor begins with.
@@ -169,7 +169,8 @@ fn hear_all<F: Family + Drop, I: Read + Drop, L: Log + Drop, N: NextSettings, O:
     Err(Halt::Fault(SupervisorFault::File))
 }
 
-/// Tells the blocks of what was said one after another, and gives the status then. Want of memory comes behind them.
+/// Tells the blocks of what was said one after another, and gives the status then. Each is written in one write, flushed,
+/// and logged in a line. Want of memory comes behind them.
 fn tell<O: Write, L: Log>(
     alloc: Global,
     before: u8,
@@ -185,27 +186,14 @@ fn tell<O: Write, L: Log>(
 {
     let mut status = before;
     for block in &said.blocks {
-        tell_block(alloc, block, output, log)?;
+        let text = write_transcript(alloc, block)?;
+        output.write_all(&text)?;
+        output.flush()?;
+        info!(log; target: "prefork", "{}", Summary(block));
         status = graver(status, status_of(block));
     }
     match said.done {
         Ok(()) => Ok(status),
         Err(_) => Err(Halt::Short),
     }
-}
-
-/// Writes a block in one write, flushes it, and logs it in a line.
-fn tell_block<O: Write, L: Log>(
-    alloc: Global,
-    block: &Block,
-    output: &mut O,
-    log: &L,
-) -> Result<(), SupervisorFault>
-    ensures { OnOk result (Appends (O.contents output.old) (O.contents output.new) (block_text block.now)) }
-{
-    let text = write_transcript(alloc, block)?;
-    output.write_all(&text)?;
-    output.flush()?;
-    info!(log; target: "prefork", "{}", Summary(block));
-    Ok(())
 }

@@ -60,42 +60,27 @@ where
     <R::Started as OpenProcess>::Stdout: AsRawFd,
     <R::Started as OpenProcess>::Stdin: AsRawFd,
 {
-    match command_line::read(rt.alloc(), args) {
-        Ok(request) => serve(rt, around, &request, input, output, errors),
+    let request = match command_line::read(rt.alloc(), args) {
+        Ok(request) => request,
         Err(refusal) => {
             let fault = Fault::from(refusal);
             let status = fault.tell(errors);
             if around.explains || has_why(args) {
                 tell_usage(rt.alloc(), args, &fault, errors);
             }
-            status
+            return status;
         }
-    }
-}
-
-/// Answers a request, or tells its fault.
-fn serve<R: AllocGlobal + Files + Processes + Clock + Env, I: Read, O: Write, E: Write>(
-    rt: &R,
-    around: &Surroundings,
-    request: &Request<'_>,
-    input: &mut I,
-    output: &mut O,
-    errors: &mut E,
-) -> u8
-where
-    <R::Started as OpenProcess>::Stdout: AsRawFd,
-    <R::Started as OpenProcess>::Stdin: AsRawFd,
-{
+    };
     let mut input = Input {
         reader: input,
         given: Vec::new(rt.alloc()),
     };
-    match answer(rt, around, request, &mut input, output, errors) {
+    match answer(rt, around, &request, &mut input, output, errors) {
         Ok(status) => status,
         Err(fault) => {
             let status = fault.tell(errors);
-            if around.explains || is_asked(request) {
-                tell_more(rt, request, input.given.as_slice(), &fault, errors);
+            if around.explains || is_asked(&request) {
+                tell_more(rt, &request, input.given.as_slice(), &fault, errors);
             }
             status
         }

@@ -42,7 +42,7 @@ fn end<F: Family + Drop>(edge: &mut Edge<F>) -> Option<Answer> {
 /// The life of a worker, but for what is left of it.
 fn live<F: Family + Drop>(edge: &mut Edge<F>) -> Life {
     let ready = start(edge, 0);
-    let beats = edge.tick(7);
+    let beats = edge.tick_reigning(7);
     let counted = ask(edge, 1, Call::Census(FIRST));
     let gone = end(edge);
     Life {

@@ -105,7 +105,7 @@ pub(crate) fn below(n: u32) -> Numbers {
 
 /// Whether just workers 0 and 1 beat at a tick, and each keeps the number of its start.
 pub(crate) fn both_beat<F: Family + Drop>(edge: &mut Edge<F>, now: u64) -> bool {
-    edge.tick(now) == below(2) && has_start(edge, 0, 1) && has_start(edge, 1, 2)
+    edge.tick_reigning(now) == below(2) && has_start(edge, 0, 1) && has_start(edge, 1, 2)
 }
 
 fn has_start<F: Family + Drop>(edge: &Edge<F>, nr: u32, start: u32) -> bool {
