@@ -1,6 +1,6 @@
 //! What is said to a child and heard of it, with a limit for each wait.
 use crate::limits::{ChildLimits, Debt, RoleText, owed};
-use crate::patience::{Patience, Wait};
+use crate::patience::{Forever, Patience, Wait};
 use crate::reader::LineReader;
 use crate::writing::{whole_line, write_in_time};
 use child_family::{Heard, Role};
@@ -116,7 +116,7 @@ impl<R: Clock + Drop, L: Log + Drop> Watch<R, L> {
         let wait = Wait::ToRead(open.said_at);
         let heard = match self.patience(debt, open.asked) {
             Some(patience) => open.heard.hear_within(line, &mut patience.awaiting(wait)),
-            None => open.heard.hear(line),
+            None => open.heard.hear_within(line, &mut Forever),
         };
         open.has_spoken = true;
         match heard {

@@ -113,7 +113,7 @@ module _ {F I L N : Type 0} {f : Ghosts F} (remaining : I → Option (List ℕ))
       × IsOk said.done × LineComesTo line n (taken old inbox) said k mid × (blocks ≡ said.blocks.items ++ rest) × AreHeard lines k mid rest m new
 
   -- The same, up to the end of the input, where none waits.
-  pub record ComesToOut (lines : List Typed) (n : N) (old : Standing (Attended F I L f)) (blocks : List Block) (m : N) (new : Standing (Attended F I L f)) : Type 0 where
+  pub record IsHeardOut (lines : List Typed) (n : N) (old : Standing (Attended F I L f)) (blocks : List Block) (m : N) (new : Standing (Attended F I L f)) : Type 0 where
     pub before_end : Standing (Attended F I L f)
     pub are_heard : AreHeard lines n old blocks m before_end
     pub ended : IsNextLine remaining before_end.world.inbox (Ok None) new.world.inbox
@@ -148,7 +148,7 @@ module _ {F I L N : Type 0} {f : Ghosts F} (remaining : I → Option (List ℕ))
   abbrev pub IsShortAtEnd : N → Standing (Attended F I L f) → List Block → N → Standing (Attended F I L f) → Type 0
   IsShortAtEnd n first blocks m last =
       (tick : Said) × (ticked : Standing (Attended F I L f)) × (lines : List Typed) × (heard : List Block) × (before_end : Standing (Attended F I L f)) × (end : Said)
-      × IsTicked remaining first.record 0 first tick ticked × IsOk tick.done × ComesToOut lines n ticked heard m before_end
+      × IsTicked remaining first.record 0 first tick ticked × IsOk tick.done × IsHeardOut lines n ticked heard m before_end
       × EndComesTo remaining before_end.record before_end end last × IsErr end.done × (blocks ≡ (tick.blocks.items ++ heard) ++ end.blocks.items)
 
   abbrev pub IsShortRun : N → Standing (Attended F I L f) → List Block → N → Standing (Attended F I L f) → Type 0
@@ -164,7 +164,7 @@ module _ {F I L N : Type 0} {f : Ghosts F} (remaining : I → Option (List ℕ))
     pub end : Said
     pub is_ticked : IsTicked remaining first.record 0 first tick ticked
     pub tick_whole : IsOk tick.done
-    pub are_heard : ComesToOut lines n ticked heard m before_end
+    pub are_heard : IsHeardOut lines n ticked heard m before_end
     pub is_ended : EndComesTo remaining before_end.record before_end end last
     pub end_whole : IsOk end.done
     pub blocks_are : blocks ≡ tick.blocks.items ++ heard ++ end.blocks.items
