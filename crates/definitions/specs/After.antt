@@ -2,23 +2,17 @@
 --
 -- After POSIX: a descriptor that is opened is the lowest free one. Our own: after a way back a master is what it was.
 
-use Rattle.std.specs.Prelude.{◌≡◌, refl, codes}
-use Rattle.std.specs.Prelude.{ℕ, ◌+◌, ◌==◌, nat_lt, nat_le, Bool, true, false, ◌&&◌, not, List, [], ◌∷◌, Option, Some}
-use Rattle.std.specs.Prelude.{None, is_none, option_map, option_and_then, unwrap_or, filter, bytes_eq, length}
-use Rattle.std.specs.Prelude.{if◌then◌else◌}
-use Rattle.std.specs.List.{list_any}
-use Rattle.listener_set.specs.AddressList.{has}
-use Rattle.listener_set.specs.Numbers.{first_from}
-use Rattle.vocabulary.specs.Settings.{Settings}
+use Rattle.vocabulary.specs.Words.{◌≡◌, refl, codes, ℕ, ◌+◌, ◌==◌, nat_lt, nat_le, Bool, true, false, ◌&&◌, not, List}
+use Rattle.vocabulary.specs.Words.{[], ◌∷◌, Option, Some, None, is_none, option_map, option_and_then, unwrap_or, filter}
+use Rattle.vocabulary.specs.Words.{bytes_eq, length, if◌then◌else◌, list_any, has, first_from, Settings}
+use Rattle.vocabulary.specs.declared.reports.Outcome.TheVariants as outcome
+use Rattle.vocabulary.specs.declared.targets.Target.TheVariants as target
 use Rattle.definitions.specs.Table.{Address, FilePath, Generation, Table, Caller, live_master}
-use Rattle.definitions.specs.Tree.{Old, Target as TargetSide}
 use Rattle.definitions.specs.Crew.{Posts, Crew, posts_of}
 use Rattle.definitions.specs.Record.{Listener, Record}
-use Rattle.definitions.specs.Target.{generation_wanted}
+use Rattle.definitions.specs.Target.{generation_wanted, Target}
+use Rattle.definitions.specs.Tree.{Old, Target as TargetSide}
 use Rattle.definitions.specs.Path.{Report, Outcome}
-use Rattle.vocabulary.specs.declared.reports.Outcome.TheVariants as outcome
-pub use Rattle.vocabulary.specs.declared.targets.Target.{Target}
-use Rattle.vocabulary.specs.declared.targets.Target.TheVariants as target
 
 ---- Listeners that open and close
 

@@ -3,27 +3,24 @@
 -- After POSIX (bind, fork, kill, waitpid, rename, unlink), nginx's "Controlling nginx" (the pid file with the suffix)
 -- and Unicorn's SIGNALS (QUIT lets a worker finish). Our own: a census, and that a new worker says when it is ready.
 
-use Rattle.std.specs.Prelude.{◌≡◌, refl}
-use Rattle.std.specs.Prelude.{ℕ, ◌+◌, Bool, true, false, ◌&&◌, ◌==◌, nat_lt, not, List, [], ◌∷◌, ◌++◌, Option, Some}
-use Rattle.std.specs.Prelude.{None, filter, count_by, length, if◌then◌else◌, zero, suc, bytes_eq, Result, Ok, Err}
-use Rattle.std.specs.List.{list_any, filter_map}
-use Rattle.listener_set.specs.Numbers.{numbers_below, is_in}
-use Rattle.vocabulary.specs.declared.table.Listener.{Listener}
+use Rattle.vocabulary.specs.Words.{◌≡◌, refl, ℕ, ◌+◌, Bool, true, false, ◌&&◌, ◌==◌, nat_lt, not, List, [], ◌∷◌, ◌++◌}
+use Rattle.vocabulary.specs.Words.{Option, Some, None, filter, count_by, length, if◌then◌else◌, zero, suc, bytes_eq}
+use Rattle.vocabulary.specs.Words.{Result, Ok, Err, list_any, filter_map, numbers_below, is_in}
+use Rattle.vocabulary.specs.declared.calls.Answer.TheVariants as answer
+use Rattle.vocabulary.specs.declared.calls.Fate.TheVariants as fate
+use Rattle.definitions.specs.Table.{Listener, FilePath, File, owner_at, is_draining, Address, Generation, Hold}
+use Rattle.definitions.specs.Table.{Starting, Ready, Draining, Process, Master, Worker, Foreign, Table, with_rows}
+use Rattle.definitions.specs.Table.{is_starting, is_ready, is_active, is_exited, is_any, is_worker, is_own, is_at}
+use Rattle.definitions.specs.Table.{is_held, Caller, live_master}
+use Rattle.definitions.specs.Exits.{change}
 use Rattle.definitions.specs.Handover.{Handover, HandoverRefusal}
 use Rattle.definitions.specs.Reading.{reading}
-use Rattle.definitions.specs.Table.{FilePath, File, owner_at, is_draining, Address, Generation, Hold, Starting, Ready}
-use Rattle.definitions.specs.Table.{Draining, Process, Master, Worker, Foreign, Table, with_rows, is_starting, is_ready}
-use Rattle.definitions.specs.Table.{is_active, is_exited, is_any, is_worker, is_own, is_at, is_held, Caller}
-use Rattle.definitions.specs.Table.{live_master}
-use Rattle.definitions.specs.Exits.{change}
 pub use Rattle.vocabulary.specs.declared.calls.Call.{Call}
 pub use Rattle.vocabulary.specs.declared.calls.Call.TheVariants.{OpenAt, CloseAt, Fork, AwaitReady, Quit, Kill, Census}
 pub use Rattle.vocabulary.specs.declared.calls.Call.TheVariants.{AwaitGone, SpawnMaster, Adopt, WritePid, MovePid}
 pub use Rattle.vocabulary.specs.declared.calls.Call.TheVariants.{RemovePid, Alive, Leave, Usr1, TermMaster, Ask}
 pub use Rattle.vocabulary.specs.declared.calls.Answer.{Answer}
-pub use Rattle.vocabulary.specs.declared.calls.Answer.TheVariants as answer
 pub use Rattle.vocabulary.specs.declared.calls.Fate.{Fate}
-pub use Rattle.vocabulary.specs.declared.calls.Fate.TheVariants as fate
 
 -- What a call is answered, and the table then.
 pub record Stepped : Type 0 where

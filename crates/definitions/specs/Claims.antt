@@ -2,36 +2,33 @@
 --
 -- Our own. Read `Headline`, then what it names, upwards.
 
-use Rattle.std.specs.Prelude.{refl}
-use Rattle.std.specs.Prelude.{map, ℕ, ◌≡◌, ◌≤◌, ◌+◌, ◌*◌, min, sum, Bool, true, false, ◌&&◌, ◌||◌, ◌==◌, ◌++◌, List, []}
-use Rattle.std.specs.Prelude.{if◌then◌else◌, ◌∷◌, length, Option, Some, None, is_some, count_by, bytes_eq, ⊤}
-use Rattle.std.specs.List.{list_any, AllByRecursion}
-use Rattle.listener_set.specs.Numbers.{IsRising, RisesFrom, is_in}
-use Rattle.listener_set.specs.AddressList.{has}
+use Rattle.vocabulary.specs.Words.{refl, map, ℕ, ◌≡◌, ◌≤◌, ◌+◌, ◌*◌, min, sum, Bool, true, false, ◌&&◌, ◌||◌, ◌==◌}
+use Rattle.vocabulary.specs.Words.{◌++◌, List, [], if◌then◌else◌, ◌∷◌, length, Option, Some, None, is_some, count_by}
+use Rattle.vocabulary.specs.Words.{bytes_eq, ⊤, list_any, AllByRecursion, IsRising, RisesFrom, is_in, has, Settings}
+use Rattle.vocabulary.specs.Words.{IsInRange}
+use Rattle.vocabulary.specs.declared.names.Name.TheVariants as name
+use Rattle.vocabulary.specs.declared.reports.Outcome.TheVariants as outcome
+use Rattle.vocabulary.specs.declared.plans.Side.TheVariants as side
+use Rattle.vocabulary.specs.declared.calls.Answer.TheVariants as answer
 use Rattle.definitions.specs.Table.{FilePath, owner_at, is_own, Address, same_generation, Hold, Process, Worker, Table}
 use Rattle.definitions.specs.Table.{Generation, is_ready, has_address}
 use Rattle.definitions.specs.Exits.{Name}
-use Rattle.vocabulary.specs.declared.names.Name.TheVariants as name
-use Rattle.definitions.specs.Formed.{IsFormed}
+use Rattle.definitions.specs.Calls.{Call, Answer, RemovePid}
 use Rattle.definitions.specs.Service.{Service, is_live_with, service, IsSame}
+use Rattle.definitions.specs.Crew.{Layout, short_at}
 use Rattle.definitions.specs.Record.{Listener, Record, IsRecord, Agrees, layout_of, PidNote, InPlace, AtOldbin}
 use Rattle.definitions.specs.Record.{OldbinLeft, Left, NoFile, oldbin}
-use Rattle.definitions.specs.Crew.{Layout, short_at}
+use Rattle.definitions.specs.Formed.{IsFormed}
 use Rattle.definitions.specs.Target.{Target, Workers, Mend, Reopen, Reload, Upgrade, Attended, Stop, want, wanted_at}
 use Rattle.definitions.specs.Target.{numbers_wanted, addresses_wanted, layout_wanted, sides_of, upgrade_generation}
 use Rattle.definitions.specs.Target.{text_handed}
 use Rattle.definitions.specs.Tree.{Tree, height}
+use Rattle.definitions.specs.Path.{Report, Outcome, Entry}
+use Rattle.definitions.specs.After.{next_record, next_config, next_image}
 use Rattle.definitions.specs.Parts.{Turn}
 use Rattle.definitions.specs.Plans.{plan_tree, plan_length}
-use Rattle.definitions.specs.Path.{Report, Outcome, Entry}
-use Rattle.vocabulary.specs.declared.reports.Outcome.TheVariants as outcome
-use Rattle.vocabulary.specs.declared.plans.Side.TheVariants as side
-use Rattle.definitions.specs.After.{next_record, next_config, next_image}
-use Rattle.definitions.specs.Manner.{Manner, is_leave_call}
-use Rattle.vocabulary.specs.Settings.{Settings, IsInRange}
-use Rattle.definitions.specs.Calls.{Call, Answer, RemovePid}
-use Rattle.vocabulary.specs.declared.calls.Answer.TheVariants as answer
 use Rattle.definitions.specs.Run.{report_of, run_with, Pattern, Progress, faults_since, start_at, Ran}
+use Rattle.definitions.specs.Manner.{Manner, is_leave_call}
 
 ---- Where a run starts
 

@@ -2,18 +2,12 @@
 --
 -- Our own, as pools of php-fpm are: each group takes the next so many addresses and worker numbers of a configuration.
 
-use Rattle.std.specs.Prelude.{◌≡◌, refl, codes}
-use Rattle.std.specs.Prelude.{ℕ, zero, suc, Bool, List, [], ◌∷◌, Option, Some, None, map, filter, length, take, drop}
-use Rattle.std.specs.Prelude.{get_or, count_by, if◌then◌else◌}
-use Rattle.std.specs.List.{sum_by}
-use Rattle.listener_set.specs.Numbers.{numbers_below, is_in}
-use Rattle.listener_set.specs.AddressList.{has}
-use Rattle.vocabulary.specs.declared.table.Listener.{Listener}
-use Rattle.definitions.specs.Table.{Address, Hold}
+use Rattle.vocabulary.specs.Words.{◌≡◌, refl, codes, ℕ, zero, suc, Bool, List, [], ◌∷◌, Option, Some, None, map, filter}
+use Rattle.vocabulary.specs.Words.{length, take, drop, get_or, count_by, if◌then◌else◌, sum_by, numbers_below, is_in}
+use Rattle.vocabulary.specs.Words.{has}
+use Rattle.definitions.specs.Table.{Listener, Address, Hold}
 use Rattle.definitions.specs.Calls.{Call, Fork, shared}
-pub use Rattle.worker_groups.specs.declared.groups.Group.{Group}
-pub use Rattle.worker_groups.specs.Groups.{group_of}
-pub use Rattle.worker_groups.specs.Crews.{Posts, Crew, fds_in, fds_of, shortfalls_of}
+pub use Rattle.vocabulary.specs.Words.{Group, group_of, Posts, Crew, fds_in, fds_of, shortfalls_of}
 
 ---- What a worker is given
 

@@ -3,15 +3,12 @@
 -- After POSIX: with a process all its descriptors close. Our own choice: workers end at once with their master, and a
 -- worker that exits is in the table until its master hears of it.
 
-use Rattle.std.specs.Prelude.{◌≡◌, refl}
-use Rattle.definitions.specs.Table.{Ready}
-use Rattle.std.specs.Prelude.{ℕ, ◌-◌, Bool, true, false, ◌==◌, not, List, [], ◌∷◌, Option, Some, None, count_by}
-use Rattle.std.specs.Prelude.{if◌then◌else◌}
-use Rattle.std.specs.List.{list_any, filter_map}
-use Rattle.definitions.specs.Table.{Generation, Exited, Process, Master, Worker, Foreign, Table, with_rows, is_active}
-use Rattle.definitions.specs.Table.{is_draining, is_named, Caller, live_master, is_live_master}
+use Rattle.vocabulary.specs.Words.{◌≡◌, refl, ℕ, ◌-◌, Bool, true, false, ◌==◌, not, List, [], ◌∷◌, Option, Some, None}
+use Rattle.vocabulary.specs.Words.{count_by, if◌then◌else◌, list_any, filter_map}
+use Rattle.vocabulary.specs.declared.names.Name.TheVariants as name
+use Rattle.definitions.specs.Table.{Ready, Generation, Exited, Process, Master, Worker, Foreign, Table, with_rows}
+use Rattle.definitions.specs.Table.{is_active, is_draining, is_named, Caller, live_master, is_live_master}
 pub use Rattle.vocabulary.specs.declared.names.Name.{Name}
-pub use Rattle.vocabulary.specs.declared.names.Name.TheVariants as name
 
 -- what becomes of a row that passes the test; the others stay
 abbrev pub change : (Process → Bool) → (Process → Process) → Process → Option Process

@@ -2,9 +2,7 @@
 --
 -- After POSIX: process numbers are not used again here, and a process without a parent is handed on, or ends.
 
-use Rattle.std.specs.Prelude.{refl}
-use Rattle.std.specs.Prelude.{ℕ, ◌≡◌, ◌≤◌, ◌+◌, true, List, [], ◌∷◌, count_by, ⊤}
-use Rattle.std.specs.List.{list_any, AllByRecursion}
+use Rattle.vocabulary.specs.Words.{refl, ℕ, ◌≡◌, ◌≤◌, ◌+◌, true, List, [], ◌∷◌, count_by, ⊤, list_any, AllByRecursion}
 use Rattle.definitions.specs.Table.{Generation, Draining, Exited, Process, Worker, Table, number_of, is_active}
 use Rattle.definitions.specs.Table.{is_worker, is_live_master}
 

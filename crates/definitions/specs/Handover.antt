@@ -3,15 +3,9 @@
 -- nginx hands its new master the open descriptors in an environment variable; this text is our own. Each handover has
 -- one spelling in each of two versions, and a reader refuses any other text, naming its first faulty line.
 
-use Rattle.std.specs.Prelude.{◌≡◌, refl}
-use Rattle.std.specs.Prelude.{ℕ, List, [], ◌∷◌, ◌++◌}
-use Rattle.std.specs.Prelude.{take, drop, Option, Some, None, codes}
-use Rattle.std.specs.List.{flat_map}
-use Rattle.std.specs.Fmt.{decimal}
-use Rattle.worker_groups.specs.declared.groups.Group.{Group}
-use Rattle.worker_groups.specs.Groups.{workers_in}
-use Rattle.definitions.specs.Table.{Address, FilePath, Generation}
-use Rattle.vocabulary.specs.declared.table.Listener.{Listener}
+use Rattle.vocabulary.specs.Words.{◌≡◌, refl, ℕ, List, [], ◌∷◌, ◌++◌, take, drop, Option, Some, None, codes, flat_map}
+use Rattle.vocabulary.specs.Words.{decimal, Group, workers_in}
+use Rattle.definitions.specs.Table.{Address, FilePath, Generation, Listener}
 pub use Rattle.vocabulary.specs.declared.handover.HandoverVersion.{HandoverVersion}
 pub use Rattle.vocabulary.specs.declared.handover.HandoverVersion.TheVariants.{One, Two}
 pub use Rattle.vocabulary.specs.declared.handover.HandoverRefusal.{HandoverRefusal}

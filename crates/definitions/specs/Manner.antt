@@ -2,19 +2,16 @@
 --
 -- After Unicorn's SIGNALS: QUIT lets a worker finish its request, and KILL is for one that does not.
 
-use Rattle.std.specs.Prelude.{refl}
-use Rattle.std.specs.Prelude.{ℕ, ◌≡◌, ◌==◌, nat_lt, Bool, true, false, ◌&&◌, ◌||◌, not, List, [], ◌∷◌, ◌++◌, Option}
-use Rattle.std.specs.Prelude.{Some, None, ⊤, ◌⊎◌, if◌then◌else◌}
-use Rattle.std.specs.List.{list_any, AllByRecursion}
-use Rattle.listener_set.specs.Numbers.{is_in}
+use Rattle.vocabulary.specs.Words.{refl, ℕ, ◌≡◌, ◌==◌, nat_lt, Bool, true, false, ◌&&◌, ◌||◌, not, List, [], ◌∷◌, ◌++◌}
+use Rattle.vocabulary.specs.Words.{Option, Some, None, ⊤, ◌⊎◌, if◌then◌else◌, list_any, AllByRecursion, is_in}
+use Rattle.vocabulary.specs.declared.calls.Answer.TheVariants as answer
+use Rattle.vocabulary.specs.declared.reports.Outcome.TheVariants as outcome
+use Rattle.vocabulary.specs.declared.plans.Side.TheVariants as side
 use Rattle.definitions.specs.Table.{Generation, bears, Process, Worker, Table, number_of, is_ready, is_active}
 use Rattle.definitions.specs.Calls.{Call, Quit, Kill, AwaitGone, Leave, Usr1, Answer}
-use Rattle.vocabulary.specs.declared.calls.Answer.TheVariants as answer
 use Rattle.definitions.specs.Record.{Record}
 use Rattle.definitions.specs.Target.{Target, Workers, Mend, Reopen, Reload, Upgrade, Attended, Stop}
 use Rattle.definitions.specs.Path.{Entry, Outcome}
-use Rattle.vocabulary.specs.declared.reports.Outcome.TheVariants as outcome
-use Rattle.vocabulary.specs.declared.plans.Side.TheVariants as side
 use Rattle.definitions.specs.Run.{Progress, Ran}
 
 ---- Processes

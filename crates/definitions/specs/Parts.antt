@@ -2,12 +2,10 @@
 --
 -- Our own: in nginx and Unicorn the old master goes on by itself while the new one starts.
 
-use Rattle.std.specs.Prelude.{◌≡◌, refl}
-use Rattle.definitions.specs.Tree.{Join}
-use Rattle.std.specs.Prelude.{List, [], ◌∷◌}
+use Rattle.vocabulary.specs.Words.{◌≡◌, refl, List, [], ◌∷◌}
+use Rattle.definitions.specs.Tree.{Join, End, JoinReady, Tree, Branches, Ends, Does, Nothing, Branch}
 pub use Rattle.vocabulary.specs.declared.plans.Turn.{Turn}
 pub use Rattle.vocabulary.specs.declared.plans.Turn.TheVariants.{New, Old}
-use Rattle.definitions.specs.Tree.{End, JoinReady, Tree, Branches, Ends, Does, Nothing, Branch}
 
 -- The ends of a part are marks: each gives way to what follows it.
 abbrev mutual

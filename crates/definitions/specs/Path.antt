@@ -2,20 +2,19 @@
 --
 -- Our own: a report is what the calls that were made and their answers tell, and nothing else.
 
-use Rattle.std.specs.Prelude.{ℕ, ◌+◌, ◌==◌, ◌≡◌, Bool, true, false, not, List, [], ◌∷◌, ◌++◌, Option, Some, None}
-use Rattle.std.specs.Prelude.{unwrap_or, if◌then◌else◌}
-use Rattle.listener_set.specs.Numbers.{lacks}
-use Rattle.definitions.specs.Calls.{Call, Answer}
+use Rattle.vocabulary.specs.Words.{ℕ, ◌+◌, ◌==◌, ◌≡◌, Bool, true, false, not, List, [], ◌∷◌, ◌++◌, Option, Some, None}
+use Rattle.vocabulary.specs.Words.{unwrap_or, if◌then◌else◌, lacks}
 use Rattle.vocabulary.specs.declared.calls.Answer.TheVariants as answer
+use Rattle.vocabulary.specs.declared.reports.Outcome.TheVariants as outcome
+use Rattle.definitions.specs.Calls.{Call, Answer}
+use Rattle.definitions.specs.Crew.{shortfalls_of}
 use Rattle.definitions.specs.Tree.{Reply, same_reply, reply_of, plain_reply, Old, Target, End, Done, RolledBack}
 use Rattle.definitions.specs.Tree.{ShortOld, ShortTarget, PidNote, call_of, Tree, Ends, Does, branch}
 pub use Rattle.vocabulary.specs.declared.reports.Entry.{Entry}
 pub use Rattle.vocabulary.specs.declared.reports.Report.{Report}
 pub use Rattle.vocabulary.specs.declared.reports.Outcome.{Outcome}
-use Rattle.vocabulary.specs.declared.reports.Outcome.TheVariants as outcome
 pub use Rattle.vocabulary.specs.declared.plans.Sides.{Sides}
 pub use Rattle.vocabulary.specs.declared.plans.Lack.{Lack}
-use Rattle.definitions.specs.Crew.{shortfalls_of}
 
 -- How far a path has come: the rest of the tree, or nothing where the last answer had no edge; the last count and
 -- what it lacked of its set; the note; the first call that went wrong, counted from 1; and how many calls were made.

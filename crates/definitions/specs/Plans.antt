@@ -4,10 +4,11 @@
 -- can't open its addresses goes on with the old configuration; USR2 moves the pid file aside, and back when the new
 -- master is gone.
 
-use Rattle.std.specs.Prelude.{◌≡◌, refl}
-use Rattle.std.specs.Prelude.{ℕ, zero, suc, max, ◌+◌, not, ◌||◌, nat_lt, Bool, true, false, List, [], ◌∷◌, ◌++◌, Option}
-use Rattle.std.specs.Prelude.{Some, None, filter, map, reverse, if◌then◌else◌}
-use Rattle.listener_set.specs.Numbers.{numbers_below, is_in}
+use Rattle.vocabulary.specs.Words.{◌≡◌, refl, ℕ, zero, suc, max, ◌+◌, not, ◌||◌, nat_lt, Bool, true, false, List, []}
+use Rattle.vocabulary.specs.Words.{◌∷◌, ◌++◌, Option, Some, None, filter, map, reverse, if◌then◌else◌, numbers_below}
+use Rattle.vocabulary.specs.Words.{is_in}
+use Rattle.vocabulary.specs.declared.plans.Side.TheVariants as side
+use Rattle.vocabulary.specs.declared.calls.Reply.TheVariants as reply
 use Rattle.definitions.specs.Table.{Address, FilePath, Generation}
 use Rattle.definitions.specs.Calls.{Call, OpenAt, CloseAt, AwaitReady, Quit, Kill, Census, AwaitGone, SpawnMaster}
 use Rattle.definitions.specs.Calls.{Adopt, WritePid, MovePid, RemovePid, Alive, Leave, Usr1, TermMaster, Ask}
@@ -15,13 +16,11 @@ use Rattle.definitions.specs.Crew.{Crew, fork_of}
 use Rattle.definitions.specs.Record.{Record, PidNote, InPlace, AtOldbin, OldbinLeft, Left, NoFile, oldbin, addresses_of}
 use Rattle.definitions.specs.Record.{crew_of}
 use Rattle.definitions.specs.Target.{Target, Workers, Mend, Reopen, Reload, Upgrade, Attended, Stop, only_in}
-use Rattle.definitions.specs.After.{crew_wanted, lacks_generation}
 use Rattle.definitions.specs.Tree.{Reply, plain_reply, replies_to, Side, End, Done, RolledBack, ShortOld, ShortTarget}
 use Rattle.definitions.specs.Tree.{Split, JoinReady, JoinBack, Join, Make, ForkLacking, AwaitLacking, KillLacking, Tree}
 use Rattle.definitions.specs.Tree.{Branches, Ends, Does, Nothing, Branch, height}
+use Rattle.definitions.specs.After.{crew_wanted, lacks_generation}
 use Rattle.definitions.specs.Parts.{Turn, weave, joined}
-use Rattle.vocabulary.specs.declared.plans.Side.TheVariants as side
-use Rattle.vocabulary.specs.declared.calls.Reply.TheVariants as reply
 
 ---- Edges
 

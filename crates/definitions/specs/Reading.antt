@@ -3,23 +3,18 @@
 -- Each line is one of those that can come next (`Reached`), or it is the faulty one. No reader of the headline needs more of
 -- this than `reading`: that it reads each spelling back, and nothing else, is proved in `handover_text`.
 
-use Rattle.std.specs.Prelude.{◌≡◌, refl}
-use Rattle.std.specs.Prelude.{ℕ, ◌+◌, ◌==◌, nat_lt, nat_le, not, Bool, true, false, ◌&&◌, List, [], ◌∷◌, ◌++◌, length}
-use Rattle.std.specs.Prelude.{Option, Some, None, is_none, Result, Ok, Err, if◌then◌else◌, codes, bytes_eq}
-use Rattle.std.specs.List.{list_any, list_all, before_first, after_first, slice_split}
+use Rattle.vocabulary.specs.Words.{◌≡◌, refl, ℕ, ◌+◌, ◌==◌, nat_lt, nat_le, not, Bool, true, false, ◌&&◌, List, [], ◌∷◌}
+use Rattle.vocabulary.specs.Words.{◌++◌, length, Option, Some, None, is_none, Result, Ok, Err, if◌then◌else◌, codes}
+use Rattle.vocabulary.specs.Words.{bytes_eq, list_any, list_all, before_first, after_first, slice_split, Group}
+use Rattle.vocabulary.specs.Words.{workers_in, group_refused}
+use Rattle.definitions.specs.Handover.refusal
 use Rattle.plain_text.specs.NumberText.{number_of, number_within}
 use Rattle.plain_text.specs.Cuts.{after_prefix}
 use Rattle.listener_set.specs.AddressText.{check}
 use Rattle.listener_set.specs.declared.address.AddressRefusal.{AddressRefusal}
 use Rattle.listener_set.specs.PathText.{is_path}
-use Rattle.worker_groups.specs.declared.groups.Group.{Group}
-use Rattle.worker_groups.specs.Groups.{workers_in, group_refused}
-use Rattle.vocabulary.specs.declared.table.Listener.{Listener}
-pub use Rattle.vocabulary.specs.declared.handover.HandoverVersion.{HandoverVersion}
-pub use Rattle.vocabulary.specs.declared.handover.HandoverVersion.TheVariants.{One, Two}
-pub use Rattle.vocabulary.specs.declared.handover.HandoverRefusal.{HandoverRefusal}
-pub use Rattle.vocabulary.specs.declared.handover.HandoverRefusal.TheVariants as refusal
-use Rattle.definitions.specs.Handover.{Handover, line_of}
+use Rattle.definitions.specs.Table.{Listener}
+use Rattle.definitions.specs.Handover.{Handover, line_of, HandoverVersion, One, Two, HandoverRefusal}
 
 ---- Values in lines
 

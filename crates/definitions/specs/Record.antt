@@ -2,20 +2,15 @@
 --
 -- Our own. The pid file and its suffix are those of nginx's "Controlling nginx".
 
-use Rattle.std.specs.Prelude.{refl}
-use Rattle.std.specs.Prelude.{ℕ, ◌≡◌, ◌≤◌, ◌<◌, ◌+◌, ◌++◌, true, List, [], ◌∷◌, Option, Some, None, map, length}
-use Rattle.std.specs.Prelude.{count_by, is_some, codes, ⊤}
-use Rattle.std.specs.List.{list_any, AllByRecursion}
-use Rattle.listener_set.specs.Numbers.{is_in}
-pub use Rattle.vocabulary.specs.declared.table.Listener.{Listener}
-use Rattle.vocabulary.specs.Settings.{Settings, HasSuffixRoom}
-use Rattle.worker_groups.specs.Groups.{AreGroups}
-use Rattle.worker_groups.specs.Crews.{first_posts}
-use Rattle.definitions.specs.Crew.{Posts, Crew, share, Layout, layout_at}
+use Rattle.vocabulary.specs.Words.{refl, ℕ, ◌≡◌, ◌≤◌, ◌<◌, ◌+◌, ◌++◌, true, List, [], ◌∷◌, Option, Some, None, map}
+use Rattle.vocabulary.specs.Words.{length, count_by, is_some, codes, ⊤, list_any, AllByRecursion, is_in, Settings}
+use Rattle.vocabulary.specs.Words.{HasSuffixRoom, AreGroups, first_posts}
 use Rattle.definitions.specs.Table.{Address, FilePath, Generation, Hold, Starting, Ready, Process, Worker, File, Table}
 use Rattle.definitions.specs.Table.{is_master, is_ready, is_worker, live_master, owner_at}
+use Rattle.definitions.specs.Crew.{Posts, Crew, share, Layout, layout_at}
 pub use Rattle.vocabulary.specs.declared.plans.PidNote.{PidNote}
 pub use Rattle.vocabulary.specs.declared.plans.PidNote.TheVariants.{InPlace, AtOldbin, OldbinLeft, Left, NoFile}
+pub use Rattle.definitions.specs.Table.{Listener}
 
 pub record Record : Type 0 where
   -- in ascending descriptors

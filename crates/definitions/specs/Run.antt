@@ -2,9 +2,10 @@
 --
 -- Our own. One moment is: some children exit, and then one call by one master takes effect.
 
-use Rattle.std.specs.Prelude.{refl}
-use Rattle.std.specs.Prelude.{ℕ, ◌≡◌, ◌+◌, ◌-◌, ◌==◌, not, Bool, true, false, List, [], ◌∷◌, Option, Some, None}
-use Rattle.std.specs.Prelude.{if◌then◌else◌}
+use Rattle.vocabulary.specs.Words.{refl, ℕ, ◌≡◌, ◌+◌, ◌-◌, ◌==◌, not, Bool, true, false, List, [], ◌∷◌, Option, Some}
+use Rattle.vocabulary.specs.Words.{None, if◌then◌else◌}
+use Rattle.vocabulary.specs.declared.calls.Answer.TheVariants as answer
+use Rattle.vocabulary.specs.declared.reports.Outcome.TheVariants as outcome
 use Rattle.definitions.specs.Table.{Table}
 use Rattle.definitions.specs.Exits.{Name, after_exits, losses_of}
 use Rattle.definitions.specs.Calls.{Call, Ask, Answer, Fate, Stepped, step_with}
@@ -12,8 +13,6 @@ use Rattle.definitions.specs.Tree.{Reply, among, reply_of, same_reply, plain_rep
 use Rattle.definitions.specs.Tree.{Branches, Ends, Does, Nothing, Branch}
 use Rattle.definitions.specs.Path.{Report, Outcome, Sides, outcome_at, Entry, ready_after, lacking_after, Lack}
 use Rattle.definitions.specs.Path.{lacked_by, lacked_after, went_wrong, first_cause}
-use Rattle.vocabulary.specs.declared.calls.Answer.TheVariants as answer
-use Rattle.vocabulary.specs.declared.reports.Outcome.TheVariants as outcome
 
 -- What happens at one call: who exits before it, and how it is made to fail.
 pub record Moment : Type 0 where

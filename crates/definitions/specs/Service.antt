@@ -2,9 +2,8 @@
 --
 -- Our own notion. It is what clients can tell: a worker that drains serves nobody new, and does not count.
 
-use Rattle.std.specs.Prelude.{refl, codes, [], ◌∷◌}
-use Rattle.std.specs.Prelude.{ℕ, ◌≡◌, Bool, false, ◌&&◌, List, Option, Some, None, count_by, bytes_eq, if◌then◌else◌}
-use Rattle.std.specs.List.{list_any}
+use Rattle.vocabulary.specs.Words.{refl, codes, [], ◌∷◌, ℕ, ◌≡◌, Bool, false, ◌&&◌, List, Option, Some, None, count_by}
+use Rattle.vocabulary.specs.Words.{bytes_eq, if◌then◌else◌, list_any}
 use Rattle.definitions.specs.Table.{Address, Generation, same_generation, Hold, Process, Master, Worker, Table}
 use Rattle.definitions.specs.Table.{is_ready, has_address}
 

@@ -3,13 +3,13 @@
 -- After POSIX, as far as masters need it: a process has a number and a parent, a descriptor leads to a socket, and an
 -- address is taken as long as a process holds a socket of it.
 
-use Rattle.std.specs.Prelude.{◌≡◌, refl}
-use Rattle.std.specs.Prelude.{ℕ, Bool, true, false, ◌&&◌, ◌==◌, List, [], ◌∷◌, Option, Some, None, bytes_eq}
-use Rattle.std.specs.List.{list_any}
-pub use Rattle.listener_set.specs.declared.generation.Generation.{Generation}
+use Rattle.vocabulary.specs.Words.{◌≡◌, refl, ℕ, Bool, true, false, ◌&&◌, ◌==◌, List, [], ◌∷◌, Option, Some, None}
+use Rattle.vocabulary.specs.Words.{bytes_eq, list_any}
+pub use Rattle.vocabulary.specs.Words.{Generation}
 pub use Rattle.vocabulary.specs.declared.table.Stance.{Stance}
 pub use Rattle.vocabulary.specs.declared.table.Stance.TheVariants.{Starting, Ready, Draining, Exited}
 pub use Rattle.vocabulary.specs.declared.table.Limits.{Limits}
+pub use Rattle.vocabulary.specs.declared.table.Listener.{Listener}
 
 -- An address is its text, and so is a path.
 abbrev pub Address : Type 0

@@ -3,13 +3,9 @@
 -- After Unicorn's SIGNALS and nginx's "Controlling nginx": HUP starts workers of the next configuration, USR2 a new
 -- executable, TTIN and TTOU change the number of workers, USR1 reopens logs, QUIT and TERM stop.
 
-use Rattle.std.specs.Prelude.{◌≡◌, refl, ◌∷◌}
-use Rattle.std.specs.Prelude.{⊤, ℕ, ◌≤◌, ◌+◌, not, List, [], filter}
+use Rattle.vocabulary.specs.Words.{◌≡◌, refl, ◌∷◌, ⊤, ℕ, ◌≤◌, ◌+◌, not, List, [], filter, has, Settings, numbers_below}
 use Rattle.definitions.specs.Table.{Address, Generation}
-use Rattle.listener_set.specs.AddressList.{has}
 use Rattle.definitions.specs.Handover.{Handover, spelling}
-use Rattle.vocabulary.specs.Settings.{Settings}
-use Rattle.listener_set.specs.Numbers.{numbers_below}
 use Rattle.definitions.specs.Service.{Service, serving}
 use Rattle.definitions.specs.Crew.{Layout, layout_in, served}
 use Rattle.definitions.specs.Record.{Record, addresses_of, layout_of}

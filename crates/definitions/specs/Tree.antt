@@ -2,17 +2,16 @@
 --
 -- Our own. Other masters go on after a failure as their code happens to; a plan has an edge for every reply.
 
-use Rattle.std.specs.Prelude.{◌≡◌, refl}
-use Rattle.std.specs.Prelude.{ℕ, suc, max, Bool, true, false, ◌&&◌, ◌||◌, not, List, [], ◌∷◌, Option, Some, None}
-use Rattle.std.specs.Prelude.{is_some}
-use Rattle.std.specs.List.{list_any, list_all}
-use Rattle.listener_set.specs.Numbers.{lacks}
+use Rattle.vocabulary.specs.Words.{◌≡◌, refl, ℕ, suc, max, Bool, true, false, ◌&&◌, ◌||◌, not, List, [], ◌∷◌, Option}
+use Rattle.vocabulary.specs.Words.{Some, None, is_some, list_any, list_all, lacks}
+use Rattle.vocabulary.specs.declared.calls.Answer.TheVariants as answer
+use Rattle.vocabulary.specs.declared.calls.Reply.TheVariants as reply
+use denote.Enum.Bare.{sameb}
+use Rattle.vocabulary.specs.contracts.calls.Reply.{the_type}
 use Rattle.definitions.specs.Calls.{Call, OpenAt, Fork, AwaitReady, Kill, Census, AwaitGone, SpawnMaster, Adopt}
 use Rattle.definitions.specs.Calls.{WritePid, MovePid, RemovePid, Alive, Ask, Answer}
 use Rattle.definitions.specs.Crew.{fork_of}
-use Rattle.vocabulary.specs.declared.calls.Answer.TheVariants as answer
 pub use Rattle.vocabulary.specs.declared.calls.Reply.{Reply}
-pub use Rattle.vocabulary.specs.declared.calls.Reply.TheVariants as reply
 pub use Rattle.vocabulary.specs.declared.plans.Side.{Side}
 pub use Rattle.vocabulary.specs.declared.plans.Side.TheVariants.{Old, Target}
 pub use Rattle.vocabulary.specs.declared.plans.End.{End}
@@ -21,8 +20,6 @@ pub use Rattle.vocabulary.specs.declared.plans.End.TheVariants.{JoinReady, JoinB
 pub use Rattle.vocabulary.specs.declared.plans.PidNote.{PidNote}
 pub use Rattle.vocabulary.specs.declared.plans.Order.{Order}
 pub use Rattle.vocabulary.specs.declared.plans.Order.TheVariants.{Make, ForkLacking, AwaitLacking, KillLacking}
-use denote.Enum.Bare.{sameb}
-use Rattle.vocabulary.specs.contracts.calls.Reply.{the_type}
 
 -- An end; or a step: the master that makes it, by its image, what it asks for, the set that a census of it must
 -- contain, and what follows each reply.
