@@ -1,4 +1,4 @@
-"""How a kernel starts with a master (Start.antt)."""
+"""How a kernel starts with a master (call_laws/specs/Start.antt)."""
 from reader.addresses import FilePath
 from reader.crew import Addresses, share
 from reader.crews import Posts, first_posts

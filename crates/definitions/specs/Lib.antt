@@ -7,7 +7,6 @@ pub mod Service
 pub mod Crew
 pub mod Record
 pub mod Formed
-pub mod Start
 pub mod Target
 pub mod Tree
 pub mod Path

@@ -22,7 +22,7 @@ use Rattle.kernel_rows.specs.Seen.{seen_rows}
 use Rattle.kernel_table.specs.Seen.{seen_file, seen}
 use Rattle.kernel_table.specs.Room.{HasSockets, IsKept, IsSound}
 use Rattle.kernel_table.specs.Names.{KnowsNames}
-use Rattle.definitions.specs.Start.{holds_from, first_worker, first_rows, first_files, booted}
+use Rattle.call_laws.specs.Start.{holds_from, first_worker, first_rows, first_files, booted}
 use Rattle.kernel_model.specs.Boot.{first_pairs}
 use Rattle.kernel_rows.proofs.Lists.{list_any-map, map-push}
 use Rattle.kernel_model.proofs.CallSteps.{all-append, ascending-append, count-append, and-both, within-shared}

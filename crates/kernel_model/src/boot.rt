@@ -4,7 +4,7 @@ ghost use Rattle.kernel_rows.specs.Holds.{seen_holds};
 ghost use Rattle.kernel_rows.specs.Seen.{seen_holder, seen_rows};
 ghost use Rattle.kernel_table.specs.Seen.{seen, seen_file};
 ghost use Rattle.kernel_table.specs.Room.{IsSound};
-ghost use Rattle.definitions.specs.Start.{booted, first_worker, first_rows, first_files};
+ghost use Rattle.call_laws.specs.Start.{booted, first_worker, first_rows, first_files};
 ghost use Rattle.kernel_model.specs.Boot.{first_pairs, AreBadLimits};
 
 use kernel_rows::{Holder, Holders, Row, holds};

@@ -5,7 +5,7 @@ ghost use Rattle.definitions.specs.Table.{is_held, live_master};
 ghost use Rattle.definitions.specs.Exits.{after_exits};
 ghost use Rattle.definitions.specs.Calls.{step_with};
 ghost use Rattle.definitions.specs.Formed.{IsFormed};
-ghost use Rattle.definitions.specs.Start.{booted};
+ghost use Rattle.call_laws.specs.Start.{booted};
 ghost use Rattle.kernel_model.specs.Alone.{LeavesOthersAlone};
 ghost use Rattle.kernel_model.specs.Boot.{AreBadLimits};
 ghost use Rattle.kernel_table.specs.Room.{LacksNumbers};

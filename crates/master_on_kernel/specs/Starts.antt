@@ -4,7 +4,7 @@ use Rattle.listener_set.specs.Numbers.{numbers_below}
 use Rattle.vocabulary.specs.Settings.{Settings, plain_settings}
 use Rattle.vocabulary.specs.declared.table.Limits.{Limits}
 use Rattle.definitions.specs.Record.{Record, started}
-use Rattle.definitions.specs.Start.{booted}
+use Rattle.call_laws.specs.Start.{booted}
 use Rattle.worker_table.specs.Beats.{Workers, followed}
 use Rattle.master_config.specs.Files.{AreNamed, IsRefusalOf}
 use Rattle.master_config.specs.declared.refusal.ConfigRefusal.{ConfigRefusal}

@@ -2,7 +2,7 @@
 //! body: its contract is the theorem.
 #![tactic(auto)]
 
-ghost use Rattle.definitions.specs.Start.{StartsAgree};
+ghost use Rattle.call_laws.specs.Start.{StartsAgree};
 ghost use Rattle.theorems.specs.Apart.{LastNewIsNone, MergesAreWoven, WalksApart};
 ghost use Rattle.definitions.specs.Claims.{Headline, PlansFit, RunsWithin, UpgradesAreShort};
 ghost use Rattle.theorems.specs.Settling.{PlansGoBack, ReturnsAlways, SettlesAlways};

@@ -4,7 +4,7 @@ use Rattle.definitions.specs.Table.{Address}
 use Rattle.kernel_rows.specs.HolderList.{HolderList}
 use Rattle.kernel_rows.specs.Seen.{seen_rows}
 use Rattle.vocabulary.specs.Settings.{Settings}
-use Rattle.definitions.specs.Start.{booted}
+use Rattle.call_laws.specs.Start.{booted}
 use Rattle.kernel_model.specs.Boot.{first_pairs}
 use Rattle.kernel_model.proofs.Booting.{seen-booted, sound-booted}
 use Rattle.kernel_model.proofs.boot.first_store.Goals as goal

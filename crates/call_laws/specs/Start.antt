@@ -3,9 +3,12 @@
 -- Our own choice of first numbers: master 100 with parent 1, its workers from 101 on, descriptors from 3 on, as POSIX
 -- gives them after the standard three.
 
-use Rattle.vocabulary.specs.Words.{◌≡◌, refl, ℕ, ◌+◌, true, List, [], ◌∷◌, length, map, Option, Some, None}
-use Rattle.vocabulary.specs.Words.{numbers_below, Settings, first_posts}
+use Rattle.std.specs.Prelude.{◌≡◌, refl}
+use Rattle.std.specs.Prelude.{ℕ, ◌+◌, true, List, [], ◌∷◌, length, map, Option, Some, None}
+use Rattle.listener_set.specs.Numbers.{numbers_below}
+use Rattle.vocabulary.specs.Settings.{Settings}
 use Rattle.definitions.specs.Table.{Address, FilePath, Hold, Ready, Limits, Process, Master, Worker, File, Table}
+use Rattle.worker_groups.specs.Crews.{first_posts}
 use Rattle.definitions.specs.Crew.{Posts, Group, share}
 use Rattle.definitions.specs.Record.{first_generation, started, Agrees}
 
