@@ -13,7 +13,7 @@ use Rattle.definitions.specs.Table.{is_worker, is_active, is_starting, is_exited
 use Rattle.definitions.specs.Exits.{change}
 use Rattle.definitions.specs.Calls.{Stepped, is_of, is_row, with_holds, put_hold, lacks_address, lowest_free, shared}
 use Rattle.definitions.specs.Calls.{drop_where, made_ready, made_draining, is_exited_of, step_by}
-use Rattle.definitions.specs.Aside.{is_own_call, aside_of, LeavesAlone, CallsLeaveAlone}
+use Rattle.call_laws.specs.Aside.{is_own_call, aside_of, LeavesAlone, CallsLeaveAlone}
 use Rattle.call_laws.proofs.Choices.{and-left, and-right}
 use Rattle.call_laws.proofs.Cases.{fork-cases, await-cases, open-cases, adopt-cases, unfailing}
 

@@ -2,7 +2,7 @@
 //! function has an empty body: its contract is the law.
 #![tactic(auto)]
 
-ghost use Rattle.definitions.specs.Aside.{CallsLeaveAlone};
+ghost use Rattle.call_laws.specs.Aside.{CallsLeaveAlone};
 
 /// Apart from the exits before it, a call by which a master builds or mends changes no process,
 /// hold or file of another master or of its workers.

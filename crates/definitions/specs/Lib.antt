@@ -16,4 +16,3 @@ pub mod Plans
 pub mod Run
 pub mod Manner
 pub mod Claims
-pub mod Aside

@@ -4,7 +4,7 @@ use Rattle.vocabulary.specs.declared.calls.Call.{Call}
 use Rattle.vocabulary.specs.declared.calls.Fate.{Fate}
 use Rattle.definitions.specs.Table.{Table, live_master}
 use Rattle.definitions.specs.Calls.{Stepped, step_with}
-use Rattle.definitions.specs.Aside.{LeavesAlone}
+use Rattle.call_laws.specs.Aside.{LeavesAlone}
 use Rattle.call_laws.proofs.Aside.{calls-leave-alone}
 use Rattle.kernel_model.specs.Alone.{LeavesOthersAlone}
 

@@ -2,7 +2,7 @@
 use Rattle.std.specs.Prelude.{ℕ, ◌≡◌, true}
 use Rattle.definitions.specs.Table.{Table, live_master}
 use Rattle.definitions.specs.Calls.{Call}
-use Rattle.definitions.specs.Aside.{is_own_call, LeavesAlone}
+use Rattle.call_laws.specs.Aside.{is_own_call, LeavesAlone}
 
 -- A call by which a master builds or mends changes no process, hold or file of another master or of its workers, from the table that
 -- the exits before it left.

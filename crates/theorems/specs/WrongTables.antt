@@ -12,7 +12,7 @@ use Rattle.vocabulary.specs.declared.reports.Outcome.TheVariants.{Done, RolledBa
 use Rattle.vocabulary.specs.declared.targets.Target.TheVariants.{Workers, Reload, Stop}
 use Rattle.definitions.specs.Table.{Master, Worker, Table, Caller}
 use Rattle.definitions.specs.Service.{service}
-use Rattle.definitions.specs.Aside.{LeavesAlone}
+use Rattle.call_laws.specs.Aside.{LeavesAlone}
 use Rattle.definitions.specs.Tree.{Tree, Ends}
 use Rattle.definitions.specs.Parts.{Turn, Old, weave, joined}
 use Rattle.definitions.specs.Plans.{tries, old_part}

@@ -1,5 +1,5 @@
 -- What a call by which a master builds or mends leaves alone.
-use Rattle.vocabulary.specs.Words.{ℕ, ◌≡◌, Bool, true, false, not, List, Option, Some, None, filter}
+use Rattle.std.specs.Prelude.{ℕ, ◌≡◌, Bool, true, false, not, List, Option, Some, None, filter}
 use Rattle.definitions.specs.Table.{Process, Table, Caller, live_master}
 use Rattle.definitions.specs.Calls.{Call, OpenAt, CloseAt, Fork, AwaitReady, Quit, Kill, Census, Adopt, Fate, is_of}
 use Rattle.definitions.specs.Calls.{step_with}
