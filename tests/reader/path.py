@@ -1,4 +1,5 @@
-"""Paths of a plan's tree, and what a report says of one (Path.antt)."""
+"""What a report says of the calls that were made (Path.antt), and the paths of a plan's tree (plan_walk/specs/Path.antt;
+`follow` is in rollback_plan/specs/Following.antt)."""
 from typing import NamedTuple
 
 from reader.crews import shortfalls_of

@@ -13,7 +13,8 @@ use Rattle.definitions.specs.Target.{text_handed, sides_of}
 use Rattle.definitions.specs.Parts.{Turn}
 use Rattle.definitions.specs.Plans.{plan_tree}
 use Rattle.definitions.specs.Tree.{Tree, Ends, Does, Branches, Nothing, Branch, among, branch, call_of, reply_of}
-use Rattle.definitions.specs.Path.{Entry, Report, Sides, Trail, advance, trail_after, IsOver, IsOutcome, Reports, lacked_by}
+use Rattle.definitions.specs.Path.{Entry, Report, Sides, lacked_by}
+use Rattle.plan_walk.specs.Path.{Trail, advance, trail_after, IsOver, IsOutcome, Reports}
 use Rattle.definitions.specs.Run.{Progress, Ending, Lost, Ran, start_at, run_with, goes_with, noted, after_moment, after_call, answered, outcome_of}
 use Rattle.definitions.specs.Claims.{IsStart, HasDescriptors, Says, names_any, executing_at, executing_after, refused_among, heirs_of, run_of}
 use Rattle.plan_executor.specs.Lawful.{trail_at, ending_of}

@@ -11,7 +11,9 @@ use Rattle.definitions.specs.Calls.{Stepped}
 use Rattle.definitions.specs.Tree.{Tree}
 use Rattle.definitions.specs.Parts.{Turn}
 use Rattle.definitions.specs.Plans.{plan_tree}
-use Rattle.definitions.specs.Path.{Entry, Trail, begin, advance, follow, rest_after, trail_after, Follows}
+use Rattle.definitions.specs.Path.{Entry}
+use Rattle.plan_walk.specs.Path.{Trail, begin, advance, rest_after, trail_after, Follows}
+use Rattle.rollback_plan.specs.Following.{follow}
 use Rattle.definitions.specs.Run.{Moment, quiet, Pattern, Replays}
 use Rattle.definitions.specs.Claims.{names_any, executing_at, executing_after, refused_among, heirs_of}
 use Rattle.certifier.specs.Shown.{moment_shown, moments_shown, pattern_of, stepped_at}

@@ -3,7 +3,8 @@ use Rattle.std.proofs.Common.{◌≡◌, ℕ, ◌+◌, length, List, [], ◌∷�
 use Rattle.std.specs.Prelude.{IfOk, IfErr}
 use Rattle.definitions.specs.Parts.{Turn, New}
 use Rattle.theorems.specs.Apart.{Plays}
-use Rattle.definitions.specs.Path.{Entry, Report, Sides, Trail, IsOver, Reports, trail_after}
+use Rattle.definitions.specs.Path.{Entry, Report, Sides}
+use Rattle.plan_walk.specs.Path.{Trail, IsOver, Reports, trail_after}
 use Rattle.plan_walk.specs.Walk.{trail_under, sides_in}
 use Rattle.kernel_model.specs.Pattern.{moment_at}
 use Rattle.kernel_model.specs.State.{State}

@@ -11,7 +11,8 @@ use Rattle.vocabulary.specs.declared.targets.Target.{Target}
 use Rattle.definitions.specs.Target.{text_handed, sides_of}
 use Rattle.definitions.specs.Parts.{Turn}
 use Rattle.definitions.specs.Plans.{plan_tree, plan_length}
-use Rattle.definitions.specs.Path.{Entry, Report, KeepsPathLaw}
+use Rattle.definitions.specs.Path.{Entry, Report}
+use Rattle.plan_walk.specs.Path.{KeepsPathLaw}
 use Rattle.definitions.specs.Claims.{refused_among, refusal_of, heirs_of}
 use Rattle.kernel_model.specs.Pattern.{moment_at}
 use Rattle.kernel_pattern.specs.declared.section.Section.{Section}

@@ -1,7 +1,9 @@
 -- An entry that is next at a turn.
 use Rattle.std.proofs.Common.{◌≡◌, Bool, true, false, not, List, [], ◌∷◌, ◌++◌, Option, None, Some, refl, sym, ◌∙◌, ap, subst, is_none, if◌then◌else◌}
 use Rattle.definitions.specs.Parts.{Turn, New}
-use Rattle.definitions.specs.Path.{Entry, Trail, Asks, advance, follow, rest_after}
+use Rattle.definitions.specs.Path.{Entry}
+use Rattle.plan_walk.specs.Path.{Trail, Asks, advance, rest_after}
+use Rattle.rollback_plan.specs.Following.{follow}
 use Rattle.definitions.specs.Claims.{names_any, executing_at}
 use Rattle.rollback_plan.specs.declared.cursor.Cursor.{Cursor}
 use Rattle.rollback_plan.specs.Places.{is_both, without_first}

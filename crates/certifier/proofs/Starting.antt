@@ -4,7 +4,7 @@ use Rattle.definitions.specs.Tree.{Tree, height, End}
 use Rattle.vocabulary.specs.declared.plans.End.TheVariants.{Done, RolledBack, ShortOld, ShortTarget, Split, JoinReady, JoinBack, Join}
 use Rattle.definitions.specs.Parts.{Turn, New, graft, joined}
 use Rattle.theorems.specs.Apart.{Plays}
-use Rattle.definitions.specs.Path.{Trail, begin}
+use Rattle.plan_walk.specs.Path.{Trail, begin}
 use Rattle.definitions.specs.Run.{quiet}
 use Rattle.theorems.proofs.LastTurns.{weave-last}
 use Rattle.plan_steps.specs.declared.parts.Parts.{Parts}

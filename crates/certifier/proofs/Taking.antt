@@ -3,7 +3,8 @@ use Rattle.std.proofs.Common.{◌≡◌, ℕ, ◌+◌, nat_eq, List, [], ◌∷�
 use Rattle.std.specs.Prelude.{if◌then◌else◌}
 use Rattle.definitions.specs.Parts.{Turn}
 use Rattle.theorems.specs.Apart.{Plays}
-use Rattle.definitions.specs.Path.{Entry, Sides, Trail, Asks, Follows, advance, trail_after}
+use Rattle.definitions.specs.Path.{Entry, Sides}
+use Rattle.plan_walk.specs.Path.{Trail, Asks, Follows, advance, trail_after}
 use Rattle.definitions.specs.Run.{Moment}
 use Rattle.plan_executor.specs.Naming.{listed}
 use Rattle.certifier.specs.declared.replay.Replay.{Replay}

@@ -7,7 +7,8 @@ use Rattle.definitions.specs.Target.{text_handed, sides_of}
 use Rattle.definitions.specs.After.{lacks_generation}
 use Rattle.definitions.specs.Parts.{Turn}
 use Rattle.definitions.specs.Plans.{plan_tree, plan_length}
-use Rattle.definitions.specs.Path.{Entry, Report, Trail, begin, trail_after, Follows, IsOver, Reports}
+use Rattle.definitions.specs.Path.{Entry, Report}
+use Rattle.plan_walk.specs.Path.{Trail, begin, trail_after, Follows, IsOver, Reports}
 use Rattle.definitions.specs.Run.{Pattern, Replays}
 use Rattle.definitions.specs.Claims.{heirs_of, refused_among}
 use Rattle.kernel_model.specs.Room.{LacksNumbers}

@@ -3,7 +3,9 @@ use Rattle.std.specs.Prelude.{ℕ, ◌≡◌, ◌≤◌, ◌<◌, ◌+◌, ◌^�
 use Rattle.definitions.specs.Table.{Table}
 use Rattle.definitions.specs.Parts.{Turn, New}
 use Rattle.theorems.specs.Apart.{Plays}
-use Rattle.definitions.specs.Path.{Entry, Report, Sides, Trail, Asks, Follows, IsOver, Reports, begin, advance, trail_after, follow}
+use Rattle.definitions.specs.Path.{Entry, Report, Sides}
+use Rattle.plan_walk.specs.Path.{Trail, Asks, Follows, IsOver, Reports, begin, advance, trail_after}
+use Rattle.rollback_plan.specs.Following.{follow}
 use Rattle.definitions.specs.Run.{quiet}
 use Rattle.definitions.specs.Claims.{names_any, executing_at, executing_after}
 use Rattle.rollback_plan.specs.declared.plan.Plan.{Plan}

@@ -1,7 +1,7 @@
 //! A transcript, replayed entry by entry.
 ghost use Rattle.std.specs.Prelude.{◌≡◌, ◌+◌, ◌↔◌, List, [], IsTrue, IfOk, IfErr};
 ghost use Rattle.definitions.specs.Parts.{Turn};
-ghost use Rattle.definitions.specs.Path.{Asks};
+ghost use Rattle.plan_walk.specs.Path.{Asks};
 ghost use Rattle.rollback_plan.specs.Plans.{length_of, sides_told, text_of};
 ghost use Rattle.plan_walk.specs.Walk.{trail_under, sides_in, IsTurnOf};
 ghost use Rattle.plan_executor.specs.Naming.{listed};

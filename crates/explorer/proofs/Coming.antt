@@ -12,7 +12,9 @@ use Rattle.definitions.specs.Calls.{Stepped, step_with}
 use Rattle.definitions.specs.Exits.{after_exits}
 use Rattle.definitions.specs.Tree.{Tree, Ends, Does, Branches, branch, reply_of, call_of}
 use Rattle.definitions.specs.Parts.{Turn}
-use Rattle.definitions.specs.Path.{advance, Asks, follow, rest_after, lacked_by}
+use Rattle.definitions.specs.Path.{lacked_by}
+use Rattle.plan_walk.specs.Path.{advance, Asks, rest_after}
+use Rattle.rollback_plan.specs.Following.{follow}
 use Rattle.definitions.specs.Run.{Moment, Pattern, Progress, Ran, run_with, with_entry, after_moment, after_call, answered}
 use Rattle.definitions.specs.Target.{text_handed}
 use Rattle.plan_executor.specs.Lawful.{trail_at}

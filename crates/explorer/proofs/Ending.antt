@@ -3,7 +3,8 @@ use Rattle.std.proofs.Common.{◌≡◌, ℕ, List, Option, Some, None, refl, sy
 use Rattle.vocabulary.specs.declared.reports.Report.{Report}
 use Rattle.vocabulary.specs.declared.reports.Outcome.{Outcome}
 use Rattle.definitions.specs.Tree.{Tree, Ends, Does}
-use Rattle.definitions.specs.Path.{Trail, Sides, IsOver, IsOutcome, Reports}
+use Rattle.definitions.specs.Path.{Sides}
+use Rattle.plan_walk.specs.Path.{Trail, IsOver, IsOutcome, Reports}
 use Rattle.definitions.specs.Run.{Pattern, Progress, Ran, outcome_of, report_of}
 use Rattle.plan_executor.specs.Lawful.{trail_at, ending_of}
 use Rattle.explorer.specs.Positions.{rest_run, EndsAlike}

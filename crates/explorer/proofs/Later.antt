@@ -7,7 +7,7 @@ use Rattle.definitions.specs.Calls.{Stepped, step_with}
 use Rattle.definitions.specs.Exits.{after_exits}
 use Rattle.definitions.specs.Tree.{Tree}
 use Rattle.definitions.specs.Parts.{Turn}
-use Rattle.definitions.specs.Path.{Trail, advance, Asks}
+use Rattle.plan_walk.specs.Path.{Trail, advance, Asks}
 use Rattle.definitions.specs.Run.{Moment, Pattern, Progress}
 use Rattle.definitions.specs.Target.{text_handed}
 use Rattle.kernel_model.specs.State.{State}

@@ -6,7 +6,7 @@ use Rattle.table_laws.proofs.Views.{eqb-off, eqb-refl}
 use Rattle.definitions.specs.Table.{Table}
 use Rattle.definitions.specs.Calls.{Call}
 use Rattle.definitions.specs.Tree.{Tree, Ends, Does}
-use Rattle.definitions.specs.Path.{IsOver}
+use Rattle.plan_walk.specs.Path.{IsOver}
 use Rattle.definitions.specs.Target.{text_handed}
 use Rattle.definitions.specs.Run.{Pattern, Progress}
 use Rattle.plan_walk.specs.Course.{trail_on}

@@ -14,7 +14,8 @@ use Rattle.definitions.specs.Calls.{Call, Stepped, step_with}
 use Rattle.vocabulary.specs.declared.calls.Answer.TheVariants as answer
 use Rattle.definitions.specs.Tree.{Tree, Branches, Ends, Does, Nothing, Branch, Reply, among, branch, reply_of, call_of}
 use Rattle.definitions.specs.Parts.{Turn}
-use Rattle.definitions.specs.Path.{Trail, Sides, Asks, rest_after, Lack, lacked_by}
+use Rattle.definitions.specs.Path.{Sides, Lack, lacked_by}
+use Rattle.plan_walk.specs.Path.{Trail, Asks, rest_after}
 use Rattle.definitions.specs.Run.{Moment, quiet, Pattern, Progress, Ran, run_with, goes_with, with_entry, answered, noted, after_moment, after_call, outcome_of, report_of}
 use Rattle.definitions.specs.Target.{sides_of, text_handed}
 use Rattle.kernel_pattern.specs.Pattern.{with_exit}

@@ -1,6 +1,6 @@
 -- The calls of a run, one after another, and what is counted on the way.
 use Rattle.std.proofs.Common.{◌≡◌, ◌++◌, [], List, Option, sym, ap, ◌∙◌}
-use Rattle.definitions.specs.Path.{IsOver}
+use Rattle.plan_walk.specs.Path.{IsOver}
 use Rattle.definitions.specs.Run.{Progress, quiet}
 use Rattle.plan_walk.specs.Course.{trail_on}
 use Rattle.plan_walk.specs.declared.walk.Due.{Due}

@@ -6,7 +6,7 @@ use Rattle.vocabulary.specs.declared.targets.Target.{Target}
 use Rattle.definitions.specs.Table.{Table}
 use Rattle.definitions.specs.Record.{Record}
 use Rattle.definitions.specs.Exits.{after_exits}
-use Rattle.definitions.specs.Path.{rest_after}
+use Rattle.plan_walk.specs.Path.{rest_after}
 use Rattle.definitions.specs.Tree.{Tree, Ends, Does, branch, reply_of}
 use Rattle.definitions.specs.Parts.{Turn}
 use Rattle.definitions.specs.Target.{sides_of, text_handed}

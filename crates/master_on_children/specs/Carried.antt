@@ -4,7 +4,7 @@ use Rattle.definitions.specs.Record.{Record}
 use Rattle.definitions.specs.Target.{sides_of, text_handed}
 use Rattle.definitions.specs.After.{lacks_generation, record_after}
 use Rattle.definitions.specs.Plans.{plan_tree}
-use Rattle.definitions.specs.Path.{KeepsPathLaw}
+use Rattle.plan_walk.specs.Path.{KeepsPathLaw}
 use Rattle.vocabulary.specs.declared.targets.Target.{Target}
 use Rattle.reload_planner.specs.declared.refusal.PlanRefusal.TheVariants.{NoGeneration}
 use Rattle.upgrade_planner.specs.Planned.{HasPlan}

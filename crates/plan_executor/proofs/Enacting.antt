@@ -19,7 +19,7 @@ use Rattle.definitions.specs.Plans.{plan_tree, plan_length}
 use Rattle.definitions.specs.Run.{Pattern, Replays}
 use Rattle.definitions.specs.Parts.{Turn}
 use Rattle.rollback_plan.specs.Plans.{tree_under, note_of, sides_told, text_of}
-use Rattle.definitions.specs.Path.{KeepsPathLaw}
+use Rattle.plan_walk.specs.Path.{KeepsPathLaw}
 use Rattle.definitions.specs.After.{next_record, next_config, next_image}
 use Rattle.word_runner.specs.declared.enactor.Enacted.{Enacted}
 use Rattle.plan_executor.specs.Lawful.{IsWholeRun}

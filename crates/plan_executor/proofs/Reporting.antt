@@ -6,7 +6,8 @@ use Rattle.vocabulary.specs.declared.reports.Outcome.{Outcome}
 use Rattle.definitions.specs.Table.{Table}
 use Rattle.definitions.specs.Tree.{Tree, Ends, Does}
 use Rattle.definitions.specs.Parts.{Turn}
-use Rattle.definitions.specs.Path.{Trail, Sides, begin, trail_after, IsOver, IsOutcome, Reports, KeepsPathLaw}
+use Rattle.definitions.specs.Path.{Sides}
+use Rattle.plan_walk.specs.Path.{Trail, begin, trail_after, IsOver, IsOutcome, Reports, KeepsPathLaw}
 use Rattle.definitions.specs.Run.{Pattern, Ran, start_at, outcome_of, report_of, Replays}
 use Rattle.definitions.specs.Record.{Record}
 use Rattle.vocabulary.specs.declared.targets.Target.{Target}

@@ -1,7 +1,7 @@
 //! A target for which all is ready, carried out.
 ghost use Rattle.std.specs.Prelude.{◌≡◌, ◌+◌, ◌≤◌, [], None, length};
 ghost use Rattle.definitions.specs.Claims.{refusal_of};
-ghost use Rattle.definitions.specs.Path.{KeepsPathLaw};
+ghost use Rattle.plan_walk.specs.Path.{KeepsPathLaw};
 ghost use Rattle.definitions.specs.Run.{Replays};
 ghost use Rattle.definitions.specs.Target.{IsTarget};
 ghost use Rattle.kernel_model.specs.Pattern.{moment_at};

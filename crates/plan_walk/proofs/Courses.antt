@@ -1,7 +1,7 @@
 -- A walk by given turns.
 use Rattle.std.proofs.Common.{◌≡◌, List, [], Option, None, Some, IfSome, IfNone, refl}
 use Rattle.definitions.specs.Parts.{Turn}
-use Rattle.definitions.specs.Path.{IsOver}
+use Rattle.plan_walk.specs.Path.{IsOver}
 use Rattle.rollback_plan.specs.declared.cursor.Cursor.{Cursor}
 use Rattle.rollback_plan.specs.Places.{turn_of}
 use Rattle.plan_walk.specs.declared.walk.Due.{Due}

@@ -16,7 +16,9 @@ use Rattle.vocabulary.specs.declared.plans.Order.{Order}
 use Rattle.vocabulary.specs.declared.plans.Order.TheVariants.{Make, ForkLacking, AwaitLacking, KillLacking}
 use Rattle.vocabulary.specs.declared.reports.Entry.{Entry}
 use Rattle.definitions.specs.Tree.{Tree, Ends, Does, Branches, Nothing, Branch, branch, among, same_reply, reply_of, full_or_short, replies_to, is_listed, height, highest, order_replies, call_of}
-use Rattle.definitions.specs.Path.{Trail, advance, Asks, follow, ready_after, lacking_after, Lack, lacked_by, lacked_after, first_cause, went_wrong}
+use Rattle.definitions.specs.Path.{ready_after, lacking_after, Lack, lacked_by, lacked_after, first_cause, went_wrong}
+use Rattle.plan_walk.specs.Path.{Trail, advance, Asks}
+use Rattle.rollback_plan.specs.Following.{follow}
 use Rattle.plan_steps.specs.declared.step.Step.{Step}
 use Rattle.plan_steps.specs.Woven.{answers, all_answer}
 use Rattle.rollback_plan.specs.Places.{begins}

@@ -1,7 +1,7 @@
 -- A walk where the new master goes on until its part has ended.
 use Rattle.std.proofs.Common.{◌≡◌, List, [], Option, None, Some, IfSome, IfNone, true, false, if◌then◌else◌, refl}
 use Rattle.definitions.specs.Parts.{Turn, New}
-use Rattle.definitions.specs.Path.{IsOver}
+use Rattle.plan_walk.specs.Path.{IsOver}
 use Rattle.rollback_plan.specs.declared.cursor.Cursor.{Cursor}
 use Rattle.rollback_plan.specs.Places.{is_both, without_first}
 use Rattle.plan_walk.specs.declared.walk.Due.{Due}

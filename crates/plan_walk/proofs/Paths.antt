@@ -2,7 +2,8 @@
 use Rattle.std.proofs.Common.{◌≡◌, ◌≤◌, List, [], ◌∷◌, ◌++◌, refl, arith, Option, Some, None}
 use Rattle.definitions.specs.Tree.{Tree, Ends, Does}
 use Rattle.vocabulary.specs.declared.reports.Entry.{Entry}
-use Rattle.definitions.specs.Path.{Trail, advance, trail_after, Asks, Follows, Lack}
+use Rattle.definitions.specs.Path.{Lack}
+use Rattle.plan_walk.specs.Path.{Trail, advance, trail_after, Asks, Follows}
 use Rattle.plan_walk.specs.Fit.{height_next}
 
 pub after-push : (t : Trail) (entries : List Entry) (e : Entry) → trail_after t (entries ++ e ∷ []) ≡ advance (trail_after t entries) e

@@ -6,7 +6,9 @@ use Rattle.vocabulary.specs.declared.reports.Entry.{Entry}
 use Rattle.std.specs.Prelude.{unwrap_or, slice_get}
 use Rattle.definitions.specs.Parts.{Turn, New}
 use Rattle.definitions.specs.Tree.{Tree, Ends, Does, height}
-use Rattle.definitions.specs.Path.{Lack, Asks, IsOver, follow}
+use Rattle.definitions.specs.Path.{Lack}
+use Rattle.plan_walk.specs.Path.{Asks, IsOver}
+use Rattle.rollback_plan.specs.Following.{follow}
 use Rattle.plan_steps.specs.Woven.{answers}
 use Rattle.rollback_plan.specs.declared.cursor.Cursor.{Cursor}
 use Rattle.rollback_plan.specs.Places.{turn_of, without_first, end_of, IsEnd}

@@ -1,6 +1,6 @@
 //! Execution of a plan.
 ghost use Rattle.std.specs.Prelude.{◌≡◌, ◌+◌, ◌≤◌, [], length};
-ghost use Rattle.definitions.specs.Path.{KeepsPathLaw};
+ghost use Rattle.plan_walk.specs.Path.{KeepsPathLaw};
 ghost use Rattle.rollback_plan.specs.Plans.{tree_under, length_of, note_of, sides_told};
 
 use crate::{Calls, Course, Transcript, Turns};

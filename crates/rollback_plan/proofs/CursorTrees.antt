@@ -7,7 +7,7 @@ use Rattle.vocabulary.specs.declared.plans.End.{End}
 use Rattle.vocabulary.specs.declared.plans.End.TheVariants.{Done, RolledBack, ShortOld, ShortTarget, Split, JoinReady, JoinBack, Join}
 use Rattle.vocabulary.specs.declared.plans.PidNote.{PidNote}
 use Rattle.definitions.specs.Tree.{Tree, Branches, Ends, Does, branch, reply_of}
-use Rattle.definitions.specs.Path.{follow}
+use Rattle.rollback_plan.specs.Following.{follow}
 use Rattle.definitions.specs.Parts.{Turn, New, Old, graft, graft_all, beside_all, weave, weave_all}
 use Rattle.plan_steps.specs.declared.parts.Parts.{Parts}
 use Rattle.plan_steps.specs.declared.step.PlanEdge.{PlanEdge}

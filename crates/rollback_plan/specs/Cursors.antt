@@ -4,7 +4,7 @@ use Rattle.std.specs.Option.{option_map}
 use Rattle.std.specs.List.{list_all}
 use Rattle.vocabulary.specs.declared.calls.Answer.{Answer}
 use Rattle.definitions.specs.Tree.{Tree, reply_of}
-use Rattle.definitions.specs.Path.{follow}
+use Rattle.rollback_plan.specs.Following.{follow}
 use Rattle.definitions.specs.Parts.{Turn}
 use Rattle.plan_steps.specs.declared.step.Step.{Step}
 use Rattle.plan_steps.specs.declared.step.Next.{Next}

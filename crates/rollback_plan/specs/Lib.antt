@@ -2,6 +2,7 @@ pub mod Drafts
 pub mod Back
 pub mod Ways
 pub mod Plans
+pub mod Following
 pub mod Places
 pub mod Masters
 pub mod Cursors

@@ -2,7 +2,7 @@
 ghost use Rattle.std.specs.Prelude.{◌≡◌, ◌<◌, ◌≤◌, ◌^◌, true, false, List, Some, IfSome, IfNone, IsTrue};
 ghost use Rattle.std.specs.Option.{option_map};
 ghost use Rattle.definitions.specs.Tree.{height};
-ghost use Rattle.definitions.specs.Path.{follow};
+ghost use Rattle.rollback_plan.specs.Following.{follow};
 ghost use Rattle.plan_steps.specs.Steps.{is_within};
 ghost use Rattle.plan_steps.specs.Woven.{answers, woven_behind};
 ghost use Rattle.rollback_plan.specs.Places.{is_at, tree_at, is_step, is_split, goes_new, chosen_at, end_behind};

@@ -4,7 +4,7 @@ use mathlib.Core.Bool.{true≢false}
 use Rattle.definitions.specs.Record.{Record, Agrees}
 use Rattle.definitions.specs.Target.{text_handed, sides_of}
 use Rattle.definitions.specs.Plans.{plan_length}
-use Rattle.definitions.specs.Path.{begin}
+use Rattle.plan_walk.specs.Path.{begin}
 use Rattle.definitions.specs.Claims.{heirs_of}
 use Rattle.kernel_model.specs.Room.{LacksNumbers}
 use Rattle.plan_executor.specs.Naming.{listed}

@@ -1,7 +1,7 @@
 use Rattle.std.proofs.Common.{◌≡◌, ◌∷◌, [], List, length, arith, sym, ◌∙◌, ap, subst, length-append}
 use Rattle.vocabulary.specs.declared.calls.Answer.TheVariants.{MasterGone}
 use Rattle.vocabulary.specs.declared.reports.Entry.{Entry}
-use Rattle.definitions.specs.Path.{Trail, begin, trail_after, advance, Asks, Follows}
+use Rattle.plan_walk.specs.Path.{Trail, begin, trail_after, advance, Asks, Follows}
 use Rattle.rollback_plan.specs.Plans.{tree_under, note_of}
 use Rattle.plan_walk.specs.Fit.{height_next}
 use Rattle.plan_walk.specs.Course.{trail_on}

@@ -1,5 +1,5 @@
 use Rattle.std.proofs.Common.{◌≡◌, ◌≤◌, ◌+◌, length, None}
-use Rattle.definitions.specs.Path.{begin, trail_after, Follows, EndsGone}
+use Rattle.plan_walk.specs.Path.{begin, trail_after, Follows, EndsGone}
 use Rattle.rollback_plan.specs.Plans.{tree_under, length_of, note_of, sides_told}
 use Rattle.plan_walk.specs.Fit.{height_next}
 use Rattle.plan_walk.specs.Course.{trail_on, sides_on}

@@ -3,7 +3,7 @@ use Rattle.vocabulary.specs.declared.calls.Answer.TheVariants.{MasterGone}
 use Rattle.vocabulary.specs.declared.reports.Entry.{Entry}
 use Rattle.definitions.specs.Calls.{step_with}
 use Rattle.definitions.specs.Exits.{after_exits}
-use Rattle.definitions.specs.Path.{Asks, advance}
+use Rattle.plan_walk.specs.Path.{Asks, advance}
 use Rattle.definitions.specs.Run.{Moment}
 use Rattle.kernel_model.specs.State.{State}
 use Rattle.plan_walk.specs.Course.{trail_on}

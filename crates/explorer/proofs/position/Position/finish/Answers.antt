@@ -1,5 +1,5 @@
 use Rattle.std.proofs.Common.{◌≡◌, ◌+◌, refl, ap, subst, ◌∙◌, arith}
-use Rattle.definitions.specs.Path.{Reports}
+use Rattle.plan_walk.specs.Path.{Reports}
 use Rattle.definitions.specs.Run.{quiet}
 use Rattle.definitions.specs.Target.{sides_of, text_handed}
 use Rattle.definitions.specs.Claims.{run_of}

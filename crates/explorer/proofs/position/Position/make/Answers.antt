@@ -1,7 +1,7 @@
 use Rattle.std.proofs.Common.{sym, ap, ◌∙◌, arith, subst}
 use Rattle.vocabulary.specs.declared.calls.Answer.TheVariants.{MasterGone}
 use Rattle.vocabulary.specs.declared.reports.Entry.{Entry}
-use Rattle.definitions.specs.Path.{Asks, advance}
+use Rattle.plan_walk.specs.Path.{Asks, advance}
 use Rattle.definitions.specs.Run.{Moment}
 use Rattle.plan_walk.specs.Course.{trail_on}
 use Rattle.plan_walk.proofs.Paths.{asks_height}

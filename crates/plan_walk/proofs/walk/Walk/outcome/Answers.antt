@@ -1,5 +1,5 @@
 use Rattle.std.proofs.Common.{Option, subst, sym, ◌∙◌}
-use Rattle.definitions.specs.Path.{IsOver}
+use Rattle.plan_walk.specs.Path.{IsOver}
 use Rattle.rollback_plan.specs.declared.cursor.Cursor.{Cursor}
 use Rattle.rollback_plan.specs.Cursors.{rest_under}
 use Rattle.plan_walk.specs.Rests.{rest_in}
