@@ -3,6 +3,7 @@ ghost use Rattle.std.specs.Prelude.{◌≡◌, ◌++◌, ◌∷◌, []};
 ghost use Rattle.vocabulary.specs.declared.calls.Reply.TheVariants.{MasterGone};
 ghost use Rattle.definitions.specs.Tree as tree;
 ghost use Rattle.definitions.specs.Plans.{others};
+ghost use Rattle.call_replies.specs.Replies.{order_replies};
 
 use vocabulary::{Call, Order, Reply};
 
@@ -72,7 +73,7 @@ pub fn replies_to(call: &Call) -> &'static [Reply]
 
 /// The replies to what a step asks for, the plain one first and that the master is gone last.
 pub fn replies_of(order: &Order) -> &'static [Reply]
-    ensures { result.now ≡ tree.order_replies order.now ++ MasterGone ∷ [] }
+    ensures { result.now ≡ order_replies order.now ++ MasterGone ∷ [] }
 {
     match order {
         Order::Make(call) => replies_to(call),

@@ -9,7 +9,8 @@ use Rattle.vocabulary.specs.declared.calls.Answer.TheVariants as answer
 use Rattle.vocabulary.specs.declared.calls.Reply.{Reply}
 use Rattle.vocabulary.specs.declared.calls.Reply.TheVariants.{MasterGone}
 use Rattle.vocabulary.specs.declared.calls.Reply.TheVariants as reply
-use Rattle.definitions.specs.Tree.{replies_to, same_reply, among, is_listed}
+use Rattle.definitions.specs.Tree.{replies_to, same_reply, among}
+use Rattle.call_replies.specs.Replies.{is_listed}
 use Rattle.plain_text.specs.NumberText.{number_within}
 use Rattle.call_text.specs.SetText.{set_text}
 use Rattle.call_text.specs.CallText.{answer_text}

@@ -15,7 +15,7 @@ use Rattle.vocabulary.specs.declared.calls.Answer.TheVariants as answer
 use Rattle.vocabulary.specs.declared.reports.Report.{Report}
 use Rattle.vocabulary.specs.declared.reports.Outcome.{Outcome}
 use Rattle.vocabulary.specs.declared.reports.Outcome.TheVariants as outcome
-use Rattle.definitions.specs.Tree.{is_listed}
+use Rattle.call_replies.specs.Replies.{is_listed}
 
 -- The numbers of images, configurations and masters are at most 4,294,967,295; a worker's is at most 1023.
 abbrev pub IsNumber : ℕ → Type 0

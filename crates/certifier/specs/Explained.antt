@@ -9,7 +9,8 @@ use Rattle.definitions.specs.Parts.{Turn}
 use Rattle.definitions.specs.Plans.{plan_tree, plan_length}
 use Rattle.definitions.specs.Path.{Entry, Report}
 use Rattle.plan_walk.specs.Path.{Trail, begin, trail_after, Follows, IsOver, Reports}
-use Rattle.definitions.specs.Run.{Pattern, Replays}
+use Rattle.definitions.specs.Run.{Pattern}
+use Rattle.plan_executor.specs.Replays.{Replays}
 use Rattle.definitions.specs.Claims.{heirs_of, refused_among}
 use Rattle.kernel_model.specs.Room.{LacksNumbers}
 use Rattle.plan_executor.specs.Refusals.{HasPlan}

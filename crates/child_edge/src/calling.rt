@@ -1,6 +1,6 @@
 //! Calls, made by the edge itself or passed on.
 ghost use Rattle.std.specs.Prelude.{◌≡◌, ◌≤◌, ◌<◌, ◌-◌, ◌+◌, IsTrue, vec_len, vec_capacity};
-ghost use Rattle.definitions.specs.Tree.{is_listed};
+ghost use Rattle.call_replies.specs.Replies.{is_listed};
 ghost use Rattle.child_edge.specs.State.{state_of};
 ghost use Rattle.child_edge.specs.Table.{answers, adopted_or_refused, turn_of};
 ghost use Rattle.child_edge.specs.Turns.{GoesOn};

@@ -1,6 +1,6 @@
 //! The edge: the calls of a plan, made on real children.
 ghost use Rattle.std.specs.Prelude.{◌≡◌, ℕ, ◌≤◌, ◌<◌, ◌-◌, ◌+◌, ◌++◌, ◌∷◌, [], List, Option, max, IsTrue, IfOk, OnOk, OnErr, vec_len, vec_capacity};
-ghost use Rattle.definitions.specs.Tree.{is_listed};
+ghost use Rattle.call_replies.specs.Replies.{is_listed};
 ghost use Rattle.vocabulary.specs.declared.calls.Answer.TheVariants.{Counted};
 ghost use Rattle.vocabulary.specs.declared.reports.Entry.{Entry};
 ghost use Rattle.child_family.specs.Told.{Told};

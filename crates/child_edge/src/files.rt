@@ -1,6 +1,6 @@
 //! The calls about pid files.
 ghost use Rattle.std.specs.Prelude.{◌≡◌, IsTrue};
-ghost use Rattle.definitions.specs.Tree.{is_listed};
+ghost use Rattle.call_replies.specs.Replies.{is_listed};
 ghost use Rattle.vocabulary.specs.declared.calls.Call.TheVariants.{WritePid, MovePid, RemovePid};
 ghost use Rattle.child_family.specs.Talk.{writes, renames, removes};
 ghost use Rattle.child_family.specs.Lines.{pid_text};

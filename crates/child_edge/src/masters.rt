@@ -2,7 +2,7 @@
 ghost use Rattle.std.specs.Prelude.{◌≡◌, ◌≤◌, ◌-◌, IsTrue, vec_len, vec_capacity, codes, if◌then◌else◌};
 ghost use Rattle.child_family.specs.Talk.{says, hears};
 ghost use Rattle.child_family.specs.Lines.{is_line};
-ghost use Rattle.definitions.specs.Tree.{is_listed};
+ghost use Rattle.call_replies.specs.Replies.{is_listed};
 ghost use Rattle.vocabulary.specs.declared.calls.Call.TheVariants.{SpawnMaster, Alive, TermMaster};
 ghost use Rattle.child_edge.specs.State.{state_of};
 ghost use Rattle.child_edge.specs.Table.{Turn, answers, spawning, living, terminating};

@@ -1,6 +1,6 @@
 //! Calls that the child master makes, and its ticks.
 ghost use Rattle.std.specs.Prelude.{◌≡◌, ℕ, List, IsTrue, IfSome, codes, option_and_then, if◌then◌else◌};
-ghost use Rattle.definitions.specs.Tree.{is_listed};
+ghost use Rattle.call_replies.specs.Replies.{is_listed};
 ghost use Rattle.vocabulary.specs.declared.calls.Answer.{Answer as Answered};
 ghost use Rattle.vocabulary.specs.declared.calls.Answer.TheVariants.{Counted};
 ghost use Rattle.call_text.specs.CallText.{call_line};

@@ -1,6 +1,6 @@
 //! The calls about workers.
 ghost use Rattle.std.specs.Prelude.{◌≡◌, ◌≤◌, ◌<◌, ◌-◌, ◌+◌, IsTrue, vec_len, vec_capacity, codes};
-ghost use Rattle.definitions.specs.Tree.{is_listed};
+ghost use Rattle.call_replies.specs.Replies.{is_listed};
 ghost use Rattle.vocabulary.specs.declared.calls.Call.TheVariants.{Quit, Kill, Census, AwaitGone, Usr1, Leave};
 ghost use Rattle.child_edge.specs.State.{state_of};
 ghost use Rattle.child_edge.specs.Table.{answers, quitting, killing, counting, awaiting, gone_or_late, leaving};

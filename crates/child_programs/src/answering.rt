@@ -1,6 +1,6 @@
 //! Who answers the calls of a new master, and its ticks.
 ghost use Rattle.std.specs.Prelude.{◌≡◌, IsTrue};
-ghost use Rattle.definitions.specs.Tree.{is_listed};
+ghost use Rattle.call_replies.specs.Replies.{is_listed};
 ghost use Rattle.child_programs.specs.Requests.{refused};
 
 use child_edge::Edge;
@@ -14,7 +14,7 @@ use vocabulary::{Actor, Answer, Call};
 pub trait Answers {
     ghost use Rattle.std.specs.Prelude.{ℕ, List, IfOk, IsTrue};
     ghost use Rattle.definitions.specs.Calls.{Call as Called, Answer as Answered};
-    ghost use Rattle.definitions.specs.Tree.{is_listed};
+    ghost use Rattle.call_replies.specs.Replies.{is_listed};
 
     /// A call for a master, with the text of a handover, led from one state to another and had this answer.
     ghost answers: { Self → ℕ → Called → List ℕ → Self → Answered → Type 0 };

@@ -159,15 +159,6 @@ report_of sides ran = record {
   ready = ran.last.ready;
 }
 
--- From one table to another by these calls, each of which is handed the text, the first being number n + 1 of the
--- pattern: before each the exits of its moment, and each with the one answer that it can have there.
-abbrev pub Replays : List ℕ → Pattern → ℕ → Table → List Entry → Table → Type 0
-Replays text pattern n t [] last = t ≡ last
-Replays text pattern n t (e ∷ entries) last =
-    let moment = pattern (n + 1) in
-    let s = step_with text e.by e.call moment.fate (after_exits moment.exits t) in
-    (s.answer ≡ e.answer) × Replays text pattern (n + 1) s.table entries last
-
 ---- An example: a plan without a step makes no call, whatever the pattern
 
 example : (pattern : Pattern) (p : Progress) (end : End) → (run_with [] (Ends end) pattern p).entries ≡ []

@@ -2,8 +2,8 @@
 --
 -- Our own. Other masters go on after a failure as their code happens to; a plan has an edge for every reply.
 
-use Rattle.vocabulary.specs.Words.{◌≡◌, refl, ℕ, suc, max, Bool, true, false, ◌&&◌, ◌||◌, not, List, [], ◌∷◌, Option}
-use Rattle.vocabulary.specs.Words.{Some, None, is_some, list_any, list_all, lacks}
+use Rattle.vocabulary.specs.Words.{◌≡◌, refl, ℕ, suc, max, Bool, true, false, List, [], ◌∷◌, Option, Some, None}
+use Rattle.vocabulary.specs.Words.{list_any, lacks}
 use Rattle.vocabulary.specs.declared.calls.Answer.TheVariants as answer
 use Rattle.vocabulary.specs.declared.calls.Reply.TheVariants as reply
 use denote.Enum.Bare.{sameb}
@@ -98,11 +98,6 @@ plain_reply (Alive i) = reply.IsAlive
 plain_reply (Ask n) = reply.Go
 plain_reply _ = reply.Fine
 
--- whether a call can be answered so
-abbrev pub is_listed : Call → Answer → Bool
-is_listed call answer.MasterGone = true
-is_listed call a = among (replies_to call) (reply_of [] a)
-
 ---- Edges
 
 -- what follows a reply: the note that is set, and the rest
@@ -135,37 +130,6 @@ call_of (Make call) lacking = call
 call_of (ForkLacking crew) lacking = fork_of crew (lowest lacking)
 call_of (AwaitLacking g) lacking = AwaitReady g (lowest lacking)
 call_of (KillLacking g) lacking = Kill g (lowest lacking)
-
----- Whether a tree can be run
-
-abbrev pub order_replies : Order → List Reply
-order_replies (Make call) = replies_to call
-order_replies (ForkLacking crew) = reply.Forked ∷ reply.Again ∷ reply.NoMemory ∷ []
-order_replies (AwaitLacking g) = reply.IsReady ∷ reply.Gone ∷ reply.Late ∷ []
-order_replies (KillLacking g) = reply.Fine ∷ []
-
-abbrev pub names_lacking : Order → Bool
-names_lacking (Make call) = false
-names_lacking _ = true
-
--- whether the last census was short, after a reply
-abbrev pub short_after : Bool → Reply → Bool
-short_after short reply.Full = false
-short_after short reply.Short = true
-short_after short _ = short
-
--- Each step has an edge for each reply to its call, master-gone aside, and a worker is named only after a short census.
-abbrev mutual
-  pub is_fit : Bool → Tree → Bool
-  is_fit short (Ends end) = true
-  is_fit short (Does by order set branches) =
-      (not (names_lacking order) || short)
-      && (list_all (λ r. is_some (branch branches r)) (order_replies order) && are_fit short branches)
-
-  pub are_fit : Bool → Branches → Bool
-  are_fit short Nothing = true
-  are_fit short (Branch replies said rest more) =
-      list_all (λ r. is_fit (short_after short r) rest) replies && are_fit short more
 
 ---- An example: a census that lacks a number of its set is short
 

@@ -7,8 +7,9 @@ use Rattle.vocabulary.specs.declared.calls.Fate.{Fate}
 use Rattle.definitions.specs.Table.{Table, Caller, live_master}
 use Rattle.definitions.specs.Exits.{after_exits}
 use Rattle.definitions.specs.Calls.{Stepped, step_with, step_by, own_step, asked_alive}
-use Rattle.definitions.specs.Tree.{is_listed}
-use Rattle.definitions.specs.Run.{Pattern, Replays}
+use Rattle.call_replies.specs.Replies.{is_listed}
+use Rattle.definitions.specs.Run.{Pattern}
+use Rattle.plan_executor.specs.Replays.{Replays}
 use Rattle.call_laws.proofs.Cases.{Unfailing, unfailing, open-cases, fork-cases, await-cases, gone-cases, spawn-cases, ask-cases, adopt-cases, write-cases, move-cases, remove-cases}
 
 -- what a call under the k-th moment gives

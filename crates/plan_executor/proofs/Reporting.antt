@@ -8,7 +8,8 @@ use Rattle.definitions.specs.Tree.{Tree, Ends, Does}
 use Rattle.definitions.specs.Parts.{Turn}
 use Rattle.definitions.specs.Path.{Sides}
 use Rattle.plan_walk.specs.Path.{Trail, begin, trail_after, IsOver, IsOutcome, Reports, KeepsPathLaw}
-use Rattle.definitions.specs.Run.{Pattern, Ran, start_at, outcome_of, report_of, Replays}
+use Rattle.definitions.specs.Run.{Pattern, Ran, start_at, outcome_of, report_of}
+use Rattle.plan_executor.specs.Replays.{Replays}
 use Rattle.definitions.specs.Record.{Record}
 use Rattle.vocabulary.specs.declared.targets.Target.{Target}
 use Rattle.definitions.specs.Target.{sides_of, text_handed}

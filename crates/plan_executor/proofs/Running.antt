@@ -10,7 +10,8 @@ use Rattle.definitions.specs.Exits.{after_exits}
 use Rattle.definitions.specs.Tree.{Tree, Ends, Does, Branches, Nothing, Branch, among, reply_of, call_of, branch}
 use Rattle.definitions.specs.Path.{lacked_by}
 use Rattle.plan_walk.specs.Path.{Trail, advance, trail_after, Follows, IsOver, rest_after, note_after}
-use Rattle.definitions.specs.Run.{Pattern, Progress, Lost, Ran, ends_at, run_with, goes_with, noted, after_moment, after_call, answered, with_entry, Replays}
+use Rattle.definitions.specs.Run.{Pattern, Progress, Lost, Ran, ends_at, run_with, goes_with, noted, after_moment, after_call, answered, with_entry}
+use Rattle.plan_executor.specs.Replays.{Replays}
 use Rattle.plan_executor.specs.Lawful.{trail_at, IsRun}
 
 -- what is run behind the edge that was found

@@ -2,6 +2,7 @@ pub mod Lawful
 pub mod Naming
 pub mod Codes
 pub mod Refusals
+pub mod Replays
 pub mod Patterned
 pub mod Prepared
 pub mod Merged

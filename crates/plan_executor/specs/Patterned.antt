@@ -2,7 +2,7 @@
 use Rattle.std.specs.Prelude.{◌≡◌, ◌+◌, List, [], length}
 use Rattle.std.proofs.Common.{refl, arith}
 use Rattle.vocabulary.specs.declared.reports.Entry.{Entry}
-use Rattle.definitions.specs.Run.{Replays}
+use Rattle.plan_executor.specs.Replays.{Replays}
 use Rattle.kernel_model.specs.Pattern.{moment_at}
 use Rattle.plan_executor.specs.declared.patterned.Patterned.{Patterned}
 

@@ -2,7 +2,7 @@
 ghost use Rattle.std.specs.Prelude.{◌≡◌, ◌+◌, ◌≤◌, [], None, length};
 ghost use Rattle.definitions.specs.Claims.{refusal_of};
 ghost use Rattle.plan_walk.specs.Path.{KeepsPathLaw};
-ghost use Rattle.definitions.specs.Run.{Replays};
+ghost use Rattle.plan_executor.specs.Replays.{Replays};
 ghost use Rattle.definitions.specs.Target.{IsTarget};
 ghost use Rattle.kernel_model.specs.Pattern.{moment_at};
 ghost use Rattle.rollback_plan.specs.Plans.{tree_under, length_of, note_of, sides_told, text_of};

@@ -7,7 +7,8 @@ use Rattle.definitions.specs.Crew.{Crew}
 use Rattle.vocabulary.specs.declared.plans.PidNote.{PidNote}
 use Rattle.vocabulary.specs.declared.plans.Side.{Side}
 use Rattle.vocabulary.specs.declared.calls.Call.TheVariants.{RemovePid}
-use Rattle.definitions.specs.Tree.{Tree, is_fit}
+use Rattle.definitions.specs.Tree.{Tree}
+use Rattle.plan_steps.specs.Fit.{is_fit}
 use Rattle.definitions.specs.Plans.{does, note_edges, settle, quits, awaits, forks, awaits_any, forks_any, starts_any, kills, usr1s, awaits_gone, opens, closes}
 
 pub settle_fit : (by : ℕ) (crew : Crew) (set : List ℕ) (side : Side) (rounds : ℕ) (short : Bool) → is_fit short (settle by crew set side rounds) ≡ true

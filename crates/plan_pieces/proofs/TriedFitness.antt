@@ -2,7 +2,8 @@
 use Rattle.std.proofs.Common.{◌≡◌, ℕ, Bool, true, false, List, [], ◌∷◌, Option, refl}
 use Rattle.definitions.specs.Calls.{Call, OpenAt, CloseAt, Fork, AwaitReady, Quit, Kill, Census, AwaitGone, SpawnMaster, Adopt, WritePid, MovePid, RemovePid, Alive, Leave, Usr1, TermMaster, Ask}
 use Rattle.definitions.specs.Table.{FilePath}
-use Rattle.definitions.specs.Tree.{Tree, PidNote, is_fit}
+use Rattle.definitions.specs.Tree.{Tree, PidNote}
+use Rattle.plan_steps.specs.Fit.{is_fit}
 use Rattle.definitions.specs.Plans.{does, note_edges, tries, tries_all}
 
 -- a tree that can be run wherever it stands

@@ -6,7 +6,9 @@ use Rattle.vocabulary.specs.declared.calls.Reply.{Reply}
 use Rattle.vocabulary.specs.declared.plans.PidNote.{PidNote}
 use Rattle.vocabulary.specs.declared.plans.End.{End}
 use Rattle.vocabulary.specs.declared.plans.End.TheVariants.{Done, RolledBack, ShortOld, ShortTarget, Split, JoinReady, JoinBack, Join}
-use Rattle.definitions.specs.Tree.{Tree, Branches, Ends, Does, Nothing, Branch, branch, among, order_replies, height, highest, is_fit, are_fit, short_after}
+use Rattle.definitions.specs.Tree.{Tree, Branches, Ends, Does, Nothing, Branch, branch, among, height, highest}
+use Rattle.plan_steps.specs.Fit.{is_fit, are_fit, short_after}
+use Rattle.call_replies.specs.Replies.{order_replies}
 use Rattle.definitions.specs.Parts.{Turn, New, Old, graft, graft_all, beside, beside_all, weave, weave_all, joined}
 use Rattle.plan_steps.specs.declared.parts.Parts.{Parts}
 use Rattle.plan_steps.specs.declared.step.Next.TheVariants.{To}

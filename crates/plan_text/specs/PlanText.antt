@@ -9,7 +9,7 @@ use Rattle.vocabulary.specs.declared.calls.Reply.TheVariants.{MasterGone}
 use Rattle.vocabulary.specs.declared.plans.PidNote.{PidNote}
 use Rattle.vocabulary.specs.declared.plans.Order.{Order}
 use Rattle.vocabulary.specs.declared.plans.Order.TheVariants.{Make}
-use Rattle.definitions.specs.Tree.{order_replies}
+use Rattle.call_replies.specs.Replies.{order_replies}
 use Rattle.plan_steps.specs.declared.parts.Parts.{Parts}
 use Rattle.plan_steps.specs.declared.step.Next.{Next}
 use Rattle.plan_steps.specs.declared.step.Next.TheVariants.{To, Over, Both}

@@ -15,7 +15,8 @@ use Rattle.vocabulary.specs.declared.plans.PidNote.{PidNote}
 use Rattle.vocabulary.specs.declared.plans.Order.{Order}
 use Rattle.vocabulary.specs.declared.plans.Order.TheVariants.{Make, ForkLacking, AwaitLacking, KillLacking}
 use Rattle.vocabulary.specs.declared.reports.Entry.{Entry}
-use Rattle.definitions.specs.Tree.{Tree, Ends, Does, Branches, Nothing, Branch, branch, among, same_reply, reply_of, full_or_short, replies_to, is_listed, height, highest, order_replies, call_of}
+use Rattle.definitions.specs.Tree.{Tree, Ends, Does, Branches, Nothing, Branch, branch, among, same_reply, reply_of, full_or_short, replies_to, height, highest, call_of}
+use Rattle.call_replies.specs.Replies.{is_listed, order_replies}
 use Rattle.definitions.specs.Path.{ready_after, lacking_after, Lack, lacked_by, lacked_after, first_cause, went_wrong}
 use Rattle.plan_walk.specs.Path.{Trail, advance, Asks}
 use Rattle.rollback_plan.specs.Following.{follow}

@@ -1,7 +1,8 @@
 //! How far the execution of a plan has come by given turns.
 ghost use Rattle.std.specs.Prelude.{◌≡◌, ◌+◌, ◌<◌, ◌≤◌, ◌^◌, IsTrue, IfSome, IfNone, None, drop};
 ghost use Rattle.vocabulary.specs.declared.calls.Answer.TheVariants.{MasterGone};
-ghost use Rattle.definitions.specs.Tree.{height, is_listed};
+ghost use Rattle.definitions.specs.Tree.{height};
+ghost use Rattle.call_replies.specs.Replies.{is_listed};
 ghost use Rattle.plan_walk.specs.Path.{begin, advance, Asks, IsOver, Reports};
 ghost use Rattle.rollback_plan.specs.Places.{turn_of};
 ghost use Rattle.rollback_plan.specs.Plans.{tree_under, length_of, note_of, sides_told};

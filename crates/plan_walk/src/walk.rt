@@ -36,7 +36,7 @@ pub struct Walk<'a> {
 }
 
 impl<'a> Walk<'a> {
-    ghost use Rattle.definitions.specs.Tree.{is_listed};
+    ghost use Rattle.call_replies.specs.Replies.{is_listed};
     ghost use Rattle.plan_walk.specs.Path.{begin, advance, Asks, IsOver, IsOutcome, Reports};
     ghost use Rattle.rollback_plan.specs.Places.{without_first};
     ghost use Rattle.plan_walk.specs.Walk.{trail_under, trail_of, left_by, sides_in, IsTurnOf, IsAsked, IsAtEnd, IsDue, AsksFor};

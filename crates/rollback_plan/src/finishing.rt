@@ -1,7 +1,8 @@
 //! A plan out of a draft.
 ghost use Rattle.std.specs.Prelude.{◌≡◌, ◌<◌, ◌≤◌, List, None, IfOk, IsTrue, false, length};
 ghost use Rattle.definitions.specs.Parts.{Turn};
-ghost use Rattle.definitions.specs.Tree.{is_fit, height};
+ghost use Rattle.definitions.specs.Tree.{height};
+ghost use Rattle.plan_steps.specs.Fit.{is_fit};
 ghost use Rattle.plan_steps.specs.Numbering.{IsNumbering};
 ghost use Rattle.plan_steps.specs.Stretches.{AreParts, longest_at};
 ghost use Rattle.plan_steps.specs.Woven.{woven_at, IsNumberedInParts};

@@ -3,7 +3,8 @@ use Rattle.std.proofs.Common.{◌≡◌, ◌<◌, false, List, length, refl, ◌
 use Rattle.std.specs.Prelude.{nat_lt}
 use Rattle.std.proofs.lemmas.Bool.{lt-ltb}
 use Rattle.definitions.specs.Parts.{Turn, graft}
-use Rattle.definitions.specs.Tree.{Tree, Ends, JoinReady, JoinBack, is_fit}
+use Rattle.definitions.specs.Tree.{Tree, Ends, JoinReady, JoinBack}
+use Rattle.plan_steps.specs.Fit.{is_fit}
 use Rattle.definitions.specs.Calls.{Census, WritePid}
 use Rattle.definitions.specs.Table.{Address}
 use Rattle.definitions.specs.Target.{only_in}

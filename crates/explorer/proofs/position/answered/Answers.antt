@@ -1,7 +1,7 @@
 use Rattle.std.proofs.Common.{ap, ◌∙◌}
 use Rattle.definitions.specs.Calls.{Stepped}
 use Rattle.definitions.specs.Exits.{after_exits}
-use Rattle.definitions.specs.Tree.{is_listed}
+use Rattle.call_replies.specs.Replies.{is_listed}
 use Rattle.plan_executor.proofs.Replaying.{step-listed}
 use Rattle.explorer.proofs.position.answered.Goals as goal
 

@@ -1,6 +1,6 @@
 use Rattle.std.proofs.Common.{false, ◌∙◌, ap, length, arith, not}
 use Rattle.listener_set.specs.Numbers.{lacks, is_in}
-use Rattle.definitions.specs.Tree.{is_fit}
+use Rattle.plan_steps.specs.Fit.{is_fit}
 use Rattle.reload_planner.proofs.Sets.{repair_is, late_few, filter_few, length-below}
 use Rattle.reload_planner.proofs.Fitness.{repair_fit}
 use Rattle.reload_planner.proofs.mending.plan_mend.Goals as goal

@@ -1,5 +1,5 @@
 use Rattle.std.proofs.Common.{false, ◌∙◌, ap}
-use Rattle.definitions.specs.Tree.{is_fit}
+use Rattle.plan_steps.specs.Fit.{is_fit}
 use Rattle.reload_planner.proofs.Fitness.{reopening_fit}
 use Rattle.reload_planner.proofs.reopening.plan_reopen.Goals as goal
 

@@ -1,5 +1,5 @@
 use Rattle.std.proofs.Common.{false, ◌∙◌, ap}
-use Rattle.definitions.specs.Tree.{is_fit}
+use Rattle.plan_steps.specs.Fit.{is_fit}
 use Rattle.reload_planner.proofs.Fitness.{stop_fit}
 use Rattle.reload_planner.proofs.stopping.plan_stop.Goals as goal
 

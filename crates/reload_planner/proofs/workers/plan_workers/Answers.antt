@@ -1,6 +1,6 @@
 use Rattle.std.proofs.Common.{false, ◌∙◌, ap, length, arith, reverse, not}
 use Rattle.listener_set.specs.Numbers.{lacks, is_in}
-use Rattle.definitions.specs.Tree.{is_fit}
+use Rattle.plan_steps.specs.Fit.{is_fit}
 use Rattle.reload_planner.proofs.Sets.{change_is, filter_few, length-below}
 use Rattle.reload_planner.proofs.Fitness.{change_fit}
 use Rattle.reload_planner.proofs.workers.plan_workers.Goals as goal

@@ -5,7 +5,7 @@ use Rattle.std.proofs.lemmas.Bool.Decides.{nat_tests}
 use Rattle.vocabulary.specs.declared.calls.Answer.{Answer}
 use Rattle.definitions.specs.Calls.{Stepped, step_with}
 use Rattle.definitions.specs.Exits.{after_exits}
-use Rattle.definitions.specs.Tree.{is_listed}
+use Rattle.call_replies.specs.Replies.{is_listed}
 use Rattle.definitions.specs.Run.{Moment}
 use Rattle.definitions.specs.Claims.{names_any, executing_at}
 use Rattle.definitions.specs.Parts.{Turn}

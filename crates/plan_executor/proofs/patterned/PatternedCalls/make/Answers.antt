@@ -4,8 +4,9 @@ use Rattle.vocabulary.specs.declared.reports.Entry.{Entry}
 use Rattle.vocabulary.specs.declared.calls.Answer.{Answer}
 use Rattle.definitions.specs.Exits.{after_exits}
 use Rattle.definitions.specs.Calls.{Stepped, step_with}
-use Rattle.definitions.specs.Run.{Moment, Replays}
-use Rattle.definitions.specs.Tree.{is_listed}
+use Rattle.definitions.specs.Run.{Moment}
+use Rattle.plan_executor.specs.Replays.{Replays}
+use Rattle.call_replies.specs.Replies.{is_listed}
 use Rattle.kernel_model.specs.Pattern.{moment_at, seen_moment}
 use Rattle.plan_executor.proofs.Replaying.{step-listed, replays-push}
 use Rattle.plan_executor.proofs.patterned.PatternedCalls.make.Goals as goal
