@@ -3,7 +3,7 @@ from collections.abc import Callable
 from functools import partial
 
 from reader.addresses import FilePath
-from reader.after import crew_wanted, lacks_generation
+from reader.after import crew_wanted
 from reader.crew import Addresses, fork_of
 from reader.crews import Crew
 from reader.numbers import Numbers, is_in, numbers_below
@@ -503,9 +503,3 @@ def plan_length(r: Record, target: Target) -> int:
             return upgrade_length(True, r, crew_wanted(r, target), s.listeners, s.workers)
         case _:
             return height(plan_tree(r, target, ()))
-
-
-def planned(r: Record, target: Target) -> Callable[[Turns], Tree] | None:
-    """The plan of a target for a running master. There is none where a number of the target's generation would pass
-    its limit."""
-    return None if lacks_generation(r, target) else partial(plan_tree, r, target)

@@ -3,12 +3,11 @@ worker_table/specs/Beats.antt, word_runner/specs, plan_executor/specs/Refusals.a
 from collections.abc import Callable
 from typing import NamedTuple
 
-from reader.after import next_record
+from reader.after import lacks_generation, next_record
 from reader.claims import refusal_of, run_of
 from reader.numbers import Numbers, is_in
 from reader.parts import Turns
 from reader.path import Report
-from reader.plans import planned
 from reader.record import Agrees, Record
 from reader.run import Moment, Pattern, Ran, quiet, report_of
 from reader.settings import Settings
@@ -121,7 +120,7 @@ def acted(old: Standing, r: Record, target: Target, turns: Turns, moments: Momen
     exits."""
     if not Agrees(old.table, r):
         return Heard("refused E2\n", None, old)
-    if planned(r, target) is None:
+    if lacks_generation(r, target):
         return Heard("refused E3 P3\n", None, old)
 
     def pattern(n: int) -> Moment:

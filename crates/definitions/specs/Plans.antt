@@ -5,8 +5,7 @@
 -- master is gone.
 
 use Rattle.vocabulary.specs.Words.{◌≡◌, refl, ℕ, zero, suc, max, ◌+◌, not, ◌||◌, nat_lt, Bool, true, false, List, []}
-use Rattle.vocabulary.specs.Words.{◌∷◌, ◌++◌, Option, Some, None, filter, map, reverse, if◌then◌else◌, numbers_below}
-use Rattle.vocabulary.specs.Words.{is_in}
+use Rattle.vocabulary.specs.Words.{◌∷◌, ◌++◌, Option, Some, None, filter, map, reverse, numbers_below, is_in}
 use Rattle.vocabulary.specs.declared.plans.Side.TheVariants as side
 use Rattle.vocabulary.specs.declared.calls.Reply.TheVariants as reply
 use Rattle.definitions.specs.Table.{Address, FilePath, Generation}
@@ -19,7 +18,7 @@ use Rattle.definitions.specs.Target.{Target, Workers, Mend, Reopen, Reload, Upgr
 use Rattle.definitions.specs.Tree.{Reply, plain_reply, replies_to, Side, End, Done, RolledBack, ShortOld, ShortTarget}
 use Rattle.definitions.specs.Tree.{Split, JoinReady, JoinBack, Join, Make, ForkLacking, AwaitLacking, KillLacking, Tree}
 use Rattle.definitions.specs.Tree.{Branches, Ends, Does, Nothing, Branch, height}
-use Rattle.definitions.specs.After.{crew_wanted, lacks_generation}
+use Rattle.definitions.specs.After.{crew_wanted}
 use Rattle.definitions.specs.Parts.{Turn, weave, joined}
 
 ---- Edges
@@ -397,11 +396,6 @@ plan_length r (Attended s) =
     upgrade_length true r.generation.image (crew_of r) (crew_wanted r (Attended s)) r.ready r.retries r.pid_path r.note
     (addresses_of r) s.listeners s.workers
 plan_length r (Stop quick) = height (plan_tree r (Stop quick) [])
-
--- The plan of a target for a running master. There is none where a number of the target's generation would pass its
--- limit.
-abbrev pub planned : Record → Target → Option (List Turn → Tree)
-planned r target = if lacks_generation r target then None else Some (plan_tree r target)
 
 ---- An example: a settle with one round makes five calls at most: count, fork, wait, kill, count
 
