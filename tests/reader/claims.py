@@ -354,7 +354,7 @@ def KeepsPromise(t: Table, r: Record, target: Target, ran: Ran) -> Claims:
     }
 
 
-# How long a run is
+# How long a run is (run_laws/specs/Lengths.antt)
 
 
 def most_calls(r: Record, target: Target) -> int:

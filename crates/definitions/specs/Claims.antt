@@ -2,10 +2,9 @@
 --
 -- Our own. Read `Headline`, then what it names, upwards.
 
-use Rattle.vocabulary.specs.Words.{refl, map, ℕ, ◌≡◌, ◌≤◌, ◌+◌, ◌*◌, min, sum, Bool, true, false, ◌&&◌, ◌||◌, ◌==◌}
-use Rattle.vocabulary.specs.Words.{◌++◌, List, [], if◌then◌else◌, ◌∷◌, length, Option, Some, None, is_some, count_by}
-use Rattle.vocabulary.specs.Words.{bytes_eq, ⊤, list_any, AllByRecursion, IsRising, RisesFrom, is_in, has, Settings}
-use Rattle.vocabulary.specs.Words.{IsInRange}
+use Rattle.vocabulary.specs.Words.{refl, map, ℕ, ◌≡◌, ◌≤◌, ◌+◌, min, sum, Bool, true, false, ◌&&◌, ◌||◌, ◌==◌, ◌++◌}
+use Rattle.vocabulary.specs.Words.{List, [], if◌then◌else◌, ◌∷◌, length, Option, Some, None, is_some, count_by}
+use Rattle.vocabulary.specs.Words.{bytes_eq, ⊤, list_any, AllByRecursion, IsRising, RisesFrom, is_in, has, IsInRange}
 use Rattle.vocabulary.specs.declared.names.Name.TheVariants as name
 use Rattle.vocabulary.specs.declared.reports.Outcome.TheVariants as outcome
 use Rattle.vocabulary.specs.declared.plans.Side.TheVariants as side
@@ -20,13 +19,11 @@ use Rattle.definitions.specs.Record.{Listener, Record, IsRecord, Agrees, layout_
 use Rattle.definitions.specs.Record.{OldbinLeft, Left, NoFile, oldbin}
 use Rattle.definitions.specs.Formed.{IsFormed}
 use Rattle.definitions.specs.Target.{Target, Workers, Mend, Reopen, Reload, Upgrade, Attended, Stop, want, wanted_at}
-use Rattle.definitions.specs.Target.{numbers_wanted, addresses_wanted, layout_wanted, sides_of, upgrade_generation}
-use Rattle.definitions.specs.Target.{text_handed}
-use Rattle.definitions.specs.Tree.{Tree, height}
+use Rattle.definitions.specs.Target.{layout_wanted, sides_of, upgrade_generation, text_handed}
 use Rattle.definitions.specs.Path.{Report, Outcome, Entry}
 use Rattle.definitions.specs.After.{next_record, next_config, next_image}
 use Rattle.definitions.specs.Parts.{Turn}
-use Rattle.definitions.specs.Plans.{plan_tree, plan_length}
+use Rattle.definitions.specs.Plans.{plan_tree}
 use Rattle.definitions.specs.Run.{report_of, run_with, Pattern, Progress, faults_since, start_at, Ran}
 use Rattle.definitions.specs.Manner.{Manner, is_leave_call}
 
@@ -279,29 +276,6 @@ abbrev pub Headline : Type 0
 Headline =
     (t : Table) (r : Record) (target : Target) (turns : List Turn) (pattern : Pattern) →
     IsAccepted t r target turns pattern → KeepsPromise t r target (run_of r target turns pattern t)
-
----- How long a run is
-
--- A run makes no more calls than the longest path of its plan has steps; and under any turns a plan has no longer one
--- than its stretches have together.
-abbrev pub PlansFit : Type 0
-PlansFit = (r : Record) (target : Target) (turns : List Turn) → height (plan_tree r target turns) ≤ plan_length r target
-
--- That is bounded, attended or not.
-abbrev pub most_calls : Record → Target → ℕ
-most_calls r target =
-    9 * (length r.ready + length (numbers_wanted r target))
-    + 3 * (length r.listeners + length (addresses_wanted r target)) + 16 * r.retries + 48
-
-abbrev pub UpgradesAreShort : Type 0
-UpgradesAreShort =
-    (r : Record) (s : Settings) →
-    (plan_length r (Upgrade s) ≤ most_calls r (Upgrade s)) × (plan_length r (Attended s) ≤ most_calls r (Attended s))
-
-abbrev pub RunsWithin : Type 0
-RunsWithin =
-    (text : List ℕ) (plan : Tree) (pattern : Pattern) (p : Progress) →
-    length (run_with text plan pattern p).entries ≤ height plan
 
 ---- An example: a pattern that ends the master of another image names no executing one
 

@@ -17,7 +17,7 @@ use Rattle.definitions.specs.Record.{addresses_of, crew_of}
 use Rattle.definitions.specs.After.{crew_wanted}
 use Rattle.definitions.specs.Plans.{does, taken_over, new_part, old_part, spawn_edges, move_aside, move_back}
 use Rattle.definitions.specs.Plans.{back_alone, back_from, settle, upgrade_tree, upgrade_length}
-use Rattle.definitions.specs.Claims.{PlansFit}
+use Rattle.run_laws.specs.Lengths.{PlansFit}
 
 mutual
   graft-height : (then : End → Tree) (m : ℕ) → ((e : End) → height (then e) ≤ m) → (t : Tree) → height (graft then t) ≤ height t + m

@@ -21,7 +21,7 @@ use Rattle.definitions.specs.Plans.{does, tries, tries_all, pid_calls, quits, aw
 use Rattle.definitions.specs.Plans.{starts_any, asks, retire, relieve, hand_over, remove_oldbin, back_serving}
 use Rattle.definitions.specs.Plans.{back_late, back_from, back_alone, move_back, move_aside, settle, spawn_edges}
 use Rattle.definitions.specs.Plans.{new_calls, old_part, upgrade_length}
-use Rattle.definitions.specs.Claims.{UpgradesAreShort}
+use Rattle.run_laws.specs.Lengths.{UpgradesAreShort}
 use Rattle.table_laws.proofs.Sets.{below-length}
 use Rattle.std.proofs.lemmas.List.{length-append, length-map, length-reverse}
 

@@ -4,7 +4,8 @@
 
 ghost use Rattle.call_laws.specs.Start.{StartsAgree};
 ghost use Rattle.theorems.specs.Apart.{LastNewIsNone, MergesAreWoven, WalksApart};
-ghost use Rattle.definitions.specs.Claims.{Headline, PlansFit, RunsWithin, UpgradesAreShort};
+ghost use Rattle.definitions.specs.Claims.{Headline};
+ghost use Rattle.run_laws.specs.Lengths.{PlansFit, RunsWithin, UpgradesAreShort};
 ghost use Rattle.theorems.specs.Settling.{PlansGoBack, ReturnsAlways, SettlesAlways};
 ghost use Rattle.theorems.specs.Examples.{HasStart};
 ghost use Rattle.theorems.specs.Layouts.{RecordsLaidOut, StartsLaidOut};
