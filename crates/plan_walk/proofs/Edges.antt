@@ -1,12 +1,14 @@
 -- What follows an answer in a fit tree.
-use Rattle.std.proofs.Common.{◌≡◌, ◌⊎◌, inl, inr, ℕ, ◌+◌, ◌<◌, ◌≤◌, ◌^◌, max, ◌&&◌, ◌||◌, not, Bool, true, false, List, [], ◌∷◌, refl, sym, ◌∙◌, ap, subst, arith, Option, Some, None, is_some, unwrap_or}
+use Rattle.std.proofs.Common.{◌≡◌, ◌⊎◌, inl, inr, ℕ, ◌+◌, ◌<◌, ◌≤◌, ◌^◌, max, ◌&&◌, ◌||◌, not, Bool, true}
+use Rattle.std.proofs.Common.{false, List, [], ◌∷◌, refl, sym, ◌∙◌, ap, subst, arith, Option, Some, None, is_some, unwrap_or}
 use mathlib.Core.Bool.{true≢false}
 use denote.Enum.Bare.{same_true}
 use Rattle.std.specs.List.{list_all}
 use Rattle.listener_set.specs.Numbers.{lacks}
 use Rattle.vocabulary.specs.contracts.calls.Reply.{the_type}
 use Rattle.vocabulary.specs.declared.calls.Call.{Call}
-use Rattle.vocabulary.specs.declared.calls.Call.TheVariants.{OpenAt, CloseAt, Fork, AwaitReady, Quit, Kill, Census, AwaitGone, SpawnMaster, Adopt, WritePid, MovePid, RemovePid, Alive, Leave, Usr1, TermMaster, Ask}
+use Rattle.vocabulary.specs.declared.calls.Call.TheVariants.{OpenAt, CloseAt, Fork, AwaitReady, Quit, Kill, Census, AwaitGone, SpawnMaster}
+use Rattle.vocabulary.specs.declared.calls.Call.TheVariants.{Adopt, WritePid, MovePid, RemovePid, Alive, Leave, Usr1, TermMaster, Ask}
 use Rattle.vocabulary.specs.declared.calls.Answer.{Answer}
 use Rattle.vocabulary.specs.declared.calls.Answer.TheVariants as answer
 use Rattle.vocabulary.specs.declared.calls.Reply.{Reply}
@@ -15,7 +17,8 @@ use Rattle.vocabulary.specs.declared.plans.PidNote.{PidNote}
 use Rattle.vocabulary.specs.declared.plans.Order.{Order}
 use Rattle.vocabulary.specs.declared.plans.Order.TheVariants.{Make, ForkLacking, AwaitLacking, KillLacking}
 use Rattle.vocabulary.specs.declared.reports.Entry.{Entry}
-use Rattle.definitions.specs.Tree.{Tree, Ends, Does, Branches, Nothing, Branch, branch, among, same_reply, reply_of, full_or_short, replies_to, height, highest, call_of}
+use Rattle.definitions.specs.Tree.{Tree, Ends, Does, Branches, Nothing, Branch, branch}
+use Rattle.definitions.specs.Tree.{among, same_reply, reply_of, full_or_short, replies_to, height, highest, call_of}
 use Rattle.call_replies.specs.Replies.{is_listed, order_replies}
 use Rattle.definitions.specs.Path.{ready_after, lacking_after, Lack, lacked_by, lacked_after, first_cause, went_wrong}
 use Rattle.plan_walk.specs.Path.{Trail, advance, Asks}

@@ -24,6 +24,12 @@ returns-clause-turn g c =
     let kept = with_items_is state.workers c.beat_each.new.workers sized in
     let goes =
     goes-into _ _ _ _ _ (ap (λ ws. next (ws, c.beat_each.result)) (sym kept))
-    (goes-from _ _ _ _ _ (ap (λ t. says_each IsReady t state.workers.items beats) (sym line) ∙ ap (λ ws. says_each IsReady c.bytes.result.now ws beats) (sym c.deref.ensures.value))
-    (goes-both _ _ _ _ _ _ said (goes-from _ _ _ _ _ (ap (λ ws. beats_each c.args.now [] [] ws (λ left numbers. next (left, numbers))) (sym c.deref_mut.ensures.value)) heard))) in
-    goes-from _ _ _ _ _ (ap (λ (left : Bool). if left then passing_tick s c.args.now s.child else tick_turn s c.args.now) c.if-self.false) goes _ _ (held-end _ _)
+    (goes-from _ _ _ _ _
+    (ap (λ t. says_each IsReady t state.workers.items beats) (sym line)
+    ∙ ap (λ ws. says_each IsReady c.bytes.result.now ws beats) (sym c.deref.ensures.value))
+    (goes-both _ _ _ _ _ _ said
+    (goes-from _ _ _ _ _ (ap (λ ws. beats_each c.args.now [] [] ws (λ left numbers. next (left, numbers))) (sym c.deref_mut.ensures.value)) heard)))
+    in
+    goes-from _ _ _ _ _
+    (ap (λ (left : Bool). if left then passing_tick s c.args.now s.child else tick_turn s c.args.now) c.if-self.false) goes _ _
+    (held-end _ _)
