@@ -166,7 +166,8 @@ impl<F: Family + Drop> Edge<F> {
             return passing::pass_tick(&mut self.family, &mut self.state, now);
         }
         let workers = &mut self.state.workers;
-        say_each(&mut self.family, workers, Who::IsReady, tick_line(now).bytes());
+        let line = tick_line(now);
+        say_each(&mut self.family, workers, Who::IsReady, line.bytes());
         beat_each(&mut self.family, workers, now)
     }
 
