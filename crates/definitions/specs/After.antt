@@ -2,9 +2,10 @@
 --
 -- After POSIX: a descriptor that is opened is the lowest free one. Our own: after a way back a master is what it was.
 
-use Rattle.vocabulary.specs.Words.{◌≡◌, refl, codes, ℕ, ◌+◌, ◌==◌, nat_lt, nat_le, Bool, true, false, ◌&&◌, not, List}
-use Rattle.vocabulary.specs.Words.{[], ◌∷◌, Option, Some, None, is_none, option_map, option_and_then, unwrap_or, filter}
-use Rattle.vocabulary.specs.Words.{bytes_eq, length, if◌then◌else◌, list_any, has, first_from, Settings}
+use Rattle.std.specs.Prelude.{◌≡◌, ◌+◌, ◌==◌, ◌&&◌, ◌∷◌, if◌then◌else◌}
+use Rattle.vocabulary.specs.Words.{refl, codes, ℕ, nat_lt, nat_le, Bool, true, false, not, List, [], Option, Some, None}
+use Rattle.vocabulary.specs.Words.{is_none, option_map, option_and_then, unwrap_or, filter, bytes_eq, length, list_any}
+use Rattle.vocabulary.specs.Words.{has, first_from, Settings}
 use Rattle.vocabulary.specs.declared.reports.Outcome.TheVariants as outcome
 use Rattle.vocabulary.specs.declared.targets.Target.TheVariants as target
 use Rattle.definitions.specs.Table.{Address, FilePath, Generation, Table, Caller, live_master}

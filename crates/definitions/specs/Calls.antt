@@ -3,9 +3,10 @@
 -- After POSIX (bind, fork, kill, waitpid, rename, unlink), nginx's "Controlling nginx" (the pid file with the suffix)
 -- and Unicorn's SIGNALS (QUIT lets a worker finish). Our own: a census, and that a new worker says when it is ready.
 
-use Rattle.vocabulary.specs.Words.{◌≡◌, refl, ℕ, ◌+◌, Bool, true, false, ◌&&◌, ◌==◌, nat_lt, not, List, [], ◌∷◌, ◌++◌}
-use Rattle.vocabulary.specs.Words.{Option, Some, None, filter, count_by, length, if◌then◌else◌, zero, suc, bytes_eq}
-use Rattle.vocabulary.specs.Words.{Result, Ok, Err, list_any, filter_map, numbers_below, is_in}
+use Rattle.std.specs.Prelude.{◌≡◌, ◌+◌, ◌&&◌, ◌==◌, ◌∷◌, ◌++◌, if◌then◌else◌}
+use Rattle.vocabulary.specs.Words.{refl, ℕ, Bool, true, false, nat_lt, not, List, [], Option, Some, None, filter}
+use Rattle.vocabulary.specs.Words.{count_by, length, zero, suc, bytes_eq, Result, Ok, Err, list_any, filter_map}
+use Rattle.vocabulary.specs.Words.{numbers_below, is_in}
 use Rattle.vocabulary.specs.declared.calls.Answer.TheVariants as answer
 use Rattle.vocabulary.specs.declared.calls.Fate.TheVariants as fate
 use Rattle.definitions.specs.Table.{Listener, FilePath, File, owner_at, is_draining, Address, Generation, Hold}

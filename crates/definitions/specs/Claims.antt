@@ -2,9 +2,10 @@
 --
 -- Our own. Read `Headline`, then what it names, upwards.
 
-use Rattle.vocabulary.specs.Words.{refl, map, ℕ, ◌≡◌, ◌≤◌, ◌+◌, min, sum, Bool, true, false, ◌&&◌, ◌||◌, ◌==◌, ◌++◌}
-use Rattle.vocabulary.specs.Words.{List, [], if◌then◌else◌, ◌∷◌, length, Option, Some, None, is_some, count_by}
-use Rattle.vocabulary.specs.Words.{bytes_eq, ⊤, list_any, AllByRecursion, IsRising, RisesFrom, is_in, has, IsInRange}
+use Rattle.std.specs.Prelude.{◌≡◌, ◌≤◌, ◌+◌, ◌&&◌, ◌||◌, ◌==◌, ◌++◌, if◌then◌else◌, ◌∷◌}
+use Rattle.vocabulary.specs.Words.{refl, map, ℕ, min, sum, Bool, true, false, List, [], length, Option, Some, None}
+use Rattle.vocabulary.specs.Words.{is_some, count_by, bytes_eq, ⊤, list_any, AllByRecursion, IsRising, RisesFrom, is_in}
+use Rattle.vocabulary.specs.Words.{has, IsInRange}
 use Rattle.vocabulary.specs.declared.names.Name.TheVariants as name
 use Rattle.vocabulary.specs.declared.reports.Outcome.TheVariants as outcome
 use Rattle.vocabulary.specs.declared.plans.Side.TheVariants as side

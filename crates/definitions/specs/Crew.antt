@@ -2,9 +2,9 @@
 --
 -- Our own, as pools of php-fpm are: each group takes the next so many addresses and worker numbers of a configuration.
 
-use Rattle.vocabulary.specs.Words.{◌≡◌, refl, codes, ℕ, zero, suc, Bool, List, [], ◌∷◌, Option, Some, None, map, filter}
-use Rattle.vocabulary.specs.Words.{length, take, drop, get_or, count_by, if◌then◌else◌, sum_by, numbers_below, is_in}
-use Rattle.vocabulary.specs.Words.{has}
+use Rattle.std.specs.Prelude.{◌≡◌, ◌∷◌, if◌then◌else◌}
+use Rattle.vocabulary.specs.Words.{refl, codes, ℕ, zero, suc, Bool, List, [], Option, Some, None, map, filter, length}
+use Rattle.vocabulary.specs.Words.{take, drop, get_or, count_by, sum_by, numbers_below, is_in, has}
 use Rattle.definitions.specs.Table.{Listener, Address, Hold}
 use Rattle.definitions.specs.Calls.{Call, Fork, shared}
 pub use Rattle.vocabulary.specs.Words.{Group, group_of, Posts, Crew, fds_in, fds_of, shortfalls_of}

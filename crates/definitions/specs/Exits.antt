@@ -3,8 +3,9 @@
 -- After POSIX: with a process all its descriptors close. Our own choice: workers end at once with their master, and a
 -- worker that exits is in the table until its master hears of it.
 
-use Rattle.vocabulary.specs.Words.{◌≡◌, refl, ℕ, ◌-◌, Bool, true, false, ◌==◌, not, List, [], ◌∷◌, Option, Some, None}
-use Rattle.vocabulary.specs.Words.{count_by, if◌then◌else◌, list_any, filter_map}
+use Rattle.std.specs.Prelude.{◌≡◌, ◌-◌, ◌==◌, ◌∷◌, if◌then◌else◌}
+use Rattle.vocabulary.specs.Words.{refl, ℕ, Bool, true, false, not, List, [], Option, Some, None, count_by, list_any}
+use Rattle.vocabulary.specs.Words.{filter_map}
 use Rattle.vocabulary.specs.declared.names.Name.TheVariants as name
 use Rattle.definitions.specs.Table.{Ready, Generation, Exited, Process, Master, Worker, Foreign, Table, with_rows}
 use Rattle.definitions.specs.Table.{is_active, is_draining, is_named, Caller, live_master, is_live_master}

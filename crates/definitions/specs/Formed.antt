@@ -2,7 +2,8 @@
 --
 -- After POSIX: process numbers are not used again here, and a process without a parent is handed on, or ends.
 
-use Rattle.vocabulary.specs.Words.{refl, ℕ, ◌≡◌, ◌≤◌, ◌+◌, true, List, [], ◌∷◌, count_by, ⊤, list_any, AllByRecursion}
+use Rattle.std.specs.Prelude.{◌≡◌, ◌≤◌, ◌+◌, ◌∷◌}
+use Rattle.vocabulary.specs.Words.{refl, ℕ, true, List, [], count_by, ⊤, list_any, AllByRecursion}
 use Rattle.definitions.specs.Table.{Generation, Draining, Exited, Process, Worker, Table, number_of, is_active}
 use Rattle.definitions.specs.Table.{is_worker, is_live_master}
 

@@ -3,8 +3,9 @@
 -- nginx hands its new master the open descriptors in an environment variable; this text is our own. Each handover has
 -- one spelling in each of two versions, and a reader refuses any other text, naming its first faulty line.
 
-use Rattle.vocabulary.specs.Words.{◌≡◌, refl, ℕ, List, [], ◌∷◌, ◌++◌, take, drop, Option, Some, None, codes, flat_map}
-use Rattle.vocabulary.specs.Words.{decimal, Group, workers_in}
+use Rattle.std.specs.Prelude.{◌≡◌, ◌∷◌, ◌++◌}
+use Rattle.vocabulary.specs.Words.{refl, ℕ, List, [], take, drop, Option, Some, None, codes, flat_map, decimal, Group}
+use Rattle.vocabulary.specs.Words.{workers_in}
 use Rattle.definitions.specs.Table.{Address, FilePath, Generation, Listener}
 pub use Rattle.vocabulary.specs.declared.handover.HandoverVersion.{HandoverVersion}
 pub use Rattle.vocabulary.specs.declared.handover.HandoverVersion.TheVariants.{One, Two}

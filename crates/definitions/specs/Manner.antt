@@ -2,8 +2,9 @@
 --
 -- After Unicorn's SIGNALS: QUIT lets a worker finish its request, and KILL is for one that does not.
 
-use Rattle.vocabulary.specs.Words.{refl, ℕ, ◌≡◌, ◌==◌, nat_lt, Bool, true, false, ◌&&◌, ◌||◌, not, List, [], ◌∷◌, ◌++◌}
-use Rattle.vocabulary.specs.Words.{Option, Some, None, ⊤, ◌⊎◌, if◌then◌else◌, list_any, AllByRecursion, is_in}
+use Rattle.std.specs.Prelude.{◌≡◌, ◌==◌, ◌&&◌, ◌||◌, ◌∷◌, ◌++◌, ◌⊎◌, if◌then◌else◌}
+use Rattle.vocabulary.specs.Words.{refl, ℕ, nat_lt, Bool, true, false, not, List, [], Option, Some, None, ⊤, list_any}
+use Rattle.vocabulary.specs.Words.{AllByRecursion, is_in}
 use Rattle.vocabulary.specs.declared.calls.Answer.TheVariants as answer
 use Rattle.vocabulary.specs.declared.reports.Outcome.TheVariants as outcome
 use Rattle.vocabulary.specs.declared.plans.Side.TheVariants as side

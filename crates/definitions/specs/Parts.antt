@@ -2,7 +2,8 @@
 --
 -- Our own: in nginx and Unicorn the old master goes on by itself while the new one starts.
 
-use Rattle.vocabulary.specs.Words.{◌≡◌, refl, List, [], ◌∷◌}
+use Rattle.std.specs.Prelude.{◌≡◌, ◌∷◌}
+use Rattle.vocabulary.specs.Words.{refl, List, []}
 use Rattle.definitions.specs.Tree.{Join, End, JoinReady, Tree, Branches, Ends, Does, Nothing, Branch}
 pub use Rattle.vocabulary.specs.declared.plans.Turn.{Turn}
 pub use Rattle.vocabulary.specs.declared.plans.Turn.TheVariants.{New, Old}

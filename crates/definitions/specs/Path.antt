@@ -2,8 +2,8 @@
 --
 -- Our own: it is what they and their answers tell, and nothing else.
 
-use Rattle.vocabulary.specs.Words.{refl, ℕ, ◌==◌, ◌≡◌, Bool, true, false, not, List, [], ◌∷◌, Option, Some, None}
-use Rattle.vocabulary.specs.Words.{if◌then◌else◌, lacks}
+use Rattle.std.specs.Prelude.{◌==◌, ◌≡◌, ◌∷◌, if◌then◌else◌}
+use Rattle.vocabulary.specs.Words.{refl, ℕ, Bool, true, false, not, List, [], Option, Some, None, lacks}
 use Rattle.vocabulary.specs.declared.calls.Answer.TheVariants as answer
 use Rattle.vocabulary.specs.declared.reports.Outcome.TheVariants as outcome
 use Rattle.definitions.specs.Calls.{Call, Answer}

@@ -4,8 +4,9 @@
 -- can't open its addresses goes on with the old configuration; USR2 moves the pid file aside, and back when the new
 -- master is gone.
 
-use Rattle.vocabulary.specs.Words.{◌≡◌, refl, ℕ, zero, suc, max, ◌+◌, not, ◌||◌, nat_lt, Bool, true, false, List, []}
-use Rattle.vocabulary.specs.Words.{◌∷◌, ◌++◌, Option, Some, None, filter, map, reverse, numbers_below, is_in}
+use Rattle.std.specs.Prelude.{◌≡◌, ◌+◌, ◌||◌, ◌∷◌, ◌++◌}
+use Rattle.vocabulary.specs.Words.{refl, ℕ, zero, suc, max, not, nat_lt, Bool, true, false, List, [], Option, Some}
+use Rattle.vocabulary.specs.Words.{None, filter, map, reverse, numbers_below, is_in}
 use Rattle.vocabulary.specs.declared.plans.Side.TheVariants as side
 use Rattle.vocabulary.specs.declared.calls.Reply.TheVariants as reply
 use Rattle.definitions.specs.Table.{Address, FilePath, Generation}

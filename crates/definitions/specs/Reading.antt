@@ -3,10 +3,10 @@
 -- Each line is one of those that can come next (`Reached`), or it is the faulty one. No reader of the headline needs more of
 -- this than `reading`: that it reads each spelling back, and nothing else, is proved in `handover_text`.
 
-use Rattle.vocabulary.specs.Words.{◌≡◌, refl, ℕ, ◌+◌, ◌==◌, nat_lt, nat_le, not, Bool, true, false, ◌&&◌, List, [], ◌∷◌}
-use Rattle.vocabulary.specs.Words.{◌++◌, length, Option, Some, None, is_none, Result, Ok, Err, if◌then◌else◌, codes}
-use Rattle.vocabulary.specs.Words.{bytes_eq, list_any, list_all, before_first, after_first, slice_split, Group}
-use Rattle.vocabulary.specs.Words.{workers_in, group_refused}
+use Rattle.std.specs.Prelude.{◌≡◌, ◌+◌, ◌==◌, ◌&&◌, ◌∷◌, ◌++◌, if◌then◌else◌}
+use Rattle.vocabulary.specs.Words.{refl, ℕ, nat_lt, nat_le, not, Bool, true, false, List, [], length, Option, Some}
+use Rattle.vocabulary.specs.Words.{None, is_none, Result, Ok, Err, codes, bytes_eq, list_any, list_all, before_first}
+use Rattle.vocabulary.specs.Words.{after_first, slice_split, Group, workers_in, group_refused}
 use Rattle.definitions.specs.Handover.refusal
 use Rattle.plain_text.specs.NumberText.{number_of, number_within}
 use Rattle.plain_text.specs.Cuts.{after_prefix}

@@ -2,9 +2,9 @@
 --
 -- Our own. The pid file and its suffix are those of nginx's "Controlling nginx".
 
-use Rattle.vocabulary.specs.Words.{refl, ℕ, ◌≡◌, ◌≤◌, ◌<◌, ◌+◌, ◌++◌, true, List, [], ◌∷◌, Option, Some, None, map}
-use Rattle.vocabulary.specs.Words.{length, count_by, is_some, codes, ⊤, list_any, AllByRecursion, is_in, Settings}
-use Rattle.vocabulary.specs.Words.{HasSuffixRoom, AreGroups, first_posts}
+use Rattle.std.specs.Prelude.{◌≡◌, ◌≤◌, ◌<◌, ◌+◌, ◌++◌, ◌∷◌}
+use Rattle.vocabulary.specs.Words.{refl, ℕ, true, List, [], Option, Some, None, map, length, count_by, is_some, codes}
+use Rattle.vocabulary.specs.Words.{⊤, list_any, AllByRecursion, is_in, Settings, HasSuffixRoom, AreGroups, first_posts}
 use Rattle.definitions.specs.Table.{Address, FilePath, Generation, Hold, Starting, Ready, Process, Worker, File, Table}
 use Rattle.definitions.specs.Table.{is_master, is_ready, is_worker, live_master, owner_at}
 use Rattle.definitions.specs.Crew.{Posts, Crew, share, Layout, layout_at}

@@ -2,8 +2,8 @@
 --
 -- Our own. One moment is: some children exit, and then one call by one master takes effect.
 
-use Rattle.vocabulary.specs.Words.{refl, ℕ, ◌≡◌, ◌+◌, ◌-◌, ◌==◌, not, Bool, true, false, List, [], ◌∷◌, Option, Some}
-use Rattle.vocabulary.specs.Words.{None, if◌then◌else◌}
+use Rattle.std.specs.Prelude.{◌≡◌, ◌+◌, ◌-◌, ◌==◌, ◌∷◌, if◌then◌else◌}
+use Rattle.vocabulary.specs.Words.{refl, ℕ, not, Bool, true, false, List, [], Option, Some, None}
 use Rattle.vocabulary.specs.declared.calls.Answer.TheVariants as answer
 use Rattle.vocabulary.specs.declared.reports.Outcome.TheVariants as outcome
 use Rattle.definitions.specs.Table.{Table}

@@ -2,8 +2,9 @@
 --
 -- Our own notion. It is what clients can tell: a worker that drains serves nobody new, and does not count.
 
-use Rattle.vocabulary.specs.Words.{refl, codes, [], ◌∷◌, ℕ, ◌≡◌, Bool, false, ◌&&◌, List, Option, Some, None, count_by}
-use Rattle.vocabulary.specs.Words.{bytes_eq, if◌then◌else◌, list_any}
+use Rattle.std.specs.Prelude.{◌∷◌, ◌≡◌, ◌&&◌, if◌then◌else◌}
+use Rattle.vocabulary.specs.Words.{refl, codes, [], ℕ, Bool, false, List, Option, Some, None, count_by, bytes_eq}
+use Rattle.vocabulary.specs.Words.{list_any}
 use Rattle.definitions.specs.Table.{Address, Generation, same_generation, Hold, Process, Master, Worker, Table}
 use Rattle.definitions.specs.Table.{is_ready, has_address}
 

@@ -3,8 +3,8 @@
 -- After POSIX, as far as masters need it: a process has a number and a parent, a descriptor leads to a socket, and an
 -- address is taken as long as a process holds a socket of it.
 
-use Rattle.vocabulary.specs.Words.{◌≡◌, refl, ℕ, Bool, true, false, ◌&&◌, ◌==◌, List, [], ◌∷◌, Option, Some, None}
-use Rattle.vocabulary.specs.Words.{bytes_eq, list_any}
+use Rattle.std.specs.Prelude.{◌≡◌, ◌&&◌, ◌==◌, ◌∷◌}
+use Rattle.vocabulary.specs.Words.{refl, ℕ, Bool, true, false, List, [], Option, Some, None, bytes_eq, list_any}
 pub use Rattle.vocabulary.specs.Words.{Generation}
 pub use Rattle.vocabulary.specs.declared.table.Stance.{Stance}
 pub use Rattle.vocabulary.specs.declared.table.Stance.TheVariants.{Starting, Ready, Draining, Exited}

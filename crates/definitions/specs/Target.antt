@@ -3,7 +3,8 @@
 -- After Unicorn's SIGNALS and nginx's "Controlling nginx": HUP starts workers of the next configuration, USR2 a new
 -- executable, TTIN and TTOU change the number of workers, USR1 reopens logs, QUIT and TERM stop.
 
-use Rattle.vocabulary.specs.Words.{◌≡◌, refl, ◌∷◌, ⊤, ℕ, ◌≤◌, ◌+◌, not, List, [], filter, has, Settings, numbers_below}
+use Rattle.std.specs.Prelude.{◌≡◌, ◌∷◌, ◌≤◌, ◌+◌}
+use Rattle.vocabulary.specs.Words.{refl, ⊤, ℕ, not, List, [], filter, has, Settings, numbers_below}
 use Rattle.definitions.specs.Table.{Address, Generation}
 use Rattle.definitions.specs.Handover.{Handover, spelling}
 use Rattle.definitions.specs.Service.{Service, serving}

@@ -2,8 +2,8 @@
 --
 -- Our own. Other masters go on after a failure as their code happens to; a plan has an edge for every reply.
 
-use Rattle.vocabulary.specs.Words.{◌≡◌, refl, ℕ, suc, max, Bool, true, false, List, [], ◌∷◌, Option, Some, None}
-use Rattle.vocabulary.specs.Words.{list_any, lacks}
+use Rattle.std.specs.Prelude.{◌≡◌, ◌∷◌}
+use Rattle.vocabulary.specs.Words.{refl, ℕ, suc, max, Bool, true, false, List, [], Option, Some, None, list_any, lacks}
 use Rattle.vocabulary.specs.declared.calls.Answer.TheVariants as answer
 use Rattle.vocabulary.specs.declared.calls.Reply.TheVariants as reply
 use denote.Enum.Bare.{sameb}

@@ -1,11 +1,11 @@
--- What the definitions name of std and of the crates below, passed on from one place. Declares nothing.
+-- What the definitions name of the crates below and of std, operators aside, passed on from one place. Declares nothing.
 pub use Rattle.std.specs.Fmt.{decimal}
 pub use Rattle.std.specs.List.{list_any, filter_map, flat_map, list_all, before_first, after_first, slice_split, sum_by}
 pub use Rattle.std.specs.List.{AllByRecursion}
-pub use Rattle.std.specs.Prelude.{◌≡◌, ℕ, zero, suc, ◌+◌, ◌-◌, ◌*◌, ◌<◌, ◌≤◌, min, max, Bool, true, false, not, ◌&&◌}
-pub use Rattle.std.specs.Prelude.{◌||◌, ◌⊎◌, List, [], ◌∷◌, ◌++◌, map, reverse, length, get_or, take, drop, is_some}
-pub use Rattle.std.specs.Prelude.{is_none, if◌then◌else◌, nat_lt, nat_le, ◌==◌, ⊤, Some, None, Ok, Err, codes, bytes_eq}
-pub use Rattle.std.specs.Prelude.{sum, count_by, filter, Option, Result, unwrap_or, option_map, option_and_then, refl}
+pub use Rattle.std.specs.Prelude.{ℕ, zero, suc, min, max, Bool, true, false, not, List, [], map, reverse, length}
+pub use Rattle.std.specs.Prelude.{get_or, take, drop, is_some, is_none, nat_lt, nat_le, ⊤, Some, None, Ok, Err, codes}
+pub use Rattle.std.specs.Prelude.{bytes_eq, sum, count_by, filter, Option, Result, unwrap_or, option_map}
+pub use Rattle.std.specs.Prelude.{option_and_then, refl}
 pub use Rattle.listener_set.specs.AddressList.{has}
 pub use Rattle.listener_set.specs.Numbers.{numbers_below, is_in, lacks, first_from, IsRising, RisesFrom}
 pub use Rattle.listener_set.specs.declared.generation.Generation.{Generation}
