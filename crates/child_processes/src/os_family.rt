@@ -157,7 +157,7 @@ where
         Ok(())
     }
 
-    /// A child that was started, of which nothing was heard. It says its lines there.
+    /// A child that was started and says its lines on that output; none was heard yet.
     fn opened(
         &self,
         child: Child<R::Started>,

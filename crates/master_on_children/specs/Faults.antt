@@ -24,6 +24,7 @@ status_or_fault (Err halt) = Err (fault_of halt)
 abbrev pub IsOfKind : ErrorKind → SupervisorFault → Type 0
 IsOfKind kind fault = ((kind ≡ OutOfMemory) × (fault ≡ Memory)) ⊎ ((kind ≢ OutOfMemory) × (fault ≡ File))
 
+-- what no further line is acted on for, by the kind of an error: a fault, and never want of memory for a word
 abbrev pub IsFaultOfKind : ErrorKind → Halt → Type 0
 IsFaultOfKind kind Short = ⊥
 IsFaultOfKind kind (Fault fault) = IsOfKind kind fault
